@@ -1,0 +1,13 @@
+use Rattle.std.specs.Prelude.{Option}
+use Rattle.cedar_below.specs.declared.entity_type.EntityType.{EntityType}
+use Rattle.cedar_below.specs.declared.loc.Loc.{Loc}
+use Rattle.cedar_below.specs.Name.{plain_name, plain_loc}
+use Rattle.cedar_below.specs.PlainName.{PlainName}
+
+-- the name of an entity type
+abbrev pub type_name : EntityType → PlainName
+type_name ty = plain_name ty.0
+
+-- where the entity type was written
+abbrev pub type_loc : EntityType → Option Loc
+type_loc ty = plain_loc ty.0

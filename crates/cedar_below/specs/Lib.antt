@@ -1,0 +1,12 @@
+pub mod Eid
+pub mod EntityType
+pub mod EntityUID
+pub mod Id
+pub mod Identifier
+pub mod InternalName
+pub mod Name
+pub mod PlainName
+pub mod PlainUid
+pub mod Text
+pub mod UnreservedId
+pub mod Value

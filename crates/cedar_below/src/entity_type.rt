@@ -1,0 +1,76 @@
+ghost use Rattle.std.specs.Prelude.{◌≡◌, ◌↔◌, IsTrue, IfOk};
+ghost use Rattle.cedar_below.specs.EntityType.{type_name, type_loc};
+ghost use Rattle.cedar_below.specs.Name.{plain_name, plain_loc};
+ghost use Rattle.cedar_below.specs.PlainName.{IsActionType, IsReserved};
+
+use crate::loc::Loc;
+use crate::memory::M;
+use crate::name::Name;
+use std::fmt;
+
+/// The base name of every action's type.
+const ACTION: &str = "Action";
+
+/// The name of an entity type, which is never reserved.
+#[derive(Debug, Drop, PartialEq, Eq, PartialOrd, Ord, Hash)]
+pub struct EntityType(Name);
+
+impl EntityType {
+    /// The entity type of this name.
+    pub fn new(name: Name) -> Self
+        ensures name { type_name result ≡ plain_name name }
+        ensures loc { type_loc result ≡ plain_loc name }
+    {
+        EntityType(name)
+    }
+
+    /// The entity type's name.
+    pub fn name(&self) -> &Name
+        ensures name { plain_name result.now ≡ type_name self.now }
+        ensures loc { plain_loc result.now ≡ type_loc self.now }
+    {
+        &self.0
+    }
+
+    /// The entity type's name.
+    pub fn into_name(self) -> Name
+        ensures name { plain_name result ≡ type_name self }
+        ensures loc { plain_loc result ≡ type_loc self }
+    {
+        self.0
+    }
+
+    /// Where the entity type was written, if that is known.
+    pub fn loc(&self) -> Option<Loc>
+        ensures { result ≡ type_loc self.now }
+    {
+        self.0.loc()
+    }
+
+    /// Whether this is a type of actions: its base name is `Action`, whatever its path.
+    pub fn is_action(&self) -> bool
+        ensures { IsTrue result ↔ IsActionType (type_name self.now) }
+    {
+        self.0.basename().as_str() == ACTION
+    }
+
+    /// An equal entity type with the same location, or want of memory.
+    pub fn clone(&self) -> M<Self>
+        ensures name { IfOk result (λ copy. type_name copy ≡ type_name self.now) }
+        ensures loc { IfOk result (λ copy. type_loc copy ≡ type_loc self.now) }
+    {
+        Ok(EntityType(self.0.clone()?))
+    }
+}
+
+impl fmt::Display for EntityType {
+    ghost use Rattle.std.specs.Prelude.{Some};
+    ghost use Rattle.cedar_below.specs.EntityType.{type_name};
+    ghost use Rattle.cedar_below.specs.PlainName.{name_text};
+
+    ghost output = { λ ty. Some (name_text (type_name ty)) };
+
+    fn fmt<W: fmt::Write>(&self, f: &mut fmt::Formatter<W>) -> fmt::Result {
+        self.0.fmt(f)
+    }
+}

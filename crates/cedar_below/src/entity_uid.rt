@@ -1,0 +1,73 @@
+ghost use Rattle.std.specs.Prelude.{◌≡◌, ◌↔◌, IsTrue, IfOk};
+ghost use Rattle.cedar_below.specs.Eid.{eid_text};
+ghost use Rattle.cedar_below.specs.EntityType.{type_name};
+ghost use Rattle.cedar_below.specs.EntityUID.{uid_of, uid_loc};
+ghost use Rattle.cedar_below.specs.PlainName.{IsActionType};
+
+use crate::eid::Eid;
+use crate::entity_type::EntityType;
+use crate::loc::Loc;
+use crate::memory::M;
+
+/// The uid of an entity: its type, and its id within the type.
+///
+/// Equality, order and hash ignore the location. Uids order by type, and then by the id's bytes.
+#[derive(Debug, Drop)]
+#[derive_where(PartialEq, Eq, PartialOrd, Ord, Hash)]
+pub struct EntityUID {
+    ty: EntityType,
+    eid: Eid,
+    #[derive_where(skip(EqHashOrd))]
+    loc: Option<Loc>,
+}
+
+impl EntityUID {
+    /// The uid of this type and this id.
+    pub fn new(ty: EntityType, eid: Eid, loc: Option<Loc>) -> Self
+        ensures ty { (uid_of result).ty ≡ type_name ty }
+        ensures eid { (uid_of result).eid ≡ eid_text eid }
+        ensures loc { uid_loc result ≡ loc }
+    {
+        EntityUID { ty, eid, loc }
+    }
+
+    /// The type of the entity.
+    pub fn entity_type(&self) -> &EntityType
+        ensures { type_name result.now ≡ (uid_of self.now).ty }
+    {
+        &self.ty
+    }
+
+    /// The entity's id.
+    pub fn eid(&self) -> &Eid
+        ensures { eid_text result.now ≡ (uid_of self.now).eid }
+    {
+        &self.eid
+    }
+
+    /// Where the uid was written, if that is known.
+    pub fn loc(&self) -> Option<Loc>
+        ensures { result ≡ uid_loc self.now }
+    {
+        self.loc
+    }
+
+    /// Whether this is the uid of an action: the base name of its type is `Action`.
+    pub fn is_action(&self) -> bool
+        ensures { IsTrue result ↔ IsActionType (uid_of self.now).ty }
+    {
+        self.ty.is_action()
+    }
+
+    /// An equal uid with the same location, or want of memory.
+    pub fn clone(&self) -> M<Self>
+        ensures uid { IfOk result (λ copy. uid_of copy ≡ uid_of self.now) }
+        ensures loc { IfOk result (λ copy. uid_loc copy ≡ uid_loc self.now) }
+    {
+        Ok(EntityUID {
+            ty: self.ty.clone()?,
+            eid: self.eid.clone()?,
+            loc: self.loc,
+        })
+    }
+}

@@ -1,0 +1,118 @@
+ghost use Rattle.std.specs.Prelude.{◌≡◌, ◌↔◌, IsTrue, IfOk, Contains, map};
+ghost use Rattle.cedar_below.specs.Identifier.{reserved_word};
+ghost use Rattle.cedar_below.specs.Id.{id_text};
+ghost use Rattle.cedar_below.specs.InternalName.{name_of, name_loc};
+ghost use Rattle.cedar_below.specs.PlainName.{IsUnqualified, IsReserved};
+
+use crate::id::Id;
+use crate::loc::Loc;
+use crate::memory::M;
+use std::fmt;
+
+/// A name: a base name, and a path of identifiers before it. It may be reserved.
+///
+/// Equality, order and hash ignore the location. Names order by base name, and then by path.
+#[derive(Debug, Drop)]
+#[derive_where(PartialEq, Eq, PartialOrd, Ord, Hash)]
+pub struct InternalName {
+    id: Id,
+    path: Vec<Id>,
+    #[derive_where(skip(EqHashOrd))]
+    loc: Option<Loc>,
+}
+
+/// Equal identifiers in the same order, or want of memory.
+fn clone_path(path: &Vec<Id>) -> M<Vec<Id>>
+    ensures { IfOk result (λ copy. map id_text copy.items ≡ map id_text path.now.items) }
+{
+    let mut copy = Vec::new(*path.allocator());
+    for part in path {
+        copy.push(part.clone()?)?;
+    }
+    Ok(copy)
+}
+
+/// Whether an identifier of the path is the reserved word.
+fn has_reserved(path: &[Id]) -> bool
+    ensures { IsTrue result ↔ Contains (map id_text path.now) reserved_word }
+{
+    for part in path {
+        if part.is_reserved() {
+            return true;
+        }
+    }
+    false
+}
+
+impl InternalName {
+    /// The name with this base name and this path, outermost part first.
+    pub fn new(id: Id, path: Vec<Id>, loc: Option<Loc>) -> Self
+        ensures base { (name_of result).base ≡ id_text id }
+        ensures path { (name_of result).path ≡ map id_text path.items }
+        ensures loc { name_loc result ≡ loc }
+    {
+        InternalName { id, path, loc }
+    }
+
+    /// The base name.
+    pub fn basename(&self) -> &Id
+        ensures { id_text result.now ≡ (name_of self.now).base }
+    {
+        &self.id
+    }
+
+    /// The identifiers before the base name, outermost first.
+    pub fn path(&self) -> &[Id]
+        ensures { map id_text result.now ≡ (name_of self.now).path }
+    {
+        self.path.as_slice()
+    }
+
+    /// Where the name was written, if that is known.
+    pub fn loc(&self) -> Option<Loc>
+        ensures { result ≡ name_loc self.now }
+    {
+        self.loc
+    }
+
+    /// Whether the path is empty.
+    pub fn is_unqualified(&self) -> bool
+        ensures { IsTrue result ↔ IsUnqualified (name_of self.now) }
+    {
+        self.path.is_empty()
+    }
+
+    /// Whether a part of the name is the reserved word `__cedar`.
+    pub fn is_reserved(&self) -> bool
+        ensures { IsTrue result ↔ IsReserved (name_of self.now) }
+    {
+        self.id.is_reserved() || has_reserved(&self.path)
+    }
+
+    /// An equal name with the same location, or want of memory.
+    pub fn clone(&self) -> M<Self>
+        ensures name { IfOk result (λ copy. name_of copy ≡ name_of self.now) }
+        ensures loc { IfOk result (λ copy. name_loc copy ≡ name_loc self.now) }
+    {
+        Ok(InternalName {
+            id: self.id.clone()?,
+            path: clone_path(&self.path)?,
+            loc: self.loc,
+        })
+    }
+}
+
+impl fmt::Display for InternalName {
+    ghost use Rattle.std.specs.Prelude.{Some};
+    ghost use Rattle.cedar_below.specs.InternalName.{name_of};
+    ghost use Rattle.cedar_below.specs.PlainName.{name_text};
+
+    ghost output = { λ name. Some (name_text (name_of name)) };
+
+    fn fmt<W: fmt::Write>(&self, f: &mut fmt::Formatter<W>) -> fmt::Result {
+        for part in &self.path {
+            write!(f, "{part}::")?;
+        }
+        write!(f, "{}", self.id)
+    }
+}

@@ -1,0 +1,30 @@
+//! The layers below a Cedar schema: names, uids, values, core types and extensions.
+#![tactic(auto)]
+
+pub use core_schema_type::{CoreAttributeType, CoreSchemaType};
+pub use eid::Eid;
+pub use entity_type::EntityType;
+pub use entity_uid::EntityUID;
+pub use id::Id;
+pub use internal_name::InternalName;
+pub use loc::Loc;
+pub use memory::{M, Memory};
+pub use name::Name;
+pub use non_empty::NonEmpty;
+pub use unreserved_id::UnreservedId;
+pub use validation_mode::ValidationMode;
+pub use value::{RestrictedExpr, Value};
+
+mod core_schema_type;
+mod eid;
+mod entity_type;
+mod entity_uid;
+mod id;
+mod internal_name;
+mod loc;
+mod memory;
+mod name;
+mod non_empty;
+mod unreserved_id;
+mod validation_mode;
+mod value;

@@ -1,0 +1,105 @@
+ghost use Rattle.std.specs.Prelude.{◌≡◌, ◌↔◌, IsTrue, IsSome, IfSome, IfOk, map};
+ghost use Rattle.cedar_below.specs.Id.{id_text};
+ghost use Rattle.cedar_below.specs.InternalName.{name_of, name_loc};
+ghost use Rattle.cedar_below.specs.PlainName.{IsUnqualified, IsReserved};
+
+use crate::id::Id;
+use crate::internal_name::InternalName;
+use crate::loc::Loc;
+use crate::memory::M;
+use std::fmt;
+
+/// A name that isn't reserved: no part of it is `__cedar`.
+#[derive(Debug, Drop, PartialEq, Eq, PartialOrd, Ord, Hash)]
+pub struct Name {
+    name: InternalName,
+    ghost unreserved: { ¬ IsReserved (name_of name) },
+}
+
+impl Name {
+    ghost use Rattle.std.specs.Prelude.{◌≡◌, ◌↔◌, IsTrue, IsSome, IfSome, IfOk, map};
+    ghost use Rattle.cedar_below.specs.Id.{id_text};
+    ghost use Rattle.cedar_below.specs.InternalName.{name_of, name_loc};
+    ghost use Rattle.cedar_below.specs.PlainName.{IsUnqualified, IsReserved};
+    ghost use Rattle.cedar_below.specs.Name.{plain_name, plain_loc};
+
+    /// The name, or None where it is reserved.
+    pub fn new(name: InternalName) -> Option<Self>
+        ensures valid { IsSome result ↔ ¬ IsReserved (name_of name) }
+        ensures name { IfSome result (λ kept. plain_name kept ≡ name_of name) }
+        ensures loc { IfSome result (λ kept. plain_loc kept ≡ name_loc name) }
+    {
+        if name.is_reserved() {
+            None
+        } else {
+            Some(Name { name })
+        }
+    }
+
+    /// The base name.
+    pub fn basename(&self) -> &Id
+        ensures { id_text result.now ≡ (plain_name self.now).base }
+    {
+        self.name.basename()
+    }
+
+    /// The identifiers before the base name, outermost first.
+    pub fn path(&self) -> &[Id]
+        ensures { map id_text result.now ≡ (plain_name self.now).path }
+    {
+        self.name.path()
+    }
+
+    /// Where the name was written, if that is known.
+    pub fn loc(&self) -> Option<Loc>
+        ensures { result ≡ plain_loc self.now }
+    {
+        self.name.loc()
+    }
+
+    /// Whether the path is empty.
+    pub fn is_unqualified(&self) -> bool
+        ensures { IsTrue result ↔ IsUnqualified (plain_name self.now) }
+    {
+        self.name.is_unqualified()
+    }
+
+    /// The same name, where one is asked for that might be reserved.
+    pub fn as_internal(&self) -> &InternalName
+        ensures name { name_of result.now ≡ plain_name self.now }
+        ensures unreserved { ¬ IsReserved (name_of result.now) }
+    {
+        &self.name
+    }
+
+    /// The same name, where one is asked for that might be reserved.
+    pub fn into_internal(self) -> InternalName
+        ensures name { name_of result ≡ plain_name self }
+        ensures loc { name_loc result ≡ plain_loc self }
+        ensures unreserved { ¬ IsReserved (name_of result) }
+    {
+        self.name
+    }
+
+    /// An equal name with the same location, or want of memory.
+    pub fn clone(&self) -> M<Self>
+        ensures name { IfOk result (λ copy. plain_name copy ≡ plain_name self.now) }
+        ensures loc { IfOk result (λ copy. plain_loc copy ≡ plain_loc self.now) }
+    {
+        Ok(Name {
+            name: self.name.clone()?,
+        })
+    }
+}
+
+impl fmt::Display for Name {
+    ghost use Rattle.std.specs.Prelude.{Some};
+    ghost use Rattle.cedar_below.specs.Name.{plain_name};
+    ghost use Rattle.cedar_below.specs.PlainName.{name_text};
+
+    ghost output = { λ name. Some (name_text (plain_name name)) };
+
+    fn fmt<W: fmt::Write>(&self, f: &mut fmt::Formatter<W>) -> fmt::Result {
+        self.name.fmt(f)
+    }
+}

@@ -1,0 +1,8 @@
+/// A list with at least one item.
+#[derive(Debug, Drop, PartialEq, Eq)]
+pub struct NonEmpty<T> {
+    /// The first item.
+    pub head: T,
+    /// The other items, in order.
+    pub tail: Vec<T>,
+}

@@ -1,0 +1,74 @@
+ghost use Rattle.std.specs.Prelude.{◌≡◌, ◌≢◌, ◌↔◌, IsSome, IfSome, IfOk, string_bytes};
+ghost use Rattle.cedar_below.specs.Id.{id_text};
+ghost use Rattle.cedar_below.specs.Identifier.{IsIdentifier, reserved_word};
+
+use crate::id::Id;
+use crate::memory::M;
+use std::fmt;
+
+/// An identifier that isn't the reserved word `__cedar`.
+#[derive(Debug, Drop, PartialEq, Eq, PartialOrd, Ord, Hash)]
+pub struct UnreservedId {
+    id: Id,
+    ghost unreserved: { id_text id ≢ reserved_word },
+}
+
+impl UnreservedId {
+    ghost use Rattle.cedar_below.specs.UnreservedId.{unreserved_id_text};
+
+    /// The identifier that a text spells, or None where it spells none or the reserved word.
+    pub fn new(text: String) -> Option<Self>
+        ensures valid { IsSome result ↔ (IsIdentifier (string_bytes text) × (string_bytes text ≢ reserved_word)) }
+        ensures text { IfSome result (λ id. unreserved_id_text id ≡ string_bytes text) }
+    {
+        let id = Id::new(text)?;
+        if id.is_reserved() {
+            None
+        } else {
+            Some(UnreservedId { id })
+        }
+    }
+
+    /// The identifier, which isn't the reserved word.
+    pub fn as_id(&self) -> &Id
+        ensures text { id_text result.now ≡ unreserved_id_text self.now }
+        ensures unreserved { id_text result.now ≢ reserved_word }
+    {
+        &self.id
+    }
+
+    /// The identifier's text.
+    pub fn as_str(&self) -> &str
+        ensures { result.now ≡ unreserved_id_text self.now }
+    {
+        self.id.as_str()
+    }
+
+    /// The identifier, which isn't the reserved word.
+    pub fn into_id(self) -> Id
+        ensures text { id_text result ≡ unreserved_id_text self }
+        ensures unreserved { id_text result ≢ reserved_word }
+    {
+        self.id
+    }
+
+    /// An equal identifier, or want of memory.
+    pub fn clone(&self) -> M<Self>
+        ensures { IfOk result (λ copy. unreserved_id_text copy ≡ unreserved_id_text self.now) }
+    {
+        Ok(UnreservedId {
+            id: self.id.clone()?,
+        })
+    }
+}
+
+impl fmt::Display for UnreservedId {
+    ghost use Rattle.std.specs.Prelude.{Some};
+    ghost use Rattle.cedar_below.specs.UnreservedId.{unreserved_id_text};
+
+    ghost output = { λ id. Some (unreserved_id_text id) };
+
+    fn fmt<W: fmt::Write>(&self, f: &mut fmt::Formatter<W>) -> fmt::Result {
+        self.id.fmt(f)
+    }
+}

@@ -1,0 +1,52 @@
+ghost use Rattle.std.specs.Prelude.{◌≡◌};
+ghost use Rattle.cedar_below.specs.Value.{value_expr};
+
+use crate::entity_uid::EntityUID;
+use crate::name::Name;
+use std::collections::BTreeMap;
+
+/// A value as it is written: a literal, a set, a record, or a call of an extension function.
+#[derive(Debug, Drop)]
+pub enum RestrictedExpr {
+    /// A truth value.
+    Bool(bool),
+    /// A whole number.
+    Long(i64),
+    /// A text.
+    String(String),
+    /// A reference to an entity.
+    EntityUid(EntityUID),
+    /// A set, seen as the set of its elements: their order and repeats don't matter.
+    Set(Vec<RestrictedExpr>),
+    /// A record: a value for each of its attributes.
+    Record(BTreeMap<String, RestrictedExpr>),
+    /// A call of an extension function.
+    ExtensionCall {
+        /// The function's name.
+        function: Name,
+        /// The arguments, in order.
+        args: Vec<RestrictedExpr>,
+    },
+}
+
+/// A value, given by an expression that stands for it.
+#[derive(Debug, Drop)]
+pub struct Value {
+    expr: RestrictedExpr,
+}
+
+impl Value {
+    /// The value that an expression stands for.
+    pub fn new(expr: RestrictedExpr) -> Self
+        ensures { value_expr result ≡ expr }
+    {
+        Value { expr }
+    }
+
+    /// An expression that stands for the value.
+    pub fn expr(&self) -> &RestrictedExpr
+        ensures { result.now ≡ value_expr self.now }
+    {
+        &self.expr
+    }
+}
