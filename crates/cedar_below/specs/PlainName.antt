@@ -1,6 +1,9 @@
-use Rattle.std.specs.Prelude.{◌≡◌, ◌⊎◌, List, [], ◌∷◌, ◌++◌, codes, Contains}
+use Rattle.std.specs.Prelude.{◌≡◌, ◌⊎◌, List, [], ◌++◌, codes, Contains}
 use Rattle.std.specs.List.{flat_map}
-use Rattle.cedar_below.specs.Text.{Text}
+use Rattle.std.specs.declared.cmp.Ordering.{Ordering}
+use Rattle.std.specs.Ordering.{ordering_then}
+use Rattle.std.specs.Cmp.Lexicographic.{slice_cmp}
+use Rattle.cedar_below.specs.Text.{Text, text_cmp}
 use Rattle.cedar_below.specs.Identifier.{reserved_word}
 
 -- what a name stands for: its base name, and the path before it with the outermost part first
@@ -27,3 +30,7 @@ IsActionType name = name.base ≡ action_word
 -- the name as it is printed: its parts, joined by `::`
 abbrev pub name_text : PlainName → Text
 name_text name = flat_map (λ part. part ++ codes "::") name.path ++ name.base
+
+-- the order of names: by base name, and then by path
+abbrev pub name_cmp : PlainName → PlainName → Ordering
+name_cmp a b = ordering_then (text_cmp a.base b.base) (slice_cmp text_cmp a.path b.path)

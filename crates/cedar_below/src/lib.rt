@@ -25,6 +25,7 @@ mod loc;
 mod memory;
 mod name;
 mod non_empty;
+pub mod theorems;
 mod unreserved_id;
 mod validation_mode;
 mod value;
