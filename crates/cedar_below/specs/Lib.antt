@@ -1,6 +1,7 @@
 pub mod Eid
 pub mod EntityType
 pub mod EntityUID
+pub mod Extensions
 pub mod Id
 pub mod Identifier
 pub mod InternalName
@@ -8,5 +9,6 @@ pub mod Name
 pub mod PlainName
 pub mod PlainUid
 pub mod Text
+pub mod TypeNames
 pub mod UnreservedId
 pub mod Value

@@ -1,8 +1,9 @@
 use Rattle.std.specs.Prelude.{Option}
+use Rattle.std.specs.BTreeMap.{BTreeMap, get_by}
 use Rattle.cedar_below.specs.declared.name.Name.{Name}
 use Rattle.cedar_below.specs.declared.loc.Loc.{Loc}
 use Rattle.cedar_below.specs.InternalName.{name_of, name_loc}
-use Rattle.cedar_below.specs.PlainName.{PlainName}
+use Rattle.cedar_below.specs.PlainName.{PlainName, name_cmp}
 
 -- what a name that isn't reserved stands for
 abbrev pub plain_name : Name → PlainName
@@ -11,3 +12,7 @@ plain_name name = name_of name.name
 -- where the name was written
 abbrev pub plain_loc : Name → Option Loc
 plain_loc name = name_loc name.name
+
+-- what a map from names holds at a name, whatever the locations
+abbrev pub at_name : {X : Type 0} → BTreeMap Name X → PlainName → Option X
+at_name entries name = get_by (λ key. name_cmp name (plain_name key)) entries
