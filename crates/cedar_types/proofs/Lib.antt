@@ -1,0 +1,4 @@
+pub mod CopyLemmas
+pub mod FieldLemmas
+pub mod SortedLemmas
+pub mod UnionLemmas

@@ -1,0 +1,18 @@
+use Rattle.std.specs.Prelude.{List, [], ◌∷◌, map, Option, Some, None, Contains}
+use Rattle.cedar_below.specs.EntityType.{type_name}
+use Rattle.cedar_below.specs.PlainName.{PlainName}
+use Rattle.cedar_types.specs.declared.entity_lub.EntityLUB.{EntityLUB}
+
+-- the names of a union's entity types, in order
+abbrev pub lub_names : EntityLUB → List PlainName
+lub_names lub = map type_name lub.elements.items
+
+-- the only name, where there is just one
+abbrev pub only_name : List PlainName → Option PlainName
+only_name [] = None
+only_name (name ∷ []) = Some name
+only_name (name ∷ other ∷ rest) = None
+
+-- no name stands in both lists
+abbrev pub AreDisjoint : List PlainName → List PlainName → Type 0
+AreDisjoint names others = (name : PlainName) → Contains names name → Contains others name → ⊥

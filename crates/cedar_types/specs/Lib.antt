@@ -1,0 +1,6 @@
+pub mod Attributes
+pub mod EntityKind
+pub mod EntityLUB
+pub mod Meaning
+pub mod Primitive
+pub mod Ty

@@ -1,0 +1,207 @@
+ghost use Rattle.std.specs.Prelude.{◌≡◌, List, Bool, true, false, map, length, IfOk, Option, Some, None, string_bytes};
+ghost use Rattle.std.specs.Iterator.{IsFinite, Drains};
+ghost use Rattle.std.specs.Option.{option_copied, option_map};
+ghost use Rattle.std.specs.BTreeMap.{keys};
+ghost use Rattle.std.specs.declared.alloc.Global.{Global};
+ghost use Rattle.std.specs.declared.rc.Rc.{Rc};
+ghost use Rattle.std.specs.declared.string.String.{String};
+ghost use Rattle.cedar_below.specs.declared.loc.Loc.{Loc};
+ghost use Rattle.cedar_types.specs.Attributes.{HoldsLast, IsAscending, field_names, plain_attributes, plain_required};
+ghost use Rattle.cedar_types.specs.Meaning.{ty_of, attribute_of, fields_of, attribute_loc};
+ghost use Rattle.cedar_types.specs.Ty.{end, field_at, fields_from};
+ghost use Rattle.cedar_types.specs.declared.attributes.AttributeType.{AttributeType};
+ghost use Rattle.cedar_types.specs.declared.types.Type.{«Type»};
+
+use crate::types::Type;
+use cedar_below::{Loc, M};
+use std::alloc::Global;
+use std::collections::{BTreeMap, btree_map};
+use std::fmt;
+use std::fmt::Display;
+use std::rc::Rc;
+
+/// The attributes of a record type or an entity type: a map from names, in the names' order.
+#[derive(Drop)]
+#[derive_where(Debug, PartialEq, Eq, PartialOrd, Ord, Hash)]
+#[cycle(types)]
+pub struct Attributes {
+    attrs: BTreeMap<String, AttributeType>,
+    #[derive_where(skip)]
+    alloc: Global,
+}
+
+/// An attribute: the type of its values, and whether it has to be there.
+///
+/// Equality, order and hash ignore the location.
+#[derive(Debug, Drop)]
+#[derive_where(PartialEq, Eq, PartialOrd, Ord, Hash)]
+#[cycle(types)]
+pub struct AttributeType {
+    /// The type of the attribute's values.
+    pub attr_type: Rc<Type>,
+    /// Whether the attribute has to be there.
+    pub is_required: bool,
+    /// Where the attribute was declared, if that is known.
+    #[derive_where(skip(EqHashOrd))]
+    pub loc: Option<Loc>,
+}
+
+impl AttributeType {
+    /// An attribute of this type, without a location.
+    pub fn new(attr_type: Rc<Type>, is_required: bool) -> Self
+        ensures attribute { attribute_of result ≡ (is_required, ty_of attr_type.value) }
+        ensures loc { attribute_loc result ≡ None }
+    {
+        AttributeType {
+            attr_type,
+            is_required,
+            loc: None,
+        }
+    }
+
+    /// An attribute of this type, declared at this location.
+    pub fn new_with_loc(attr_type: Rc<Type>, is_required: bool, loc: Option<Loc>) -> Self
+        ensures attribute { attribute_of result ≡ (is_required, ty_of attr_type.value) }
+        ensures loc { attribute_loc result ≡ loc }
+    {
+        AttributeType {
+            attr_type,
+            is_required,
+            loc,
+        }
+    }
+
+    /// An attribute of this type that has to be there, without a location.
+    pub fn required_attribute(attr_type: Rc<Type>) -> Self
+        ensures attribute { attribute_of result ≡ (true, ty_of attr_type.value) }
+        ensures loc { attribute_loc result ≡ None }
+    {
+        AttributeType::new(attr_type, true)
+    }
+
+    /// An attribute of this type that may be missing, without a location.
+    pub fn optional_attribute(attr_type: Rc<Type>) -> Self
+        ensures attribute { attribute_of result ≡ (false, ty_of attr_type.value) }
+        ensures loc { attribute_loc result ≡ None }
+    {
+        AttributeType::new(attr_type, false)
+    }
+
+    /// Whether the attribute has to be there.
+    pub fn is_required(&self) -> bool
+        ensures { result ≡ (attribute_of self.now).0 }
+    {
+        self.is_required
+    }
+
+    /// An equal attribute at the same location, which shares the type, or want of memory.
+    pub fn clone(&self) -> M<Self>
+        ensures attribute { IfOk result (λ copy. attribute_of copy ≡ attribute_of self.now) }
+        ensures loc { IfOk result (λ copy. attribute_loc copy ≡ attribute_loc self.now) }
+    {
+        Ok(AttributeType {
+            attr_type: self.attr_type.clone()?,
+            is_required: self.is_required,
+            loc: self.loc,
+        })
+    }
+}
+
+impl Attributes {
+    /// No attributes.
+    pub(crate) fn empty(alloc: Global) -> Self
+        ensures { fields_of result ≡ end }
+    {
+        Attributes {
+            attrs: BTreeMap::new(alloc),
+            alloc,
+        }
+    }
+
+    /// The attributes of these names. Of repeated names the last wins.
+    pub fn with_attributes<I: IntoIterator<Item = (String, AttributeType)>>(
+        alloc: Global,
+        items: I,
+    ) -> M<Self>
+        requires { (it : I.IntoIter) → I.into_iter_gives items it → I.IntoIter.can_next it × IsFinite (I.IntoIter.remaining it) }
+        ensures attributes { IfOk result (λ all. (it : I.IntoIter) × (xs : List (String Global × AttributeType))
+            × I.into_iter_gives items it × Drains I.IntoIter.next_gives it xs × HoldsLast (plain_attributes xs) (fields_of all)) }
+        ensures ascending { IfOk result (λ all. IsAscending (fields_of all)) }
+    {
+        let mut attrs = BTreeMap::new(alloc);
+        for (name, attribute) in items {
+            attrs.insert(name, attribute)?;
+        }
+        Ok(Attributes { attrs, alloc })
+    }
+
+    /// The attributes of these names, each of which has to be there. Of repeated names the last wins.
+    pub fn with_required_attributes<I: IntoIterator<Item = (String, Rc<Type>)>>(
+        alloc: Global,
+        items: I,
+    ) -> M<Self>
+        requires { (it : I.IntoIter) → I.into_iter_gives items it → I.IntoIter.can_next it × IsFinite (I.IntoIter.remaining it) }
+        ensures attributes { IfOk result (λ all. (it : I.IntoIter) × (xs : List (String Global × Rc «Type» Global))
+            × I.into_iter_gives items it × Drains I.IntoIter.next_gives it xs × HoldsLast (plain_required xs) (fields_of all)) }
+        ensures ascending { IfOk result (λ all. IsAscending (fields_of all)) }
+    {
+        let mut attrs = BTreeMap::new(alloc);
+        for (name, ty) in items {
+            attrs.insert(name, AttributeType::required_attribute(ty))?;
+        }
+        Ok(Attributes { attrs, alloc })
+    }
+
+    /// The attributes with their names, in the names' order.
+    pub fn iter(&self) -> btree_map::Iter<'_, String, AttributeType>
+        ensures attributes { fields_from (plain_attributes result) ≡ fields_of self.now }
+        ensures ascending { IsAscending (fields_of self.now) }
+    {
+        self.attrs.iter()
+    }
+
+    /// The names of the attributes, in their order.
+    pub fn keys(&self) -> btree_map::Keys<'_, String, AttributeType>
+        ensures names { map string_bytes result ≡ field_names (fields_of self.now) }
+        ensures ascending { IsAscending (fields_of self.now) }
+    {
+        self.attrs.keys()
+    }
+
+    /// The attribute of this name, if there is one.
+    pub fn get_attr(&self, name: &str) -> Option<&AttributeType>
+        ensures { option_map attribute_of (option_copied result) ≡ field_at name.now (fields_of self.now) }
+    {
+        self.attrs.get(name)
+    }
+
+    /// Equal attributes at the same locations, which share their types, or want of memory.
+    pub fn clone(&self) -> M<Self>
+        ensures { IfOk result (λ copy. fields_of copy ≡ fields_of self.now) }
+    {
+        let mut attrs = BTreeMap::new(self.alloc);
+        for (name, attribute) in self.attrs.iter() {
+            attrs.insert(name.clone()?, attribute.clone()?)?;
+        }
+        Ok(Attributes {
+            attrs,
+            alloc: self.alloc,
+        })
+    }
+}
+
+impl fmt::Display for Attributes {
+    /// Writes `{`, for each attribute `name: TYPE,` or `name?: TYPE,`, and `}`.
+    #[cycle(show)]
+    fn fmt<W: fmt::Write>(&self, f: &mut fmt::Formatter<W>) -> fmt::Result {
+        f.write_str("{")?;
+        for (name, attribute) in &self.attrs {
+            let mark = if attribute.is_required { ": " } else { "?: " };
+            f.write_str(name.as_str())?;
+            f.write_str(mark)?;
+            (*attribute.attr_type).fmt(f)?;
+            f.write_str(",")?;
+        }
+        f.write_str("}")
+    }
+}

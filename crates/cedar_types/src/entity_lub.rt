@@ -1,0 +1,112 @@
+ghost use Rattle.std.specs.Prelude.{◌≡◌, ◌≢◌, [], map, IfOk};
+ghost use Rattle.std.specs.List.Sorted.{IsStrictlySortedBy, IsStrictlySortedBy-prop};
+ghost use Rattle.cedar_below.specs.EntityType.{type_name};
+ghost use Rattle.cedar_below.specs.PlainName.{name_cmp};
+
+use cedar_below::{EntityType, M};
+use std::alloc::Global;
+use std::slice;
+
+/// A union of entity types: a nonempty set of them, in order and without repeats.
+#[derive(Debug, Drop, PartialEq, Eq, PartialOrd, Ord, Hash)]
+pub struct EntityLUB {
+    elements: Vec<EntityType>,
+    ghost nonempty: { elements.items ≢ [] },
+    ghost ascending: { IsStrictlySortedBy name_cmp (map type_name elements.items) } by { IsStrictlySortedBy-prop name_cmp (map type_name elements.items) },
+}
+
+/// Equal entity types in the same order, or want of memory.
+fn clone_each(types: &Vec<EntityType>) -> M<Vec<EntityType>>
+    ensures { IfOk result (λ copy. map type_name copy.items ≡ map type_name types.now.items) }
+{
+    let mut copy = Vec::new(*types.allocator());
+    for ty in types {
+        copy.push(ty.clone()?)?;
+    }
+    Ok(copy)
+}
+
+impl EntityLUB {
+    ghost use Rattle.std.specs.Prelude.{◌≡◌, ◌≢◌, ◌↔◌, IsTrue, IfOk, [], ◌∷◌, map, Contains};
+    ghost use Rattle.std.specs.List.Sorted.{IsStrictlySortedBy};
+    ghost use Rattle.std.specs.Option.{option_copied, option_map};
+    ghost use Rattle.std.specs.Slice.Iter.{iter_rest};
+    ghost use Rattle.cedar_below.specs.EntityType.{type_name};
+    ghost use Rattle.cedar_below.specs.PlainName.{name_cmp};
+    ghost use Rattle.cedar_types.specs.EntityLUB.{lub_names, only_name, AreDisjoint};
+
+    /// The union of a single entity type, or want of memory.
+    pub fn single_entity(alloc: Global, ty: EntityType) -> M<Self>
+        ensures { IfOk result (λ lub. lub_names lub ≡ type_name ty ∷ []) }
+    {
+        let mut elements = Vec::with_capacity(alloc, 1)?;
+        elements.push(ty)?;
+        Ok(EntityLUB { elements })
+    }
+
+    /// The entity type of the union, where there is only one.
+    pub fn get_single_entity(&self) -> Option<&EntityType>
+        ensures { option_map type_name (option_copied result) ≡ only_name (lub_names self.now) }
+    {
+        match self.elements.as_slice() {
+            [ty] => Some(ty),
+            _ => None,
+        }
+    }
+
+    /// The entity type of the union, where there is only one.
+    pub fn into_single_entity(self) -> Option<EntityType>
+        ensures { option_map type_name result ≡ only_name (lub_names self) }
+    {
+        let mut elements = self.elements;
+        if elements.len() == 1 {
+            elements.pop()
+        } else {
+            None
+        }
+    }
+
+    /// The entity types of the union, in order.
+    pub fn iter(&self) -> slice::Iter<'_, EntityType>
+        ensures names { map type_name (iter_rest result) ≡ lub_names self.now }
+        ensures nonempty { lub_names self.now ≢ [] }
+        ensures ascending { IsStrictlySortedBy name_cmp (lub_names self.now) }
+    {
+        self.elements.iter()
+    }
+
+    /// Whether an entity type is one of the union.
+    pub fn contains(&self, ty: &EntityType) -> bool
+        ensures { IsTrue result ↔ Contains (lub_names self.now) (type_name ty.now) }
+    {
+        self.elements.contains(ty)
+    }
+
+    /// Whether an entity type is one of the union.
+    pub fn contains_entity_type(&self, ty: &EntityType) -> bool
+        ensures { IsTrue result ↔ Contains (lub_names self.now) (type_name ty.now) }
+    {
+        self.contains(ty)
+    }
+
+    /// Whether no entity type is one of both unions.
+    pub fn is_disjoint(&self, other: &EntityLUB) -> bool
+        ensures { IsTrue result ↔ AreDisjoint (lub_names self.now) (lub_names other.now) }
+    {
+        for ty in &self.elements {
+            if other.contains(ty) {
+                return false;
+            }
+        }
+        true
+    }
+
+    /// An equal union, or want of memory.
+    pub fn clone(&self) -> M<Self>
+        ensures { IfOk result (λ copy. lub_names copy ≡ lub_names self.now) }
+    {
+        Ok(EntityLUB {
+            elements: clone_each(&self.elements)?,
+        })
+    }
+}

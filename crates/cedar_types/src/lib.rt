@@ -1,0 +1,19 @@
+//! The types of the Cedar validator.
+#![tactic(auto)]
+
+pub use attributes::{AttributeType, Attributes};
+pub use bool_type::BoolType;
+pub use entity_kind::EntityKind;
+pub use entity_lub::EntityLUB;
+pub use join_error::{JoinError, LubHelp};
+pub use open_tag::OpenTag;
+pub use types::Type;
+
+mod attributes;
+mod bool_type;
+mod entity_kind;
+mod entity_lub;
+mod join_error;
+mod open_tag;
+mod show;
+mod types;

@@ -1,0 +1,9 @@
+/// Whether a record type admits attributes that it doesn't list.
+#[derive(Clone, Copy, Debug, Default, PartialEq, Eq, PartialOrd, Ord, Hash)]
+pub enum OpenTag {
+    /// It does.
+    OpenAttributes,
+    /// It doesn't.
+    #[default]
+    ClosedAttributes,
+}

@@ -1,0 +1,202 @@
+ghost use Rattle.std.specs.Prelude.{◌≡◌, ◌↔◌, List, [], ◌∷◌, IsTrue, IfOk, Contains, if◌then◌else◌};
+ghost use Rattle.std.specs.Iterator.{IsFinite, Drains};
+ghost use Rattle.std.specs.declared.alloc.Global.{Global};
+ghost use Rattle.std.specs.declared.rc.Rc.{Rc};
+ghost use Rattle.std.specs.declared.string.String.{String};
+ghost use Rattle.cedar_below.specs.EntityType.{type_name};
+ghost use Rattle.cedar_below.specs.Name.{plain_name};
+ghost use Rattle.cedar_types.specs.Attributes.{IsRecordOf, plain_attributes, plain_required};
+ghost use Rattle.cedar_types.specs.Meaning.{ty_of};
+ghost use Rattle.cedar_types.specs.Primitive.{primitive_words};
+ghost use Rattle.cedar_types.specs.Ty.{Ty, truth, long, text, any_entity, union_of, any_set, set_of, record_of, extension_of, end};
+ghost use Rattle.cedar_types.specs.declared.attributes.AttributeType.{AttributeType};
+ghost use Rattle.cedar_types.specs.declared.types.Type.{«Type»};
+ghost use Rattle.cedar_types.specs.declared.bool_type.BoolType.TheVariants as known;
+
+use crate::attributes::{AttributeType, Attributes};
+use crate::bool_type::BoolType;
+use crate::entity_kind::EntityKind;
+use crate::entity_lub::EntityLUB;
+use crate::open_tag::OpenTag;
+use cedar_below::{EntityType, M, Name};
+use std::alloc::Global;
+use std::rc::Rc;
+
+/// A type of the validator: what is known of a value before a policy is run.
+#[derive(Debug, Drop, PartialEq, Eq, PartialOrd, Ord, Hash)]
+#[cycle(types)]
+pub enum Type {
+    /// The type without values.
+    Never,
+    /// Truth values.
+    Bool(BoolType),
+    /// Whole numbers.
+    Long,
+    /// Texts.
+    String,
+    /// Entities.
+    Entity(EntityKind),
+    /// Sets.
+    Set {
+        /// The type of the elements. None is the any-set, which every set has.
+        element_type: Option<Rc<Type>>,
+    },
+    /// Records.
+    Record {
+        /// The listed attributes.
+        attrs: Attributes,
+        /// Whether attributes may be there that aren't listed.
+        open_attributes: OpenTag,
+    },
+    /// Values of an extension type.
+    ExtensionType {
+        /// The extension type's name.
+        name: Name,
+    },
+}
+
+impl Type {
+    /// The type of one truth value.
+    pub fn singleton_boolean(value: bool) -> Self
+        ensures { ty_of result ≡ truth (if value then known.True else known.False) }
+    {
+        Type::Bool(if value {
+            BoolType::True
+        } else {
+            BoolType::False
+        })
+    }
+
+    /// The type of both truth values.
+    pub fn primitive_boolean() -> Self
+        ensures { ty_of result ≡ truth known.AnyBool }
+    {
+        Type::Bool(BoolType::AnyBool)
+    }
+
+    /// The type of whole numbers.
+    pub fn primitive_long() -> Self
+        ensures { ty_of result ≡ long }
+    {
+        Type::Long
+    }
+
+    /// The type of texts.
+    pub fn primitive_string() -> Self
+        ensures { ty_of result ≡ text }
+    {
+        Type::String
+    }
+
+    /// The type of sets whose elements have a type.
+    pub fn set(element_type: Rc<Type>) -> Self
+        ensures { ty_of result ≡ set_of (ty_of element_type.value) }
+    {
+        Type::Set {
+            element_type: Some(element_type),
+        }
+    }
+
+    /// The type that every set has.
+    pub fn any_set() -> Self
+        ensures { ty_of result ≡ any_set }
+    {
+        Type::Set { element_type: None }
+    }
+
+    /// The open record type without attributes, which every record has.
+    pub fn any_record(alloc: Global) -> M<Self>
+        ensures { IfOk result (λ ty. ty_of ty ≡ record_of end OpenTag.OpenAttributes) }
+    {
+        Ok(Type::Record {
+            attrs: Attributes::empty(alloc),
+            open_attributes: OpenTag::OpenAttributes,
+        })
+    }
+
+    /// The type of entities of any type.
+    pub fn any_entity_reference() -> Self
+        ensures { ty_of result ≡ any_entity }
+    {
+        Type::Entity(EntityKind::AnyEntity)
+    }
+
+    /// The type of the entities of one entity type, or want of memory.
+    pub fn named_entity_reference(alloc: Global, ty: EntityType) -> M<Self>
+        ensures { IfOk result (λ entity. ty_of entity ≡ union_of (type_name ty ∷ [])) }
+    {
+        Ok(Type::Entity(EntityKind::Entity(EntityLUB::single_entity(alloc, ty)?)))
+    }
+
+    /// The type of the values of an extension type.
+    pub fn extension(name: Name) -> Self
+        ensures { ty_of result ≡ extension_of (plain_name name) }
+    {
+        Type::ExtensionType { name }
+    }
+
+    /// The record type of these attributes, or want of memory. Of repeated names the last wins.
+    pub fn record_with_attributes<I: IntoIterator<Item = (String, AttributeType)>>(
+        alloc: Global,
+        items: I,
+        open_attributes: OpenTag,
+    ) -> M<Self>
+        requires { (it : I.IntoIter) → I.into_iter_gives items it → I.IntoIter.can_next it × IsFinite (I.IntoIter.remaining it) }
+        ensures { IfOk result (λ ty. (it : I.IntoIter) × (xs : List (String Global × AttributeType))
+            × I.into_iter_gives items it × Drains I.IntoIter.next_gives it xs × IsRecordOf (plain_attributes xs) open_attributes (ty_of ty)) }
+    {
+        Ok(Type::Record {
+            attrs: Attributes::with_attributes(alloc, items)?,
+            open_attributes,
+        })
+    }
+
+    /// The record type of these attributes, each of which has to be there, or want of memory. Of
+    /// repeated names the last wins.
+    pub fn record_with_required_attributes<I: IntoIterator<Item = (String, Rc<Type>)>>(
+        alloc: Global,
+        items: I,
+        open_attributes: OpenTag,
+    ) -> M<Self>
+        requires { (it : I.IntoIter) → I.into_iter_gives items it → I.IntoIter.can_next it × IsFinite (I.IntoIter.remaining it) }
+        ensures { IfOk result (λ ty. (it : I.IntoIter) × (xs : List (String Global × Rc «Type» Global))
+            × I.into_iter_gives items it × Drains I.IntoIter.next_gives it xs × IsRecordOf (plain_required xs) open_attributes (ty_of ty)) }
+    {
+        Ok(Type::Record {
+            attrs: Attributes::with_required_attributes(alloc, items)?,
+            open_attributes,
+        })
+    }
+
+    /// Whether a text is the name of a primitive type: `Bool`, `Long` or `String`.
+    pub fn is_primitive(name: &str) -> bool
+        ensures { IsTrue result ↔ Contains primitive_words name.now }
+    {
+        name == "Bool" || name == "Long" || name == "String"
+    }
+
+    /// An equal type with the same locations, which shares its parts, or want of memory.
+    pub fn clone(&self) -> M<Self>
+        ensures { IfOk result (λ copy. ty_of copy ≡ ty_of self.now) }
+    {
+        Ok(match self {
+            Type::Never => Type::Never,
+            Type::Bool(known) => Type::Bool(known.clone()?),
+            Type::Long => Type::Long,
+            Type::String => Type::String,
+            Type::Entity(kind) => Type::Entity(kind.clone()?),
+            Type::Set { element_type: None } => Type::any_set(),
+            Type::Set {
+                element_type: Some(element),
+            } => Type::set(element.clone()?),
+            Type::Record {
+                attrs,
+                open_attributes,
+            } => Type::Record {
+                attrs: attrs.clone()?,
+                open_attributes: *open_attributes,
+            },
+            Type::ExtensionType { name } => Type::extension(name.clone()?),
+        })
+    }
+}
