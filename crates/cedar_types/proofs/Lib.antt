@@ -1,4 +1,5 @@
 pub mod CopyLemmas
 pub mod FieldLemmas
+pub mod MemberLemmas
 pub mod SortedLemmas
 pub mod UnionLemmas

@@ -1,0 +1,12 @@
+use Rattle.std.proofs.Common.{ap, ◌∙◌, sym}
+use Rattle.cedar_types.specs.EntityTypeKind.{kind_of, kind_fields}
+use Rattle.cedar_types.proofs.MemberLemmas.{end-nameless}
+use Rattle.cedar_types.proofs.entity_type.ValidatorEntityType.attributes.Goals as goal
+
+pub returns-in-Enum : goal.returns-in-Enum
+returns-in-Enum c =
+    end-nameless _ c.args.self.now.without_attributes ∙ sym (ap (λ kind. kind_fields (kind_of kind)) c.in-Enum.is)
+
+pub returns-in-External : goal.returns-in-External
+returns-in-External c =
+    end-nameless _ c.args.self.now.without_attributes ∙ sym (ap (λ kind. kind_fields (kind_of kind)) c.in-External.is)

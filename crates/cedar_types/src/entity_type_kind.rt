@@ -1,0 +1,62 @@
+ghost use Rattle.std.specs.Prelude.{◌≡◌};
+ghost use Rattle.std.specs.Option.{option_copied, option_map};
+ghost use Rattle.cedar_types.specs.EntityTypeKind.{standard_kind, standard, kind_fields, kind_tag, kind_tags};
+ghost use Rattle.cedar_types.specs.Meaning.{ty_of, fields_of};
+
+use crate::attributes::Attributes;
+use crate::open_tag::OpenTag;
+use crate::types::Type;
+use cedar_below::{Eid, NonEmpty};
+
+/// How an entity type of a schema is declared.
+#[derive(Debug, Drop, PartialEq, Eq)]
+pub enum ValidatorEntityTypeKind {
+    /// By its attributes and the type of its tags.
+    Standard(StandardValidatorEntityType),
+    /// By the ids of all its entities.
+    Enum(NonEmpty<Eid>),
+    /// Elsewhere.
+    External,
+}
+
+/// The attributes of an entity type, and the type of its tags.
+#[derive(Debug, Drop, PartialEq, Eq)]
+pub struct StandardValidatorEntityType {
+    attributes: Attributes,
+    open_attributes: OpenTag,
+    tags: Option<Type>,
+}
+
+impl StandardValidatorEntityType {
+    /// An entity type with these attributes, and with tags of this type.
+    pub(crate) fn new(attributes: Attributes, open_attributes: OpenTag, tags: Option<Type>) -> Self
+        ensures { standard_kind result ≡ standard (fields_of attributes) open_attributes (option_map ty_of tags) }
+    {
+        StandardValidatorEntityType {
+            attributes,
+            open_attributes,
+            tags,
+        }
+    }
+
+    /// The attributes.
+    pub(crate) fn attributes(&self) -> &Attributes
+        ensures { fields_of result.now ≡ kind_fields (standard_kind self.now) }
+    {
+        &self.attributes
+    }
+
+    /// Whether entities may have attributes that aren't declared.
+    pub(crate) fn open_attributes(&self) -> OpenTag
+        ensures { result ≡ kind_tag (standard_kind self.now) }
+    {
+        self.open_attributes
+    }
+
+    /// The type of the tags, where entities of this type may have tags.
+    pub fn tag_type(&self) -> Option<&Type>
+        ensures { option_map ty_of (option_copied result) ≡ kind_tags (standard_kind self.now) }
+    {
+        self.tags.as_ref()
+    }
+}
