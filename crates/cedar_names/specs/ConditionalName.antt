@@ -1,4 +1,4 @@
-use Rattle.std.specs.Prelude.{Option, List}
+use Rattle.std.specs.Prelude.{Option, List, length, slice_get, ◌-◌}
 use Rattle.cedar_below.specs.declared.loc.Loc.{Loc}
 use Rattle.cedar_below.specs.PlainName.{PlainName}
 use Rattle.cedar_names.specs.declared.json_schema.conditional_name.ConditionalName.{ConditionalName}
@@ -16,3 +16,7 @@ possibility_locs name = locs_of name.possibilities
 -- what kind of type a reference may name
 abbrev pub reference_type_of : ConditionalName → ReferenceType
 reference_type_of name = name.reference_type
+
+-- the last of the names that a reference may stand for
+abbrev pub last_possibility : ConditionalName → Option PlainName
+last_possibility name = slice_get (possibilities_of name) (length (possibilities_of name) - 1)

@@ -4,3 +4,4 @@
 pub use cedar_below as below;
 
 pub mod json_schema;
+pub mod theorems;

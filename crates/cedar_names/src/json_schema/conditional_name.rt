@@ -6,6 +6,7 @@ ghost use Rattle.cedar_names.specs.PossibleNames.{names_of, locs_of};
 use crate::json_schema::reference_type::ReferenceType;
 use cedar_below::{InternalName, M, NonEmpty};
 use std::alloc::Global;
+use std::fmt;
 
 /// A reference to a type whose name is not settled yet: the names that it may stand for, and what
 /// kind of type it may name. It stands for the first of its possibilities that is declared as such
@@ -74,5 +75,21 @@ impl ConditionalName {
             },
             reference_type: self.reference_type,
         })
+    }
+}
+
+/// Prints the last of the possibilities, which is the name as it was written.
+impl fmt::Display for ConditionalName {
+    ghost use Rattle.std.specs.Option.{option_map};
+    ghost use Rattle.cedar_below.specs.PlainName.{name_text};
+    ghost use Rattle.cedar_names.specs.ConditionalName.{last_possibility};
+
+    ghost output = { λ name. option_map name_text (last_possibility name) };
+
+    fn fmt<W: fmt::Write>(&self, f: &mut fmt::Formatter<W>) -> fmt::Result {
+        match self.possibilities.tail.last() {
+            Some(name) => name.fmt(f),
+            None => self.possibilities.head.fmt(f),
+        }
     }
 }

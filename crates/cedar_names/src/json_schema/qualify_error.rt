@@ -7,7 +7,7 @@ use thiserror::Error;
 
 /// References to types were found that resolve to no declared type.
 #[derive(Debug, Drop, Error)]
-#[error("a type is not declared")]
+#[error("the type `{}` is not declared", .undefined_types.head)]
 pub struct TypeNotDefinedError {
     /// The references that don't resolve.
     pub undefined_types: NonEmpty<ConditionalName>,

@@ -1,0 +1,2 @@
+mod Equality
+mod Lasts
