@@ -1,2 +1,3 @@
 mod Equality
 mod Lasts
+mod ReservedWords

@@ -13,6 +13,7 @@ pub struct CommonTypeId {
 }
 
 /// Whether a text is a word that names a type of Cedar's own.
+#[tactic(auto, using(crate::proofs::ReservedWords::reserved_from_cases))]
 fn is_reserved_word(text: &str) -> bool
     ensures { IsTrue result ↔ IsReservedTypeWord text.now }
 {
