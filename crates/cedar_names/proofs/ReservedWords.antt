@@ -4,7 +4,10 @@ use Rattle.cedar_below.specs.Text.{Text}
 use Rattle.cedar_names.specs.ReservedTypeWord.{IsReservedTypeWord}
 
 -- a text that is one of the eight words is reserved
-pub reserved_from_cases : (text : Text) → (text ≡ codes "Bool") ⊎ ((text ≡ codes "Boolean") ⊎ ((text ≡ codes "Entity") ⊎ ((text ≡ codes "Extension") ⊎ ((text ≡ codes "Long") ⊎ ((text ≡ codes "Record") ⊎ ((text ≡ codes "Set") ⊎ (text ≡ codes "String"))))))) → IsReservedTypeWord text
+pub reserved_from_cases : (text : Text) →
+    (text ≡ codes "Bool") ⊎ ((text ≡ codes "Boolean") ⊎ ((text ≡ codes "Entity") ⊎ ((text ≡ codes "Extension")
+    ⊎ ((text ≡ codes "Long") ⊎ ((text ≡ codes "Record") ⊎ ((text ≡ codes "Set") ⊎ (text ≡ codes "String")))))))
+    → IsReservedTypeWord text
 reserved_from_cases text (inl e) = (0, lit< tt, sym e)
 reserved_from_cases text (inr (inl e)) = (1, lit< tt, sym e)
 reserved_from_cases text (inr (inr (inl e))) = (2, lit< tt, sym e)

@@ -174,6 +174,12 @@ fn words_of_cedar_name_no_common_type(rt: HostRuntime) -> Result<(), Fail> {
             "at {word}"
         );
     }
+    Ok(())
+}
+
+#[test]
+fn other_identifiers_name_common_types(rt: HostRuntime) -> Result<(), Fail> {
+    let alloc = rt.alloc();
     for word in ["Foo", "bool", "Strings", "Int"] {
         let id = CommonTypeId::new(unreserved(alloc, word)?).ok_or("a common type")?;
         assert_eq!(rt; id.as_str(), word);
@@ -262,20 +268,9 @@ fn fragments_give_back_what_they_hold(rt: HostRuntime) -> Result<(), Fail> {
                 }
             )
         );
-        let user = shop
-            .entity_types
-            .get(&unreserved(alloc, "User")?)
-            .ok_or("the entity type")?;
-        let EntityTypeKind::Standard(user) = &user.kind else {
-            return Err("a standard entity type")?;
-        };
-        assert_eq!(rt; user.member_of_types.len(), 1);
-        assert_eq!(rt; user.member_of_types[0].to_string(alloc)?.as_str(), "Group");
+        assert!(rt; shop.entity_types.contains_key(&unreserved(alloc, "User")?));
         let view = shop.actions.get("view").ok_or("the action")?;
         assert_eq!(rt; view.defn_loc, Some(place(3)));
-        let applies_to = view.applies_to.as_ref().ok_or("the requests")?;
-        assert_eq!(rt; applies_to.principal_types.len(), 1);
-        assert_eq!(rt; applies_to.resource_types.len(), 0);
     }
     Ok(())
 }
@@ -319,6 +314,19 @@ fn record_types_give_back_their_attributes(rt: HostRuntime) -> Result<(), Fail> 
 }
 
 #[test]
+fn entity_types_give_back_their_parents(rt: HostRuntime) -> Result<(), Fail> {
+    let alloc = rt.alloc();
+    let user = member(alloc)?;
+    let EntityTypeKind::Standard(user) = &user.kind else {
+        return Err("a standard entity type")?;
+    };
+    assert_eq!(rt; user.member_of_types.len(), 1);
+    assert_eq!(rt; user.member_of_types[0].to_string(alloc)?.as_str(), "Group");
+    assert!(rt; tags_of(&user.shape.0).is_some());
+    Ok(())
+}
+
+#[test]
 fn actions_give_back_their_groups(rt: HostRuntime) -> Result<(), Fail> {
     let alloc = rt.alloc();
     let view = action(alloc)?;
@@ -327,5 +335,8 @@ fn actions_give_back_their_groups(rt: HostRuntime) -> Result<(), Fail> {
     assert_eq!(rt; groups.len(), 1);
     assert_eq!(rt; groups[0].id.as_str(), "all");
     assert!(rt; groups[0].ty.is_none());
+    let applies_to = view.applies_to.ok_or("the requests")?;
+    assert_eq!(rt; applies_to.principal_types.len(), 1);
+    assert_eq!(rt; applies_to.resource_types.len(), 0);
     Ok(())
 }

@@ -12,15 +12,18 @@ use std::hash::Hash;
 
 /// Base names of common types are compared by their texts.
 pub fn common_type_ids_compare_by_text()
-    ensures equality { (a b : CommonTypeId) → IsTrue (⟦<CommonTypeId as PartialEq>⟧.eq a b) ↔ (common_type_text a ≡ common_type_text b) }
-    ensures order { (a b : CommonTypeId) → ⟦<CommonTypeId as Ord>⟧.cmp a b ≡ slice_cmp nat_cmp (common_type_text a) (common_type_text b) }
+    ensures equality { (a b : CommonTypeId) → IsTrue (⟦<CommonTypeId as PartialEq>⟧.eq a b)
+        ↔ (common_type_text a ≡ common_type_text b) }
+    ensures order { (a b : CommonTypeId) → ⟦<CommonTypeId as Ord>⟧.cmp a b
+        ≡ slice_cmp nat_cmp (common_type_text a) (common_type_text b) }
     ensures hash { (a b : CommonTypeId) → common_type_text a ≡ common_type_text b
         → ⟦<CommonTypeId as Hash>⟧.hash_input a ≡ ⟦<CommonTypeId as Hash>⟧.hash_input b }
 {}
 
 /// Raw names are compared by what they stand for, whatever their locations.
 pub fn raw_names_compare_by_name()
-    ensures equality { (a b : RawName) → IsTrue (⟦<RawName as PartialEq>⟧.eq a b) ↔ (raw_name a ≡ raw_name b) }
+    ensures equality { (a b : RawName) → IsTrue (⟦<RawName as PartialEq>⟧.eq a b)
+        ↔ (raw_name a ≡ raw_name b) }
     ensures hash { (a b : RawName) → raw_name a ≡ raw_name b
         → ⟦<RawName as Hash>⟧.hash_input a ≡ ⟦<RawName as Hash>⟧.hash_input b }
 {}
@@ -30,6 +33,7 @@ pub fn raw_names_compare_by_name()
 pub fn conditional_names_compare_by_possibilities()
     ensures equality { (a b : ConditionalName) → IsTrue (⟦<ConditionalName as PartialEq>⟧.eq a b)
         ↔ ((possibilities_of a ≡ possibilities_of b) × (reference_type_of a ≡ reference_type_of b)) }
-    ensures hash { (a b : ConditionalName) → possibilities_of a ≡ possibilities_of b → reference_type_of a ≡ reference_type_of b
+    ensures hash { (a b : ConditionalName) → possibilities_of a ≡ possibilities_of b
+        → reference_type_of a ≡ reference_type_of b
         → ⟦<ConditionalName as Hash>⟧.hash_input a ≡ ⟦<ConditionalName as Hash>⟧.hash_input b }
 {}

@@ -13,8 +13,8 @@ pub struct ActionType<N> {
     /// The `memberOf` part: the groups of actions that the action is directly in, or None where
     /// none are written.
     pub member_of: Option<Vec<ActionEntityUID<N>>>,
-    /// Whether the declaration is external: the action is defined elsewhere, and only its place in
-    /// the hierarchy is declared here.
+    /// Whether the declaration is external: the action is defined elsewhere, and only its name and
+    /// its groups count here.
     pub external: bool,
     /// Where the action's name was written, if that is known.
     pub loc: Option<Loc>,
@@ -39,7 +39,7 @@ pub struct ApplySpec<N> {
 pub struct ActionEntityUID<N> {
     /// The action's id.
     pub id: String,
-    /// The name of the action's type, or None for the type `Action` of the namespace at hand.
+    /// The name of the action's type, or None for a type that is written as `Action`.
     pub ty: Option<N>,
     /// Where the reference was written, if that is known.
     pub loc: Option<Loc>,

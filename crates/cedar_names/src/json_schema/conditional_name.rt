@@ -64,9 +64,11 @@ impl ConditionalName {
 
     /// An equal reference with the same locations, or want of memory.
     pub fn clone(&self) -> M<Self>
-        ensures possibilities { IfOk result (λ copy. possibilities_of copy ≡ possibilities_of self.now) }
+        ensures possibilities { IfOk result
+            (λ copy. possibilities_of copy ≡ possibilities_of self.now) }
         ensures locs { IfOk result (λ copy. possibility_locs copy ≡ possibility_locs self.now) }
-        ensures reference_type { IfOk result (λ copy. reference_type_of copy ≡ reference_type_of self.now) }
+        ensures reference_type { IfOk result
+            (λ copy. reference_type_of copy ≡ reference_type_of self.now) }
     {
         Ok(ConditionalName {
             possibilities: NonEmpty {

@@ -43,8 +43,8 @@ pub enum TypeVariant<N> {
         /// The entity type's name.
         name: N,
     },
-    /// The common type of this name where there is one, and else the entities of the type of this
-    /// name.
+    /// A common type, or the entities of one type, whichever the name turns out to name: the common
+    /// type where it names both.
     EntityOrCommon {
         /// The name of the common type or entity type.
         type_name: N,
