@@ -1,10 +1,10 @@
+use crate::below::{Id, InternalName, Loc, Memory, Name, NonEmpty, UnreservedId};
 use crate::json_schema::{
     ActionEntityUID, ActionType, ApplySpec, AttributesOrContext, CommonType, CommonTypeId,
     ConditionalName, EntityType, EntityTypeKind, Fragment, NamespaceDefinition, QualifyError,
     RawName, RecordType, ReferenceType, StandardEntityType, Type, TypeNotDefinedError,
     TypeOfAttribute, TypeVariant,
 };
-use cedar_below::{Id, InternalName, Loc, Memory, Name, NonEmpty, UnreservedId};
 use std::alloc::Global;
 use std::collections::BTreeMap;
 use std::test::Fail;
