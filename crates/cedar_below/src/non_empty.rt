@@ -1,5 +1,5 @@
 /// A list with at least one item.
-#[derive(Debug, Drop, PartialEq, Eq)]
+#[derive(Debug, Drop, PartialEq, Eq, Hash)]
 pub struct NonEmpty<T> {
     /// The first item.
     pub head: T,

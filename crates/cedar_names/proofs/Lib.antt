@@ -1,0 +1,3 @@
+mod Equality
+mod Lasts
+mod ReservedWords

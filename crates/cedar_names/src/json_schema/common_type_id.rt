@@ -1,0 +1,85 @@
+ghost use Rattle.std.specs.Prelude.{◌≡◌, ◌↔◌, IsTrue, IsSome, IfSome, IfOk};
+ghost use Rattle.cedar_below.specs.UnreservedId.{unreserved_id_text};
+ghost use Rattle.cedar_names.specs.ReservedTypeWord.{IsReservedTypeWord};
+
+use cedar_below::{M, UnreservedId};
+use std::fmt;
+
+/// The base name of a common type: an identifier that names no type of Cedar's own.
+#[derive(Debug, Drop, PartialEq, Eq, PartialOrd, Ord, Hash)]
+pub struct CommonTypeId {
+    id: UnreservedId,
+    ghost common: { ¬ IsReservedTypeWord (unreserved_id_text id) },
+}
+
+/// Whether a text is a word that names a type of Cedar's own.
+#[tactic(auto, using(crate::proofs::ReservedWords::reserved_from_cases))]
+fn is_reserved_word(text: &str) -> bool
+    ensures { IsTrue result ↔ IsReservedTypeWord text.now }
+{
+    matches!(
+        text,
+        "Bool" | "Boolean" | "Entity" | "Extension" | "Long" | "Record" | "Set" | "String"
+    )
+}
+
+impl CommonTypeId {
+    ghost use Rattle.cedar_names.specs.CommonTypeId.{common_type_text};
+
+    /// The base name, or None exactly for `Bool`, `Boolean`, `Entity`, `Extension`, `Long`,
+    /// `Record`, `Set` and `String`, which name types of Cedar's own.
+    pub fn new(id: UnreservedId) -> Option<Self>
+        ensures valid { IsSome result ↔ ¬ IsReservedTypeWord (unreserved_id_text id) }
+        ensures text { IfSome result (λ kept. common_type_text kept ≡ unreserved_id_text id) }
+    {
+        if is_reserved_word(id.as_str()) {
+            None
+        } else {
+            Some(CommonTypeId { id })
+        }
+    }
+
+    /// The identifier, which names no type of Cedar's own.
+    pub fn as_id(&self) -> &UnreservedId
+        ensures text { unreserved_id_text result.now ≡ common_type_text self.now }
+        ensures common { ¬ IsReservedTypeWord (unreserved_id_text result.now) }
+    {
+        &self.id
+    }
+
+    /// The identifier, which names no type of Cedar's own.
+    pub fn into_id(self) -> UnreservedId
+        ensures text { unreserved_id_text result ≡ common_type_text self }
+        ensures common { ¬ IsReservedTypeWord (unreserved_id_text result) }
+    {
+        self.id
+    }
+
+    /// The identifier's text.
+    pub fn as_str(&self) -> &str
+        ensures text { result.now ≡ common_type_text self.now }
+        ensures common { ¬ IsReservedTypeWord result.now }
+    {
+        self.id.as_str()
+    }
+
+    /// An equal base name, or want of memory.
+    pub fn clone(&self) -> M<Self>
+        ensures { IfOk result (λ copy. common_type_text copy ≡ common_type_text self.now) }
+    {
+        Ok(CommonTypeId {
+            id: self.id.clone()?,
+        })
+    }
+}
+
+impl fmt::Display for CommonTypeId {
+    ghost use Rattle.std.specs.Prelude.{Some};
+    ghost use Rattle.cedar_names.specs.CommonTypeId.{common_type_text};
+
+    ghost output = { λ id. Some (common_type_text id) };
+
+    fn fmt<W: fmt::Write>(&self, f: &mut fmt::Formatter<W>) -> fmt::Result {
+        self.id.fmt(f)
+    }
+}

@@ -1,0 +1,97 @@
+ghost use Rattle.std.specs.Prelude.{◌≡◌, ◌∷◌, [], IfOk, map};
+ghost use Rattle.cedar_below.specs.InternalName.{name_of, name_loc};
+ghost use Rattle.cedar_names.specs.ConditionalName.{possibilities_of, possibility_locs, reference_type_of};
+ghost use Rattle.cedar_names.specs.PossibleNames.{names_of, locs_of};
+
+use crate::json_schema::reference_type::ReferenceType;
+use cedar_below::{InternalName, M, NonEmpty};
+use std::alloc::Global;
+use std::fmt;
+
+/// A reference to a type whose name is not settled yet: the names that it may stand for, and what
+/// kind of type it may name. It stands for the first of its possibilities that is declared as such
+/// a type.
+///
+/// Equality and hash ignore the locations of the names.
+#[derive(Debug, Drop, PartialEq, Eq, Hash)]
+pub struct ConditionalName {
+    possibilities: NonEmpty<InternalName>,
+    reference_type: ReferenceType,
+}
+
+/// Equal names in the same order with the same locations, or want of memory.
+fn clone_names(names: &Vec<InternalName>) -> M<Vec<InternalName>>
+    ensures names { IfOk result (λ copy. map name_of copy.items ≡ map name_of names.now.items) }
+    ensures locs { IfOk result (λ copy. map name_loc copy.items ≡ map name_loc names.now.items) }
+{
+    let mut copy = Vec::new(*names.allocator());
+    for name in names {
+        copy.push(name.clone()?)?;
+    }
+    Ok(copy)
+}
+
+impl ConditionalName {
+    /// The reference that can stand for this name alone.
+    pub fn unconditional(alloc: Global, name: InternalName, reference_type: ReferenceType) -> Self
+        ensures possibilities { possibilities_of result ≡ name_of name ∷ [] }
+        ensures locs { possibility_locs result ≡ name_loc name ∷ [] }
+        ensures reference_type { reference_type_of result ≡ reference_type }
+    {
+        ConditionalName {
+            possibilities: NonEmpty {
+                head: name,
+                tail: Vec::new(alloc),
+            },
+            reference_type,
+        }
+    }
+
+    /// The names that the reference may stand for, the first to be tried first.
+    pub fn possibilities(&self) -> &NonEmpty<InternalName>
+        ensures names { names_of result.now ≡ possibilities_of self.now }
+        ensures locs { locs_of result.now ≡ possibility_locs self.now }
+    {
+        &self.possibilities
+    }
+
+    /// What kind of type the reference may name.
+    pub fn reference_type(&self) -> &ReferenceType
+        ensures { result.now ≡ reference_type_of self.now }
+    {
+        &self.reference_type
+    }
+
+    /// An equal reference with the same locations, or want of memory.
+    pub fn clone(&self) -> M<Self>
+        ensures possibilities { IfOk result
+            (λ copy. possibilities_of copy ≡ possibilities_of self.now) }
+        ensures locs { IfOk result (λ copy. possibility_locs copy ≡ possibility_locs self.now) }
+        ensures reference_type { IfOk result
+            (λ copy. reference_type_of copy ≡ reference_type_of self.now) }
+    {
+        Ok(ConditionalName {
+            possibilities: NonEmpty {
+                head: self.possibilities.head.clone()?,
+                tail: clone_names(&self.possibilities.tail)?,
+            },
+            reference_type: self.reference_type,
+        })
+    }
+}
+
+/// Prints the last of the possibilities, which is the name as it was written.
+impl fmt::Display for ConditionalName {
+    ghost use Rattle.std.specs.Option.{option_map};
+    ghost use Rattle.cedar_below.specs.PlainName.{name_text};
+    ghost use Rattle.cedar_names.specs.ConditionalName.{last_possibility};
+
+    ghost output = { λ name. option_map name_text (last_possibility name) };
+
+    fn fmt<W: fmt::Write>(&self, f: &mut fmt::Formatter<W>) -> fmt::Result {
+        match self.possibilities.tail.last() {
+            Some(name) => name.fmt(f),
+            None => self.possibilities.head.fmt(f),
+        }
+    }
+}

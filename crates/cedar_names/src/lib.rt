@@ -1,0 +1,9 @@
+//! Names, and the plain data of schema fragments.
+#![tactic(auto)]
+
+pub use cedar_below as below;
+
+pub mod json_schema;
+#[cfg(test)]
+mod tests;
+pub mod theorems;
