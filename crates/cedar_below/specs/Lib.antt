@@ -9,6 +9,7 @@ pub mod Identifier
 pub mod InternalName
 pub mod KeyedEntities
 pub mod Name
+pub mod NonEmpty
 pub mod PlainName
 pub mod PlainUid
 pub mod Text
