@@ -31,6 +31,8 @@ mod loc;
 mod memory;
 mod name;
 mod non_empty;
+#[cfg(test)]
+mod tests;
 pub mod theorems;
 mod type_names;
 mod unreserved_id;
