@@ -1,8 +1,10 @@
+pub mod Collected
 pub mod FittingNames
 pub mod Ids
 pub mod Lists
 pub mod Lookups
 pub mod Names
+pub mod Ordered
 pub mod PlainNames
 pub mod Texts
 pub mod Uids

@@ -1,11 +1,15 @@
 pub mod Eid
+pub mod Entities
+pub mod Entity
 pub mod EntityType
 pub mod EntityUID
 pub mod Extensions
 pub mod Id
 pub mod Identifier
 pub mod InternalName
+pub mod KeyedEntities
 pub mod Name
+pub mod NonEmpty
 pub mod PlainName
 pub mod PlainUid
 pub mod Text

@@ -3,6 +3,8 @@
 
 pub use core_schema_type::{CoreAttributeType, CoreSchemaType};
 pub use eid::Eid;
+pub use entities::Entities;
+pub use entity::Entity;
 pub use entity_type::EntityType;
 pub use entity_uid::EntityUID;
 pub use extension::{ExtensionFunction, ExtensionFunctionLookupError, Extensions};
@@ -18,6 +20,8 @@ pub use value::{RestrictedExpr, Value};
 
 mod core_schema_type;
 mod eid;
+mod entities;
+mod entity;
 mod entity_type;
 mod entity_uid;
 mod extension;
@@ -27,6 +31,8 @@ mod loc;
 mod memory;
 mod name;
 mod non_empty;
+#[cfg(test)]
+mod tests;
 pub mod theorems;
 mod type_names;
 mod unreserved_id;

@@ -1,0 +1,23 @@
+use Rattle.std.specs.Prelude.{List, String, map}
+use Rattle.std.specs.BTreeMap.{BTreeMap}
+use Rattle.std.specs.declared.alloc.Global.{Global}
+use Rattle.cedar_below.specs.declared.entity.Entity.{Entity}
+use Rattle.cedar_below.specs.declared.value.Value.{Value}
+use Rattle.cedar_below.specs.EntityUID.{uid_of}
+use Rattle.cedar_below.specs.PlainUid.{PlainUid}
+
+-- the uid of an entity
+abbrev pub entity_uid : Entity → PlainUid
+entity_uid entity = uid_of entity.uid
+
+-- the attributes of an entity
+abbrev pub entity_attrs : Entity → BTreeMap (String Global) Value
+entity_attrs entity = entity.attrs
+
+-- the tags of an entity
+abbrev pub entity_tags : Entity → BTreeMap (String Global) Value
+entity_tags entity = entity.tags
+
+-- the uids of an entity's ancestors, in uid order
+abbrev pub entity_ancestors : Entity → List PlainUid
+entity_ancestors entity = map uid_of entity.ancestors.keys

@@ -1,0 +1,72 @@
+ghost use Rattle.std.specs.Prelude.{◌≡◌, map};
+ghost use Rattle.std.specs.List.Sorted.{IsStrictlySortedBy};
+ghost use Rattle.std.specs.Map.Iter.{ShowsInOrder, deref};
+ghost use Rattle.cedar_below.specs.Entity.{entity_uid, entity_attrs, entity_tags, entity_ancestors};
+ghost use Rattle.cedar_below.specs.EntityUID.{uid_of};
+ghost use Rattle.cedar_below.specs.PlainUid.{uid_cmp};
+
+use crate::entity_uid::EntityUID;
+use crate::value::Value;
+use std::collections::btree_set::Iter;
+use std::collections::{BTreeMap, BTreeSet};
+
+/// An entity: its uid, its attributes, its tags, and the uids of its ancestors.
+#[derive(Debug, Drop)]
+pub struct Entity {
+    uid: EntityUID,
+    attrs: BTreeMap<String, Value>,
+    tags: BTreeMap<String, Value>,
+    ancestors: BTreeSet<EntityUID>,
+}
+
+impl Entity {
+    /// The entity of this uid, with these attributes, tags and ancestors.
+    pub fn new(
+        uid: EntityUID,
+        attrs: BTreeMap<String, Value>,
+        tags: BTreeMap<String, Value>,
+        ancestors: BTreeSet<EntityUID>,
+    ) -> Self
+        ensures uid { entity_uid result ≡ uid_of uid }
+        ensures attrs { entity_attrs result ≡ attrs }
+        ensures tags { entity_tags result ≡ tags }
+        ensures ancestors { entity_ancestors result ≡ map uid_of ancestors.keys }
+    {
+        Entity {
+            uid,
+            attrs,
+            tags,
+            ancestors,
+        }
+    }
+
+    /// The entity's uid.
+    pub fn uid(&self) -> &EntityUID
+        ensures { uid_of result.now ≡ entity_uid self.now }
+    {
+        &self.uid
+    }
+
+    /// The entity's attributes, by name.
+    pub fn attrs(&self) -> &BTreeMap<String, Value>
+        ensures { result.now ≡ entity_attrs self.now }
+    {
+        &self.attrs
+    }
+
+    /// The entity's tags, by name.
+    pub fn tags(&self) -> &BTreeMap<String, Value>
+        ensures { result.now ≡ entity_tags self.now }
+    {
+        &self.tags
+    }
+
+    /// The uids of the entity's ancestors, in uid order and without repeats.
+    pub fn ancestors(&self) -> Iter<'_, EntityUID>
+        ensures ancestors { map uid_of result ≡ entity_ancestors self.now }
+        ensures ordered { IsStrictlySortedBy uid_cmp (entity_ancestors self.now) }
+        ensures runs { ShowsInOrder (deref {X = EntityUID}) }
+    {
+        self.ancestors.iter()
+    }
+}
