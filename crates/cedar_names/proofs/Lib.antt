@@ -1,3 +1,5 @@
-mod Equality
-mod Lasts
-mod ReservedWords
+pub mod Equality
+pub mod ExprLemmas
+pub mod Lasts
+pub mod PartLemmas
+pub mod ReservedWords

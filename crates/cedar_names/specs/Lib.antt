@@ -1,5 +1,11 @@
 pub mod CommonTypeId
 pub mod ConditionalName
+pub mod EntityBody
+pub mod Expr
+pub mod Part
+pub mod PlainMembers
 pub mod PossibleNames
+pub mod RawExpr
 pub mod RawName
+pub mod Reference
 pub mod ReservedTypeWord

@@ -18,6 +18,7 @@ mod common_type_id;
 mod conditional_name;
 mod entity_type;
 mod fragment;
+mod part;
 mod qualify_error;
 mod raw_name;
 mod reference_type;

@@ -1,0 +1,23 @@
+use Rattle.std.specs.Prelude.{List, [], ◌∷◌, ◌++◌, Option, None, Some}
+use Rattle.cedar_below.specs.PlainName.{PlainName}
+use Rattle.cedar_below.specs.Text.{Text}
+use Rattle.cedar_names.specs.declared.json_schema.reference_type.ReferenceType.{ReferenceType}
+
+-- a reference to a type: the names that it may stand for, the first to be tried first, and the kinds of definition that it may name
+pub record Reference : Type 0 where
+  pub possibilities : List PlainName
+  pub kind : ReferenceType
+
+-- the names that a base name after a path may stand for in a namespace: without a path the name in the namespace and then the name itself, with one itself alone
+abbrev pub names_within : PlainName → Text → List Text → List PlainName
+names_within namespace base [] = record { base = base; path = namespace.path ++ namespace.base ∷ [] } ∷ record { base = base; path = [] } ∷ []
+names_within namespace base (part ∷ path) = record { base = base; path = part ∷ path } ∷ []
+
+-- the names that a written name may stand for; in the empty namespace itself alone
+abbrev pub possible_names : Option PlainName → PlainName → List PlainName
+possible_names None name = name ∷ []
+possible_names (Some namespace) name = names_within namespace name.base name.path
+
+-- a written name as a reference
+abbrev pub reference_to : Option PlainName → ReferenceType → PlainName → Reference
+reference_to namespace kind name = record { possibilities = possible_names namespace name; kind = kind }
