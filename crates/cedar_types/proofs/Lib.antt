@@ -1,4 +1,5 @@
 pub mod CopyLemmas
+pub mod Extensional
 pub mod FieldLemmas
 pub mod MemberLemmas
 pub mod SortedLemmas
