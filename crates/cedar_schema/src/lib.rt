@@ -1,0 +1,7 @@
+//! Schemas of the Cedar policy language: declarations in, a schema or a refusal out.
+#![tactic(auto)]
+
+pub use cedar_names::json_schema;
+pub use schema_error::{ContextOrShape, SchemaError, UnsupportedFeature};
+
+mod schema_error;
