@@ -3,3 +3,4 @@ pub mod ExprLemmas
 pub mod Lasts
 pub mod PartLemmas
 pub mod ReservedWords
+pub mod VariantLemmas

@@ -4,4 +4,5 @@
 pub use cedar_names::json_schema;
 pub use schema_error::{ContextOrShape, SchemaError, UnsupportedFeature};
 
+mod builder;
 mod schema_error;

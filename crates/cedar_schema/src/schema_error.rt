@@ -1,5 +1,9 @@
+ghost use Rattle.std.specs.Prelude.{◌≡◌};
+ghost use Rattle.cedar_schema.specs.Fault.{fault_of, kind_text, want_of_memory};
+
 use cedar_below::{EntityType, EntityUID, InternalName, Memory, Name, NonEmpty};
 use cedar_names::json_schema::{ActionEntityUID, ConditionalName, TypeNotDefinedError};
+use std::alloc::{AllocError, AllocFailed};
 use thiserror::Error;
 
 /// A feature of schemas that is not supported.
@@ -89,4 +93,60 @@ pub enum SchemaError {
     /// Want of memory.
     #[error(transparent)]
     Memory(Memory),
+}
+
+impl From<Memory> for SchemaError {
+    ghost from_gives = { λ _ error. fault_of error ≡ want_of_memory };
+
+    fn from(refused: Memory) -> Self {
+        SchemaError::Memory(refused)
+    }
+}
+
+impl From<AllocError> for SchemaError {
+    ghost from_gives = { λ _ error. fault_of error ≡ want_of_memory };
+
+    fn from(_refused: AllocError) -> Self {
+        SchemaError::Memory(Memory)
+    }
+}
+
+impl<T: Drop> From<AllocFailed<T>> for SchemaError {
+    ghost from_gives = { λ _ error. fault_of error ≡ want_of_memory };
+
+    fn from(_refused: AllocFailed<T>) -> Self {
+        SchemaError::Memory(Memory)
+    }
+}
+
+impl SchemaError {
+    /// The name of the kind of refusal.
+    pub fn kind(&self) -> &'static str
+        ensures { result.now ≡ kind_text (fault_of self.now) }
+    {
+        match self {
+            SchemaError::UnsupportedFeature(_) => "UnsupportedFeature",
+            SchemaError::UndeclaredEntityTypes(_) => "UndeclaredEntityTypes",
+            SchemaError::TypeNotDefined(_) => "TypeNotDefined",
+            SchemaError::ActionNotDefined(_) => "ActionNotDefined",
+            SchemaError::TypeShadowing(_, _) => "TypeShadowing",
+            SchemaError::ActionShadowing(_, _) => "ActionShadowing",
+            SchemaError::DuplicateEntityType(_) => "DuplicateEntityType",
+            SchemaError::DuplicateCommonType(_) => "DuplicateCommonType",
+            SchemaError::DuplicateAction(_) => "DuplicateAction",
+            SchemaError::CycleInActionHierarchy(_) => "CycleInActionHierarchy",
+            SchemaError::CycleInCommonTypeReferences(_) => "CycleInCommonTypeReferences",
+            SchemaError::ActionEntityTypeDeclared(_) => "ActionEntityTypeDeclared",
+            SchemaError::ContextOrShapeNotRecord(_) => "ContextOrShapeNotRecord",
+            SchemaError::UnknownExtensionType(_) => "UnknownExtensionType",
+            SchemaError::ReservedName(_) => "ReservedName",
+            SchemaError::ExternalWithEnumAncestor(_, _) => "ExternalWithEnumAncestor",
+            SchemaError::EnumEntityInHierarchy(_, _) => "EnumEntityInHierarchy",
+            SchemaError::UndeclaredActionsDescendant(_) => "UndeclaredActionsDescendant",
+            SchemaError::InvalidActionType(_) => "InvalidActionType",
+            SchemaError::CommonTypeInvariantViolation => "CommonTypeInvariantViolation",
+            SchemaError::ActionInvariantViolation => "ActionInvariantViolation",
+            SchemaError::Memory(_) => "Memory",
+        }
+    }
 }

@@ -1,0 +1,4 @@
+pub mod BuildingLemmas
+pub mod DeclaredLemmas
+pub mod RecordLemmas
+pub mod TypeCases

@@ -1,0 +1,32 @@
+use Rattle.std.specs.Prelude.{◌≡◌, ◌≢◌, List, [], Contains}
+use Rattle.std.specs.BTreeMap.{BTreeMap}
+use Rattle.cedar_below.specs.PlainName.{PlainName}
+use Rattle.cedar_below.specs.declared.unreserved_id.UnreservedId.{UnreservedId}
+use Rattle.cedar_names.specs.Expr.{Expr}
+use Rattle.cedar_names.specs.Reference.{Reference}
+use Rattle.cedar_names.specs.declared.json_schema.entity_type.EntityType.{EntityType}
+use Rattle.cedar_names.specs.declared.json_schema.raw_name.RawName.{RawName}
+use Rattle.cedar_schema.specs.Defined.{Defined, IsUnresolved}
+use Rattle.cedar_schema.specs.EntityFaults.{declared_by_entries, defined_by, IsRecordType}
+use Rattle.cedar_schema.specs.Fault.{Fault, open_record, type_not_defined, want_of_memory, shape_not_record}
+use Rattle.cedar_schema.specs.Parts.{HasOpenRecord, Refers}
+use Rattle.cedar_schema.specs.WrittenOut.{WrittenOut}
+use Rattle.cedar_types.specs.Ty.{Ty}
+
+-- what references can name where the entity types of a map are declared
+abbrev pub defined_in : BTreeMap UnreservedId (EntityType RawName) → Defined
+defined_in declarations = defined_by (declared_by_entries declarations.entries)
+
+-- the refusal of an expression: an open record stands in it, or references that nothing resolves, or memory was wanting
+abbrev pub IsExprFault : Defined → Expr → Fault → Type 0
+IsExprFault defined expr open_record = HasOpenRecord expr
+IsExprFault defined expr (type_not_defined references) =
+    (references ≢ []) × ((reference : Reference) → Contains references reference → Refers expr reference × IsUnresolved defined reference)
+IsExprFault defined expr want_of_memory = Unit {0}
+IsExprFault defined expr _ = ⊥
+
+-- the refusal of the shape of an entity type: that of an expression, or that it is written out as no record
+abbrev pub IsShapeFault : Defined → PlainName → Expr → Fault → Type 0
+IsShapeFault defined name expr (shape_not_record other) =
+    (other ≡ name) × (ty : Ty) × WrittenOut defined expr ty × (IsRecordType ty → ⊥)
+IsShapeFault defined name expr fault = IsExprFault defined expr fault
