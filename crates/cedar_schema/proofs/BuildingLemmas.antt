@@ -1,8 +1,8 @@
-use Rattle.std.proofs.Common.{◌≡◌, ◌≢◌, List, [], ◌∷◌, sym, subst, ◌∙◌, ap, inl, inr, refl}
+use Rattle.std.proofs.Common.{◌≡◌, sym, subst}
 use Rattle.cedar_names.specs.Expr.{Expr, set_expr}
 use Rattle.cedar_schema.specs.Building.{IsExprFault}
 use Rattle.cedar_schema.specs.Defined.{Defined}
-use Rattle.cedar_schema.specs.Fault.{Fault, open_record, type_not_defined, want_of_memory}
+use Rattle.cedar_schema.specs.Fault.{Fault}
 use Rattle.cedar_schema.specs.WrittenOut.{WrittenOut}
 use Rattle.cedar_types.specs.Ty.{Ty}
 

@@ -1,4 +1,4 @@
-use Rattle.std.proofs.Common.{◌≡◌, ◌≢◌, ◌⊎◌, Bool, false, List, [], ◌∷◌, ◌++◌, None, map, ap, sym, subst, ◌∙◌, refl, inl, inr, ⊎_elim, append_assoc, string_bytes}
+use Rattle.std.proofs.Common.{◌≡◌, ◌⊎◌, Bool, false, List, [], ◌∷◌, ◌++◌, None, map, ap, sym, subst, ◌∙◌, refl, inl, inr, ⊎_elim, append_assoc, string_bytes}
 use Rattle.std.proofs.lemmas.Bool.{false≢true}
 use Rattle.std.proofs.lemmas.List.{map-append, append-nil}
 use Rattle.std.proofs.lemmas.Simd.{map-map}
@@ -22,7 +22,7 @@ use Rattle.cedar_names.specs.declared.json_schema.type_of.TypeOfAttribute.{TypeO
 use Rattle.cedar_schema.specs.Building.{IsExprFault}
 use Rattle.cedar_schema.specs.Defined.{Defined}
 use Rattle.cedar_schema.specs.Fault.{Fault, open_record, type_not_defined, want_of_memory}
-use Rattle.cedar_schema.specs.Parts.{HasOpenRecord, MembersHaveOpenRecord, Refers, MembersRefer}
+use Rattle.cedar_schema.specs.Parts.{HasOpenRecord, MembersHaveOpenRecord, MembersRefer}
 use Rattle.cedar_schema.specs.WrittenOut.{WrittenOut, MembersWrittenOut, as_record, as_no_member, as_member}
 use Rattle.cedar_schema.proofs.BuildingLemmas.{WrittenOut-as}
 use Rattle.cedar_types.proofs.Extensional.{fields_from-HoldsLast}
@@ -161,11 +161,11 @@ fault_of_next defined it left rest items name attribute fault is so_far at_fault
     let front = members_from (plain_members None so_far.done) in
     let P : Expr → Type 0 = λ each. IsExprFault defined each fault in
     let whole : raw_record None it ≡ record_expr (append_members front (member (string_bytes name) (raw_attribute None attribute).0 (raw_attribute None attribute).1 (members_from (plain_members None rest)))) additional =
-        raw_record-entries None it
-        ∙ ap (λ members. record_expr members additional)
-        (ap (λ entries. members_from (plain_members None entries)) (so_far.split ∙ ap (λ others. so_far.done ++ others) is)
-        ∙ (ap members_from (map-append (λ entry. (string_bytes entry.0, raw_attribute None entry.1)) so_far.done ((name, attribute) ∷ rest))
-        ∙ members_from-append (plain_members None so_far.done) (plain_members None ((name, attribute) ∷ rest)))) in
+    raw_record-entries None it
+    ∙ ap (λ members. record_expr members additional)
+    (ap (λ entries. members_from (plain_members None entries)) (so_far.split ∙ ap (λ others. so_far.done ++ others) is)
+    ∙ (ap members_from (map-append (λ entry. (string_bytes entry.0, raw_attribute None entry.1)) so_far.done ((name, attribute) ∷ rest))
+    ∙ members_from-append (plain_members None so_far.done) (plain_members None ((name, attribute) ∷ rest)))) in
     subst P (sym whole)
     (fault_of_member defined front (string_bytes name) (raw_attribute None attribute).0 (raw_attribute None attribute).1 (members_from (plain_members None rest)) additional fault
     (subst P (sym (ap (λ pair. pair.1) (raw_attribute-parts None attribute))) at_fault))
@@ -183,9 +183,9 @@ written_record defined it items left fields nothing ordered so_far holds ascendi
     let written : P all = subst P (WrittenSoFar-done defined all left items so_far nothing) so_far.written in
     let Q : List Text → Type 0 = IsStrictlySortedBy text_cmp in
     let names : field_names (fields_from (plain_attributes items)) ≡ map string_bytes (keys_of all) =
-        MembersWrittenOut-names defined (plain_members None all) written
-        ∙ (map-map (λ item. item.0) (λ entry. (string_bytes entry.0, raw_attribute None entry.1)) all
-        ∙ sym (map-map string_bytes (λ entry. entry.0) all)) in
+    MembersWrittenOut-names defined (plain_members None all) written
+    ∙ (map-map (λ item. item.0) (λ entry. (string_bytes entry.0, raw_attribute None entry.1)) all
+    ∙ sym (map-map string_bytes (λ entry. entry.0) all)) in
     let in_order : IsAscending (fields_from (plain_attributes items)) = subst Q (sym names) (IsStrictlySortedBy-map string_bytes text_cmp _ ordered) in
     let R : Fields → Type 0 = MembersWrittenOut defined (members_from (plain_members None all)) in
     WrittenOut-as defined (raw_record-entries None it) refl

@@ -1,13 +1,14 @@
-use Rattle.std.specs.Prelude.{◌≡◌, ◌≢◌, List, [], Contains}
+use Rattle.std.specs.Prelude.{◌≡◌, ◌≢◌, [], Contains}
 use Rattle.std.specs.BTreeMap.{BTreeMap}
-use Rattle.cedar_below.specs.PlainName.{PlainName}
+use Rattle.cedar_below.specs.PlainName.{PlainName, IsActionType}
 use Rattle.cedar_below.specs.declared.unreserved_id.UnreservedId.{UnreservedId}
+use Rattle.cedar_names.specs.EntityBody.{EntityBody, standard}
 use Rattle.cedar_names.specs.Expr.{Expr}
 use Rattle.cedar_names.specs.Reference.{Reference}
 use Rattle.cedar_names.specs.declared.json_schema.entity_type.EntityType.{EntityType}
 use Rattle.cedar_names.specs.declared.json_schema.raw_name.RawName.{RawName}
 use Rattle.cedar_schema.specs.Defined.{Defined, IsUnresolved}
-use Rattle.cedar_schema.specs.EntityFaults.{declared_by_entries, defined_by, IsRecordType}
+use Rattle.cedar_schema.specs.EntityFaults.{declared_by_entries, defined_by, IsRecordType, CountsIn}
 use Rattle.cedar_schema.specs.Fault.{Fault, open_record, type_not_defined, want_of_memory, shape_not_record}
 use Rattle.cedar_schema.specs.Parts.{HasOpenRecord, Refers}
 use Rattle.cedar_schema.specs.WrittenOut.{WrittenOut}
@@ -30,3 +31,13 @@ abbrev pub IsShapeFault : Defined → PlainName → Expr → Fault → Type 0
 IsShapeFault defined name expr (shape_not_record other) =
     (other ≡ name) × (ty : Ty) × WrittenOut defined expr ty × (IsRecordType ty → ⊥)
 IsShapeFault defined name expr fault = IsExprFault defined expr fault
+
+-- the refusal of what is declared of an entity type: that of its shape
+abbrev pub IsBodyFault : Defined → PlainName → EntityBody → Fault → Type 0
+IsBodyFault defined name (standard parents shape tags) fault = IsShapeFault defined name shape fault
+IsBodyFault defined name _ fault = ⊥
+
+-- the declaration has neither the base name of actions nor an open record that counts
+pub record IsSound (entity : PlainName × EntityBody) : Type 0 where
+  pub no_action : IsActionType entity.0 → ⊥
+  pub closed : (expr : Expr) → CountsIn entity.1 expr → HasOpenRecord expr → ⊥

@@ -1,4 +1,4 @@
-use Rattle.std.specs.Prelude.{List, [], ◌∷◌, map, Option, string_bytes, codes}
+use Rattle.std.specs.Prelude.{List, ◌∷◌, map, Option, string_bytes, codes}
 use Rattle.std.specs.Option.{option_map}
 use Rattle.cedar_below.specs.EntityType.{type_name}
 use Rattle.cedar_below.specs.EntityUID.{uid_of}

@@ -2,5 +2,8 @@ pub mod Building
 pub mod Defined
 pub mod EntityFaults
 pub mod Fault
+pub mod Fits
 pub mod Parts
+pub mod SchemaOf
+pub mod ValidatorSchema
 pub mod WrittenOut

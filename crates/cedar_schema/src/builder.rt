@@ -7,11 +7,15 @@ ghost use Rattle.cedar_below.specs.PlainName.{IsActionType};
 ghost use Rattle.cedar_names.specs.Part.{NamesEntitiesAlone, IsPlainStandard, IsInPart};
 ghost use Rattle.cedar_names.specs.RawExpr.{raw_expr, raw_variant, raw_record};
 ghost use Rattle.cedar_names.specs.RawName.{raw_name};
-ghost use Rattle.cedar_names.specs.Expr.{named};
+ghost use Rattle.cedar_names.specs.EntityBody.{raw_entity_body};
+ghost use Rattle.cedar_names.specs.Expr.{Expr, named};
+ghost use Rattle.std.specs.List.{AllByRecursion};
+ghost use Rattle.cedar_types.specs.ValidatorEntityType.{entity_type_of, descendant_names};
 ghost use Rattle.cedar_names.specs.Reference.{reference_to};
 ghost use Rattle.cedar_names.specs.declared.json_schema.reference_type.ReferenceType.TheVariants.{Entity};
-ghost use Rattle.cedar_schema.specs.Building.{defined_in, IsExprFault, IsShapeFault};
-ghost use Rattle.cedar_schema.specs.EntityFaults.{declared_by, declared_by_entries, name_here, IsEntityFault, defined_by};
+ghost use Rattle.cedar_schema.specs.Building.{defined_in, IsExprFault, IsShapeFault, IsBodyFault, IsSound};
+ghost use Rattle.cedar_schema.specs.EntityFaults.{declared_by, name_here, CountsIn, IsEntityFault, defined_by};
+ghost use Rattle.cedar_schema.specs.Fits.{KindFits, FitEach};
 ghost use Rattle.cedar_schema.specs.Fault.{Fault, fault_of, want_of_memory, type_not_defined, action_entity_type};
 ghost use Rattle.cedar_schema.specs.Parts.{HasOpenRecord};
 ghost use Rattle.cedar_schema.specs.WrittenOut.{WrittenOut};
@@ -19,9 +23,7 @@ ghost use Rattle.cedar_types.specs.Ty.{record_of};
 ghost use Rattle.cedar_types.specs.Meaning.{ty_of, fields_of};
 
 use crate::schema_error::{ContextOrShape, SchemaError, UnsupportedFeature};
-use cedar_below::{
-    EntityType, Id, InternalName, Loc, M, Memory, Name, NonEmpty, UnreservedId,
-};
+use cedar_below::{EntityType, InternalName, Loc, M, Name, NonEmpty, UnreservedId};
 use cedar_names::json_schema;
 use cedar_names::json_schema::{
     ConditionalName, EntityTypeKind, NamespaceDefinition, RawName, RecordType, ReferenceType,
@@ -147,9 +149,7 @@ fn attributes_of(
     ensures fault { IfErr result (λ error. IsExprFault (defined_in declarations.now) (raw_record None record_type.now) (fault_of error)) }
 {
     if record_type.additional_attributes {
-        return Err(SchemaError::UnsupportedFeature(
-            UnsupportedFeature::OpenRecordsAndEntities,
-        ));
+        return Err(SchemaError::UnsupportedFeature(UnsupportedFeature::OpenRecordsAndEntities));
     }
     let mut attributes = Vec::with_capacity(alloc, record_type.attributes.len())?;
     for (name, attribute) in &record_type.attributes {
@@ -202,7 +202,55 @@ fn shape_attributes(
     if let Type::Record { attrs, .. } = written {
         return Ok(attrs);
     }
-    Err(SchemaError::ContextOrShapeNotRecord(
-        ContextOrShape::EntityTypeShape(name.clone()?),
-    ))
+    Err(SchemaError::ContextOrShapeNotRecord(ContextOrShape::EntityTypeShape(name.clone()?)))
+}
+
+/// The entity type of a schema that a declaration gives.
+fn entity_type(
+    alloc: Global,
+    name: EntityType,
+    declaration: &json_schema::EntityType<RawName>,
+    declarations: &Declarations,
+) -> Result<ValidatorEntityType, SchemaError>
+    requires { IsPlainStandard (raw_entity_body None declaration.now) }
+    ensures name { IfOk result (λ ty. (entity_type_of ty).name ≡ type_name name) }
+    ensures kind { IfOk result (λ ty. KindFits (defined_in declarations.now) (raw_entity_body None declaration.now) (entity_type_of ty).kind) }
+    ensures no_descendants { IfOk result (λ ty. descendant_names ty ≡ []) }
+    ensures closed { OnOk result ((expr : Expr) → CountsIn (raw_entity_body None declaration.now) expr → HasOpenRecord expr → ⊥) }
+    ensures fault { IfErr result (λ error. IsBodyFault (defined_in declarations.now) (type_name name) (raw_entity_body None declaration.now) (fault_of error)) }
+{
+    let EntityTypeKind::Standard(standard) = &declaration.kind else {
+        unreachable!();
+    };
+    let attributes = shape_attributes(alloc, &name, &standard.shape.0, declarations)?;
+    let descendants: Vec<EntityType> = Vec::new(alloc);
+    Ok(ValidatorEntityType::new_standard(
+        alloc,
+        name,
+        descendants,
+        attributes,
+        OpenTag::ClosedAttributes,
+        None,
+        declaration.loc,
+    )?)
+}
+
+/// The entity types of the schema that a definition in the empty namespace declares.
+pub(crate) fn entity_types(
+    alloc: Global,
+    definition: &NamespaceDefinition<RawName>,
+) -> Result<BTreeMap<EntityType, ValidatorEntityType>, SchemaError>
+    requires { IsInPart definition.now }
+    ensures fits { IfOk result (λ types. FitEach (defined_by (declared_by definition.now)) (declared_by definition.now) types.entries) }
+    ensures sound { OnOk result (AllByRecursion IsSound (declared_by definition.now)) }
+    ensures fault { IfErr result (λ error. (fault_of error ≡ want_of_memory) ⊎ IsEntityFault (declared_by definition.now) (fault_of error)) }
+{
+    let mut types = BTreeMap::new(alloc);
+    for (id, declaration) in definition.entity_types.iter() {
+        let name = entity_type_name(alloc, id, declaration.loc)?;
+        let key = name.clone()?;
+        let ty = entity_type(alloc, name, declaration, &definition.entity_types)?;
+        types.insert(key, ty)?;
+    }
+    Ok(types)
 }

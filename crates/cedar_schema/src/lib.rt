@@ -2,7 +2,9 @@
 #![tactic(auto)]
 
 pub use cedar_names::json_schema;
+pub use schema::ValidatorSchema;
 pub use schema_error::{ContextOrShape, SchemaError, UnsupportedFeature};
 
 mod builder;
+mod schema;
 mod schema_error;

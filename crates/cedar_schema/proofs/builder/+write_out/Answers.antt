@@ -1,9 +1,9 @@
 use Rattle.std.proofs.Common.{◌≡◌, sym, subst, ◌∙◌, ap, None, rules}
-use Rattle.cedar_names.proofs.VariantLemmas.{raw_variant-String, raw_variant-Long, raw_variant-Boolean, raw_variant-Set, raw_variant-Record}
-use Rattle.cedar_names.specs.Expr.{Expr, set_expr}
-use Rattle.cedar_names.specs.RawExpr.{raw_expr, raw_variant, raw_record}
-use Rattle.cedar_schema.specs.Building.{defined_in, IsExprFault}
-use Rattle.cedar_schema.specs.WrittenOut.{WrittenOut, as_text, as_long, as_truth, as_set}
+use Rattle.cedar_names.proofs.VariantLemmas.{raw_variant-String, raw_variant-Long, raw_variant-Boolean, raw_variant-Set}
+use Rattle.cedar_names.specs.Expr.{set_expr}
+use Rattle.cedar_names.specs.RawExpr.{raw_expr, raw_variant}
+use Rattle.cedar_schema.specs.Building.{defined_in}
+use Rattle.cedar_schema.specs.WrittenOut.{as_text, as_long, as_truth, as_set}
 use Rattle.cedar_schema.proofs.BuildingLemmas.{WrittenOut-as, fault_passed-set}
 use Rattle.std.proofs.IntoIterSteps.{All-taken}
 use Rattle.cedar_names.proofs.PartLemmas.{DecidedBy-all}
@@ -13,7 +13,7 @@ use Rattle.cedar_names.specs.declared.json_schema.type_of.TypeOfAttribute.{out-T
 use Rattle.cedar_schema.proofs.RecordLemmas.{WrittenSoFar, WrittenSoFar-none, WrittenSoFar-more, fault_of_next, written_record, closed_record, Items}
 use Rattle.cedar_types.specs.Attributes.{HoldsLast, plain_attributes}
 use Rattle.cedar_types.specs.Meaning.{ty_of, fields_of}
-use Rattle.cedar_types.specs.Ty.{Ty, set_of}
+use Rattle.cedar_types.specs.Ty.{set_of}
 use Rattle.cedar_schema.proofs.builder.+write_out.Goals as goal
 
 pub variant_of-returns-in-String-clause-written_out : goal.variant_of-returns-in-String-clause-written_out
@@ -36,7 +36,7 @@ variant_of-returns-in_ok-new-in-Set-clause-written_out t c =
     (as_set c.in_ok-element-in-Set.ensures.written_out)
 
 pub variant_of-returns-in_err-element-in-Set-clause-fault : goal.variant_of-returns-in_err-element-in-Set-clause-fault
-variant_of-returns-in_err-element-in-Set-clause-fault t c = 
+variant_of-returns-in_err-element-in-Set-clause-fault t c =
     let same : raw_variant None c.args.ty.now ≡ set_expr (raw_expr None c.deref.result.now) = ap (raw_variant None) c.in-Set.is ∙ (raw_variant-Set None c.in-Set.element ∙ ap (λ ty. set_expr (raw_expr None ty)) (sym c.deref.ensures)) in
     let at_fault = fault_passed-set (defined_in c.args.declarations.now) (raw_variant None c.args.ty.now) (raw_expr None c.deref.result.now) same _ c.in_err-element-in-Set.ensures.fault in
     search (rules, at_fault)

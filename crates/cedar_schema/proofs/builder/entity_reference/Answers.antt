@@ -1,6 +1,4 @@
-use Rattle.std.proofs.Common.{◌≡◌, ◌∷◌, [], sym, subst, ◌∙◌, refl, inl, inr, None, Contains}
-use Rattle.std.specs.Option.{IfSome, IsSome}
-use Rattle.cedar_below.specs.EntityType.{type_name}
+use Rattle.std.proofs.Common.{◌∷◌, [], sym, subst, ◌∙◌, refl, inl, inr, None, Contains}
 use Rattle.cedar_below.specs.PlainName.{PlainName}
 use Rattle.cedar_names.specs.Expr.{named}
 use Rattle.cedar_names.specs.RawName.{raw_name}

@@ -1,0 +1,9 @@
+use Rattle.std.proofs.Common.{ap, ◌∙◌}
+use Rattle.std.specs.BTreeMap.{get_by}
+use Rattle.cedar_below.proofs.Names.{entity_type_ord-name_cmp}
+use Rattle.cedar_schema.proofs.schema.ValidatorSchema.get_entity_type.Goals as goal
+
+pub returns : goal.returns
+returns c =
+    c.get.ensures.value
+    ∙ ap (λ compare. get_by compare c.args.self.now.entity_types) (λ i key. entity_type_ord-name_cmp c.args.name.now key i)

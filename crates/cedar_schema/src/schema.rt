@@ -1,0 +1,80 @@
+ghost use Rattle.std.specs.Prelude.{◌≡◌, ◌⊎◌, [], IfOk, IfErr, OnOk, map};
+ghost use Rattle.std.specs.Option.{option_copied};
+ghost use Rattle.cedar_below.specs.EntityType.{type_name};
+ghost use Rattle.cedar_below.specs.Extensions.{extension_types};
+ghost use Rattle.cedar_below.specs.TypeNames.{TypeNamesFit};
+ghost use Rattle.cedar_names.specs.Part.{IsInPart};
+ghost use Rattle.cedar_schema.specs.EntityFaults.{declared_by, IsEntityFault};
+ghost use Rattle.cedar_schema.specs.Fault.{Fault, fault_of, want_of_memory};
+ghost use Rattle.cedar_schema.specs.SchemaOf.{IsSchemaOf};
+ghost use Rattle.cedar_schema.specs.ValidatorSchema.{schema_entries, entity_type_named};
+
+use crate::builder::entity_types;
+use crate::schema_error::SchemaError;
+use cedar_below::{EntityType, Extensions};
+use cedar_names::json_schema::{NamespaceDefinition, RawName};
+use cedar_types::ValidatorEntityType;
+use std::alloc::Global;
+use std::collections::{BTreeMap, btree_map};
+
+/// A schema: the entity types that it declares.
+///
+/// Equality ignores locations.
+#[derive(Debug, Drop, PartialEq, Eq)]
+pub struct ValidatorSchema {
+    entity_types: BTreeMap<EntityType, ValidatorEntityType>,
+}
+
+impl ValidatorSchema {
+    /// The schema that declares nothing.
+    pub fn empty(alloc: Global) -> Self
+        ensures { schema_entries result ≡ [] }
+    {
+        ValidatorSchema {
+            entity_types: BTreeMap::new(alloc),
+        }
+    }
+
+    /// The schema that a definition in the empty namespace declares, over the given extensions.
+    ///
+    /// An error other than want of memory names a fault of the definition; where there is none, the
+    /// schema is the one that is declared.
+    pub fn from_namespace_def(
+        alloc: Global,
+        definition: NamespaceDefinition<RawName>,
+        extensions: &Extensions,
+    ) -> Result<Self, SchemaError>
+        requires part { IsInPart definition }
+        requires names_fit { TypeNamesFit (extension_types extensions.now) }
+        ensures fault { IfErr result (λ error. (fault_of error ≡ want_of_memory) ⊎ IsEntityFault (declared_by definition) (fault_of error)) }
+        ensures nothing_at_fault { OnOk result ((fault : Fault) → IsEntityFault (declared_by definition) fault → ⊥) }
+        ensures schema { IfOk result (IsSchemaOf (declared_by definition)) }
+    {
+        // No extension type stands in the part, so none is looked up.
+        let _ = extensions;
+        Ok(ValidatorSchema {
+            entity_types: entity_types(alloc, &definition)?,
+        })
+    }
+
+    /// The entity type of this name, if the schema declares one.
+    pub fn get_entity_type(&self, name: &EntityType) -> Option<&ValidatorEntityType>
+        ensures { option_copied result ≡ entity_type_named self.now (type_name name.now) }
+    {
+        self.entity_types.get(name)
+    }
+
+    /// The entity types, in the order of their names.
+    pub fn entity_types(&self) -> btree_map::Values<'_, EntityType, ValidatorEntityType>
+        ensures { result ≡ map (λ entry. entry.1) (schema_entries self.now) }
+    {
+        self.entity_types.values()
+    }
+
+    /// The names of the entity types, in order.
+    pub fn entity_type_names(&self) -> btree_map::Keys<'_, EntityType, ValidatorEntityType>
+        ensures { result ≡ map (λ entry. entry.0) (schema_entries self.now) }
+    {
+        self.entity_types.keys()
+    }
+}
