@@ -1,0 +1,94 @@
+//! What the program does, over any two writers.
+
+ghost use Rattle.std.specs.Prelude.{◌≡◌, ◌↔◌, map, string_bytes};
+ghost use Rattle.schema_show.specs.Words.{IsCommand};
+
+use crate::cases::{sample_extensions, shapes};
+use crate::command::{Case, Command, command_of};
+use crate::lines::{lines_of, text_of};
+use cedar_schema::below::{M, Memory};
+use cedar_schema::{SchemaError, ValidatorSchema};
+use std::alloc::Global;
+use std::io::Write;
+
+/// How to call the program.
+const USAGE: &str = "usage: schema_show list | show CASE | join MODE A B\n";
+
+/// What is printed, and the status that goes with it.
+#[derive(Drop)]
+struct Outcome {
+    text: String,
+    status: u8,
+}
+
+/// The schema of a case.
+fn schema_of(alloc: Global, case: Case) -> Result<ValidatorSchema, SchemaError> {
+    let definition = match case {
+        Case::Shapes => shapes(alloc)?,
+    };
+    let extensions = sample_extensions(alloc)?;
+    if definition.in_part() && extensions.type_names_fit() {
+        ValidatorSchema::from_namespace_def(alloc, definition, &extensions)
+    } else {
+        Err(SchemaError::UnsupportedFeature(
+            cedar_schema::UnsupportedFeature::OpenRecordsAndEntities,
+        ))
+    }
+}
+
+/// The lines of a case, or the line that says how it was refused.
+fn show(alloc: Global, case: Case) -> M<Outcome> {
+    match schema_of(alloc, case) {
+        Ok(schema) => Ok(Outcome {
+            text: text_of(alloc, &lines_of(alloc, &schema)?)?,
+            status: 0,
+        }),
+        Err(SchemaError::Memory(refused)) => Err(refused),
+        Err(refused) => {
+            let kind = refused.kind();
+            Ok(Outcome {
+                text: format!(in alloc; "refused: {kind}\n")?,
+                status: 1,
+            })
+        }
+    }
+}
+
+/// What a command prints.
+fn outcome_of(alloc: Global, command: Command) -> M<Outcome> {
+    match command {
+        Command::List => Ok(Outcome {
+            text: String::from_str(alloc, "shapes\n")?,
+            status: 0,
+        }),
+        Command::Show(case) => show(alloc, case),
+    }
+}
+
+/// Does what the words say, and answers the status.
+///
+/// - 0: what was asked for is printed on `out`.
+/// - 1: the schema was refused; `out` has the line `refused: KIND`.
+/// - 2: the words give no command; `err` has the line on usage.
+/// - 3: memory was wanting; `err` has the line `memory`, and nothing was printed on `out`.
+/// - 4: `out` couldn't be written.
+///
+/// A failed write to `err` is ignored.
+pub fn run<O: Write, E: Write>(alloc: Global, words: &[String], out: &mut O, err: &mut E) -> u8
+    ensures usage { (result ≡ 2) ↔ (IsCommand (map string_bytes words.now) → ⊥) }
+{
+    let Some(command) = command_of(words) else {
+        let _ = err.write_all(USAGE.as_bytes());
+        return 2;
+    };
+    match outcome_of(alloc, command) {
+        Ok(outcome) => match out.write_all(outcome.text.as_bytes()) {
+            Ok(()) => outcome.status,
+            Err(_) => 4,
+        },
+        Err(Memory) => {
+            let _ = err.write_all(b"memory\n");
+            3
+        }
+    }
+}
