@@ -1,5 +1,6 @@
 pub mod CopyLemmas
 pub mod FieldLemmas
 pub mod MemberLemmas
+pub mod MergedLemmas
 pub mod SortedLemmas
 pub mod UnionLemmas
