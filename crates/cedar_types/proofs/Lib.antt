@@ -2,5 +2,6 @@ pub mod CopyLemmas
 pub mod FieldLemmas
 pub mod MemberLemmas
 pub mod MergedLemmas
+pub mod SetLemmas
 pub mod SortedLemmas
 pub mod UnionLemmas
