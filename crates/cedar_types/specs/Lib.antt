@@ -2,6 +2,7 @@ pub mod Attributes
 pub mod EntityKind
 pub mod EntityLUB
 pub mod EntityTypeKind
+pub mod EntityTypes
 pub mod Meaning
 pub mod Primitive
 pub mod Ty
