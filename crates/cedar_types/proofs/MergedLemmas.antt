@@ -44,17 +44,21 @@ Contains-distinct types name there =
 
 -- the names of two lists that are put together, reordered and without repeats are those of both
 IsUnionOf-distinct : (types others sorted : List EntityType) → IsPermutation (types ++ others) sorted → IsUnionOf (map type_name types) (map type_name others) (map type_name (distinct sorted))
-IsUnionOf-distinct types others sorted permutation name = (
-  λ there.
-      let (ty, inside, same) = Contains-named (distinct sorted) name there in
-      let back = Contains-permutation sorted (types ++ others) ty (IsPermutation-sym (types ++ others) sorted permutation) (Contains-from_dedup ((entity_type_eq.ghosts).eq) sorted ty inside) in
-      elim (Contains-append_cases types others ty back) [ inl first ↦ inl (Contains-name types ty name same first) | inr second ↦ inr (Contains-name others ty name same second) ],
-  λ there.
-      Contains-distinct
-      sorted
-      name
-      (elim there [ inl first ↦ Contains-names_among types sorted (λ ty inside. Contains-permutation (types ++ others) sorted ty permutation (Contains-append_left types others ty inside)) name first | inr second ↦ Contains-names_among others sorted (λ ty inside. Contains-permutation (types ++ others) sorted ty permutation (Contains-append_right types others ty inside)) name second ]),
-)
+IsUnionOf-distinct types others sorted permutation name =
+    let both = types ++ others in
+    let back = λ (ty : EntityType) (inside : Contains (distinct sorted) ty). Contains-permutation sorted both ty (IsPermutation-sym both sorted permutation) (Contains-from_dedup ((entity_type_eq.ghosts).eq) sorted ty inside) in
+    let moved = λ (ty : EntityType) (inside : Contains both ty). Contains-permutation both sorted ty permutation inside in (
+      λ there.
+          let (ty, inside, same) = Contains-named (distinct sorted) name there in
+          elim (Contains-append_cases types others ty (back ty inside)) [ inl first ↦ inl (Contains-name types ty name same first) | inr second ↦ inr (Contains-name others ty name same second) ],
+      λ there.
+          let left = λ (ty : EntityType) (inside : Contains types ty). moved ty (Contains-append_left types others ty inside) in
+          let right = λ (ty : EntityType) (inside : Contains others ty). moved ty (Contains-append_right types others ty inside) in
+          Contains-distinct
+          sorted
+          name
+          (elim there [ inl first ↦ Contains-names_among types sorted left name first | inr second ↦ Contains-names_among others sorted right name second ]),
+    )
 
 -- entity types in order without repeats have names that ascend
 pub IsStrictlySortedBy-distinct : (sorted all : List EntityType) → IsSorted ((entity_type_ord.ghosts).cmp) sorted → IsFiltered (DiffersFromLast ((entity_type_eq.ghosts).eq)) [] sorted all → IsStrictlySortedBy name_cmp (map type_name all)

@@ -196,6 +196,19 @@ fn locations_of_attributes_are_not_compared(rt: HostRuntime) -> Result<(), Fail>
 }
 
 #[test]
+fn attributes_keep_their_locations(rt: HostRuntime) -> Result<(), Fail> {
+    let alloc = rt.alloc();
+    let declared = AttributeType::new_with_loc(Rc::new(alloc, Type::Long)?, true, Some(PLACE));
+    let some = Attributes::with_attributes(alloc, [(text(alloc, "a")?, declared)])?;
+    let copy = some.clone()?;
+    for attributes in [&some, &copy] {
+        let attribute = attributes.get_attr("a").ok_or("not found")?;
+        assert_eq!(rt; attribute.loc, Some(PLACE));
+    }
+    Ok(())
+}
+
+#[test]
 fn unions_hold_each_entity_type_once(rt: HostRuntime) -> Result<(), Fail> {
     let alloc = rt.alloc();
     let foo = entity_type(alloc, "Foo")?;
