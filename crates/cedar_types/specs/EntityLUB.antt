@@ -1,4 +1,4 @@
-use Rattle.std.specs.Prelude.{List, [], ◌∷◌, map, Option, Some, None, Contains}
+use Rattle.std.specs.Prelude.{◌⊎◌, ◌↔◌, List, [], ◌∷◌, map, Option, Some, None, Contains}
 use Rattle.cedar_below.specs.EntityType.{type_name}
 use Rattle.cedar_below.specs.PlainName.{PlainName}
 use Rattle.cedar_types.specs.declared.entity_lub.EntityLUB.{EntityLUB}
@@ -16,3 +16,7 @@ only_name (name ∷ other ∷ rest) = None
 -- no name stands in both lists
 abbrev pub AreDisjoint : List PlainName → List PlainName → Type 0
 AreDisjoint names others = (name : PlainName) → Contains names name → Contains others name → ⊥
+
+-- the names of the last list are those that stand in one of the first two
+abbrev pub IsUnionOf : List PlainName → List PlainName → List PlainName → Type 0
+IsUnionOf names others all = (name : PlainName) → Contains all name ↔ (Contains names name ⊎ Contains others name)

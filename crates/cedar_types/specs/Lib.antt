@@ -1,7 +1,10 @@
 pub mod Attributes
+pub mod BoolType
 pub mod EntityKind
 pub mod EntityLUB
 pub mod EntityTypeKind
+pub mod EntityTypes
+pub mod LubHelp
 pub mod Meaning
 pub mod Primitive
 pub mod Ty

@@ -118,6 +118,11 @@ impl Attributes {
         }
     }
 
+    /// The allocator of the map.
+    pub(crate) fn allocator(&self) -> Global {
+        self.alloc
+    }
+
     /// The attributes of these names. Of repeated names the last wins.
     pub fn with_attributes<I: IntoIterator<Item = (String, AttributeType)>>(
         alloc: Global,

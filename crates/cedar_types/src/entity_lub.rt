@@ -1,9 +1,10 @@
 ghost use Rattle.std.specs.Prelude.{◌≡◌, ◌≢◌, [], map, IfOk};
-ghost use Rattle.std.specs.List.Sorted.{IsStrictlySortedBy, IsStrictlySortedBy-prop};
+ghost use Rattle.std.specs.List.Sorted.{IsPermutation, IsSorted, IsStrictlySortedBy, IsStrictlySortedBy-prop};
 ghost use Rattle.cedar_below.specs.EntityType.{type_name};
 ghost use Rattle.cedar_below.specs.PlainName.{name_cmp};
 
 use cedar_below::{EntityType, M};
+use itertools::Itertools;
 use std::alloc::Global;
 use std::slice;
 
@@ -26,6 +27,15 @@ fn clone_each(types: &Vec<EntityType>) -> M<Vec<EntityType>>
     Ok(copy)
 }
 
+/// The same entity types in order, or want of memory.
+fn sorted_types(types: Vec<EntityType>) -> M<Vec<EntityType>>
+    ensures permutation { IfOk result (λ sorted. IsPermutation types.items sorted.items) }
+    ensures sorted { IfOk result (λ sorted. IsSorted ⟦<EntityType as Ord>⟧.cmp sorted.items) }
+{
+    let alloc = *types.allocator();
+    Ok(types.into_iter().sorted(alloc)?.collect_vec(alloc)?)
+}
+
 impl EntityLUB {
     ghost use Rattle.std.specs.Prelude.{◌≡◌, ◌≢◌, ◌↔◌, IsTrue, IfOk, [], ◌∷◌, map, Contains};
     ghost use Rattle.std.specs.List.Sorted.{IsStrictlySortedBy};
@@ -33,7 +43,7 @@ impl EntityLUB {
     ghost use Rattle.std.specs.Slice.Iter.{iter_rest};
     ghost use Rattle.cedar_below.specs.EntityType.{type_name};
     ghost use Rattle.cedar_below.specs.PlainName.{name_cmp};
-    ghost use Rattle.cedar_types.specs.EntityLUB.{lub_names, only_name, AreDisjoint};
+    ghost use Rattle.cedar_types.specs.EntityLUB.{lub_names, only_name, AreDisjoint, IsUnionOf};
 
     /// The union of a single entity type, or want of memory.
     pub fn single_entity(alloc: Global, ty: EntityType) -> M<Self>
@@ -99,6 +109,17 @@ impl EntityLUB {
             }
         }
         true
+    }
+
+    /// The union of the entity types of both unions, or want of memory.
+    pub fn least_upper_bound(&self, other: &EntityLUB) -> M<EntityLUB>
+        ensures { IfOk result (λ lub. IsUnionOf (lub_names self.now) (lub_names other.now) (lub_names lub)) }
+    {
+        let mut both = clone_each(&self.elements)?;
+        both.append(&mut clone_each(&other.elements)?)?;
+        let mut elements = sorted_types(both)?;
+        elements.dedup();
+        Ok(EntityLUB { elements })
     }
 
     /// An equal union, or want of memory.

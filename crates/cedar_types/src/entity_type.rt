@@ -192,4 +192,31 @@ impl ValidatorEntityType {
             ValidatorEntityTypeKind::External => None,
         }
     }
+
+    /// Equal entity types, or want of memory.
+    fn clone_types(alloc: Global, types: &HashSet<EntityType>) -> M<HashSet<EntityType>>
+        ensures { IfOk result (λ copy. SameMembers (map type_name copy.keys) (map type_name types.now.keys)) }
+    {
+        let mut copy = HashSet::new(alloc);
+        for ty in types {
+            copy.insert(ty.clone()?)?;
+        }
+        Ok(copy)
+    }
+
+    /// An equal entity type with the same location, or want of memory.
+    pub fn clone(&self) -> M<Self>
+        ensures entity_type { IfOk result (λ copy. entity_type_of copy ≡ entity_type_of self.now) }
+        ensures descendants { IfOk result (λ copy. SameMembers (descendant_names copy) (descendant_names self.now)) }
+        ensures loc { IfOk result (λ copy. copy.loc ≡ self.now.loc) }
+    {
+        let alloc = self.no_attributes.allocator();
+        Ok(ValidatorEntityType {
+            name: self.name.clone()?,
+            descendants: Self::clone_types(alloc, &self.descendants)?,
+            kind: self.kind.clone()?,
+            loc: self.loc,
+            no_attributes: Attributes::empty(alloc),
+        })
+    }
 }

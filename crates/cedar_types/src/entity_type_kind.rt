@@ -1,12 +1,12 @@
-ghost use Rattle.std.specs.Prelude.{◌≡◌};
+ghost use Rattle.std.specs.Prelude.{◌≡◌, IfOk};
 ghost use Rattle.std.specs.Option.{option_copied, option_map};
-ghost use Rattle.cedar_types.specs.EntityTypeKind.{standard_kind, standard, kind_fields, kind_tag, kind_tags};
+ghost use Rattle.cedar_types.specs.EntityTypeKind.{standard_kind, standard, kind_of, kind_fields, kind_tag, kind_tags};
 ghost use Rattle.cedar_types.specs.Meaning.{ty_of, fields_of};
 
 use crate::attributes::Attributes;
 use crate::open_tag::OpenTag;
 use crate::types::Type;
-use cedar_below::{Eid, NonEmpty};
+use cedar_below::{Eid, M, NonEmpty};
 
 /// How an entity type of a schema is declared.
 #[derive(Debug, Drop, PartialEq, Eq)]
@@ -25,6 +25,23 @@ pub struct StandardValidatorEntityType {
     attributes: Attributes,
     open_attributes: OpenTag,
     tags: Option<Type>,
+}
+
+impl ValidatorEntityTypeKind {
+    /// An equal kind, or want of memory.
+    pub fn clone(&self) -> M<Self>
+        ensures { IfOk result (λ copy. kind_of copy ≡ kind_of self.now) }
+    {
+        Ok(match self {
+            ValidatorEntityTypeKind::Standard(standard) => {
+                ValidatorEntityTypeKind::Standard(standard.clone()?)
+            }
+            ValidatorEntityTypeKind::Enum(choices) => {
+                ValidatorEntityTypeKind::Enum(choices.clone()?)
+            }
+            ValidatorEntityTypeKind::External => ValidatorEntityTypeKind::External,
+        })
+    }
 }
 
 impl StandardValidatorEntityType {
@@ -58,5 +75,20 @@ impl StandardValidatorEntityType {
         ensures { option_map ty_of (option_copied result) ≡ kind_tags (standard_kind self.now) }
     {
         self.tags.as_ref()
+    }
+
+    /// An equal entity type, or want of memory.
+    pub fn clone(&self) -> M<Self>
+        ensures { IfOk result (λ copy. standard_kind copy ≡ standard_kind self.now) }
+    {
+        let tags = match &self.tags {
+            Some(ty) => Some(ty.clone()?),
+            None => None,
+        };
+        Ok(StandardValidatorEntityType {
+            attributes: self.attributes.clone()?,
+            open_attributes: self.open_attributes,
+            tags,
+        })
     }
 }

@@ -18,6 +18,11 @@ pub enum LubHelp {
 }
 
 impl fmt::Display for LubHelp {
+    ghost use Rattle.std.specs.Prelude.{Some};
+    ghost use Rattle.cedar_types.specs.LubHelp.{help_text};
+
+    ghost output = { λ help. Some (help_text help) };
+
     fn fmt<W: fmt::Write>(&self, f: &mut fmt::Formatter<W>) -> fmt::Result {
         f.write_str(match self {
             LubHelp::None => "None",

@@ -20,4 +20,7 @@ mod entity_type_kind;
 mod join_error;
 mod open_tag;
 mod show;
+#[cfg(test)]
+mod tests;
+mod type_queries;
 mod types;

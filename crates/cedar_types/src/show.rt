@@ -7,6 +7,11 @@ use std::fmt;
 use std::fmt::Display;
 
 impl fmt::Display for BoolType {
+    ghost use Rattle.std.specs.Prelude.{Some};
+    ghost use Rattle.cedar_types.specs.BoolType.{bool_text};
+
+    ghost output = { λ known. Some (bool_text known) };
+
     fn fmt<W: fmt::Write>(&self, f: &mut fmt::Formatter<W>) -> fmt::Result {
         f.write_str(match self {
             BoolType::AnyBool => "Bool",

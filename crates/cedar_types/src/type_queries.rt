@@ -1,0 +1,40 @@
+ghost use Rattle.std.specs.Prelude.{◌≡◌};
+ghost use Rattle.std.specs.Option.{option_copied, option_map};
+ghost use Rattle.cedar_types.specs.EntityKind.{kind_names};
+ghost use Rattle.cedar_types.specs.EntityLUB.{lub_names};
+ghost use Rattle.cedar_types.specs.EntityTypes.{is_entity, set_or_kind_names};
+ghost use Rattle.cedar_types.specs.Meaning.{ty_of};
+
+use crate::entity_lub::EntityLUB;
+use crate::types::Type;
+
+impl Type {
+    /// Whether this is a type of entities: of any type, or of one in a union.
+    pub fn is_entity_type(&self) -> bool
+        ensures { result ≡ is_entity (ty_of self.now) }
+    {
+        matches!(self, Type::Entity(_))
+    }
+
+    /// The union that an entity's type is one of, if this is a type of entities that knows one.
+    pub fn as_entity_lub(&self) -> Option<&EntityLUB>
+        ensures { option_map lub_names (option_copied result) ≡ kind_names (ty_of self.now) }
+    {
+        match self {
+            Type::Entity(kind) => kind.as_entity_lub(),
+            _ => None,
+        }
+    }
+
+    /// The union that an entity's type is one of, or that of a set's elements, if one is known.
+    pub fn as_set_or_entity_lub(&self) -> Option<&EntityLUB>
+        ensures { option_map lub_names (option_copied result) ≡ set_or_kind_names (ty_of self.now) }
+    {
+        match self {
+            Type::Set {
+                element_type: Some(element),
+            } => element.as_entity_lub(),
+            _ => self.as_entity_lub(),
+        }
+    }
+}
