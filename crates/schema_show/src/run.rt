@@ -1,6 +1,6 @@
 //! What the program does, over any two writers.
 
-ghost use Rattle.std.specs.Prelude.{◌≡◌, ◌↔◌, map, string_bytes};
+ghost use Rattle.std.specs.Prelude.{◌≡◌, ◌<◌, ◌↔◌, IfOk, map, string_bytes};
 ghost use Rattle.schema_show.specs.Words.{IsCommand};
 
 use crate::cases::{sample_extensions, shapes};
@@ -37,7 +37,9 @@ fn schema_of(alloc: Global, case: Case) -> Result<ValidatorSchema, SchemaError> 
 }
 
 /// The lines of a case, or the line that says how it was refused.
-fn show(alloc: Global, case: Case) -> M<Outcome> {
+fn show(alloc: Global, case: Case) -> M<Outcome>
+    ensures { IfOk result (λ outcome. outcome.status < 2) }
+{
     match schema_of(alloc, case) {
         Ok(schema) => Ok(Outcome {
             text: text_of(alloc, &lines_of(alloc, &schema)?)?,
@@ -55,7 +57,9 @@ fn show(alloc: Global, case: Case) -> M<Outcome> {
 }
 
 /// What a command prints.
-fn outcome_of(alloc: Global, command: Command) -> M<Outcome> {
+fn outcome_of(alloc: Global, command: Command) -> M<Outcome>
+    ensures { IfOk result (λ outcome. outcome.status < 2) }
+{
     match command {
         Command::List => Ok(Outcome {
             text: String::from_str(alloc, "shapes\n")?,
