@@ -1,4 +1,5 @@
 pub mod Attributes
+pub mod Below
 pub mod EntityKind
 pub mod EntityLUB
 pub mod EntityTypeKind

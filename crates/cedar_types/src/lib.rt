@@ -20,4 +20,5 @@ mod entity_type_kind;
 mod join_error;
 mod open_tag;
 mod show;
+mod subtype;
 mod types;
