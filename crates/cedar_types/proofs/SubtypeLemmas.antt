@@ -95,11 +95,3 @@ pub HasBelow-none : (mode : ValidationMode) (lower : Fields) (name : Text) (uppe
 HasBelow-none mode lower name upper ascending none has =
     let again : field_at name lower ≡ Some (has.0, has.1) = found-HasField name lower has.0 has.1 ascending has.2 in
     cc
-
--- one more part holds, so that what is left is as much
-pub rest_alone : {H R W : Type 0} → (H × R) ↔ W → H → R ↔ W
-rest_alone so_far first = (λ rest. so_far.0 (first, rest), λ whole. (so_far.1 whole).1)
-
--- a part doesn't hold, so that the whole doesn't
-pub part_fails : {H R W : Type 0} → (H × R) ↔ W → (H → ⊥) → Decides false W
-part_fails so_far fails = (λ e. absurd cc, λ whole. absurd (fails (so_far.1 whole).0))

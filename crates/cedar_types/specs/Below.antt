@@ -1,4 +1,5 @@
-use Rattle.std.specs.Prelude.{◌≡◌, ◌⊎◌, Bool, IsTrue, List, Contains}
+use Rattle.std.specs.Prelude.{◌≡◌, ◌⊎◌, Bool, IsTrue}
+use Rattle.cedar_below.specs.Included.{Included}
 use Rattle.cedar_below.specs.Text.{Text}
 use Rattle.cedar_below.specs.declared.validation_mode.ValidationMode.{ValidationMode}
 use Rattle.cedar_below.specs.declared.validation_mode.ValidationMode.TheVariants.{Strict, Permissive}
@@ -7,10 +8,6 @@ use Rattle.cedar_types.specs.Ty.{Ty, never, truth, long, text, any_entity, union
 use Rattle.cedar_types.specs.declared.bool_type.BoolType.TheVariants.{AnyBool}
 use Rattle.cedar_types.specs.declared.open_tag.OpenTag.{OpenTag}
 use Rattle.cedar_types.specs.declared.open_tag.OpenTag.TheVariants.{OpenAttributes, ClosedAttributes}
-
--- each member of the one list is a member of the other
-abbrev pub Included : {A : Type 0} → List A → List A → Type 0
-Included {A = A} lower upper = (x : A) → Contains lower x → Contains upper x
 
 -- one of the attributes has that name, that flag and that type
 abbrev pub HasField : Fields → Text → Bool → Ty → Type 0

@@ -1,6 +1,7 @@
 ghost use Rattle.std.specs.Prelude.{◌≡◌, ◌↔◌, IsTrue, map, string_bytes};
+ghost use Rattle.cedar_below.specs.Included.{Included};
 ghost use Rattle.cedar_below.specs.Name.{plain_name};
-ghost use Rattle.cedar_types.specs.Below.{Below, FieldsBelow, AttributeBelow, FlagsBelow, TagsBelow, NamesBelow, Included};
+ghost use Rattle.cedar_types.specs.Below.{Below, FieldsBelow, AttributeBelow, FlagsBelow, TagsBelow, NamesBelow};
 ghost use Rattle.cedar_types.specs.Attributes.{IsAscending, field_names};
 ghost use Rattle.cedar_types.specs.EntityKind.{kind_ty};
 ghost use Rattle.cedar_types.specs.EntityLUB.{lub_names};

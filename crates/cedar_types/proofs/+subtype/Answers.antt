@@ -9,7 +9,8 @@ use Rattle.cedar_types.specs.Meaning.{fields_of, attribute_of}
 use Rattle.cedar_types.specs.Ty.{Fields, fields_from, field_at}
 use Rattle.cedar_types.specs.declared.attributes.AttributeType.{AttributeType}
 use Rattle.cedar_types.proofs.FieldLemmas.{fields_of-entries}
-use Rattle.cedar_types.proofs.SubtypeLemmas.{HasBelow-Decides, HasBelow-none, rest_alone, part_fails}
+use Rattle.cedar_types.proofs.SubtypeLemmas.{HasBelow-Decides, HasBelow-none}
+use Rattle.cedar_below.proofs.Inclusion.{rest_alone, part_fails}
 use Rattle.cedar_types.proofs.+subtype.Goals as goal
 
 pub subtype::fields_fit-loop-name-init : goal.subtype::fields_fit-loop-name-init
