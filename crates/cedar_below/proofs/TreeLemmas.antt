@@ -4,6 +4,8 @@ use Rattle.cedar_below.proofs.Inclusion.{chosen}
 use Rattle.cedar_below.proofs.Lists.{Contains-cons, Contains-cons_cases}
 use Rattle.cedar_below.specs.CoreSchemaType.{core_ty_of, core_step, core_attribute_step, core_attribute_of, core_fields_of}
 use Rattle.cedar_below.specs.CoreTy.{CoreTy, core_set, core_empty_set, core_record, core_extension, core_names, core_fields_from}
+use Rattle.cedar_below.specs.EntityUID.{uid_of}
+use Rattle.cedar_below.specs.declared.entity_uid.EntityUID.{EntityUID}
 use Rattle.cedar_below.specs.Name.{plain_name}
 use Rattle.cedar_below.specs.declared.name.Name.{Name}
 use Rattle.cedar_below.specs.declared.core_schema_type.CoreAttributeType.{CoreAttributeType, fold_out-CoreAttributeType}
@@ -22,7 +24,7 @@ use Rattle.std.specs.declared.alloc.Global.{Global}
 use Rattle.std.specs.declared.string.String.{String}
 use Rattle.cedar_below.specs.RestrictedExpr.{tree_of, tree_step, trees_of, entries_of}
 use Rattle.cedar_below.specs.Text.{Text, text_cmp}
-use Rattle.cedar_below.specs.Tree.{Tree, set_value, map_value, call_value, Trees, no_tree, tree, entries_from, entry_at, entry_names}
+use Rattle.cedar_below.specs.Tree.{Tree, uid_value, set_value, map_value, call_value, Trees, no_tree, tree, entries_from, entry_at, entry_names}
 use Rattle.cedar_below.specs.Fits.{EntryFits, ArgumentsFit}
 use Rattle.cedar_below.specs.declared.extension.Extensions.{Extensions}
 use Rattle.cedar_below.specs.declared.value.RestrictedExpr.{RestrictedExpr, fold-roll-RestrictedExpr, roll-RestrictedExpr}
@@ -36,6 +38,13 @@ tree_of-set values = ap tree_of (sym (expr.rolls-Set values)) ∙ (let e : tree_
 -- a record stands for what its attributes' values stand for, by name
 pub tree_of-record : (values : BTreeMap (String Global) RestrictedExpr) → tree_of (expr.Record values) ≡ map_value (entries_of values)
 tree_of-record values = ap tree_of (sym (expr.rolls-Record values)) ∙ (let e : tree_of (roll-RestrictedExpr (layer.Record values)) ≡ map_value (entries_of values) = fold-roll-RestrictedExpr Tree tree_step (layer.Record values) ∙ ap (λ entries. map_value (entries_from entries)) (map-map _ _ values.entries) in e)
+
+-- a reference to an entity stands for the plain uid
+pub tree_of-uid : (uid : EntityUID) → tree_of (expr.EntityUid uid) ≡ uid_value (uid_of uid)
+tree_of-uid uid =
+    ap tree_of (sym (expr.rolls-EntityUid uid))
+    ∙ (let e : tree_of (roll-RestrictedExpr (layer.EntityUid uid)) ≡ uid_value (uid_of uid) = fold-roll-RestrictedExpr Tree tree_step (layer.EntityUid uid) in
+    e)
 
 -- a call stands for the call of the function's plain name on what its arguments stand for
 pub tree_of-call : (function : Name) (args : Vec RestrictedExpr Global) → tree_of (expr.ExtensionCall function args) ≡ call_value (plain_name function) (trees_of args.items)

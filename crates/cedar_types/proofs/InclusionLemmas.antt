@@ -1,4 +1,4 @@
-use Rattle.std.proofs.Common.{◌≡◌, ◌↔◌, ◌⊎◌, inl, inr, Bool, true, false, refl, sym, ap, subst, ◌∙◌, List, [], ◌∷◌, Option, Some, None, Contains, ⊎_elim, if◌then◌else◌, arith, Bor}
+use Rattle.std.proofs.Common.{◌≡◌, inl, inr, Bool, refl, sym, ap, subst, ◌∙◌, Option, Some, None, Contains, ⊎_elim, arith, Bor}
 use Rattle.std.proofs.lemmas.Slice.Eq.{bytes_eq-Decides}
 use Rattle.std.specs.Bool.{Decides}
 use Rattle.std.specs.Option.{is_some, option_map, option_copied}

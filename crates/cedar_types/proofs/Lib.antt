@@ -1,7 +1,9 @@
+pub mod AnswerLemmas
 pub mod CopyLemmas
 pub mod FieldLemmas
 pub mod InclusionLemmas
 pub mod MemberLemmas
+pub mod MemberParts
 pub mod SortedLemmas
 pub mod SubtypeLemmas
 pub mod UnionLemmas

@@ -1,8 +1,10 @@
+pub mod Answers
 pub mod Attributes
 pub mod Below
 pub mod EntityKind
 pub mod EntityLUB
 pub mod EntityTypeKind
+pub mod Has
 pub mod Meaning
 pub mod Primitive
 pub mod Ty
