@@ -1,10 +1,12 @@
 pub mod Collected
 pub mod FittingNames
 pub mod Ids
+pub mod Inclusion
 pub mod Lists
 pub mod Lookups
 pub mod Names
 pub mod Ordered
 pub mod PlainNames
 pub mod Texts
+pub mod TreeLemmas
 pub mod Uids

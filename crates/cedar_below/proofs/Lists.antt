@@ -8,12 +8,12 @@ use Rattle.std.specs.List.{list_any}
 use Rattle.std.proofs.Math.ListN.{length-map, length-take}
 
 -- what is first or is among the rest is an element
-Contains-cons : {B : Type 0} (b : B) (bs : List B) (x : B) → (b ≡ x) ⊎ Contains bs x → Contains (b ∷ bs) x
+pub Contains-cons : {B : Type 0} (b : B) (bs : List B) (x : B) → (b ≡ x) ⊎ Contains bs x → Contains (b ∷ bs) x
 Contains-cons b bs x (inl e) = (0, omega arith, e)
 Contains-cons b bs x (inr there) = (suc there.0, omega (arith, there.1), there.2)
 
 -- an element is first or is among the rest
-Contains-cons_cases : {B : Type 0} (b : B) (bs : List B) (x : B) → Contains (b ∷ bs) x → (b ≡ x) ⊎ Contains bs x
+pub Contains-cons_cases : {B : Type 0} (b : B) (bs : List B) (x : B) → Contains (b ∷ bs) x → (b ≡ x) ⊎ Contains bs x
 Contains-cons_cases b bs x (zero, lt, e) = inl e
 Contains-cons_cases b bs x (suc k, lt, e) = inr (k, omega (arith, lt), e)
 

@@ -25,6 +25,7 @@ mod entity;
 mod entity_type;
 mod entity_uid;
 mod extension;
+mod fits;
 mod id;
 mod internal_name;
 mod loc;

@@ -1,8 +1,12 @@
+pub mod AnswerLemmas
 pub mod CopyLemmas
 pub mod Extensional
 pub mod FieldLemmas
+pub mod InclusionLemmas
 pub mod MemberLemmas
+pub mod MemberParts
 pub mod MergedLemmas
 pub mod SetLemmas
 pub mod SortedLemmas
+pub mod SubtypeLemmas
 pub mod UnionLemmas

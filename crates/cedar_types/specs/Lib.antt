@@ -1,9 +1,12 @@
+pub mod Answers
 pub mod Attributes
+pub mod Below
 pub mod BoolType
 pub mod EntityKind
 pub mod EntityLUB
 pub mod EntityTypeKind
 pub mod EntityTypes
+pub mod Has
 pub mod LubHelp
 pub mod Meaning
 pub mod Primitive

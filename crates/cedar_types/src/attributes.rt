@@ -25,7 +25,7 @@ use std::rc::Rc;
 #[derive_where(Debug, PartialEq, Eq, PartialOrd, Ord, Hash)]
 #[cycle(types)]
 pub struct Attributes {
-    attrs: BTreeMap<String, AttributeType>,
+    pub(crate) attrs: BTreeMap<String, AttributeType>,
     #[derive_where(skip)]
     alloc: Global,
 }

@@ -18,8 +18,10 @@ mod entity_lub;
 mod entity_type;
 mod entity_type_kind;
 mod join_error;
+mod member;
 mod open_tag;
 mod show;
+mod subtype;
 #[cfg(test)]
 mod tests;
 mod type_queries;

@@ -1,0 +1,15 @@
+use Rattle.std.proofs.Common.{◌↔◌, drop, map, string_bytes}
+use Rattle.cedar_below.specs.CoreSchemaType.{core_ty_of, core_attribute_of, core_fields_of}
+use Rattle.cedar_below.specs.CoreTy.{core_fields_from}
+use Rattle.cedar_below.specs.Fits.{Fits, FieldsFit}
+use Rattle.cedar_below.specs.RestrictedExpr.{trees_of, entries_of}
+use Rattle.cedar_below.specs.Tree.{EachTree}
+use Rattle.cedar_below.proofs.+fits.Given as goal
+
+abbrev pub invariant-fits::all_fit-loop-value : goal.invariant-fits::all_fit-loop-value
+invariant-fits::all_fit-loop-value l =
+    EachTree (λ value. Fits l.extensions value (core_ty_of l.ty)) (trees_of (drop l.value-index l.values)) ↔ EachTree (λ value. Fits l.extensions value (core_ty_of l.ty)) (trees_of l.values)
+
+abbrev pub invariant-fits::fields_fit-loop-name : goal.invariant-fits::fields_fit-loop-name
+invariant-fits::fields_fit-loop-name l =
+    FieldsFit l.extensions (entries_of l.values) (core_fields_from (map (λ entry. (string_bytes entry.0, core_attribute_of entry.1)) l.name-iterator)) ↔ FieldsFit l.extensions (entries_of l.values) (core_fields_of l.attrs)

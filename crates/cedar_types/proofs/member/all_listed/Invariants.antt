@@ -1,0 +1,12 @@
+use Rattle.std.proofs.Common.{◌↔◌, map, string_bytes}
+use Rattle.cedar_below.specs.Included.{Included}
+use Rattle.cedar_below.specs.RestrictedExpr.{entries_of}
+use Rattle.cedar_below.specs.Tree.{entry_names}
+use Rattle.cedar_types.specs.Attributes.{field_names}
+use Rattle.cedar_types.specs.Meaning.{fields_of}
+use Rattle.cedar_types.proofs.member.all_listed.Given as goal
+
+abbrev pub invariant-loop-name : goal.invariant-loop-name
+invariant-loop-name l =
+    let listed = field_names (fields_of l.attrs) in
+    Included (map string_bytes l.name-iterator) listed ↔ Included (entry_names (entries_of l.values)) listed

@@ -1,0 +1,10 @@
+use Rattle.std.proofs.Common.{◌↔◌, map}
+use Rattle.std.specs.Slice.Iter.{iter_rest}
+use Rattle.cedar_below.specs.EntityType.{type_name}
+use Rattle.cedar_below.specs.Included.{Included}
+use Rattle.cedar_types.specs.EntityLUB.{lub_names}
+use Rattle.cedar_types.proofs.subtype.is_included.Given as goal
+
+abbrev pub invariant-loop-ty : goal.invariant-loop-ty
+invariant-loop-ty l =
+    Included (map type_name (iter_rest l.ty-iterator)) (lub_names l.upper) ↔ Included (lub_names l.lower) (lub_names l.upper)

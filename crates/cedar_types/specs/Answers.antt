@@ -1,0 +1,23 @@
+use Rattle.std.specs.Prelude.{◌≡◌, ◌↔◌, Bool, true, false, Result, Ok, Err, IfErr}
+use Rattle.cedar_below.specs.Name.{plain_name}
+use Rattle.cedar_below.specs.PlainName.{PlainName}
+use Rattle.cedar_below.specs.declared.extension.ExtensionFunctionLookupError.{ExtensionFunctionLookupError}
+
+-- what a test of membership answers
+abbrev pub Answer : Type 0
+Answer = Result Bool ExtensionFunctionLookupError
+
+-- an answer is right: yes exactly where the value has the type, no exactly where it can't have it whatever the unknown
+-- functions give, and else the fault of a function that it meets
+pub record IsRight (answer : Answer) (Holds MayHold : Type 0) (Meeting : PlainName → Type 0) : Type 0 where
+  pub yes : (answer ≡ Ok true) ↔ Holds
+  pub no : (answer ≡ Ok false) ↔ ¬ MayHold
+  pub fault : IfErr answer (λ error. Meeting (plain_name error.name.now))
+
+-- what two parts answer together: no if either says no, and else the first fault of either
+abbrev pub both_of : Answer → Answer → Answer
+both_of (Ok true) second = second
+both_of (Ok false) second = Ok false
+both_of (Err error) (Ok true) = Err error
+both_of (Err error) (Ok false) = Ok false
+both_of (Err error) (Err other) = Err error

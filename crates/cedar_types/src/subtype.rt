@@ -1,0 +1,176 @@
+ghost use Rattle.std.specs.Prelude.{◌≡◌, ◌↔◌, IsTrue, map, string_bytes};
+ghost use Rattle.cedar_below.specs.Included.{Included};
+ghost use Rattle.cedar_below.specs.Name.{plain_name};
+ghost use Rattle.cedar_types.specs.Below.{Below, FieldsBelow, AttributeBelow, FlagsBelow, TagsBelow, NamesBelow};
+ghost use Rattle.cedar_types.specs.Attributes.{IsAscending, field_names};
+ghost use Rattle.cedar_types.specs.EntityKind.{kind_ty};
+ghost use Rattle.cedar_types.specs.EntityLUB.{lub_names};
+ghost use Rattle.cedar_types.specs.Meaning.{ty_of, fields_of, attribute_of};
+
+use crate::attributes::{AttributeType, Attributes};
+use crate::bool_type::BoolType;
+use crate::entity_kind::EntityKind;
+use crate::entity_lub::EntityLUB;
+use crate::open_tag::OpenTag;
+use crate::types::Type;
+use cedar_below::{Name, ValidationMode};
+use std::collections::btree_map;
+
+/// Whether an attribute's flag fits below another's.
+fn flags_fit(lower: bool, upper: bool, mode: ValidationMode) -> bool
+    ensures { IsTrue result ↔ FlagsBelow mode lower upper }
+{
+    match mode {
+        ValidationMode::Strict => lower == upper,
+        ValidationMode::Permissive => lower || !upper,
+    }
+}
+
+/// Whether a record with the one tag may be below a record with the other.
+fn tags_fit(lower: OpenTag, upper: OpenTag) -> bool
+    ensures { IsTrue result ↔ TagsBelow lower upper }
+{
+    lower == OpenTag::ClosedAttributes || upper == OpenTag::OpenAttributes
+}
+
+/// Whether each of these names is a name of the record.
+fn has_names(names: btree_map::Keys<'_, String, AttributeType>, upper: &Attributes) -> bool
+    ensures { IsTrue result ↔ Included (map string_bytes names.entry) (field_names (fields_of upper.now)) }
+{
+    for name in names {
+        if upper.get_attr(name).is_none() {
+            return false;
+        }
+    }
+    true
+}
+
+/// Whether a record with the one's names may be below a record with the other's and this tag.
+fn names_fit(lower: &Attributes, upper: &Attributes, tag: OpenTag, mode: ValidationMode) -> bool
+    ensures fit { IsTrue result ↔ NamesBelow mode tag (fields_of lower.now) (fields_of upper.now) }
+    ensures ascending { IsAscending (fields_of lower.now) }
+{
+    let names = lower.keys();
+    let may_have_more = mode == ValidationMode::Permissive && tag == OpenTag::OpenAttributes;
+    may_have_more || has_names(names, upper)
+}
+
+/// Whether each entity type of the one union is one of the other.
+fn is_included(lower: &EntityLUB, upper: &EntityLUB) -> bool
+    ensures { IsTrue result ↔ Included (lub_names lower.now) (lub_names upper.now) }
+{
+    for ty in lower.iter() {
+        if !upper.contains(ty) {
+            return false;
+        }
+    }
+    true
+}
+
+/// Whether two unions have the same entity types.
+fn is_same(lower: &EntityLUB, upper: &EntityLUB) -> bool
+    ensures { IsTrue result ↔ (lub_names lower.now ≡ lub_names upper.now) }
+{
+    lower == upper
+}
+
+/// Whether two names are the same, whatever their locations.
+fn is_same_name(lower: &Name, upper: &Name) -> bool
+    ensures { IsTrue result ↔ (plain_name lower.now ≡ plain_name upper.now) }
+{
+    lower == upper
+}
+
+impl EntityKind {
+    /// Whether the entities of this kind are entities of the other: in strict mode the kinds are the
+    /// same, and in permissive mode the other one is any entity or has each entity type of this one.
+    pub fn is_subtype(&self, other: &EntityKind, mode: ValidationMode) -> bool
+        ensures { IsTrue result ↔ Below mode (kind_ty self.now) (kind_ty other.now) }
+    {
+        match (self, other) {
+            (EntityKind::AnyEntity, EntityKind::AnyEntity) => true,
+            (EntityKind::AnyEntity, EntityKind::Entity(_)) => false,
+            (EntityKind::Entity(_), EntityKind::AnyEntity) => mode == ValidationMode::Permissive,
+            (EntityKind::Entity(lower), EntityKind::Entity(upper)) => match mode {
+                ValidationMode::Strict => is_same(lower, upper),
+                ValidationMode::Permissive => is_included(lower, upper),
+            },
+        }
+    }
+}
+
+/// Whether an attribute is below another: its flag fits and its type is below.
+#[cycle(subtype)]
+fn attribute_fits(lower: &AttributeType, upper: &AttributeType, mode: ValidationMode) -> bool
+    ensures { IsTrue result ↔ AttributeBelow mode (attribute_of lower.now) (attribute_of upper.now) }
+{
+    flags_fit(lower.is_required, upper.is_required, mode)
+        && Type::is_subtype(&lower.attr_type, &upper.attr_type, mode)
+}
+
+/// Whether the one record has each attribute of the other, with a type below and a flag that fits.
+#[cycle(subtype)]
+fn fields_fit(lower: &Attributes, upper: &Attributes, mode: ValidationMode) -> bool
+    requires { IsAscending (fields_of lower.now) }
+    ensures { IsTrue result ↔ FieldsBelow mode (fields_of lower.now) (fields_of upper.now) }
+{
+    for (name, attribute) in &upper.attrs {
+        let Some(own) = lower.get_attr(name) else {
+            return false;
+        };
+        if !attribute_fits(own, attribute, mode) {
+            return false;
+        }
+    }
+    true
+}
+
+impl Type {
+    /// Whether the one type is below the other: what has it has the other.
+    ///
+    /// `Never` is below every type, `True` and `False` are below `Bool`, and every type is below
+    /// itself. A set is below a set of more, and below the any-set. A record is below one that asks
+    /// for no more; an open one is never below a closed one. In strict mode records have the same
+    /// names and flags, and entities the same kind. In permissive mode an open record may list
+    /// fewer names, a required attribute is below an optional one, and an entity is below every
+    /// union with its types.
+    #[cycle(subtype)]
+    pub fn is_subtype(a: &Type, b: &Type, mode: ValidationMode) -> bool
+        ensures { IsTrue result ↔ Below mode (ty_of a.now) (ty_of b.now) }
+    {
+        match (a, b) {
+            (Type::Never, _) => true,
+            (Type::Bool(lower), Type::Bool(upper)) => *upper == BoolType::AnyBool || lower == upper,
+            (Type::Long, Type::Long) => true,
+            (Type::String, Type::String) => true,
+            (Type::Entity(lower), Type::Entity(upper)) => lower.is_subtype(upper, mode),
+            (Type::Set { .. }, Type::Set { element_type: None }) => true,
+            (
+                Type::Set {
+                    element_type: Some(lower),
+                },
+                Type::Set {
+                    element_type: Some(upper),
+                },
+            ) => Type::is_subtype(lower, upper, mode),
+            (
+                Type::Record {
+                    attrs: lower,
+                    open_attributes: lower_tag,
+                },
+                Type::Record {
+                    attrs: upper,
+                    open_attributes: upper_tag,
+                },
+            ) => {
+                tags_fit(*lower_tag, *upper_tag)
+                    && names_fit(lower, upper, *upper_tag, mode)
+                    && fields_fit(lower, upper, mode)
+            }
+            (Type::ExtensionType { name: lower }, Type::ExtensionType { name: upper }) => {
+                is_same_name(lower, upper)
+            }
+            _ => false,
+        }
+    }
+}
