@@ -5,9 +5,8 @@ use Rattle.std.specs.Bool.{Decides}
 use Rattle.std.specs.Cmp.Derive.Mapped.{pointwise-map}
 use Rattle.std.specs.Cmp.Lexicographic.{pointwise, pointwise_decides, bytes_decides}
 use Rattle.std.specs.Prelude.{nat_eq}
-use Rattle.cedar_below.specs.Id.{id_text}
+use Rattle.cedar_below.proofs.Names.{internal_name_eq-same}
 use Rattle.cedar_below.specs.InternalName.{name_of}
-use Rattle.cedar_below.specs.PlainName.{PlainName}
 use Rattle.cedar_below.specs.contracts.internal_name.InternalNamePartialEq.TheImpl as internal_name_eq
 use Rattle.cedar_below.specs.declared.internal_name.InternalName.{InternalName}
 use Rattle.cedar_names.specs.CommonTypeId.{common_type_text}
@@ -26,24 +25,6 @@ use Rattle.cedar_names.specs.declared.json_schema.raw_name.RawName.{RawName}
 use Rattle.cedar_names.specs.declared.json_schema.reference_type.ReferenceType.{ReferenceType}
 use Rattle.cedar_names.specs.declared.json_schema.reference_type.ReferenceType.TheVariants.{Common, Entity, CommonOrEntity}
 
--- two plain names are equal exactly where their base names are and their paths are
-parts-Decides : (a b : PlainName) → Decides (pointwise nat_eq a.base b.base && pointwise (pointwise nat_eq) a.path b.path) (a ≡ b)
-parts-Decides a b =
-    Decides-like
-    _
-    (λ both i. record { base = both.0 i; path = both.1 i })
-    (λ e. (ap (λ (name : PlainName). name.base) e, ap (λ (name : PlainName). name.path) e))
-    (Decides-and _ _ (bytes_decides a.base b.base) (pointwise_decides bytes_decides a.path b.path))
-
--- names are equal exactly where they stand for the same name
-pub internal_name-Decides : (a b : InternalName) → Decides ((internal_name_eq.ghosts).eq a b) (name_of a ≡ name_of b)
-internal_name-Decides a b =
-    Decides-at
-    _
-    _
-    (ap (λ paths. pointwise nat_eq (id_text a.id) (id_text b.id) && paths) (sym (pointwise-map id_text (pointwise nat_eq) a.path.items b.path.items)))
-    (parts-Decides (name_of a) (name_of b))
-
 -- lists of names are equal exactly where they stand for the same names in order
 pub internal_names-Decides : (xs ys : List InternalName) → Decides (pointwise (internal_name_eq.ghosts).eq xs ys) (map name_of xs ≡ map name_of ys)
 internal_names-Decides [] [] = (λ _. refl, λ _. refl)
@@ -54,11 +35,11 @@ internal_names-Decides (x ∷ xs) (y ∷ ys) =
     _
     (λ both i. both.0 i ∷ both.1 i)
     (λ e. (cc, cc))
-    (Decides-and _ _ (internal_name-Decides x y) (internal_names-Decides xs ys))
+    (Decides-and _ _ (internal_name_eq-same x y) (internal_names-Decides xs ys))
 
 -- raw names are equal exactly where they stand for the same name
 pub raw_name-Decides : (a b : RawName) → Decides ((raw_name_eq.ghosts).eq a b) (raw_name a ≡ raw_name b)
-raw_name-Decides a b = internal_name-Decides a.0 b.0
+raw_name-Decides a b = internal_name_eq-same a.0 b.0
 
 -- the hash reads no more than what the raw name stands for
 pub raw_name_hash-same : (a b : RawName) → raw_name a ≡ raw_name b → (raw_name_hash.ghosts).hash_input a ≡ (raw_name_hash.ghosts).hash_input b

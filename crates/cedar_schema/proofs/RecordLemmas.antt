@@ -26,7 +26,7 @@ use Rattle.cedar_schema.specs.Parts.{HasOpenRecord, MembersHaveOpenRecord, Membe
 use Rattle.cedar_schema.specs.WrittenOut.{WrittenOut, MembersWrittenOut, as_record, as_no_member, as_member}
 use Rattle.cedar_schema.proofs.BuildingLemmas.{WrittenOut-as}
 use Rattle.cedar_types.proofs.Extensional.{fields_from-HoldsLast}
-use Rattle.cedar_types.proofs.SortedLemmas.{IsStrictlySortedBy-map}
+use Rattle.cedar_below.proofs.Ordered.{IsStrictlySortedBy-map}
 use Rattle.cedar_types.specs.Attributes.{field_names, IsAscending, HoldsLast, plain_attributes}
 use Rattle.cedar_types.specs.Meaning.{attribute_of}
 use Rattle.cedar_types.specs.Ty.{Ty, record_of, Fields, end, field, fields_from}
@@ -186,7 +186,7 @@ written_record defined it items left fields nothing ordered so_far holds ascendi
     MembersWrittenOut-names defined (plain_members None all) written
     ∙ (map-map (λ item. item.0) (λ entry. (string_bytes entry.0, raw_attribute None entry.1)) all
     ∙ sym (map-map string_bytes (λ entry. entry.0) all)) in
-    let in_order : IsAscending (fields_from (plain_attributes items)) = subst Q (sym names) (IsStrictlySortedBy-map string_bytes text_cmp _ ordered) in
+    let in_order : IsAscending (fields_from (plain_attributes items)) = subst Q (sym names) (IsStrictlySortedBy-map string_cmp text_cmp string_bytes (λ a b. refl) _ ordered) in
     let R : Fields → Type 0 = MembersWrittenOut defined (members_from (plain_members None all)) in
     WrittenOut-as defined (raw_record-entries None it) refl
     (as_record (subst R (sym (fields_from-HoldsLast (plain_attributes items) fields in_order ascending holds)) written))

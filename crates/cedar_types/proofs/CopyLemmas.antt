@@ -12,7 +12,7 @@ use Rattle.std.specs.declared.string.String.{String}
 use Rattle.cedar_below.proofs.Ordered.{above_front, insert_entry-end}
 use Rattle.cedar_below.proofs.Texts.{text_cmp-total}
 use Rattle.cedar_below.specs.Text.{Text, text_cmp}
-use Rattle.cedar_types.proofs.SortedLemmas.{IsStrictlySortedBy-map}
+use Rattle.cedar_below.proofs.Ordered.{IsStrictlySortedBy-map}
 use Rattle.cedar_types.specs.Attributes.{plain_attributes}
 use Rattle.cedar_types.specs.Meaning.{attribute_of}
 use Rattle.cedar_types.specs.Ty.{Ty}
@@ -35,7 +35,7 @@ sorted_names m ordered =
     let P : List Text → Type 0 = IsStrictlySortedBy text_cmp in
     subst P
     (sym (names-keys m.entries))
-    (IsStrictlySortedBy-map string_bytes text_cmp _ ordered)
+    (IsStrictlySortedBy-map string_cmp text_cmp string_bytes (λ a b. refl) _ ordered)
 
 -- where some entries are copied in order, the copy of the next goes to the end
 pub plain_attributes-insert_next : (all copy rest : List (String Global × AttributeType)) (key key' : String Global) (value value' : AttributeType) → IsStrictlySortedBy text_cmp (map (λ item. item.0) (plain_attributes all)) → string_bytes key' ≡ string_bytes key → attribute_of value' ≡ attribute_of value → plain_attributes copy ++ plain_attributes ((key, value) ∷ rest) ≡ plain_attributes all → plain_attributes (insert_entry string_cmp copy key' value') ++ plain_attributes rest ≡ plain_attributes all

@@ -13,7 +13,7 @@ use Rattle.std.specs.declared.alloc.Global.{Global}
 use Rattle.std.specs.declared.rc.Rc.{Rc}
 use Rattle.std.specs.declared.string.String.{String}
 use Rattle.cedar_below.specs.Text.{Text, text_cmp}
-use Rattle.cedar_types.proofs.SortedLemmas.{IsStrictlySortedBy-map}
+use Rattle.cedar_below.proofs.Ordered.{IsStrictlySortedBy-map}
 use Rattle.cedar_types.specs.Attributes.{plain_attributes, plain_required, field_names, last_named, HoldsLast, IsAscending}
 use Rattle.cedar_types.specs.Meaning.{fields_of, ty_of, attribute_of, type_step, attribute_step, attributes_step}
 use Rattle.cedar_types.specs.Ty.{Ty, Fields, fields_from, field_at}
@@ -82,7 +82,7 @@ IsAscending-map all ordered =
     let P : List Text → Type 0 = IsStrictlySortedBy text_cmp in
     subst P
     (map-map string_bytes (λ entry. entry.0) entries ∙ (sym (field_names-entries entries) ∙ sym (ap field_names (fields_of-entries all))))
-    (IsStrictlySortedBy-map string_bytes text_cmp _ ordered)
+    (IsStrictlySortedBy-map string_cmp text_cmp string_bytes (λ a b. refl) _ ordered)
 
 -- one more attribute is inserted
 pub IsMapOf-insert_attribute : (items : List (String Global × AttributeType)) (m n : BTreeMap (String Global) AttributeType) (key : String Global) (value : AttributeType) → IsMapOf (plain_attributes items) m → Updates string_cmp m n key (Some value) → IsOrdered string_cmp n → IsMapOf (plain_attributes (items ++ (key, value) ∷ [])) n

@@ -7,6 +7,5 @@ pub mod MemberLemmas
 pub mod MemberParts
 pub mod MergedLemmas
 pub mod SetLemmas
-pub mod SortedLemmas
 pub mod SubtypeLemmas
 pub mod UnionLemmas
