@@ -1,9 +1,13 @@
+pub mod AgreeLaws
 pub mod AnswerLemmas
+pub mod AntisymmetryLaws
 pub mod CopyLemmas
 pub mod FieldLemmas
 pub mod InclusionLemmas
+pub mod MemberLaws
 pub mod MemberLemmas
 pub mod MemberParts
 pub mod SortedLemmas
+pub mod SubtypeLaws
 pub mod SubtypeLemmas
 pub mod UnionLemmas

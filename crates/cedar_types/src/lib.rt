@@ -22,4 +22,7 @@ mod member;
 mod open_tag;
 mod show;
 mod subtype;
+#[cfg(test)]
+mod tests;
+pub mod theorems;
 mod types;
