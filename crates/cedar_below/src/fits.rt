@@ -1,3 +1,5 @@
+//! Fitting of arguments to the core types of an extension function.
+
 ghost use Rattle.std.specs.Prelude.{◌≡◌, ◌↔◌, IsTrue, Some, map};
 ghost use Rattle.cedar_below.specs.CoreSchemaType.{core_ty_of, core_fields_of, argument_types, result_type};
 ghost use Rattle.cedar_below.specs.CoreTy.{core_extension, core_names};

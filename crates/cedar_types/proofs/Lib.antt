@@ -1,11 +1,15 @@
+pub mod AgreeLaws
 pub mod AnswerLemmas
+pub mod AntisymmetryLaws
 pub mod CopyLemmas
 pub mod Extensional
 pub mod FieldLemmas
 pub mod InclusionLemmas
+pub mod MemberLaws
 pub mod MemberLemmas
 pub mod MemberParts
 pub mod MergedLemmas
 pub mod SetLemmas
+pub mod SubtypeLaws
 pub mod SubtypeLemmas
 pub mod UnionLemmas

@@ -41,7 +41,7 @@ HasField-found name (field other required ty rest) own e =
     HasField-chosen (bytes_eq name other) name other required ty rest own (bytes_eq-Decides name other).0 (HasField-found name rest own) e
 
 -- what holds of each name holds of an attribute's
-HasField-all : (P : Text → Type 0) (name : Text) (fields : Fields) (required : Bool) (ty : Ty) → HasField fields name required ty → AllByRecursion P (field_names fields) → P name
+pub HasField-all : (P : Text → Type 0) (name : Text) (fields : Fields) (required : Bool) (ty : Ty) → HasField fields name required ty → AllByRecursion P (field_names fields) → P name
 HasField-all P name end required ty has all = absurd has
 HasField-all P name (field other flag of rest) required ty (inl same) all = subst P same.0 all.0
 HasField-all P name (field other flag of rest) required ty (inr there) all = HasField-all P name rest required ty there all.1

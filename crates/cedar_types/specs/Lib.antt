@@ -1,3 +1,4 @@
+pub mod Agree
 pub mod Answers
 pub mod Attributes
 pub mod Below
@@ -12,3 +13,4 @@ pub mod Meaning
 pub mod Primitive
 pub mod Ty
 pub mod ValidatorEntityType
+pub mod WellFormed

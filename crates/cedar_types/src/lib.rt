@@ -23,6 +23,9 @@ mod open_tag;
 mod show;
 mod subtype;
 #[cfg(test)]
+mod subtype_tests;
+#[cfg(test)]
 mod tests;
+pub mod theorems;
 mod type_queries;
 mod types;

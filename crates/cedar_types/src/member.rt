@@ -1,3 +1,5 @@
+//! Membership of values in types.
+
 ghost use Rattle.std.specs.Prelude.{◌≡◌, ◌↔◌, IsTrue, true, false, IfErr};
 ghost use Rattle.cedar_below.specs.Fits.{EntryFits, Gives, IsUnknown};
 ghost use Rattle.cedar_below.specs.EntityUID.{uid_of};

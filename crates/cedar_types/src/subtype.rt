@@ -1,3 +1,5 @@
+//! Subtyping of types and of entity kinds.
+
 ghost use Rattle.std.specs.Prelude.{◌≡◌, ◌↔◌, IsTrue, map, string_bytes};
 ghost use Rattle.cedar_below.specs.Included.{Included};
 ghost use Rattle.cedar_below.specs.Name.{plain_name};
