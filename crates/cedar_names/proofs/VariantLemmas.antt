@@ -3,7 +3,7 @@ use Rattle.std.specs.declared.alloc.Global.{Global}
 use Rattle.std.specs.declared.boxed.Box.{Box}
 use Rattle.cedar_below.specs.PlainName.{PlainName}
 use Rattle.cedar_below.specs.declared.loc.Loc.{Loc}
-use Rattle.cedar_names.specs.Expr.{Expr, text_expr, long_expr, truth_expr, set_expr, named}
+use Rattle.cedar_names.specs.Expr.{text_expr, long_expr, truth_expr, set_expr, named}
 use Rattle.cedar_names.specs.RawExpr.{raw_expr, raw_variant, raw_record}
 use Rattle.cedar_names.specs.RawName.{raw_name}
 use Rattle.cedar_names.specs.Reference.{reference_to}

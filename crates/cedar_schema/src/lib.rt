@@ -1,8 +1,7 @@
 //! Schemas of the Cedar policy language: declarations in, a schema or a refusal out.
 #![tactic(auto)]
 
-pub use cedar_names::below;
-pub use cedar_names::json_schema;
+pub use cedar_names::{below, json_schema};
 pub use cedar_types::{
     AttributeType, Attributes, BoolType, EntityKind, EntityLUB, JoinError, LubHelp, OpenTag,
     StandardValidatorEntityType, Type, ValidatorEntityType, ValidatorEntityTypeKind,
