@@ -8,6 +8,8 @@ mod cases;
 mod command;
 mod lines;
 mod run;
+#[cfg(test)]
+mod tests;
 
 fn main(rt: HostRuntime) -> io::Result<ExitCode> {
     let mut words = Vec::new(rt.alloc());

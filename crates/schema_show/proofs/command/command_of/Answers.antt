@@ -1,4 +1,4 @@
-use Rattle.std.proofs.Common.{◌≡◌, sym, inl, inr, ap, ◌∙◌, refl, string_bytes, List, ◌∷◌, [], codes}
+use Rattle.std.proofs.Common.{◌≡◌, sym, inl, inr, ap, ◌∙◌, refl, string_bytes, ◌∷◌, [], codes}
 use Rattle.std.proofs.lemmas.Slice.Eq.{bytes_eq-Decides}
 use Rattle.schema_show.proofs.WordLemmas.{one_item, two_items}
 use Rattle.schema_show.proofs.command.command_of.Goals as goal
