@@ -90,7 +90,9 @@ fn call_has<'v>(
     extensions: &Extensions,
 ) -> Answer<'v>
     ensures { let call = plain_name function.now in
-        IsRight result (Gives extensions.now call (trees_of args.now) (plain_name name.now)) (MayGive extensions.now call (trees_of args.now) (plain_name name.now)) (λ unknown. (call ≡ unknown) × IsUnknown extensions.now unknown) }
+        IsRight result (Gives extensions.now call (trees_of args.now) (plain_name name.now))
+        (MayGive extensions.now call (trees_of args.now) (plain_name name.now))
+        (λ unknown. (call ≡ unknown) × IsUnknown extensions.now unknown) }
 {
     let known = extensions.func(function)?;
     Ok(known.gives(args, name, extensions))
@@ -100,7 +102,9 @@ fn call_has<'v>(
 #[cycle(member)]
 fn elements_have<'v>(values: &'v [RestrictedExpr], ty: &Type, extensions: &Extensions) -> Answer<'v>
     ensures { let element = ty_of ty.now in
-        IsRight result (EachTree (λ value. Has extensions.now value element) (trees_of values.now)) (EachTree (λ value. HasUp extensions.now value element) (trees_of values.now)) (λ unknown. SomeTree (λ value. Meets extensions.now unknown value element) (trees_of values.now)) }
+        IsRight result (EachTree (λ value. Has extensions.now value element) (trees_of values.now))
+        (EachTree (λ value. HasUp extensions.now value element) (trees_of values.now))
+        (λ unknown. SomeTree (λ value. Meets extensions.now unknown value element) (trees_of values.now)) }
 {
     let mut so_far = Ok(true);
     for value in values {
@@ -118,7 +122,9 @@ fn fields_have<'v>(
     extensions: &Extensions,
 ) -> Answer<'v>
     ensures { let fields = fields_of attrs.now in
-        IsRight result (HasFieldsBy (Gives extensions.now) (entries_of values.now) fields) (HasFieldsBy (MayGive extensions.now) (entries_of values.now) fields) (λ unknown. FieldsMeet extensions.now unknown (entries_of values.now) fields) }
+        IsRight result (HasFieldsBy (Gives extensions.now) (entries_of values.now) fields)
+        (HasFieldsBy (MayGive extensions.now) (entries_of values.now) fields)
+        (λ unknown. FieldsMeet extensions.now unknown (entries_of values.now) fields) }
 {
     let mut so_far = Ok(true);
     for (name, attribute) in &attrs.attrs {

@@ -1,9 +1,9 @@
 //! Laws of types: what subtyping says of types, and of the values that have them.
 
-ghost use Rattle.cedar_below.specs.declared.validation_mode.ValidationMode.{ValidationMode};
 ghost use Rattle.std.specs.Prelude.{◌≡◌, ◌↔◌};
 ghost use Rattle.cedar_below.specs.Tree.{Tree};
 ghost use Rattle.cedar_below.specs.declared.extension.Extensions.{Extensions};
+ghost use Rattle.cedar_below.specs.declared.validation_mode.ValidationMode.{ValidationMode};
 ghost use Rattle.cedar_below.specs.declared.validation_mode.ValidationMode.TheVariants as mode;
 ghost use Rattle.cedar_types.specs.Agree.{Agree};
 ghost use Rattle.cedar_types.specs.Below.{Below};
@@ -23,13 +23,16 @@ pub fn subtyping_is_transitive()
 
 /// Types below each other are the same, in either mode.
 pub fn subtyping_is_antisymmetric()
-    ensures { (mode : ValidationMode) (a b : Ty) → IsWellFormed a → IsWellFormed b → Below mode a b → Below mode b a → a ≡ b }
+    ensures { (mode : ValidationMode) (a b : Ty) → IsWellFormed a → IsWellFormed b
+        → Below mode a b → Below mode b a → a ≡ b }
 {}
 
 /// What has a type has each type above it, in either mode.
 pub fn supertypes_have_the_values()
-    ensures has { (extensions : Extensions) (value : Tree) (mode : ValidationMode) (a b : Ty) → Has extensions value a → Below mode a b → Has extensions value b }
-    ensures may_have { (extensions : Extensions) (value : Tree) (mode : ValidationMode) (a b : Ty) → HasUp extensions value a → Below mode a b → HasUp extensions value b }
+    ensures has { (extensions : Extensions) (value : Tree) (mode : ValidationMode) (a b : Ty)
+        → Has extensions value a → Below mode a b → Has extensions value b }
+    ensures may_have { (extensions : Extensions) (value : Tree) (mode : ValidationMode) (a b : Ty)
+        → HasUp extensions value a → Below mode a b → HasUp extensions value b }
 {}
 
 /// Strict subtyping is permissive subtyping of types that agree.
