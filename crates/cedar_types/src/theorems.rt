@@ -21,7 +21,7 @@ pub fn subtyping_is_transitive()
     ensures { (mode : ValidationMode) (a b c : Ty) → Below mode a b → Below mode b c → Below mode a c }
 {}
 
-/// Types below each other are the same, in either mode.
+/// Well-formed plain types that are below each other are the same, in either mode.
 pub fn subtyping_is_antisymmetric()
     ensures { (mode : ValidationMode) (a b : Ty) → IsWellFormed a → IsWellFormed b
         → Below mode a b → Below mode b a → a ≡ b }
@@ -35,7 +35,7 @@ pub fn supertypes_have_the_values()
         → HasUp extensions value a → Below mode a b → HasUp extensions value b }
 {}
 
-/// Strict subtyping is permissive subtyping of types that agree.
+/// Strict subtyping of a well-formed plain type is permissive subtyping, and agreement.
 pub fn strict_subtyping_is_permissive_and_agrees()
     ensures { (a b : Ty) → IsWellFormed a → Below mode.Strict a b ↔ (Below mode.Permissive a b × Agree a b) }
 {}
