@@ -217,6 +217,69 @@ fn extension_functions_are_found_by_name(rt: HostRuntime) -> Result<(), Fail> {
     Ok(())
 }
 
+/// The core record type of one required attribute `a`, a whole number.
+fn core_record(alloc: Global, open_attrs: bool) -> Result<CoreSchemaType, Fail> {
+    let mut attrs = BTreeMap::new(alloc);
+    let number = CoreAttributeType {
+        attr_type: CoreSchemaType::Long,
+        required: true,
+    };
+    attrs.insert(text(alloc, "a")?, number)?;
+    Ok(CoreSchemaType::Record { attrs, open_attrs })
+}
+
+/// The record whose attributes of these names are 1.
+fn ones(alloc: Global, names: &[&str]) -> Result<RestrictedExpr, Fail> {
+    let mut values = BTreeMap::new(alloc);
+    for name in names {
+        values.insert(text(alloc, name)?, RestrictedExpr::Long(1))?;
+    }
+    Ok(RestrictedExpr::Record(values))
+}
+
+#[test]
+fn records_fit_by_their_listed_attributes(rt: HostRuntime) -> Result<(), Fail> {
+    let alloc = rt.alloc();
+    let none = Extensions::new(Vec::new(alloc), BTreeMap::new(alloc));
+    let closed = core_record(alloc, false)?;
+    let open = core_record(alloc, true)?;
+    assert!(rt; ones(alloc, &["a"])?.fits(&closed, &none));
+    assert!(rt; !ones(alloc, &[])?.fits(&open, &none));
+    assert!(rt; !ones(alloc, &["a", "b"])?.fits(&closed, &none));
+    assert!(rt; ones(alloc, &["a", "b"])?.fits(&open, &none));
+    assert!(rt; !ones(alloc, &["a"])?.fits(&CoreSchemaType::Long, &none));
+    Ok(())
+}
+
+#[test]
+fn sets_and_entities_fit_core_types(rt: HostRuntime) -> Result<(), Fail> {
+    let alloc = rt.alloc();
+    let none = Extensions::new(Vec::new(alloc), BTreeMap::new(alloc));
+    let empty = RestrictedExpr::Set(Vec::new(alloc));
+    let numbers = RestrictedExpr::Set(vec![in alloc; RestrictedExpr::Long(1)]?);
+    let longs = CoreSchemaType::Set {
+        element_ty: Box::new(alloc, CoreSchemaType::Long)?,
+    };
+    let truths = CoreSchemaType::Set {
+        element_ty: Box::new(alloc, CoreSchemaType::Bool)?,
+    };
+    assert!(rt; empty.fits(&CoreSchemaType::EmptySet, &none));
+    assert!(rt; !numbers.fits(&CoreSchemaType::EmptySet, &none));
+    assert!(rt; numbers.fits(&longs, &none));
+    assert!(rt; !numbers.fits(&truths, &none));
+    assert!(rt; empty.fits(&truths, &none));
+    let user = RestrictedExpr::EntityUid(uid(alloc, "User", "a", Some(PLACE))?);
+    let user_type = CoreSchemaType::Entity {
+        ty: EntityType::new(name(alloc, &[], "User")?),
+    };
+    let group_type = CoreSchemaType::Entity {
+        ty: EntityType::new(name(alloc, &[], "Group")?),
+    };
+    assert!(rt; user.fits(&user_type, &none));
+    assert!(rt; !user.fits(&group_type, &none));
+    Ok(())
+}
+
 #[test]
 fn entities_are_kept_by_uid(rt: HostRuntime) -> Result<(), Fail> {
     let alloc = rt.alloc();

@@ -1,7 +1,7 @@
 use super::*;
 use cedar_below::{
     CoreSchemaType, Eid, EntityType, EntityUID, ExtensionFunction, Extensions, Id, InternalName,
-    Name, RestrictedExpr, ValidationMode,
+    Name, RestrictedExpr, ValidationMode, Value,
 };
 use std::alloc::Global;
 use std::collections::BTreeMap;
@@ -241,5 +241,46 @@ fn records_have_what_is_required(rt: HostRuntime) -> Result<(), Fail> {
     assert_eq!(rt; member(alloc, &maybe, &none)?, Ok(true));
     let long = closed(alloc, true, Type::Long)?;
     assert_eq!(rt; member(alloc, &long, &none)?, Ok(false));
+    Ok(())
+}
+
+/// The kind of the entities of one type.
+fn kind(alloc: Global, word: &str) -> Result<EntityKind, Fail> {
+    let ty = EntityType::new(name(alloc, word)?);
+    Ok(EntityKind::Entity(EntityLUB::single_entity(alloc, ty)?))
+}
+
+#[test]
+fn kinds_are_below_what_has_their_entity_types(rt: HostRuntime) -> Result<(), Fail> {
+    let alloc = rt.alloc();
+    let color = EntityLUB::single_entity(alloc, EntityType::new(name(alloc, "Color")?))?;
+    let user = EntityLUB::single_entity(alloc, EntityType::new(name(alloc, "User")?))?;
+    let both = EntityKind::Entity(color.least_upper_bound(&user)?);
+    let color = kind(alloc, "Color")?;
+    let any = EntityKind::AnyEntity;
+    assert!(rt; color.is_subtype(&both, ValidationMode::Permissive));
+    assert!(rt; !color.is_subtype(&both, ValidationMode::Strict));
+    assert!(rt; !both.is_subtype(&color, ValidationMode::Permissive));
+    assert!(rt; both.is_subtype(&both, ValidationMode::Strict));
+    assert!(rt; both.is_subtype(&any, ValidationMode::Permissive));
+    assert!(rt; !any.is_subtype(&both, ValidationMode::Permissive));
+    Ok(())
+}
+
+#[test]
+fn values_have_the_types_of_their_expressions(rt: HostRuntime) -> Result<(), Fail> {
+    let alloc = rt.alloc();
+    let extensions = extensions(alloc)?;
+    let number = Value::new(RestrictedExpr::Long(7));
+    assert!(rt; matches!(Type::Long.typecheck_value(&number, &extensions), Ok(true)));
+    assert!(rt;
+        matches!(
+            Type::String.typecheck_value(&number, &extensions),
+            Ok(false)
+        )
+    );
+    let unknown = Value::new(call(alloc, "nosuch", [])?);
+    let ipaddr = ipaddr(alloc)?;
+    assert!(rt; ipaddr.typecheck_value(&unknown, &extensions).is_err());
     Ok(())
 }
