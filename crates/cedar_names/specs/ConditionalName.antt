@@ -4,6 +4,7 @@ use Rattle.cedar_below.specs.PlainName.{PlainName}
 use Rattle.cedar_names.specs.declared.json_schema.conditional_name.ConditionalName.{ConditionalName}
 use Rattle.cedar_names.specs.declared.json_schema.reference_type.ReferenceType.{ReferenceType}
 use Rattle.cedar_names.specs.PossibleNames.{names_of, locs_of}
+use Rattle.cedar_names.specs.Reference.{Reference}
 
 -- the names that a reference may stand for, the first to be tried first; their locations are no part of them
 abbrev pub possibilities_of : ConditionalName → List PlainName
@@ -20,3 +21,7 @@ reference_type_of name = name.reference_type
 -- the last of the names that a reference may stand for
 abbrev pub last_possibility : ConditionalName → Option PlainName
 last_possibility name = slice_get (possibilities_of name) (length (possibilities_of name) - 1)
+
+-- a reference with its possibilities as plain data
+abbrev pub conditional_reference : ConditionalName → Reference
+conditional_reference name = record { possibilities = possibilities_of name; kind = reference_type_of name }

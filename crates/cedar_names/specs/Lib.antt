@@ -1,5 +1,7 @@
+pub mod ActionBody
 pub mod CommonTypeId
 pub mod ConditionalName
+pub mod Declaration
 pub mod EntityBody
 pub mod Expr
 pub mod Part
@@ -9,3 +11,4 @@ pub mod RawExpr
 pub mod RawName
 pub mod Reference
 pub mod ReservedTypeWord
+pub mod WrittenExpr

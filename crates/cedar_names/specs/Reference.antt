@@ -8,9 +8,23 @@ pub record Reference : Type 0 where
   pub possibilities : List PlainName
   pub kind : ReferenceType
 
+-- a reference to an action: its id, and the names that its type may stand for
+pub record ActionReference : Type 0 where
+  pub id : Text
+  pub ty : Reference
+
+-- the path of what is declared in a namespace; None is the empty namespace
+abbrev pub path_within : Option PlainName → List Text
+path_within None = []
+path_within (Some namespace) = namespace.path ++ namespace.base ∷ []
+
+-- the full name of an id in a namespace
+abbrev pub name_within : Option PlainName → Text → PlainName
+name_within namespace id = record { base = id; path = path_within namespace }
+
 -- the names that a base name after a path may stand for in a namespace: without a path the name in the namespace and then the name itself, with one itself alone
 abbrev pub names_within : PlainName → Text → List Text → List PlainName
-names_within namespace base [] = record { base = base; path = namespace.path ++ namespace.base ∷ [] } ∷ record { base = base; path = [] } ∷ []
+names_within namespace base [] = name_within (Some namespace) base ∷ record { base = base; path = [] } ∷ []
 names_within namespace base (part ∷ path) = record { base = base; path = part ∷ path } ∷ []
 
 -- the names that a written name may stand for; in the empty namespace itself alone

@@ -1,0 +1,65 @@
+use Rattle.std.specs.Prelude.{List, ◌++◌, map, Option, string_bytes}
+use Rattle.std.specs.List.{flat_map}
+use Rattle.std.specs.Option.{option_map}
+use Rattle.cedar_below.specs.Name.{plain_name}
+use Rattle.cedar_below.specs.PlainName.{PlainName}
+use Rattle.cedar_below.specs.Text.{Text}
+use Rattle.cedar_below.specs.UnreservedId.{unreserved_id_text}
+use Rattle.cedar_names.specs.ActionBody.{ActionBody, action_body}
+use Rattle.cedar_names.specs.CommonTypeId.{common_type_text}
+use Rattle.cedar_names.specs.ConditionalName.{conditional_reference}
+use Rattle.cedar_names.specs.EntityBody.{EntityBody, entity_body}
+use Rattle.cedar_names.specs.Expr.{Expr}
+use Rattle.cedar_names.specs.RawExpr.{raw_reference}
+use Rattle.cedar_names.specs.Reference.{Reference}
+use Rattle.cedar_names.specs.WrittenExpr.{written_type}
+use Rattle.cedar_names.specs.declared.json_schema.conditional_name.ConditionalName.{ConditionalName}
+use Rattle.cedar_names.specs.declared.json_schema.fragment.Fragment.{Fragment}
+use Rattle.cedar_names.specs.declared.json_schema.fragment.NamespaceDefinition.{NamespaceDefinition}
+use Rattle.cedar_names.specs.declared.json_schema.raw_name.RawName.{RawName}
+use Rattle.cedar_names.specs.declared.json_schema.reference_type.ReferenceType.{ReferenceType}
+
+-- what is declared: a common type with its definition, an entity type, or an action
+pub data Body : Type 0 where
+  common_type : Expr → Body
+  entity_type : EntityBody → Body
+  action : ActionBody → Body
+
+-- a declaration: the namespace in which it stands, its id, and what is declared
+pub record Declaration : Type 0 where
+  pub namespace : Option PlainName
+  pub id : Text
+  pub body : Body
+
+-- declarations over names of some form in a namespace, where it is given what a name refers to at a place of each kind
+module _ (N : Type 0) (refer : ReferenceType → N → Reference) (namespace : Option PlainName) where
+  -- the declarations of a namespace's definition: its common types, its entity types and its actions
+  abbrev pub declarations : NamespaceDefinition N → List Declaration
+  declarations it =
+      map (λ entry. record { namespace = namespace; id = common_type_text entry.0; body = common_type (written_type N refer entry.1.ty) }) it.common_types.entries
+      ++ map (λ entry. record { namespace = namespace; id = unreserved_id_text entry.0; body = entity_type (entity_body N refer entry.1) }) it.entity_types.entries
+      ++ map (λ entry. record { namespace = namespace; id = string_bytes entry.0; body = action (action_body N refer namespace entry.1) }) it.actions.entries
+
+-- the declarations of a definition that is written in the namespace
+abbrev pub raw_declarations : Option PlainName → NamespaceDefinition RawName → List Declaration
+raw_declarations namespace = declarations RawName (raw_reference namespace) namespace
+
+-- the declarations of a fragment whose names are as they were written
+abbrev pub raw_fragment : Fragment RawName → List Declaration
+raw_fragment fragment = flat_map (λ entry. raw_declarations (option_map plain_name entry.0) entry.1) fragment.0.entries
+
+-- the bag of declarations of some fragments whose names are as they were written
+abbrev pub raw_bag : List (Fragment RawName) → List Declaration
+raw_bag fragments = flat_map raw_fragment fragments
+
+-- the declarations of a definition whose references know what they may name
+abbrev pub conditional_declarations : Option PlainName → NamespaceDefinition ConditionalName → List Declaration
+conditional_declarations namespace = declarations ConditionalName (λ kind name. conditional_reference name) namespace
+
+-- the declarations of a fragment whose references know what they may name
+abbrev pub conditional_fragment : Fragment ConditionalName → List Declaration
+conditional_fragment fragment = flat_map (λ entry. conditional_declarations (option_map plain_name entry.0) entry.1) fragment.0.entries
+
+-- the bag of declarations of some fragments whose references know what they may name
+abbrev pub conditional_bag : List (Fragment ConditionalName) → List Declaration
+conditional_bag fragments = flat_map conditional_fragment fragments
