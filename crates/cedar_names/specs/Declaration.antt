@@ -1,10 +1,13 @@
 use Rattle.std.specs.Prelude.{List, ◌++◌, map, Option, string_bytes}
 use Rattle.std.specs.List.{flat_map}
 use Rattle.std.specs.Option.{option_map}
+use Rattle.std.specs.declared.alloc.Global.{Global}
+use Rattle.std.specs.declared.string.String.{String}
 use Rattle.cedar_below.specs.Name.{plain_name}
 use Rattle.cedar_below.specs.PlainName.{PlainName}
 use Rattle.cedar_below.specs.Text.{Text}
 use Rattle.cedar_below.specs.UnreservedId.{unreserved_id_text}
+use Rattle.cedar_below.specs.declared.unreserved_id.UnreservedId.{UnreservedId}
 use Rattle.cedar_names.specs.ActionBody.{ActionBody, action_body}
 use Rattle.cedar_names.specs.CommonTypeId.{common_type_text}
 use Rattle.cedar_names.specs.ConditionalName.{conditional_reference}
@@ -13,7 +16,11 @@ use Rattle.cedar_names.specs.Expr.{Expr}
 use Rattle.cedar_names.specs.RawExpr.{raw_reference}
 use Rattle.cedar_names.specs.Reference.{Reference}
 use Rattle.cedar_names.specs.WrittenExpr.{written_type}
+use Rattle.cedar_names.specs.declared.json_schema.action_type.ActionType.{ActionType}
+use Rattle.cedar_names.specs.declared.json_schema.common_type_id.CommonTypeId.{CommonTypeId}
 use Rattle.cedar_names.specs.declared.json_schema.conditional_name.ConditionalName.{ConditionalName}
+use Rattle.cedar_names.specs.declared.json_schema.entity_type.EntityType.{EntityType}
+use Rattle.cedar_names.specs.declared.json_schema.fragment.CommonType.{CommonType}
 use Rattle.cedar_names.specs.declared.json_schema.fragment.Fragment.{Fragment}
 use Rattle.cedar_names.specs.declared.json_schema.fragment.NamespaceDefinition.{NamespaceDefinition}
 use Rattle.cedar_names.specs.declared.json_schema.raw_name.RawName.{RawName}
@@ -33,12 +40,25 @@ pub record Declaration : Type 0 where
 
 -- declarations over names of some form in a namespace, where it is given what a name refers to at a place of each kind
 module _ (N : Type 0) (refer : ReferenceType → N → Reference) (namespace : Option PlainName) where
+  -- the declarations of some common types
+  abbrev pub common_declarations : List (CommonTypeId × CommonType N) → List Declaration
+  common_declarations entries =
+      map (λ entry. record { namespace = namespace; id = common_type_text entry.0; body = common_type (written_type N refer entry.1.ty) }) entries
+
+  -- the declarations of some entity types
+  abbrev pub entity_declarations : List (UnreservedId × EntityType N) → List Declaration
+  entity_declarations entries =
+      map (λ entry. record { namespace = namespace; id = unreserved_id_text entry.0; body = entity_type (entity_body N refer entry.1) }) entries
+
+  -- the declarations of some actions
+  abbrev pub action_declarations : List (String Global × ActionType N) → List Declaration
+  action_declarations entries =
+      map (λ entry. record { namespace = namespace; id = string_bytes entry.0; body = action (action_body N refer namespace entry.1) }) entries
+
   -- the declarations of a namespace's definition: its common types, its entity types and its actions
   abbrev pub declarations : NamespaceDefinition N → List Declaration
   declarations it =
-      map (λ entry. record { namespace = namespace; id = common_type_text entry.0; body = common_type (written_type N refer entry.1.ty) }) it.common_types.entries
-      ++ map (λ entry. record { namespace = namespace; id = unreserved_id_text entry.0; body = entity_type (entity_body N refer entry.1) }) it.entity_types.entries
-      ++ map (λ entry. record { namespace = namespace; id = string_bytes entry.0; body = action (action_body N refer namespace entry.1) }) it.actions.entries
+      common_declarations it.common_types.entries ++ entity_declarations it.entity_types.entries ++ action_declarations it.actions.entries
 
 -- the declarations of a definition that is written in the namespace
 abbrev pub raw_declarations : Option PlainName → NamespaceDefinition RawName → List Declaration

@@ -7,12 +7,13 @@ use Rattle.cedar_names.specs.Reference.{Reference}
 use Rattle.cedar_names.specs.declared.json_schema.reference_type.ReferenceType.{ReferenceType}
 use Rattle.cedar_schema.proofs.BuiltLemmas.{Types}
 use Rattle.cedar_schema.specs.Building.{IsSound, IsBodyFault}
+use Rattle.cedar_schema.specs.Counted.{CountsInEntity}
 use Rattle.cedar_schema.specs.Defined.{Defined, IsDefined, IsFirstDefined, IsUnresolved, ResolvesTo}
-use Rattle.cedar_schema.specs.EntityFaults.{Declared, defined_by, IsEntityFault, CountsIn, IsRecordType}
+use Rattle.cedar_schema.specs.EntityFaults.{Declared, defined_by, IsEntityFault}
 use Rattle.cedar_schema.specs.Fault.{Fault, open_record, type_not_defined, shape_not_record, action_entity_type, want_of_memory}
 use Rattle.cedar_schema.specs.Fits.{Fits, FitEach, KindFits, TagsFit}
 use Rattle.cedar_schema.specs.Parts.{Refers, MembersRefer}
-use Rattle.cedar_schema.specs.WrittenOut.{WrittenOut, MembersWrittenOut, as_text, as_long, as_truth, as_set, as_record, as_entity, as_common, as_extension, as_no_member, as_member}
+use Rattle.cedar_schema.specs.WrittenOut.{WrittenOut, MembersWrittenOut, IsRecordType, as_text, as_long, as_truth, as_set, as_record, as_entity, as_common, as_extension, as_no_member, as_member}
 use Rattle.cedar_types.specs.EntityTypeKind.{Kind, standard as standard_kind, enumerated as enumerated_kind, external as external_kind}
 use Rattle.cedar_types.specs.Ty.{Ty, record_of}
 use Rattle.cedar_types.specs.ValidatorEntityType.{entity_type_of}
@@ -89,7 +90,7 @@ fault_of_shape declared name parents shape tags (type_not_defined references) am
     inr (at_fault.0, λ reference listed. let found = at_fault.1 reference listed in (shape, ((name, standard parents shape tags), among, inl refl), found.0, found.1))
 fault_of_shape declared name parents shape tags (shape_not_record other) among at_fault =
     let P : PlainName → Type 0 = λ each. Contains declared (each, standard parents shape tags) in
-    inr (parents, shape, tags, at_fault.1, subst P (sym at_fault.0) among, at_fault.2, at_fault.3)
+    inr (parents, shape, tags, subst P (sym at_fault.0) among, at_fault.1)
 fault_of_shape declared name parents shape tags want_of_memory among at_fault = inl refl
 fault_of_shape declared name parents shape tags _ among at_fault = absurd at_fault
 
@@ -118,7 +119,7 @@ written_tags defined None (Some ty) expr fits is = absurd fits
 written_tags defined None None expr fits is = absurd (no_expr expr is)
 
 -- the type that a counted expression of a fitting declaration is written out as
-written_counted : (defined : Defined) (body : EntityBody) (kind : Kind) (expr : Expr) → KindFits defined body kind → CountsIn body expr → (ty : Ty) × WrittenOut defined expr ty
+written_counted : (defined : Defined) (body : EntityBody) (kind : Kind) (expr : Expr) → KindFits defined body kind → CountsInEntity body expr → (ty : Ty) × WrittenOut defined expr ty
 written_counted defined (standard parents shape tags) (standard_kind fields tag ty) expr fits counts =
     let P : Expr → Type 0 = λ each. (ty : Ty) × WrittenOut defined each ty in
     ⊎_elim (λ is. subst P is (_, fits.0)) (λ is. written_tags defined tags ty expr fits.2 is) counts
@@ -148,7 +149,7 @@ nothing_at_fault declared entries each sound (type_not_defined (reference ∷ re
 nothing_at_fault declared entries each sound (action_entity_type name) at_fault =
     (of_contained IsSound declared (name, at_fault.0) sound at_fault.1).no_action at_fault.2
 nothing_at_fault declared entries each sound (shape_not_record name) at_fault =
-    let fits = fit_of (defined_by declared) declared entries (name, standard at_fault.0 at_fault.1 at_fault.2) each at_fault.4 in
+    let fits = fit_of (defined_by declared) declared entries (name, standard at_fault.0 at_fault.1 at_fault.2) each at_fault.3 in
     let written = written_shape (defined_by declared) at_fault.0 at_fault.1 at_fault.2 (entity_type_of fits.0.1).kind fits.1.kind in
-    at_fault.6 (written_as_record declared written.1 written.2 at_fault.5)
+    at_fault.4.2 (written_as_record declared written.1 written.2 at_fault.4.1)
 nothing_at_fault declared entries each sound _ at_fault = at_fault

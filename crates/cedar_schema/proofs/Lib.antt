@@ -1,6 +1,9 @@
+pub mod AdmitsLemmas
 pub mod BuildingLemmas
 pub mod BuiltLemmas
 pub mod DeclaredLemmas
 pub mod FaultLemmas
+pub mod PartBag
 pub mod RecordLemmas
+pub mod ResolutionLemmas
 pub mod TypeCases

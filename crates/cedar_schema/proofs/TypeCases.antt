@@ -1,5 +1,5 @@
 use Rattle.std.proofs.Common.{◌≡◌, Bool, Some, None, refl, ap, sym, subst, ◌∙◌}
-use Rattle.cedar_schema.specs.EntityFaults.{IsRecordType}
+use Rattle.cedar_schema.specs.WrittenOut.{IsRecordType}
 use Rattle.cedar_types.specs.Meaning.{ty_of, type_step, attribute_step, attributes_step, fields_of, attribute_of}
 use Rattle.cedar_types.specs.Ty.{Ty, Fields}
 use Rattle.cedar_types.specs.declared.attributes.AttributeType.{AttributeType}

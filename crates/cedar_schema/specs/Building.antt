@@ -7,12 +7,12 @@ use Rattle.cedar_names.specs.Expr.{Expr}
 use Rattle.cedar_names.specs.Reference.{Reference}
 use Rattle.cedar_names.specs.declared.json_schema.entity_type.EntityType.{EntityType}
 use Rattle.cedar_names.specs.declared.json_schema.raw_name.RawName.{RawName}
+use Rattle.cedar_schema.specs.Counted.{CountsInEntity}
 use Rattle.cedar_schema.specs.Defined.{Defined, IsUnresolved}
-use Rattle.cedar_schema.specs.EntityFaults.{declared_by_entries, defined_by, IsRecordType, CountsIn}
+use Rattle.cedar_schema.specs.EntityFaults.{declared_by_entries, defined_by}
 use Rattle.cedar_schema.specs.Fault.{Fault, open_record, type_not_defined, want_of_memory, shape_not_record}
 use Rattle.cedar_schema.specs.Parts.{HasOpenRecord, Refers}
-use Rattle.cedar_schema.specs.WrittenOut.{WrittenOut}
-use Rattle.cedar_types.specs.Ty.{Ty}
+use Rattle.cedar_schema.specs.WrittenOut.{IsNoRecord}
 
 -- what references can name where the entity types of a map are declared
 abbrev pub defined_in : BTreeMap UnreservedId (EntityType RawName) → Defined
@@ -29,7 +29,7 @@ IsExprFault defined expr _ = ⊥
 -- the refusal of the shape of an entity type: that of an expression, or that it is written out as no record
 abbrev pub IsShapeFault : Defined → PlainName → Expr → Fault → Type 0
 IsShapeFault defined name expr (shape_not_record other) =
-    (other ≡ name) × (ty : Ty) × WrittenOut defined expr ty × (IsRecordType ty → ⊥)
+    (other ≡ name) × IsNoRecord defined expr
 IsShapeFault defined name expr fault = IsExprFault defined expr fault
 
 -- the refusal of what is declared of an entity type: that of its shape
@@ -40,4 +40,4 @@ IsBodyFault defined name _ fault = ⊥
 -- the declaration has neither the base name of actions nor an open record that counts
 pub record IsSound (entity : PlainName × EntityBody) : Type 0 where
   pub no_action : IsActionType entity.0 → ⊥
-  pub closed : (expr : Expr) → CountsIn entity.1 expr → HasOpenRecord expr → ⊥
+  pub closed : (expr : Expr) → CountsInEntity entity.1 expr → HasOpenRecord expr → ⊥

@@ -1,9 +1,10 @@
-use Rattle.std.specs.Prelude.{◌≡◌, ◌⊎◌, List, [], ◌∷◌, Contains}
+use Rattle.std.specs.Prelude.{◌⊎◌, List, Contains}
 use Rattle.cedar_below.specs.PlainName.{PlainName}
 use Rattle.cedar_names.specs.Expr.{Expr}
 use Rattle.cedar_names.specs.Reference.{Reference}
 use Rattle.cedar_names.specs.declared.json_schema.reference_type.ReferenceType.{ReferenceType}
 use Rattle.cedar_names.specs.declared.json_schema.reference_type.ReferenceType.TheVariants.{Common, Entity, CommonOrEntity}
+use Rattle.cedar_schema.specs.Places.{IsFirst}
 
 -- what a reference to a type can name: the common types with their definitions, and the entity types
 pub record Defined : Type 0 where
@@ -36,9 +37,7 @@ IsDefined defined kind name = ((body : Expr) × IsCommon defined kind name body)
 
 -- the name is the first of some for which there is a definition that a reference of the kind may name
 abbrev pub IsFirstDefined : Defined → ReferenceType → List PlainName → PlainName → Type 0
-IsFirstDefined defined kind [] name = ⊥
-IsFirstDefined defined kind (first ∷ rest) name =
-    ((first ≡ name) × IsDefined defined kind first) ⊎ ((IsDefined defined kind first → ⊥) × IsFirstDefined defined kind rest name)
+IsFirstDefined defined kind names name = IsFirst (IsDefined defined kind) names name
 
 -- the reference resolves to the name: the first of its possibilities that is defined in a kind that it permits
 abbrev pub ResolvesTo : Defined → Reference → PlainName → Type 0

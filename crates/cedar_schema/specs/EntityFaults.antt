@@ -8,11 +8,11 @@ use Rattle.cedar_names.specs.Reference.{Reference}
 use Rattle.cedar_names.specs.declared.json_schema.entity_type.EntityType.{EntityType}
 use Rattle.cedar_names.specs.declared.json_schema.fragment.NamespaceDefinition.{NamespaceDefinition}
 use Rattle.cedar_names.specs.declared.json_schema.raw_name.RawName.{RawName}
+use Rattle.cedar_schema.specs.Counted.{CountsInEntity}
 use Rattle.cedar_schema.specs.Defined.{Defined, IsUnresolved}
 use Rattle.cedar_schema.specs.Fault.{Fault, open_record, type_not_defined, action_entity_type, shape_not_record}
 use Rattle.cedar_schema.specs.Parts.{HasOpenRecord, Refers}
-use Rattle.cedar_schema.specs.WrittenOut.{WrittenOut}
-use Rattle.cedar_types.specs.Ty.{Ty, record_of}
+use Rattle.cedar_schema.specs.WrittenOut.{IsNoRecord}
 
 -- the name of an id in the empty namespace
 abbrev pub name_here : UnreservedId → PlainName
@@ -34,19 +34,9 @@ declared_by definition = declared_by_entries definition.entity_types.entries
 abbrev pub defined_by : Declared → Defined
 defined_by declared = record { common = []; entities = map (λ entity. entity.0) declared }
 
--- the expression counts: it is the shape of a standard entity type, or the type of its tags
-abbrev pub CountsIn : EntityBody → Expr → Type 0
-CountsIn (standard parents shape tags) expr = (shape ≡ expr) ⊎ (tags ≡ Some expr)
-CountsIn _ expr = ⊥
-
 -- the expression counts in some declaration
 abbrev pub IsCounted : Declared → Expr → Type 0
-IsCounted declared expr = (entity : PlainName × EntityBody) × Contains declared entity × CountsIn entity.1 expr
-
--- the type is that of records
-abbrev pub IsRecordType : Ty → Type 0
-IsRecordType (record_of fields tag) = Unit {0}
-IsRecordType _ = ⊥
+IsCounted declared expr = (entity : PlainName × EntityBody) × Contains declared entity × CountsInEntity entity.1 expr
 
 -- the fault is in the declarations of entity types: an open record that counts, references that count and that nothing resolves, an entity type with the base name of actions, or a shape that is written out as no record
 abbrev pub IsEntityFault : Declared → Fault → Type 0
@@ -56,6 +46,6 @@ IsEntityFault declared (type_not_defined references) =
     × ((reference : Reference) → Contains references reference → (expr : Expr) × IsCounted declared expr × Refers expr reference × IsUnresolved (defined_by declared) reference)
 IsEntityFault declared (action_entity_type name) = (body : EntityBody) × Contains declared (name, body) × IsActionType name
 IsEntityFault declared (shape_not_record name) =
-    (parents : List Reference) × (shape : Expr) × (tags : Option Expr) × (ty : Ty)
-    × Contains declared (name, standard parents shape tags) × WrittenOut (defined_by declared) shape ty × (IsRecordType ty → ⊥)
+    (parents : List Reference) × (shape : Expr) × (tags : Option Expr)
+    × Contains declared (name, standard parents shape tags) × IsNoRecord (defined_by declared) shape
 IsEntityFault declared _ = ⊥

@@ -8,7 +8,7 @@ use Rattle.cedar_below.specs.PlainName.{PlainName}
 use Rattle.cedar_below.specs.PlainUid.{PlainUid}
 use Rattle.cedar_below.specs.Text.{Text}
 use Rattle.cedar_below.specs.declared.non_empty.NonEmpty.{NonEmpty}
-use Rattle.cedar_names.specs.ConditionalName.{possibilities_of, reference_type_of}
+use Rattle.cedar_names.specs.ConditionalName.{conditional_reference}
 use Rattle.cedar_names.specs.Reference.{Reference}
 use Rattle.cedar_names.specs.declared.json_schema.action_type.ActionEntityUID.{ActionEntityUID}
 use Rattle.cedar_names.specs.declared.json_schema.conditional_name.ConditionalName.{ConditionalName}
@@ -19,18 +19,13 @@ use Rattle.cedar_schema.specs.declared.schema_error.SchemaError.TheVariants as e
 use Rattle.cedar_schema.specs.declared.schema_error.UnsupportedFeature.{UnsupportedFeature}
 use Rattle.cedar_schema.specs.declared.schema_error.UnsupportedFeature.TheVariants as feature
 
--- a parent of an action as it is declared: an id, and the type if one is given
-pub record ActionReference : Type 0 where
-  pub id : Text
-  pub ty : Option Reference
-
 -- why no schema is built, as plain data: a fault with what it names, or want of memory
 pub data Fault : Type 0 where
   action_attributes : List Text → Fault
   open_record : Fault
   undeclared_entity_types : List PlainName → Fault
   type_not_defined : List Reference → Fault
-  action_not_defined : List ActionReference → Fault
+  action_not_defined : List (Text × Option Reference) → Fault
   type_shadowing : PlainName → PlainName → Fault
   action_shadowing : PlainUid → PlainUid → Fault
   duplicate_entity_type : PlainName → Fault
@@ -55,13 +50,9 @@ pub data Fault : Type 0 where
 abbrev pub items_of : {X : Type 0} → NonEmpty X → List X
 items_of items = items.head ∷ items.tail.items
 
--- a reference with its possibilities as plain data
-abbrev pub conditional_reference : ConditionalName → Reference
-conditional_reference name = record { possibilities = possibilities_of name; kind = reference_type_of name }
-
--- a parent of an action as plain data
-abbrev pub action_reference : ActionEntityUID ConditionalName → ActionReference
-action_reference it = record { id = string_bytes it.id; ty = option_map conditional_reference it.ty }
+-- a parent of an action as plain data: its id, and what its type may stand for if one is given
+abbrev pub carried_action : ActionEntityUID ConditionalName → Text × Option Reference
+carried_action it = (string_bytes it.id, option_map conditional_reference it.ty)
 
 -- an unsupported feature as plain data
 abbrev pub feature_fault : UnsupportedFeature → Fault
@@ -78,7 +69,7 @@ abbrev pub fault_of : SchemaError → Fault
 fault_of (error.UnsupportedFeature it) = feature_fault it
 fault_of (error.UndeclaredEntityTypes types) = undeclared_entity_types (map type_name (items_of types))
 fault_of (error.TypeNotDefined it) = type_not_defined (map conditional_reference (items_of it.undefined_types))
-fault_of (error.ActionNotDefined actions) = action_not_defined (map action_reference (items_of actions))
+fault_of (error.ActionNotDefined actions) = action_not_defined (map carried_action (items_of actions))
 fault_of (error.TypeShadowing plain qualified) = type_shadowing (name_of plain) (name_of qualified)
 fault_of (error.ActionShadowing plain qualified) = action_shadowing (uid_of plain) (uid_of qualified)
 fault_of (error.DuplicateEntityType ty) = duplicate_entity_type (type_name ty)

@@ -1,4 +1,5 @@
 use Rattle.std.specs.Prelude.{◌≡◌, ◌⊎◌, IsTrue}
+use Rattle.cedar_below.specs.Text.{Text}
 use Rattle.cedar_names.specs.Expr.{Expr, text_expr, long_expr, truth_expr, set_expr, record_expr, named, extension_expr, Members, no_member, member}
 use Rattle.cedar_names.specs.Reference.{Reference}
 
@@ -33,3 +34,19 @@ abbrev mutual
   pub MembersRefer : Members → Reference → Type 0
   MembersRefer no_member reference = ⊥
   MembersRefer (member name required expr rest) reference = Refers expr reference ⊎ MembersRefer rest reference
+
+abbrev mutual
+  -- the extension type of that base name stands in the expression
+  pub MentionsExtension : Expr → Text → Type 0
+  MentionsExtension (set_expr element) word = MentionsExtension element word
+  MentionsExtension (record_expr members additional) word = MembersMentionExtension members word
+  MentionsExtension (named reference) word = ⊥
+  MentionsExtension (extension_expr name) word = name ≡ word
+  MentionsExtension text_expr word = ⊥
+  MentionsExtension long_expr word = ⊥
+  MentionsExtension truth_expr word = ⊥
+
+  -- the same of some attribute of a record
+  pub MembersMentionExtension : Members → Text → Type 0
+  MembersMentionExtension no_member word = ⊥
+  MembersMentionExtension (member name required expr rest) word = MentionsExtension expr word ⊎ MembersMentionExtension rest word

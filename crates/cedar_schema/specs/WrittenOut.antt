@@ -24,3 +24,12 @@ mutual
   pub data MembersWrittenOut (defined : Defined) : Members → Fields → Type 0 where
     as_no_member : MembersWrittenOut defined no_member end
     as_member : {name : Text} {required : Bool} {expr : Expr} {ty : Ty} {rest : Members} {fields : Fields} → WrittenOut defined expr ty → MembersWrittenOut defined rest fields → MembersWrittenOut defined (member name required expr rest) (field name required ty fields)
+
+-- the type is that of records
+abbrev pub IsRecordType : Ty → Type 0
+IsRecordType (record_of fields tag) = Unit {0}
+IsRecordType _ = ⊥
+
+-- the expression is written out as a type that is no record type
+abbrev pub IsNoRecord : Defined → Expr → Type 0
+IsNoRecord defined expr = (ty : Ty) × WrittenOut defined expr ty × (IsRecordType ty → ⊥)

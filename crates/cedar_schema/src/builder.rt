@@ -13,8 +13,9 @@ ghost use Rattle.std.specs.List.{AllByRecursion};
 ghost use Rattle.cedar_types.specs.ValidatorEntityType.{entity_type_of, descendant_names};
 ghost use Rattle.cedar_names.specs.Reference.{reference_to};
 ghost use Rattle.cedar_names.specs.declared.json_schema.reference_type.ReferenceType.TheVariants.{Entity};
+ghost use Rattle.cedar_schema.specs.Counted.{CountsInEntity};
 ghost use Rattle.cedar_schema.specs.Building.{defined_in, IsExprFault, IsShapeFault, IsBodyFault, IsSound};
-ghost use Rattle.cedar_schema.specs.EntityFaults.{declared_by, name_here, CountsIn, IsEntityFault, defined_by};
+ghost use Rattle.cedar_schema.specs.EntityFaults.{declared_by, name_here, IsEntityFault, defined_by};
 ghost use Rattle.cedar_schema.specs.Fits.{KindFits, FitEach};
 ghost use Rattle.cedar_schema.specs.Fault.{Fault, fault_of, want_of_memory, type_not_defined, action_entity_type};
 ghost use Rattle.cedar_schema.specs.Parts.{HasOpenRecord};
@@ -216,7 +217,7 @@ fn entity_type(
     ensures name { IfOk result (λ ty. (entity_type_of ty).name ≡ type_name name) }
     ensures kind { IfOk result (λ ty. KindFits (defined_in declarations.now) (raw_entity_body None declaration.now) (entity_type_of ty).kind) }
     ensures no_descendants { IfOk result (λ ty. descendant_names ty ≡ []) }
-    ensures closed { OnOk result ((expr : Expr) → CountsIn (raw_entity_body None declaration.now) expr → HasOpenRecord expr → ⊥) }
+    ensures closed { OnOk result ((expr : Expr) → CountsInEntity (raw_entity_body None declaration.now) expr → HasOpenRecord expr → ⊥) }
     ensures fault { IfErr result (λ error. IsBodyFault (defined_in declarations.now) (type_name name) (raw_entity_body None declaration.now) (fault_of error)) }
 {
     let EntityTypeKind::Standard(standard) = &declaration.kind else {
