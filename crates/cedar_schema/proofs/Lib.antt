@@ -1,9 +1,11 @@
 pub mod AdmitsLemmas
 pub mod BuildingLemmas
+pub mod BuiltInLemmas
 pub mod BuiltLemmas
 pub mod DeclaredLemmas
 pub mod FaultLemmas
 pub mod PartBag
+pub mod PlacesLemmas
 pub mod RecordLemmas
 pub mod ResolutionLemmas
 pub mod TypeCases

@@ -77,14 +77,21 @@ built_in_types extensions =
     (codes "Bool", truth_expr) ∷ (codes "Long", long_expr) ∷ (codes "String", text_expr)
     ∷ map (λ name. (name.base, extension_expr name.base)) (extension_types extensions)
 
--- the built-in common types: each built-in base name in the namespace `__cedar`
-abbrev pub built_ins : Extensions → List (PlainName × Expr)
-built_ins extensions = map (λ it. (record { base = it.0; path = reserved_word ∷ [] }, it.1)) (built_in_types extensions)
+-- the full name of a built-in type: its base name in the namespace `__cedar`
+abbrev pub built_in_name : Text → PlainName
+built_in_name word = record { base = word; path = reserved_word ∷ [] }
 
--- the aliases: each built-in base name in the empty namespace, where no type of that name is declared
+-- the name of an alias: the base name alone
+abbrev pub alias_name : Text → PlainName
+alias_name word = record { base = word; path = [] }
+
+-- the built-in common types, each under its full name
+abbrev pub built_ins : Extensions → List (PlainName × Expr)
+built_ins extensions = map (λ it. (built_in_name it.0, it.1)) (built_in_types extensions)
+
+-- the aliases: the built-in types under their base names alone, but for those of which a type is declared in the empty namespace
 abbrev pub aliases : Bag → Extensions → List (PlainName × Expr)
-aliases bag extensions =
-    map (λ it. (record { base = it.0; path = [] }, it.1)) (filter (λ it. not (is_declared_here bag it.0)) (built_in_types extensions))
+aliases bag extensions = map (λ it. (alias_name it.0, it.1)) (filter (λ it. not (is_declared_here bag it.0)) (built_in_types extensions))
 
 -- the names that a reference can name: of common types those that are declared, the built-in ones and the aliases; of entity types those that are declared, and the types of the declared actions
 abbrev pub defined_names : Bag → Extensions → Defined
