@@ -8,4 +8,5 @@ pub mod PartBag
 pub mod PlacesLemmas
 pub mod RecordLemmas
 pub mod ResolutionLemmas
+pub mod SchemaLaws
 pub mod TypeCases
