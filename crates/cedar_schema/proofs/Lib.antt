@@ -5,6 +5,8 @@ pub mod BuiltLemmas
 pub mod DeclaredLemmas
 pub mod FaultLemmas
 pub mod PartBag
+pub mod PartFaults
+pub mod PartWritten
 pub mod PlacesLemmas
 pub mod RecordLemmas
 pub mod ResolutionLemmas

@@ -1,10 +1,15 @@
 -- Items that stand at one place or two of a list.
 use Rattle.std.proofs.Common.{◌≡◌, ◌≢◌, ◌⊎◌, zero, suc, Bool, true, List, [], ◌∷◌, ◌++◌, map, ap, sym, subst, ◌∙◌, refl, inl, inr, ⊎_elim, arith, Contains, AllPairs}
-use Rattle.std.proofs.lemmas.List.Elements.{All-contains, All-contains_itself, All-filter, filter_passes, Contains-append_left, Contains-append_right, Contains-append_cases}
+use Rattle.std.proofs.lemmas.List.Elements.{All-contains, All-contains_itself, All-from_recursion, All-filter, filter_passes, Contains-append_left, Contains-append_right, Contains-append_cases}
+use Rattle.std.specs.Cmp.{IsTotalOrder}
 use Rattle.std.specs.List.{filter}
+use Rattle.std.specs.List.Sorted.{IsStrictlySortedBy}
+use Rattle.std.specs.declared.cmp.Ordering.{Ordering}
+use Rattle.std.specs.declared.cmp.Ordering.TheVariants.{Less}
 use Rattle.cedar_below.proofs.Lists.{Contains-cons, Contains-cons_cases}
 use Rattle.cedar_schema.proofs.DeclaredLemmas.{Contains-preimage}
 use Rattle.cedar_schema.specs.Places.{Twice}
+use Rattle.cedar_types.proofs.AntisymmetryLaws.{not_itself}
 
 -- no item stands twice in a list without repeats
 pub Twice-distinct : {A : Type 0} (xs : List A) (x : A) → AllPairs (λ a b. a ≢ b) xs → Twice xs x → ⊥
@@ -52,3 +57,13 @@ pub Contains-filter : {A : Type 0} (p : A → Bool) (xs : List A) (x : A) → Co
 Contains-filter p xs x among =
     (All-contains (Contains xs) (filter p xs) x (All-filter p (Contains xs) xs (All-contains_itself xs)) among,
       All-contains (λ each. p each ≡ true) (filter p xs) x (filter_passes p xs) among)
+
+-- no item stands twice in a list that ascends
+pub Twice-ascending : {A : Type 0} (R : A → A → Ordering) → IsTotalOrder R → (xs : List A) (x : A) → IsStrictlySortedBy R xs → Twice xs x → ⊥
+unfolding IsStrictlySortedBy
+Twice-ascending R total [] x ascending twice = twice
+Twice-ascending R total (first ∷ rest) x ascending twice =
+    ⊎_elim
+    (λ here. not_itself R total first x here.0 (All-contains (λ each. R first each ≡ Less) rest x (All-from_recursion (λ each. R first each ≡ Less) rest ascending.0) here.1))
+    (λ later. Twice-ascending R total rest x ascending.1 later)
+    twice

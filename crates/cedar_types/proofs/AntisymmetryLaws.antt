@@ -30,7 +30,7 @@ apart R total x y less also =
     cc
 
 -- no value is below itself
-not_itself : {B : Type 0} (R : B → B → Ordering) → IsTotalOrder R → (x y : B) → x ≡ y → R x y ≡ Less → ⊥
+pub not_itself : {B : Type 0} (R : B → B → Ordering) → IsTotalOrder R → (x y : B) → x ≡ y → R x y ≡ Less → ⊥
 not_itself R total x y same less =
     let again : R x x ≡ Less = subst (λ z. R x z ≡ Less) (sym same) less in
     apart R total x x again again
