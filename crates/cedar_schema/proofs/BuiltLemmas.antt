@@ -62,7 +62,7 @@ FitEach-push defined (other ∷ declared) (first ∷ entries) entity entry each 
     (each.0, FitEach-push defined declared entries entity entry each.1 one)
 
 -- the names of the keys are those that are declared
-FitEach-keys : (defined : Defined) (declared : Declared) (entries : Types) → FitEach defined declared entries → map type_name (keys_of entries) ≡ map (λ entity. entity.0) declared
+pub FitEach-keys : (defined : Defined) (declared : Declared) (entries : Types) → FitEach defined declared entries → map type_name (keys_of entries) ≡ map (λ entity. entity.0) declared
 FitEach-keys defined [] [] each = refl
 FitEach-keys defined [] (other ∷ entries) each = absurd each
 FitEach-keys defined (other ∷ declared) [] each = absurd each
@@ -95,6 +95,13 @@ BuiltSoFar-none all left types same nothing =
 -- the names of the entries in their order
 names_in_order : (all : Entries) → IsStrictlySortedBy ((unreserved_id_ord.ghosts).cmp) (keys_of all) → IsStrictlySortedBy name_cmp (map name_here (keys_of all))
 names_in_order all ordered = IsStrictlySortedBy-map ((unreserved_id_ord.ghosts).cmp) name_cmp name_here id_order (keys_of all) ordered
+
+-- what the entries declare is in the order of the names
+pub declared_in_order : (all : Entries) → IsStrictlySortedBy ((unreserved_id_ord.ghosts).cmp) (keys_of all) → IsStrictlySortedBy name_cmp (map (λ entity. entity.0) (declared_by_entries all))
+declared_in_order all ordered =
+    let P : List PlainName → Type 0 = IsStrictlySortedBy name_cmp in
+    let names : map name_here (keys_of all) ≡ map (λ (entity : PlainName × EntityBody). entity.0) (declared_by_entries all) = map-map _ _ all ∙ sym (map-map _ _ all) in
+    subst P names (names_in_order all ordered)
 
 -- what a declaration gives goes to the end of the map
 pub inserted_at_end : (all left rest : Entries) (types : Types) (id : UnreservedId) (declaration : Declaration RawName) (key : EntityType) (ty : ValidatorEntityType) → IsStrictlySortedBy ((unreserved_id_ord.ghosts).cmp) (keys_of all) → left ≡ (id, declaration) ∷ rest → type_name key ≡ name_here id → BuiltSoFar all types left → insert_entry ((entity_type_ord.ghosts).cmp) types key ty ≡ types ++ (key, ty) ∷ []

@@ -5,7 +5,9 @@ pub mod BuiltLemmas
 pub mod DeclaredLemmas
 pub mod FaultLemmas
 pub mod PartBag
+pub mod PartDefinition
 pub mod PartFaults
+pub mod PartSchema
 pub mod PartWritten
 pub mod PlacesLemmas
 pub mod RecordLemmas

@@ -1,15 +1,16 @@
 //! How a schema is built from declarations.
 
-ghost use Rattle.std.specs.Prelude.{◌≡◌, ◌⊎◌, ◌↔◌, IsTrue, IsSome, IfSome, IfOk, IfErr, OnOk, Contains, [], ◌∷◌, None};
+ghost use Rattle.std.specs.Prelude.{◌≡◌, ◌⊎◌, ◌↔◌, IsTrue, IsSome, IfSome, IfOk, IfErr, OnOk, Contains, [], ◌∷◌, None, map};
 ghost use Rattle.cedar_below.specs.EntityType.{type_name};
 ghost use Rattle.cedar_below.specs.InternalName.{name_of};
-ghost use Rattle.cedar_below.specs.PlainName.{IsActionType};
+ghost use Rattle.cedar_below.specs.PlainName.{IsActionType, name_cmp};
 ghost use Rattle.cedar_names.specs.Part.{NamesEntitiesAlone, IsPlainStandard, IsInPart};
 ghost use Rattle.cedar_names.specs.RawExpr.{raw_expr, raw_variant, raw_record};
 ghost use Rattle.cedar_names.specs.RawName.{raw_name};
 ghost use Rattle.cedar_names.specs.EntityBody.{raw_entity_body};
 ghost use Rattle.cedar_names.specs.Expr.{Expr, named};
 ghost use Rattle.std.specs.List.{AllByRecursion};
+ghost use Rattle.std.specs.List.Sorted.{IsStrictlySortedBy};
 ghost use Rattle.cedar_types.specs.ValidatorEntityType.{entity_type_of, descendant_names};
 ghost use Rattle.cedar_names.specs.Reference.{reference_to};
 ghost use Rattle.cedar_names.specs.declared.json_schema.reference_type.ReferenceType.TheVariants.{Entity};
@@ -244,6 +245,7 @@ pub(crate) fn entity_types(
     requires { IsInPart definition.now }
     ensures fits { IfOk result (λ types. FitEach (defined_by (declared_by definition.now)) (declared_by definition.now) types.entries) }
     ensures sound { OnOk result (AllByRecursion IsSound (declared_by definition.now)) }
+    ensures in_order { OnOk result (IsStrictlySortedBy name_cmp (map (λ entity. entity.0) (declared_by definition.now))) }
     ensures fault { IfErr result (λ error. (fault_of error ≡ want_of_memory) ⊎ IsEntityFault (declared_by definition.now) (fault_of error)) }
 {
     let mut types = BTreeMap::new(alloc);

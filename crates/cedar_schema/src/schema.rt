@@ -1,12 +1,16 @@
-ghost use Rattle.std.specs.Prelude.{◌≡◌, ◌⊎◌, [], IfOk, IfErr, OnOk, map};
+ghost use Rattle.std.specs.Prelude.{◌≡◌, ◌⊎◌, [], IfOk, IfErr, OnOk, None, map};
 ghost use Rattle.std.specs.Option.{option_copied};
 ghost use Rattle.cedar_below.specs.EntityType.{type_name};
 ghost use Rattle.cedar_below.specs.Extensions.{extension_types};
 ghost use Rattle.cedar_below.specs.TypeNames.{TypeNamesFit};
+ghost use Rattle.cedar_names.specs.Declaration.{raw_declarations};
 ghost use Rattle.cedar_names.specs.Part.{IsInPart};
-ghost use Rattle.cedar_schema.specs.EntityFaults.{declared_by, IsEntityFault};
-ghost use Rattle.cedar_schema.specs.Fault.{Fault, fault_of, want_of_memory};
-ghost use Rattle.cedar_schema.specs.SchemaOf.{IsSchemaOf};
+ghost use Rattle.cedar_schema.specs.DeclaredSchema.{IsDeclaredSchema};
+ghost use Rattle.cedar_schema.specs.EndToEnd.{TypesAdmitTheDeclared};
+ghost use Rattle.cedar_schema.specs.Fault.{fault_of, want_of_memory};
+ghost use Rattle.cedar_schema.specs.IllFormed.{IsFault, IsIllFormed};
+ghost use Rattle.cedar_schema.specs.PlainSchema.{PlainSchema, schema_of};
+ghost use Rattle.cedar_schema.specs.SameSchema.{SameSchema};
 ghost use Rattle.cedar_schema.specs.ValidatorSchema.{schema_entries, entity_type_named};
 
 use crate::builder::entity_types;
@@ -46,9 +50,16 @@ impl ValidatorSchema {
     ) -> Result<Self, SchemaError>
         requires part { IsInPart definition }
         requires names_fit { TypeNamesFit (extension_types extensions.now) }
-        ensures fault { IfErr result (λ error. (fault_of error ≡ want_of_memory) ⊎ IsEntityFault (declared_by definition) (fault_of error)) }
-        ensures nothing_at_fault { OnOk result ((fault : Fault) → IsEntityFault (declared_by definition) fault → ⊥) }
-        ensures schema { IfOk result (IsSchemaOf (declared_by definition)) }
+        ensures fault { IfErr result (λ error. (fault_of error ≡ want_of_memory)
+            ⊎ IsFault (raw_declarations None definition) extensions.now (fault_of error)) }
+        ensures well_formed { OnOk result (IsIllFormed (raw_declarations None definition) extensions.now → ⊥) }
+        ensures declared { IfOk result (λ schema.
+            IsDeclaredSchema (raw_declarations None definition) extensions.now (schema_of schema)) }
+        ensures only { IfOk result (λ schema. (other : PlainSchema)
+            → IsDeclaredSchema (raw_declarations None definition) extensions.now other
+            → SameSchema other (schema_of schema)) }
+        ensures admits { IfOk result (λ schema.
+            TypesAdmitTheDeclared (raw_declarations None definition) extensions.now (schema_of schema)) }
     {
         // No extension type stands in the part, so none is looked up.
         let _ = extensions;

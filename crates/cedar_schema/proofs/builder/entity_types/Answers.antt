@@ -6,7 +6,7 @@ use Rattle.cedar_schema.specs.EntityFaults.{declared_by_entries, defined_by, nam
 use Rattle.cedar_schema.specs.Fits.{Fits}
 use Rattle.cedar_schema.specs.Building.{IsBodyFault, IsSound}
 use Rattle.cedar_schema.specs.Fault.{fault_of}
-use Rattle.cedar_schema.proofs.BuiltLemmas.{BuiltSoFar, BuiltSoFar-more, inserted_at_end, plain_next, declared_next, Types}
+use Rattle.cedar_schema.proofs.BuiltLemmas.{BuiltSoFar, BuiltSoFar-more, declared_in_order, inserted_at_end, plain_next, declared_next, Types}
 use Rattle.cedar_schema.proofs.FaultLemmas.{fault_of_name, fault_of_declaration}
 use Rattle.cedar_schema.proofs.builder.entity_types.Goals as goal
 
@@ -64,3 +64,6 @@ loop-id-preserved-in_ok-insert c =
     let P : Types → Type 0 = λ types. BuiltSoFar all types c.next.new.self in
     subst P (sym (c.in_ok-insert.ensures.entries ∙ at_end))
     (BuiltSoFar-more all c.loop-id.id-iterator c.next.new.self c.loop-id.types.entries c.in-Some.id.now c.in-Some.declaration.now key ty c.in-Some.ensures.steps fits sound c.loop-id.invariant)
+
+pub returns-clause-in_order : goal.returns-clause-in_order
+returns-clause-in_order c = declared_in_order c.args.definition.now.entity_types.entries c.iter-id-items.ensures.ordered
