@@ -47,11 +47,20 @@ pub record IsBuiltFrom (bag : Bag) (extensions : Extensions) (answer : Result Pl
   pub only : IfOk answer (λ schema. (other : PlainSchema) → IsDeclaredSchema bag extensions other → SameSchema other schema)
   pub admits : IfOk answer (TypesAdmitTheDeclared bag extensions)
 
--- a law to be proved: a bag that isn't ill-formed declares a schema, and only one, whose types have just the declared values
-abbrev pub BagsDeclareOneSchema : Type 0
-BagsDeclareOneSchema = (bag : Bag) (extensions : Extensions) → TypeNamesFit (extension_types extensions) → (IsIllFormed bag extensions → ⊥)
-    → (schema : PlainSchema) × IsDeclaredSchema bag extensions schema × TypesAdmitTheDeclared bag extensions schema
-    × ((other : PlainSchema) → IsDeclaredSchema bag extensions other → SameSchema other schema)
+-- a law: a bag that isn't ill-formed declares at most one schema
+abbrev pub BagsDeclareAtMostOneSchema : Type 0
+BagsDeclareAtMostOneSchema = (bag : Bag) (extensions : Extensions) → TypeNamesFit (extension_types extensions) → (IsIllFormed bag extensions → ⊥)
+    → (schema other : PlainSchema) → IsDeclaredSchema bag extensions schema → IsDeclaredSchema bag extensions other → SameSchema schema other
+
+-- a law: the types of the schema that a bag declares which isn't ill-formed have just the declared values
+abbrev pub DeclaredTypesHaveTheDeclaredValues : Type 0
+DeclaredTypesHaveTheDeclaredValues = (bag : Bag) (extensions : Extensions) → TypeNamesFit (extension_types extensions) → (IsIllFormed bag extensions → ⊥)
+    → (schema : PlainSchema) → IsDeclaredSchema bag extensions schema → TypesAdmitTheDeclared bag extensions schema
+
+-- a law to be proved: a bag that isn't ill-formed declares a schema
+abbrev pub BagsDeclareASchema : Type 0
+BagsDeclareASchema = (bag : Bag) (extensions : Extensions) → TypeNamesFit (extension_types extensions) → (IsIllFormed bag extensions → ⊥)
+    → (schema : PlainSchema) × IsDeclaredSchema bag extensions schema
 
 -- a law to be proved: bags that are the same are ill-formed both or neither, and declare the same schemas
 abbrev pub SameBagsDeclareTheSame : Type 0

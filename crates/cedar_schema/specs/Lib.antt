@@ -17,7 +17,7 @@ pub mod Places
 pub mod PlainSchema
 pub mod SameBag
 pub mod SameSchema
-pub mod SchemaOf
+pub mod Samples
 pub mod TypeParts
 pub mod ValidSchema
 pub mod ValidatorSchema

@@ -12,3 +12,4 @@ pub use schema_error::{ContextOrShape, SchemaError, UnsupportedFeature};
 mod builder;
 mod schema;
 mod schema_error;
+pub mod theorems;

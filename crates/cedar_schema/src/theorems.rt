@@ -1,0 +1,41 @@
+//! Laws of declarations: what a bag of declarations that isn't ill-formed declares.
+
+ghost use Rattle.std.specs.Prelude.{◌≡◌};
+ghost use Rattle.cedar_below.specs.Extensions.{extension_types};
+ghost use Rattle.cedar_below.specs.TypeNames.{TypeNamesFit};
+ghost use Rattle.cedar_below.specs.declared.extension.Extensions.{Extensions};
+ghost use Rattle.cedar_names.specs.Expr.{Expr};
+ghost use Rattle.cedar_schema.specs.Bag.{Bag, defined_names};
+ghost use Rattle.cedar_schema.specs.EndToEnd.{
+    AdmitsTheSame, BagsDeclareAtMostOneSchema, DeclaredTypesHaveTheDeclaredValues,
+};
+ghost use Rattle.cedar_schema.specs.IllFormed.{IsIllFormed};
+ghost use Rattle.cedar_schema.specs.WrittenOut.{WrittenOut};
+ghost use Rattle.cedar_types.specs.Ty.{Ty};
+
+/// In a bag that isn't ill-formed an expression is written out as one type at most.
+pub fn expressions_are_written_out_as_one_type()
+    ensures { (bag : Bag) (extensions : Extensions) (expr : Expr) (ty other : Ty)
+        → TypeNamesFit (extension_types extensions) → (IsIllFormed bag extensions → ⊥)
+        → WrittenOut (defined_names bag extensions) expr ty
+        → WrittenOut (defined_names bag extensions) expr other → ty ≡ other }
+{}
+
+/// In a bag that isn't ill-formed the type that an expression is written out as has just the values
+/// that the expression admits.
+pub fn types_have_the_admitted_values()
+    ensures { (bag : Bag) (extensions : Extensions) (expr : Expr) (ty : Ty)
+        → TypeNamesFit (extension_types extensions) → (IsIllFormed bag extensions → ⊥)
+        → WrittenOut (defined_names bag extensions) expr ty → AdmitsTheSame bag extensions expr ty }
+{}
+
+/// A bag that isn't ill-formed declares at most one schema.
+pub fn bags_declare_at_most_one_schema()
+    ensures { BagsDeclareAtMostOneSchema }
+{}
+
+/// The attributes, tags and contexts of the schema that a bag declares which isn't ill-formed have
+/// just the values that what is declared of them admits.
+pub fn declared_types_have_the_declared_values()
+    ensures { DeclaredTypesHaveTheDeclaredValues }
+{}
