@@ -138,7 +138,7 @@ declared_plainly (it ∷ rest) name body plain among =
   here_declared it rest name body plain (action other) is here = absurd (omega (arith, here.1))
 
 -- an alias stands for what a built-in type does whose base name no type in the empty namespace has
-alias_of : (bag : Bag) (extensions : Extensions) (name : PlainName) (body : Expr) → Contains (aliases bag extensions) (name, body) → Contains (built_in_types extensions) (name.base, body) × IsUnqualified name × (is_declared_here bag name.base ≡ false)
+pub alias_of : (bag : Bag) (extensions : Extensions) (name : PlainName) (body : Expr) → Contains (aliases bag extensions) (name, body) → Contains (built_in_types extensions) (name.base, body) × IsUnqualified name × (is_declared_here bag name.base ≡ false)
 alias_of bag extensions name body among =
     let kept = filter (λ it. not (is_declared_here bag it.0)) (built_in_types extensions) in
     let found = Contains-preimage (λ it. (alias_name it.0, it.1)) kept (name, body) among in
@@ -153,7 +153,7 @@ alias_of bag extensions name body among =
   not_true false is = refl
 
 -- a built-in type has the reserved word before its base name
-built_in_path : (extensions : Extensions) (name : PlainName) (body : Expr) → Contains (built_ins extensions) (name, body) → IsUnqualified name → ⊥
+pub built_in_path : (extensions : Extensions) (name : PlainName) (body : Expr) → Contains (built_ins extensions) (name, body) → IsUnqualified name → ⊥
 built_in_path extensions name body among plain =
     let found = Contains-preimage (λ it. (built_in_name it.0, it.1)) (built_in_types extensions) (name, body) among in
     qualified (ap (λ each. each.0.path) found.2 ∙ plain)
@@ -171,7 +171,7 @@ alias_apart bag extensions name body other alias among =
     (Contains-append_cases (declared_common bag) (built_ins extensions) (name, other) among)
 
 -- a common type is declared or built in, or an alias
-common_cases : (bag : Bag) (extensions : Extensions) (it : PlainName × Expr) → Contains (defined_names bag extensions).common it → Contains (declared_common bag ++ built_ins extensions) it ⊎ Contains (aliases bag extensions) it
+pub common_cases : (bag : Bag) (extensions : Extensions) (it : PlainName × Expr) → Contains (defined_names bag extensions).common it → Contains (declared_common bag ++ built_ins extensions) it ⊎ Contains (aliases bag extensions) it
 common_cases bag extensions it among = Contains-append_cases (declared_common bag ++ built_ins extensions) (aliases bag extensions) it among
 
 -- where no common type is declared twice, each common name has one definition

@@ -10,6 +10,7 @@ pub use schema::ValidatorSchema;
 pub use schema_error::{ContextOrShape, SchemaError, UnsupportedFeature};
 
 mod builder;
+pub mod examples;
 mod schema;
 mod schema_error;
 pub mod theorems;

@@ -1,0 +1,24 @@
+use Rattle.std.proofs.Common.{◌≡◌, ℤ, zero, suc, [], ◌∷◌, refl, sym, inl, inr, arith, Contains, codes}
+use Rattle.cedar_below.specs.Text.{Text}
+use Rattle.cedar_below.specs.Tree.{Tree, map_value, number_value, entry, no_entry}
+use Rattle.cedar_below.specs.declared.extension.Extensions.{Extensions}
+use Rattle.cedar_schema.proofs.BuiltInLemmas.{unlike_texts}
+use Rattle.cedar_schema.specs.Admits.{Admits, admits_record, admits_missing, admits_there, admits_no_member, admits_long}
+use Rattle.cedar_schema.specs.Bag.{defined_names}
+use Rattle.cedar_schema.specs.Samples.{optional_record}
+use Rattle.cedar_schema.proofs.examples.optional_attributes_may_be_missing.Goals as goal
+
+-- another name isn't listed
+not_listed : Contains (codes "a" ∷ []) (codes "b") → ⊥
+not_listed (zero, below, is) = unlike_texts (codes "a") (codes "b") refl is
+not_listed (suc k, below, is) = omega (arith, below)
+
+pub returns-clause-missing : goal.returns-clause-missing
+returns-clause-missing c extensions = admits_record (λ name among. absurd (omega (arith, among.1))) (admits_missing refl admits_no_member)
+
+pub returns-clause-there : goal.returns-clause-there
+returns-clause-there c extensions number =
+    admits_record (λ name among. among) (admits_there (number_value number) refl (admits_long number) admits_no_member)
+
+pub returns-clause-further : goal.returns-clause-further
+returns-clause-further c extensions number (admits_record listed members) = not_listed (listed (codes "b") (0, omega arith, refl))
