@@ -12,5 +12,6 @@ pub mod PartWritten
 pub mod PlacesLemmas
 pub mod RecordLemmas
 pub mod ResolutionLemmas
+pub mod SchemaEquality
 pub mod SchemaLaws
 pub mod TypeCases

@@ -33,7 +33,7 @@ use Rattle.cedar_types.specs.ValidatorEntityType.{entity_type_of, descendant_nam
 use Rattle.cedar_types.specs.declared.entity_type.ValidatorEntityType.{ValidatorEntityType}
 
 -- an entity type of the map, as plain data under its name
-abbrev plain_entry : EntityType × ValidatorEntityType → PlainName × SchemaEntityType
+abbrev pub plain_entry : EntityType × ValidatorEntityType → PlainName × SchemaEntityType
 plain_entry entry = (type_name entry.0, record { name = (entity_type_of entry.1).name; kind = (entity_type_of entry.1).kind; descendants = descendant_names entry.1 })
 
 -- each entity type of the map fits a declaration

@@ -1,6 +1,6 @@
 //! Laws of declarations: what a bag of declarations that isn't ill-formed declares.
 
-ghost use Rattle.std.specs.Prelude.{◌≡◌};
+ghost use Rattle.std.specs.Prelude.{◌≡◌, ◌↔◌, IsTrue};
 ghost use Rattle.cedar_below.specs.Extensions.{extension_types};
 ghost use Rattle.cedar_below.specs.TypeNames.{TypeNamesFit};
 ghost use Rattle.cedar_below.specs.declared.extension.Extensions.{Extensions};
@@ -10,8 +10,13 @@ ghost use Rattle.cedar_schema.specs.EndToEnd.{
     AdmitsTheSame, BagsDeclareAtMostOneSchema, DeclaredTypesHaveTheDeclaredValues,
 };
 ghost use Rattle.cedar_schema.specs.IllFormed.{IsIllFormed};
+ghost use Rattle.cedar_schema.specs.PlainSchema.{schema_of};
+ghost use Rattle.cedar_schema.specs.SameSchema.{SameSchema};
 ghost use Rattle.cedar_schema.specs.WrittenOut.{WrittenOut};
+ghost use Rattle.cedar_schema.specs.declared.schema.ValidatorSchema.{ValidatorSchema};
 ghost use Rattle.cedar_types.specs.Ty.{Ty};
+
+use crate::schema::ValidatorSchema;
 
 /// In a bag that isn't ill-formed an expression is written out as one type at most.
 pub fn expressions_are_written_out_as_one_type()
@@ -38,4 +43,11 @@ pub fn bags_declare_at_most_one_schema()
 /// just the values that what is declared of them admits.
 pub fn declared_types_have_the_declared_values()
     ensures { DeclaredTypesHaveTheDeclaredValues }
+{}
+
+/// Schemas are equal exactly where their entity types, their actions and the entities of their
+/// actions are the same, whatever their locations.
+pub fn schemas_compare_by_what_they_declare()
+    ensures { (a b : ValidatorSchema) → IsTrue (⟦<ValidatorSchema as PartialEq>⟧.eq a b)
+        ↔ SameSchema (schema_of a) (schema_of b) }
 {}

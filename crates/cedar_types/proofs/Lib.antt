@@ -2,6 +2,8 @@ pub mod AgreeLaws
 pub mod AnswerLemmas
 pub mod AntisymmetryLaws
 pub mod CopyLemmas
+pub mod EntityTypeEquality
+pub mod EqualityLaws
 pub mod Extensional
 pub mod FieldLemmas
 pub mod InclusionLemmas

@@ -1,0 +1,295 @@
+-- Types are equal exactly where they stand for the same plain type.
+use Rattle.std.proofs.Common.{◌≡◌, ◌&&◌, Bool, true, false, Option, Some, None, List, [], ◌∷◌, Global, map, refl, ap, sym, subst, ◌∙◌, string_bytes, ℕ, nat_eq, arith}
+use Rattle.std.proofs.lemmas.Bool.{false≢true}
+use Rattle.std.proofs.lemmas.Bool.Decides.{Decides-and, Decides-like}
+use Rattle.std.proofs.lemmas.Simd.{map-map}
+use Rattle.std.specs.Bool.{Decides}
+use Rattle.std.specs.Cmp.Lexicographic.{pointwise}
+use Rattle.std.specs.declared.rc.Rc.{Rc}
+use Rattle.std.specs.declared.string.String.{String}
+use Rattle.cedar_below.proofs.Names.{name_eq-same, entity_type_eq-same}
+use Rattle.cedar_below.proofs.Texts.{text_eq-Decides}
+use Rattle.cedar_below.specs.EntityType.{type_name}
+use Rattle.cedar_below.specs.Name.{plain_name}
+use Rattle.cedar_below.specs.Text.{Text}
+use Rattle.cedar_below.specs.contracts.entity_type.EntityTypePartialEq.TheImpl as entity_type_eq
+use Rattle.cedar_below.specs.declared.entity_type.EntityType.{EntityType}
+use Rattle.cedar_types.specs.EntityKind.{kind_ty}
+use Rattle.cedar_types.specs.EntityLUB.{lub_names}
+use Rattle.cedar_types.specs.Meaning.{ty_of, attribute_of, fields_of, type_step, attribute_step, attributes_step}
+use Rattle.cedar_types.specs.Ty.{Ty, never, truth, long, text, any_entity, union_of, any_set, set_of, record_of, extension_of, Fields, end, field, fields_from}
+use Rattle.cedar_types.specs.contracts.attributes.AttributeTypePartialEq.TheImpl as attribute_type_eq
+use Rattle.cedar_types.specs.contracts.attributes.AttributesPartialEq.TheImpl as attributes_eq
+use Rattle.cedar_types.specs.contracts.bool_type.BoolTypePartialEq.TheImpl as bool_type_eq
+use Rattle.cedar_types.specs.contracts.entity_kind.EntityKindPartialEq.TheImpl as entity_kind_eq
+use Rattle.cedar_types.specs.contracts.entity_lub.EntityLUBPartialEq.TheImpl as entity_lub_eq
+use Rattle.cedar_types.specs.contracts.open_tag.OpenTagPartialEq.TheImpl as open_tag_eq
+use Rattle.cedar_types.specs.contracts.types.TypePartialEq.TheImpl as type_eq
+use Rattle.cedar_types.specs.declared.attributes.AttributeType.{AttributeType, ind-AttributeType, roll-AttributeType, out-AttributeType, map-AttributeType, fold_out-AttributeType}
+use Rattle.cedar_types.specs.declared.attributes.Attributes.{Attributes, ind-Attributes, roll-Attributes, out-Attributes, roll-out-Attributes, out-roll-Attributes, map-Attributes, fold-roll-Attributes}
+use Rattle.cedar_types.specs.declared.bool_type.BoolType.{BoolType}
+use Rattle.cedar_types.specs.declared.bool_type.BoolType.TheVariants.{AnyBool, True, False}
+use Rattle.cedar_types.specs.declared.entity_kind.EntityKind.{EntityKind}
+use Rattle.cedar_types.specs.declared.entity_kind.EntityKind.TheVariants as kind
+use Rattle.cedar_types.specs.declared.entity_lub.EntityLUB.{EntityLUB}
+use Rattle.cedar_types.specs.declared.open_tag.OpenTag.{OpenTag}
+use Rattle.cedar_types.specs.declared.open_tag.OpenTag.TheVariants.{OpenAttributes, ClosedAttributes}
+use Rattle.cedar_types.specs.declared.types.Type.{«Type», roll-Type, out-Type, roll-out-Type, ind-Type, map-Type, fold-roll-Type}
+use Rattle.cedar_types.specs.declared.types.Type.TheOpen as layer
+
+-- an answer is refused and what it would say fails
+pub none : {P : Type 0} → (P → ⊥) → Decides false P
+none fails = (λ e. absurd (false≢true e), λ holds. absurd (fails holds))
+
+-- lists of entity types are equal exactly where their names are
+pub entity_types-Decides : (xs ys : List EntityType) → Decides (pointwise (entity_type_eq.ghosts).eq xs ys) (map type_name xs ≡ map type_name ys)
+entity_types-Decides [] [] = (λ _. refl, λ _. refl)
+entity_types-Decides [] (y ∷ ys) = none (λ e. cc)
+entity_types-Decides (x ∷ xs) [] = none (λ e. cc)
+entity_types-Decides (x ∷ xs) (y ∷ ys) =
+    Decides-like _ (λ both i. both.0 i ∷ both.1 i) (λ e. (cc, cc)) (Decides-and _ _ (entity_type_eq-same x y) (entity_types-Decides xs ys))
+
+-- unions are equal exactly where their names are
+pub entity_lub-Decides : (a b : EntityLUB) → Decides ((entity_lub_eq.ghosts).eq a b) (lub_names a ≡ lub_names b)
+entity_lub-Decides a b = entity_types-Decides a.elements.items b.elements.items
+
+-- kinds of entities are equal exactly where they admit the same
+pub entity_kind-Decides : (a b : EntityKind) → Decides ((entity_kind_eq.ghosts).eq a b) (kind_ty a ≡ kind_ty b)
+entity_kind-Decides kind.AnyEntity kind.AnyEntity = (λ _. refl, λ _. refl)
+entity_kind-Decides kind.AnyEntity (kind.Entity lub) = none (λ e. cc)
+entity_kind-Decides (kind.Entity lub) kind.AnyEntity = none (λ e. cc)
+entity_kind-Decides (kind.Entity lub) (kind.Entity other) = Decides-like _ (ap union_of) (λ e. cc) (entity_lub-Decides lub other)
+
+-- tests of what is known of a truth value decide whether it is the same
+pub bool_type-Decides : (a b : BoolType) → Decides ((bool_type_eq.ghosts).eq a b) (a ≡ b)
+bool_type-Decides AnyBool AnyBool = (λ _. refl, λ _. refl)
+bool_type-Decides AnyBool True = none (λ e. cc)
+bool_type-Decides AnyBool False = none (λ e. cc)
+bool_type-Decides True AnyBool = none (λ e. cc)
+bool_type-Decides True True = (λ _. refl, λ _. refl)
+bool_type-Decides True False = none (λ e. cc)
+bool_type-Decides False AnyBool = none (λ e. cc)
+bool_type-Decides False True = none (λ e. cc)
+bool_type-Decides False False = (λ _. refl, λ _. refl)
+
+-- tests of tags decide whether they are the same
+pub open_tag-Decides : (a b : OpenTag) → Decides ((open_tag_eq.ghosts).eq a b) (a ≡ b)
+open_tag-Decides OpenAttributes OpenAttributes = (λ _. refl, λ _. refl)
+open_tag-Decides OpenAttributes ClosedAttributes = none (λ e. cc)
+open_tag-Decides ClosedAttributes OpenAttributes = none (λ e. cc)
+open_tag-Decides ClosedAttributes ClosedAttributes = (λ _. refl, λ _. refl)
+
+-- tests of flags decide whether they are the same
+flags-Decides : (a b : Bool) → Decides (mathlib.Core.Bool.beq a b) (a ≡ b)
+flags-Decides true true = (λ _. refl, λ _. refl)
+flags-Decides true false = none (λ e. cc)
+flags-Decides false true = none (λ e. cc)
+flags-Decides false false = (λ _. refl, λ _. refl)
+
+-- a type is told apart by its test
+abbrev pub IsTold : «Type» → Type 0
+IsTold a = (b : «Type») → Decides ((type_eq.ghosts).eq a b) (ty_of a ≡ ty_of b)
+
+-- an attribute is told apart by its test
+abbrev pub IsToldAttribute : AttributeType → Type 0
+IsToldAttribute a = (b : AttributeType) → Decides ((attribute_type_eq.ghosts).eq a b) (attribute_of a ≡ attribute_of b)
+
+-- attributes are told apart by their test
+abbrev pub AreTold : Attributes → Type 0
+AreTold a = (b : Attributes) → Decides ((attributes_eq.ghosts).eq a b) (fields_of a ≡ fields_of b)
+
+-- what one layer stands for
+abbrev folded : layer.Type-F «Type» AttributeType Attributes → Ty
+folded it = type_step (map-Type «Type» AttributeType Attributes Ty (Bool × Ty) Fields ty_of attribute_of fields_of it)
+
+-- a layer whose parts are told apart
+abbrev Told : Type 0
+Told = layer.Type-F ((t : «Type») × IsTold t) ((t : AttributeType) × IsToldAttribute t) ((t : Attributes) × AreTold t)
+
+-- the layer without the proofs
+abbrev parts : Told → layer.Type-F «Type» AttributeType Attributes
+parts y = map-Type ((t : «Type») × IsTold t) ((t : AttributeType) × IsToldAttribute t) ((t : Attributes) × AreTold t) «Type» AttributeType Attributes (λ e. e.0) (λ e. e.0) (λ e. e.0) y
+
+-- the kind of a plain type, as a number
+abbrev shape : Ty → ℕ
+shape never = 0
+shape (truth known) = 1
+shape long = 2
+shape text = 3
+shape any_entity = 4
+shape (union_of names) = 4
+shape any_set = 5
+shape (set_of element) = 5
+shape (record_of fields tag) = 6
+shape (extension_of name) = 7
+
+-- the kind of a layer, as a number
+abbrev layer_shape : layer.Type-F «Type» AttributeType Attributes → ℕ
+layer_shape layer.Never = 0
+layer_shape (layer.Bool known) = 1
+layer_shape layer.Long = 2
+layer_shape layer.String = 3
+layer_shape (layer.Entity of) = 4
+layer_shape (layer.Set element) = 5
+layer_shape (layer.Record attrs tag) = 6
+layer_shape (layer.ExtensionType name) = 7
+
+-- what a layer stands for is of its kind
+shape-folded : (x : layer.Type-F «Type» AttributeType Attributes) → shape (folded x) ≡ layer_shape x
+shape-folded layer.Never = refl
+shape-folded (layer.Bool known) = refl
+shape-folded layer.Long = refl
+shape-folded layer.String = refl
+shape-folded (layer.Entity kind.AnyEntity) = refl
+shape-folded (layer.Entity (kind.Entity lub)) = refl
+shape-folded (layer.Set None) = refl
+shape-folded (layer.Set (Some element)) = refl
+shape-folded (layer.Record attrs tag) = refl
+shape-folded (layer.ExtensionType name) = refl
+
+-- layers that stand for the same are of one kind
+same_shape : (x z : layer.Type-F «Type» AttributeType Attributes) → folded x ≡ folded z → layer_shape x ≡ layer_shape z
+same_shape x z same = sym (shape-folded x) ∙ (ap shape same ∙ shape-folded z)
+
+-- layers are told apart where their parts are
+layers-Decides : (y : Told) (z : layer.Type-F «Type» AttributeType Attributes) → Decides (type_eq.Laws.unfolded (roll-Type (parts y)) (roll-Type z)) (folded (parts y) ≡ folded z)
+unfolding out-Type denote.Hole.Carrier.out roll-Type denote.Hole.Carrier.roll
+layers-Decides layer.Never layer.Never = (λ _. refl, λ _. refl)
+layers-Decides (layer.Bool a) (layer.Bool b) = Decides-like _ (ap truth) (λ e. cc) (bool_type-Decides a b)
+layers-Decides layer.Long layer.Long = (λ _. refl, λ _. refl)
+layers-Decides layer.String layer.String = (λ _. refl, λ _. refl)
+layers-Decides (layer.Entity a) (layer.Entity b) = entity_kind-Decides a b
+layers-Decides (layer.Set None) (layer.Set None) = (λ _. refl, λ _. refl)
+layers-Decides (layer.Set None) (layer.Set (Some b)) = none (λ e. cc)
+layers-Decides (layer.Set (Some a)) (layer.Set None) = none (λ e. cc)
+layers-Decides (layer.Set (Some a)) (layer.Set (Some b)) = Decides-like _ (ap set_of) (λ e. cc) (a.value.1 b.value)
+layers-Decides (layer.Record a s) (layer.Record b t) =
+    Decides-like _ (λ both i. record_of (both.0 i) (both.1 i)) (λ e. (cc, cc)) (Decides-and _ _ (a.1 b) (open_tag-Decides s t))
+layers-Decides (layer.ExtensionType a) (layer.ExtensionType b) = Decides-like _ (ap extension_of) (λ e. cc) (name_eq-same a b)
+layers-Decides y z = none (λ e. omega (arith, same_shape (parts y) z e))
+
+-- a type of one layer whose parts are told apart is
+type_told : (x : layer.Type-F «Type» AttributeType Attributes) (y : Told) → parts y ≡ x → IsTold (roll-Type x)
+type_told x y is b =
+    let z = out-Type b in
+    let rolled : Decides ((type_eq.ghosts).eq (roll-Type (parts y)) (roll-Type z)) (folded (parts y) ≡ folded z) =
+    (let D : Bool → Type 0 = λ answer. Decides answer (folded (parts y) ≡ folded z) in
+     subst D (sym (type_eq.Laws.is (roll-Type (parts y)) (roll-Type z))) (layers-Decides y z)) in
+    let whole : Decides ((type_eq.ghosts).eq (roll-Type (parts y)) (roll-Type z)) (ty_of (roll-Type (parts y)) ≡ ty_of (roll-Type z)) =
+    (let first = fold-roll-Type Ty (Bool × Ty) Fields type_step attribute_step attributes_step (parts y) in
+     let second = fold-roll-Type Ty (Bool × Ty) Fields type_step attribute_step attributes_step z in
+     Decides-like _ (λ e. first ∙ (e ∙ sym second)) (λ e. sym first ∙ (e ∙ second)) rolled) in
+    let P : layer.Type-F «Type» AttributeType Attributes → Type 0 = λ each. Decides ((type_eq.ghosts).eq (roll-Type each) b) (ty_of (roll-Type each) ≡ ty_of b) in
+    let Q : «Type» → Type 0 = λ each. Decides ((type_eq.ghosts).eq (roll-Type (parts y)) each) (ty_of (roll-Type (parts y)) ≡ ty_of each) in
+    subst P is (subst Q (roll-out-Type b) whole)
+
+-- an attribute whose type is told apart
+abbrev ToldAttribute : Type 0
+ToldAttribute = layer.AttributeType-F ((t : «Type») × IsTold t) ((t : AttributeType) × IsToldAttribute t) ((t : Attributes) × AreTold t)
+
+-- the attribute without the proof
+abbrev attribute_parts : ToldAttribute → layer.AttributeType-F «Type» AttributeType Attributes
+attribute_parts y = map-AttributeType ((t : «Type») × IsTold t) ((t : AttributeType) × IsToldAttribute t) ((t : Attributes) × AreTold t) «Type» AttributeType Attributes (λ e. e.0) (λ e. e.0) (λ e. e.0) y
+
+-- an attribute stands for its flag and its type
+attribute_of-parts : (a : AttributeType) → attribute_of a ≡ ((out-AttributeType a).is_required, ty_of (out-AttributeType a).attr_type.value)
+attribute_of-parts a = fold_out-AttributeType Ty (Bool × Ty) Fields type_step attribute_step attributes_step a
+
+-- an attribute whose type is told apart is
+attribute_told : (x : layer.AttributeType-F «Type» AttributeType Attributes) (y : ToldAttribute) → attribute_parts y ≡ x → IsToldAttribute (roll-AttributeType x)
+attribute_told x y is b =
+    let a = roll-AttributeType (attribute_parts y) in
+    let parts_told = Decides-and _ _ (y.attr_type.value.1 (out-AttributeType b).attr_type.value) (flags-Decides y.is_required (out-AttributeType b).is_required) in
+    let D : Bool → Type 0 = λ answer. Decides answer (attribute_of a ≡ attribute_of b) in
+    let whole : D ((attribute_type_eq.ghosts).eq a b) =
+    subst D (sym (attribute_type_eq.Laws.is a b))
+    (Decides-like _
+      (λ both. attribute_of-parts a ∙ ((λ i. (both.1 i, both.0 i)) ∙ sym (attribute_of-parts b)))
+      (λ e. let same = sym (attribute_of-parts a) ∙ (e ∙ attribute_of-parts b) in (ap (λ pair. pair.1) same, ap (λ pair. pair.0) same))
+      parts_told) in
+    let P : layer.AttributeType-F «Type» AttributeType Attributes → Type 0 = λ each. Decides ((attribute_type_eq.ghosts).eq (roll-AttributeType each) b) (attribute_of (roll-AttributeType each) ≡ attribute_of b) in
+    subst P is whole
+
+-- attributes whose types are told apart
+abbrev ToldAttributes : Type 0
+ToldAttributes = layer.Attributes-F ((t : «Type») × IsTold t) ((t : AttributeType) × IsToldAttribute t) ((t : Attributes) × AreTold t)
+
+-- the attributes without the proofs
+abbrev attributes_parts : ToldAttributes → layer.Attributes-F «Type» AttributeType Attributes
+attributes_parts y = map-Attributes ((t : «Type») × IsTold t) ((t : AttributeType) × IsToldAttribute t) ((t : Attributes) × AreTold t) «Type» AttributeType Attributes (λ e. e.0) (λ e. e.0) (λ e. e.0) y
+
+-- attributes stand for their entries
+fields_of-rolled : (x : layer.Attributes-F «Type» AttributeType Attributes) → fields_of (roll-Attributes x) ≡ fields_from (map (λ entry. (string_bytes entry.0, attribute_of entry.1)) x.attrs.entries)
+fields_of-rolled x =
+    fold-roll-Attributes Ty (Bool × Ty) Fields type_step attribute_step attributes_step x ∙ ap fields_from (map-map _ _ _)
+
+-- the name of the first attribute
+abbrev first_name : Fields → Text
+first_name end = []
+first_name (field name required ty rest) = name
+
+-- the first attribute
+abbrev first_attribute : Fields → Bool × Ty
+first_attribute end = (true, never)
+first_attribute (field name required ty rest) = (required, ty)
+
+-- the attributes after the first
+abbrev rest_fields : Fields → Fields
+rest_fields end = end
+rest_fields (field name required ty rest) = rest
+
+-- what an entry stands for
+abbrev plain_entry : String Global × AttributeType → Text × (Bool × Ty)
+plain_entry entry = (string_bytes entry.0, attribute_of entry.1)
+
+-- the test of two entries
+abbrev same_entry : String Global × AttributeType → String Global × AttributeType → Bool
+same_entry p q = pointwise nat_eq (string_bytes p.0) (string_bytes q.0) && (attribute_type_eq.ghosts).eq p.1 q.1
+
+-- entries are equal exactly where they stand for the same attributes
+entries-Decides : (xs : List (String Global × ((t : AttributeType) × IsToldAttribute t))) (ys : List (String Global × AttributeType)) → Decides (pointwise same_entry (map (λ e. (e.0, e.1.0)) xs) ys) (fields_from (map plain_entry (map (λ e. (e.0, e.1.0)) xs)) ≡ fields_from (map plain_entry ys))
+entries-Decides [] [] = (λ _. refl, λ _. refl)
+entries-Decides [] (y ∷ ys) = none (λ e. cc)
+entries-Decides (x ∷ xs) [] = none (λ e. cc)
+entries-Decides (x ∷ xs) (y ∷ ys) =
+    Decides-like _
+    (λ all i. field (all.0.0 i) (all.0.1 i).0 (all.0.1 i).1 (all.1 i))
+    (λ e. ((ap first_name e, ap first_attribute e), ap rest_fields e))
+    (Decides-and _ _ (Decides-and _ _ (text_eq-Decides (string_bytes x.0) (string_bytes y.0)) (x.1.1 y.1)) (entries-Decides xs ys))
+
+-- the test of attributes compares their entries
+compares_entries : (x z : layer.Attributes-F «Type» AttributeType Attributes) → attributes_eq.Laws.unfolded (roll-Attributes x) (roll-Attributes z) ≡ pointwise same_entry x.attrs.entries z.attrs.entries
+compares_entries x z i = pointwise same_entry (out-roll-Attributes x i).attrs.entries (out-roll-Attributes z i).attrs.entries
+
+-- attributes are equal exactly where their entries stand for the same
+rolled-Decides : (y : ToldAttributes) (z : layer.Attributes-F «Type» AttributeType Attributes) → Decides (attributes_eq.Laws.unfolded (roll-Attributes (attributes_parts y)) (roll-Attributes z)) (fields_from (map plain_entry (attributes_parts y).attrs.entries) ≡ fields_from (map plain_entry z.attrs.entries))
+rolled-Decides y z =
+    let D : Bool → Type 0 = λ answer. Decides answer (fields_from (map plain_entry (attributes_parts y).attrs.entries) ≡ fields_from (map plain_entry z.attrs.entries)) in
+    subst D (sym (compares_entries (attributes_parts y) z)) (entries-Decides y.attrs.entries z.attrs.entries)
+
+-- attributes whose types are told apart are
+attributes_told : (x : layer.Attributes-F «Type» AttributeType Attributes) (y : ToldAttributes) → attributes_parts y ≡ x → AreTold (roll-Attributes x)
+attributes_told x y is b =
+    let z = out-Attributes b in
+    let a = roll-Attributes (attributes_parts y) in
+    let D : Bool → Type 0 = λ answer. Decides answer (fields_of a ≡ fields_of (roll-Attributes z)) in
+    let first = fields_of-rolled (attributes_parts y) in
+    let second = fields_of-rolled z in
+    let whole : D ((attributes_eq.ghosts).eq a (roll-Attributes z)) =
+    subst D (sym (attributes_eq.Laws.is a (roll-Attributes z)))
+    (Decides-like _ (λ e. first ∙ (e ∙ sym second)) (λ e. sym first ∙ (e ∙ second)) (rolled-Decides y z)) in
+    let P : layer.Attributes-F «Type» AttributeType Attributes → Type 0 = λ each. Decides ((attributes_eq.ghosts).eq (roll-Attributes each) b) (fields_of (roll-Attributes each) ≡ fields_of b) in
+    let Q : Attributes → Type 0 = λ each. Decides ((attributes_eq.ghosts).eq a each) (fields_of a ≡ fields_of each) in
+    subst P is (subst Q (roll-out-Attributes b) whole)
+
+-- types are told apart
+pub types-Decides : (a : «Type») → IsTold a
+types-Decides a = ind-Type IsTold IsToldAttribute AreTold type_told attribute_told attributes_told a
+
+-- attributes are equal exactly where they stand for the same
+pub attributes-Decides : (a : Attributes) → AreTold a
+attributes-Decides a = ind-Attributes IsTold IsToldAttribute AreTold type_told attribute_told attributes_told a
+
+-- two attributes are equal exactly where their flags and their types are
+pub attribute-Decides : (a : AttributeType) → IsToldAttribute a
+attribute-Decides a = ind-AttributeType IsTold IsToldAttribute AreTold type_told attribute_told attributes_told a
