@@ -15,3 +15,4 @@ pub mod ResolutionLemmas
 pub mod SchemaEquality
 pub mod SchemaLaws
 pub mod TypeCases
+pub mod ValidLaws

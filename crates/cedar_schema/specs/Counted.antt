@@ -4,6 +4,7 @@ use Rattle.cedar_names.specs.Declaration.{Declaration, Body, common_type, entity
 use Rattle.cedar_names.specs.EntityBody.{EntityBody, standard, enumerated, external}
 use Rattle.cedar_names.specs.Expr.{Expr}
 use Rattle.cedar_names.specs.Reference.{Reference}
+use Rattle.cedar_names.specs.declared.json_schema.reference_type.ReferenceType.TheVariants.{Entity}
 use Rattle.cedar_schema.specs.Bag.{Bag}
 use Rattle.cedar_schema.specs.Parts.{Refers}
 
@@ -51,3 +52,7 @@ IsPlaced bag reference = (it : Declaration) × Contains bag it × IsEntityPlace 
 -- the reference has to name something: it stands in an expression that counts, or at a place of an entity type
 abbrev pub HasToResolve : Bag → Reference → Type 0
 HasToResolve bag reference = ((expr : Expr) × IsCounted bag expr × Refers expr reference) ⊎ IsPlaced bag reference
+
+-- the references at the places of entity types are to entity types, as a fragment writes them
+abbrev pub PlacesFit : Bag → Type 0
+PlacesFit bag = (reference : Reference) → IsPlaced bag reference → reference.kind ≡ Entity

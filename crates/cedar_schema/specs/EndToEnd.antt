@@ -11,13 +11,14 @@ use Rattle.cedar_names.specs.Expr.{Expr}
 use Rattle.cedar_names.specs.Reference.{Reference}
 use Rattle.cedar_schema.specs.Admits.{Admits}
 use Rattle.cedar_schema.specs.Bag.{Bag, declared_entities, declared_actions, defined_names}
+use Rattle.cedar_schema.specs.Counted.{PlacesFit}
 use Rattle.cedar_schema.specs.DeclaredSchema.{IsDeclaredSchema}
 use Rattle.cedar_schema.specs.Fault.{Fault, want_of_memory}
 use Rattle.cedar_schema.specs.IllFormed.{IsFault, IsIllFormed}
 use Rattle.cedar_schema.specs.PlainSchema.{SchemaEntityType, SchemaAction, defined_action, PlainSchema}
 use Rattle.cedar_schema.specs.SameBag.{SameBag}
 use Rattle.cedar_schema.specs.SameSchema.{SameSchema}
-use Rattle.cedar_schema.specs.ValidSchema.{IsValidSchema}
+use Rattle.cedar_schema.specs.ValidSchema.{IsValidSchema, IsClosedSchema}
 use Rattle.cedar_types.specs.EntityTypeKind.{standard as standard_kind}
 use Rattle.cedar_types.specs.Has.{Has}
 use Rattle.cedar_types.specs.Ty.{Ty, Fields, record_of}
@@ -67,7 +68,12 @@ abbrev pub SameBagsDeclareTheSame : Type 0
 SameBagsDeclareTheSame = (bag other : Bag) (extensions : Extensions) → SameBag bag other
     → (IsIllFormed bag extensions ↔ IsIllFormed other extensions) × ((schema : PlainSchema) → IsDeclaredSchema bag extensions schema ↔ IsDeclaredSchema other extensions schema)
 
--- a law to be proved: the schema that a bag declares which isn't ill-formed is valid
+-- a law: the schema that a bag declares is valid, where the bag isn't ill-formed and its references fit their places
 abbrev pub DeclaredSchemasAreValid : Type 0
-DeclaredSchemasAreValid = (bag : Bag) (extensions : Extensions) (schema : PlainSchema) → TypeNamesFit (extension_types extensions)
+DeclaredSchemasAreValid = (bag : Bag) (extensions : Extensions) (schema : PlainSchema) → TypeNamesFit (extension_types extensions) → PlacesFit bag
     → (IsIllFormed bag extensions → ⊥) → IsDeclaredSchema bag extensions schema → IsValidSchema extensions schema
+
+-- a law: the descendants of the schema that a bag declares are closed, so that validation gives it back unchanged
+abbrev pub DeclaredSchemasAreClosed : Type 0
+DeclaredSchemasAreClosed = (bag : Bag) (extensions : Extensions) (schema : PlainSchema)
+    → IsDeclaredSchema bag extensions schema → IsClosedSchema schema

@@ -75,3 +75,8 @@ pub record IsValidSchema (extensions : Extensions) (schema : PlainSchema) : Type
   pub action_descendants_known : (lower upper : PlainUid) → ListsDescendantAction schema lower upper → HasAction schema lower
   pub no_shadowed_type : (plain qualified : PlainName) → HasEntityType schema plain → HasEntityType schema qualified → IsUnqualified plain → (IsUnqualified qualified → ⊥) → (IsReserved qualified → ⊥) → plain.base ≡ qualified.base → ⊥
   pub no_shadowed_action : (plain qualified : PlainUid) → HasAction schema plain → HasAction schema qualified → IsUnqualified plain.ty → (IsUnqualified qualified.ty → ⊥) → plain.eid ≡ qualified.eid → ⊥
+
+-- the descendants are closed: what one or more steps of the listed ones reach is listed, so that to close them changes nothing
+pub record IsClosedSchema (schema : PlainSchema) : Type 0 where
+  pub entity_types : (lower upper : PlainName) → Chain (ListsDescendant schema) lower upper → ListsDescendant schema lower upper
+  pub actions : (lower upper : PlainUid) → Chain (ListsDescendantAction schema) lower upper → ListsDescendantAction schema lower upper
