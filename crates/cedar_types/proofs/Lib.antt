@@ -5,10 +5,12 @@ pub mod CopyLemmas
 pub mod Extensional
 pub mod FieldLemmas
 pub mod InclusionLemmas
+pub mod JoinLemmas
 pub mod MemberLaws
 pub mod MemberLemmas
 pub mod MemberParts
 pub mod MergedLemmas
+pub mod OwnBoundLemmas
 pub mod SetLemmas
 pub mod SubtypeLaws
 pub mod SubtypeLemmas

@@ -8,6 +8,7 @@ ghost use Rattle.cedar_below.specs.declared.validation_mode.ValidationMode.TheVa
 ghost use Rattle.cedar_types.specs.Agree.{Agree};
 ghost use Rattle.cedar_types.specs.Below.{Below};
 ghost use Rattle.cedar_types.specs.Has.{Has, HasUp};
+ghost use Rattle.cedar_types.specs.JoinLaws.{CleanBoundsAreOwn, OwnBoundsOfCleanAreClean};
 ghost use Rattle.cedar_types.specs.WellFormed.{IsWellFormed};
 ghost use Rattle.cedar_types.specs.Ty.{Ty};
 
@@ -38,4 +39,10 @@ pub fn supertypes_have_the_values()
 /// Strict subtyping of a well-formed plain type is permissive subtyping, and agreement.
 pub fn strict_subtyping_is_permissive_and_agrees()
     ensures { (a b : Ty) → IsWellFormed a → Below mode.Strict a b ↔ (Below mode.Permissive a b × Agree a b) }
+{}
+
+/// Every clean bound of two types is an own bound, and of clean types every own bound is a clean one.
+pub fn clean_bounds_are_own_bounds()
+    ensures own { CleanBoundsAreOwn }
+    ensures clean { OwnBoundsOfCleanAreClean }
 {}
