@@ -6,6 +6,8 @@ pub mod BoolType
 pub mod Bound
 pub mod Clean
 pub mod CompareLaws
+pub mod Consistent
+pub mod CoreOf
 pub mod Disjoint
 pub mod EntityKind
 pub mod EntityLUB
@@ -21,7 +23,9 @@ pub mod Meaning
 pub mod OwnBound
 pub mod Primitive
 pub mod ReduceLaws
+pub mod Samples
 pub mod Stated
 pub mod Ty
+pub mod TypeText
 pub mod ValidatorEntityType
 pub mod WellFormed
