@@ -1,10 +1,12 @@
 pub mod AgreeLaws
 pub mod AnswerLemmas
 pub mod AntisymmetryLaws
+pub mod ApartLemmas
 pub mod CopyLemmas
 pub mod Extensional
 pub mod FieldLemmas
 pub mod InclusionLemmas
+pub mod JoinExamples
 pub mod JoinLemmas
 pub mod MemberLaws
 pub mod MemberLemmas

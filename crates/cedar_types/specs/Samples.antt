@@ -26,10 +26,6 @@ set_of_truths = set_of (truth AnyBool)
 abbrev pub set_of_longs : Ty
 set_of_longs = set_of long
 
--- the attributes `name: T` and `name?: T` alone
-abbrev pub one_required : Ty → Fields
-one_required ty = field (codes "bar") true ty end
-
 -- closed `{bar: Long, foo: False}`, closed `{bar: Long, foo: String}`, and open `{bar: Long}`
 abbrev pub bar_and_false : Ty
 bar_and_false = record_of (field (codes "bar") true long (field (codes "foo") true (truth False) end)) ClosedAttributes
