@@ -5,6 +5,7 @@ pub mod ApartLemmas
 pub mod CopyLemmas
 pub mod Extensional
 pub mod FieldLemmas
+pub mod HelpExamples
 pub mod InclusionLemmas
 pub mod JoinExamples
 pub mod JoinLemmas
@@ -16,4 +17,5 @@ pub mod OwnBoundLemmas
 pub mod SetLemmas
 pub mod SubtypeLaws
 pub mod SubtypeLemmas
+pub mod TypeExamples
 pub mod UnionLemmas
