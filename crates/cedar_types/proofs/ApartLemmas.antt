@@ -69,9 +69,10 @@ pub kept_below : (a all fields : Fields) (kept dropped : Text) (ty other : Ty) �
 kept_below a all end kept dropped ty other pair within none h = tt
 kept_below a all (field name required of rest) kept dropped ty other pair within none h =
     let here : HasField all name required of = within name required of (inl (refl, refl, refl)) in
-    let own = HasBelow-of Permissive a all name required of h here in
-    (⊎_elim
-    (λ same. (true, ty, inl (same.0, refl, refl), (λ _. refl), subst (λ t. Below Permissive t of) same.2 own.4))
-    (λ same. absurd (none required of (subst (λ n. HasField all n required of) (sym same.0) here)))
-    (pair name own.0 own.1 own.2),
-    kept_below a all rest kept dropped ty other pair (λ n r t has. within n r t (inr has)) none h)
+    let own = HasBelow-of Permissive a all name required of h here in (
+      ⊎_elim
+          (λ same. (true, ty, inl (same.0, refl, refl), (λ _. refl), subst (λ t. Below Permissive t of) same.2 own.4))
+          (λ same. absurd (none required of (subst (λ n. HasField all n required of) (sym same.0) here)))
+          (pair name own.0 own.1 own.2),
+      kept_below a all rest kept dropped ty other pair (λ n r t has. within n r t (inr has)) none h,
+    )

@@ -50,21 +50,27 @@ unlike_flags (bound, own) = elim own.0.0 [ ]
 -- the help of a required and an optional attribute
 pub helps-flags : IsJoinAnswer Strict required_y optional_y (Err help.AttributeQualifier)
 helps-flags =
-    (unlike_flags, inr (refl, inr (inl (false, long, inl (refl, refl, refl), (long, ((tt, (tt, tt)), tt)), (λ e. absurd cc), refl))))
+    (unlike_flags, inr (refl, inr (inl (false, long, inl (refl, refl, refl), inl ((long, ((tt, (tt, tt)), tt)), (λ e. absurd cc), refl)))))
 
 -- the help of attributes whose types don't join
 pub helps-types : IsJoinAnswer Strict bar_and_false bar_and_text (Err help.None)
 helps-types = (
   records_join-strict,
-  inr (refl, inr (inr (inr (inr (inr (inl (true, text, inr (inl (refl, refl, refl)), (λ own. AreApart-truth_text Strict False own.0 own.1.0.0 own.1.0.1.0), refl))))))),
+  inr (refl, inr (inr (inr (inl (true, text, inr (inl (refl, refl, refl)), inr ((λ own. AreApart-truth_text Strict False own.0 own.1.0.0 own.1.0.1.0), refl)))))),
 )
 
 -- with the any-set first, sets of unlike elements are reduced to it
 pub reduce-first : (mode : ValidationMode) → IsReduceAnswer mode never (any_set ∷ set_of_truths ∷ set_of_longs ∷ []) (Ok any_set)
 reduce-first mode =
-    inl (any_set, (upper_is_join mode never any_set tt).0,
-    inl (any_set, (upper_is_join mode set_of_truths any_set tt).1,
-    inl (any_set, (upper_is_join mode set_of_longs any_set tt).1, refl)))
+    inl (
+      any_set,
+      (upper_is_join mode never any_set tt).0,
+      inl (
+        any_set,
+        (upper_is_join mode set_of_truths any_set tt).1,
+        inl (any_set, (upper_is_join mode set_of_longs any_set tt).1, refl),
+      ),
+    )
 
 -- with the any-set last, they are refused
 pub reduce-last : (mode : ValidationMode) → IsReduceAnswer mode never (set_of_truths ∷ set_of_longs ∷ any_set ∷ []) (Err help.None)

@@ -27,8 +27,10 @@ entities_join-permissive = (((foo_within, (bar_within, tt)), tt), least)
     foo_within =
         Included-one foo_name (bar_name ∷ foo_name ∷ [])
         (Contains-cons bar_name (foo_name ∷ []) foo_name (inr (Contains-cons foo_name [] foo_name (inl refl))))
+
     bar_within : Included (bar_name ∷ []) (bar_name ∷ foo_name ∷ [])
     bar_within = Included-one bar_name (bar_name ∷ foo_name ∷ []) (Contains-cons bar_name (foo_name ∷ []) bar_name (inl refl))
+
     least : (bound : Ty) → IsOwnBound Permissive foo_entity bar_entity bound → Below Permissive foo_or_bar bound
     least any_entity own = tt
     least (union_of names) own =
@@ -109,6 +111,7 @@ records_join-permissive = (((below_bar (truth False), (below_bar text, tt)), (tt
   where
     below_bar : (ty : Ty) → Below Permissive (record_of (bar_and ty) ClosedAttributes) open_bar
     below_bar ty = (tt, tt, ((true, long, inl (refl, refl, refl), (λ needed. needed), tt), tt))
+
     least : (bound : Ty) → IsOwnBound Permissive bar_and_false bar_and_text bound → Below Permissive open_bar bound
     least bound own =
         dropped_least _ _ (codes "bar") (codes "foo") (truth False) text bar_differs (bar_pair (truth False)) (bar_pair text) foo_among
@@ -129,6 +132,7 @@ records_join-dropped = (((below_t any_set, (below_t long, tt)), (tt, tt)), least
   where
     below_t : (ty : Ty) → Below Permissive (record_of (and_t ty) ClosedAttributes) open_t
     below_t ty = (tt, tt, ((true, long, inr (inl (refl, refl, refl)), (λ needed. needed), tt), tt))
+
     least : (bound : Ty) → IsOwnBound Permissive any_set_and_long long_and_long bound → Below Permissive open_t bound
     least bound own =
         dropped_least _ _ (codes "t") (codes "s") any_set long (texts_differ (codes "t") (codes "s") refl) (t_pair any_set) (t_pair long)

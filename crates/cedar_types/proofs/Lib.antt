@@ -2,7 +2,10 @@ pub mod AgreeLaws
 pub mod AnswerLemmas
 pub mod AntisymmetryLaws
 pub mod ApartLemmas
+pub mod CleanLemmas
 pub mod CopyLemmas
+pub mod CoreLemmas
+pub mod DisjointLemmas
 pub mod Extensional
 pub mod FieldLemmas
 pub mod HelpExamples
@@ -14,6 +17,7 @@ pub mod MemberLemmas
 pub mod MemberParts
 pub mod MergedLemmas
 pub mod OwnBoundLemmas
+pub mod ReduceLemmas
 pub mod SetLemmas
 pub mod SubtypeLaws
 pub mod SubtypeLemmas

@@ -40,8 +40,8 @@ mutual
   AreClean-within Among end clean within = tt
   AreClean-within Among (field name required ty rest) clean within = (
     IsClean-within (IsNamedIn Among name) ty
-    (λ of among. AreClean-of among.0 name among.2 of (clean (record_of among.0 among.1) among.3) among.4)
-    within.0,
+        (λ of among. AreClean-of among.0 name among.2 of (clean (record_of among.0 among.1) among.3) among.4)
+        within.0,
     AreClean-within Among rest clean within.1,
   )
 
@@ -59,8 +59,8 @@ mutual
   FieldsLieWithin-more Among More end more within = tt
   FieldsLieWithin-more Among More (field name required ty rest) more within = (
     LiesWithin-more (IsNamedIn Among name) (IsNamedIn More name) ty
-    (λ of among. (among.0, among.1, among.2, more (record_of among.0 among.1) among.3, among.4))
-    within.0,
+        (λ of among. (among.0, among.1, among.2, more (record_of among.0 among.1) among.3, among.4))
+        within.0,
     FieldsLieWithin-more Among More rest more within.1,
   )
 

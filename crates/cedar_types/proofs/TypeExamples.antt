@@ -6,19 +6,19 @@ use Rattle.cedar_below.specs.Tree.{Tree, map_value, no_entry, entry}
 use Rattle.cedar_below.specs.declared.extension.Extensions.{Extensions}
 use Rattle.cedar_types.specs.Consistent.{IsConsistent}
 use Rattle.cedar_types.specs.Disjoint.{AreDisjointTypes}
-use Rattle.cedar_types.specs.InclusionLaws.{HasValuesOf, ListsNamesOf}
+use Rattle.cedar_types.specs.InclusionLaws.{ValuesIncluded, ListsNames}
 use Rattle.cedar_types.specs.Samples.{foo_name, bar_name, foo_entity, foo_or_bar, required_y, optional_y, unit_record}
 use Rattle.cedar_types.specs.Ty.{long}
 
 -- a record without attributes has the one with an optional attribute
-pub inclusion-included : (extensions : Extensions) → HasValuesOf extensions optional_y unit_record
+pub inclusion-included : (extensions : Extensions) → ValuesIncluded extensions unit_record optional_y
 inclusion-included extensions (map_value no_entry) has = (Included-none (codes "y" ∷ []), (refl, tt))
 inclusion-included extensions (map_value (entry name value rest)) has =
     absurd (omega (arith, (has.0 name (Contains-cons name _ name (inl refl))).1))
 inclusion-included extensions value has = elim has [ ]
 
 -- but it doesn't list its name
-pub inclusion-unlisted : ¬ ListsNamesOf optional_y unit_record
+pub inclusion-unlisted : ¬ ListsNames unit_record optional_y
 inclusion-unlisted lists = omega (arith, (lists.0 (codes "y") (Contains-cons (codes "y") [] (codes "y") (inl refl))).1)
 
 -- a required attribute isn't lacking in a closed core type

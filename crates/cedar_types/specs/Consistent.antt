@@ -17,13 +17,13 @@ HasCoreField (core_field other flag of rest) name required core =
 abbrev pub MayLack : Fields → CoreFields → Bool → Type 0
 MayLack fields core is_open =
     (name : Text) (required : Bool) (ty : Ty) → HasField fields name required ty → ¬ Contains (core_names core) name
-        → (required ≡ false) ⊎ (is_open ≡ true)
+    → (required ≡ false) ⊎ (is_open ≡ true)
 
 -- each attribute that only the core type lists is optional, or the type is open
 abbrev pub MayLackCore : Fields → CoreFields → OpenTag → Type 0
 MayLackCore fields core tag =
     (name : Text) (required : Bool) (of : CoreTy) → HasCoreField core name required of → ¬ Contains (field_names fields) name
-        → (required ≡ false) ⊎ (tag ≡ OpenAttributes)
+    → (required ≡ false) ⊎ (tag ≡ OpenAttributes)
 
 abbrev mutual
   -- a type is consistent with a core type: they are of one kind, sets and records have consistent parts, and a record

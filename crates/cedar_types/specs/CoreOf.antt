@@ -1,8 +1,8 @@
-use Rattle.std.specs.Prelude.{Bool, true, false, List, [], ◌∷◌, Option, Some, None}
+use Rattle.std.specs.Prelude.{◌≡◌, ◌↔◌, Bool, true, false, Option, Some, None}
 use Rattle.std.specs.Option.{option_map, option_zip}
 use Rattle.cedar_below.specs.CoreTy.{CoreTy, CoreFields, core_truth, core_long, core_text, core_set, core_empty_set, core_record, core_entity, core_extension, core_end, core_field}
-use Rattle.cedar_below.specs.PlainName.{PlainName}
 use Rattle.cedar_types.specs.EntityLUB.{only_name}
+use Rattle.cedar_types.specs.StandsIn.{StandsIn}
 use Rattle.cedar_types.specs.Ty.{Ty, never, truth, long, text, any_entity, union_of, any_set, set_of, record_of, extension_of, Fields, end, field}
 use Rattle.cedar_types.specs.declared.open_tag.OpenTag.{OpenTag}
 use Rattle.cedar_types.specs.declared.open_tag.OpenTag.TheVariants.{OpenAttributes, ClosedAttributes}
@@ -13,7 +13,7 @@ tag_is_open OpenAttributes = true
 tag_is_open ClosedAttributes = false
 
 abbrev mutual
-  -- the core type of a type, if there is one: none where `Never`, any entity, or a union of two or more stands in it
+  -- the core type of a type, if it has one, by the same cases
   pub core_of : Ty → Option CoreTy
   core_of never = None
   core_of (truth known) = Some core_truth
@@ -31,3 +31,14 @@ abbrev mutual
   core_fields end = Some core_end
   core_fields (field name required ty rest) =
       option_map (λ both. core_field name required both.0 both.1) (option_zip (core_of ty) (core_fields rest))
+
+-- types that have no core type: `Never`, any entity, and a union of other than one entity type
+abbrev pub LacksCore : Ty → Type 0
+LacksCore never = Unit {0}
+LacksCore any_entity = Unit {0}
+LacksCore (union_of names) = only_name names ≡ None
+LacksCore _ = ⊥
+
+-- a type has no core type exactly where one that lacks it stands in it
+abbrev pub CoreIsLackedExactly : Type 0
+CoreIsLackedExactly = (ty : Ty) → (core_of ty ≡ None) ↔ StandsIn LacksCore ty

@@ -10,33 +10,33 @@ use Rattle.cedar_types.specs.Stated.{IsInhabited, IsStated}
 use Rattle.cedar_types.specs.Ty.{Ty, set_of, record_of, Fields, end, field}
 use Rattle.cedar_types.specs.WellFormed.{IsWellFormed}
 
--- the one type's values are among the other's: what has it has the other
-abbrev pub HasValuesOf : Extensions → Ty → Ty → Type 0
-HasValuesOf extensions upper lower = (value : Tree) → Has extensions value lower → Has extensions value upper
+-- each value of the one type is a value of the other
+abbrev pub ValuesIncluded : Extensions → Ty → Ty → Type 0
+ValuesIncluded extensions lower upper = (value : Tree) → Has extensions value lower → Has extensions value upper
 
 abbrev mutual
-  -- the lower type lists the names of the upper: at each place that two types both have, each name of the upper's
-  -- record is one of the lower's
-  pub ListsNamesOf : Ty → Ty → Type 0
-  ListsNamesOf (set_of upper) (set_of lower) = ListsNamesOf upper lower
-  ListsNamesOf (record_of upper upper_tag) (record_of lower tag) =
-      Included (field_names upper) (field_names lower) × FieldsListNamesOf upper lower
-  ListsNamesOf _ _ = Unit {0}
+  -- the lower type lists the upper's names: at each place that both have, each name of the upper record is one of the
+  -- lower record
+  pub ListsNames : Ty → Ty → Type 0
+  ListsNames (set_of lower) (set_of upper) = ListsNames lower upper
+  ListsNames (record_of lower tag) (record_of upper upper_tag) =
+      Included (field_names upper) (field_names lower) × FieldsListNames lower upper
+  ListsNames _ _ = Unit {0}
 
   -- the types of the attributes of a name that both records have list the names
-  pub FieldsListNamesOf : Fields → Fields → Type 0
-  FieldsListNamesOf end lower = Unit {0}
-  FieldsListNamesOf (field name required ty upper) lower =
-      ((own_required : Bool) (own : Ty) → HasField lower name own_required own → ListsNamesOf ty own) × FieldsListNamesOf upper lower
+  pub FieldsListNames : Fields → Fields → Type 0
+  FieldsListNames lower end = Unit {0}
+  FieldsListNames lower (field name required ty upper) =
+      ((own_required : Bool) (own : Ty) → HasField lower name own_required own → ListsNames own ty) × FieldsListNames lower upper
 
 -- on stated types, permissive subtyping is inclusion of values
 abbrev pub SubtypingIsInclusion : Type 0
 SubtypingIsInclusion =
     (extensions : Extensions) (a b : Ty) → IsWellFormed a → IsWellFormed b → IsStated extensions a → IsStated extensions b
-        → Below Permissive a b ↔ HasValuesOf extensions b a
+    → Below Permissive a b ↔ ValuesIncluded extensions a b
 
--- with optional attributes too, it is inclusion of values between types where the lower lists the names of the upper
+-- with optional attributes too, it is inclusion of values where the lower type lists the upper's names
 abbrev pub SubtypingIsInclusionAndNames : Type 0
 SubtypingIsInclusionAndNames =
     (extensions : Extensions) (a b : Ty) → IsWellFormed a → IsWellFormed b → IsInhabited extensions a → IsInhabited extensions b
-        → Below Permissive a b ↔ (HasValuesOf extensions b a × ListsNamesOf b a)
+    → Below Permissive a b ↔ (ValuesIncluded extensions a b × ListsNames a b)

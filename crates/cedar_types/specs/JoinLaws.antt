@@ -1,10 +1,10 @@
-use Rattle.std.specs.Prelude.{◌≡◌, ◌↔◌, [], ◌∷◌, Ok, IsOk, MatchResult}
+use Rattle.std.specs.Prelude.{◌≡◌, ◌↔◌, [], ◌∷◌, IsOk, IsOkAnd, IfOk}
 use Rattle.cedar_below.specs.declared.validation_mode.ValidationMode.{ValidationMode}
 use Rattle.cedar_below.specs.declared.validation_mode.ValidationMode.TheVariants.{Strict, Permissive}
 use Rattle.cedar_types.specs.Below.{Below}
-use Rattle.cedar_types.specs.Bound.{IsCleanBound, IsLeast}
+use Rattle.cedar_types.specs.Bound.{IsCleanBound}
 use Rattle.cedar_types.specs.Clean.{IsClean}
-use Rattle.cedar_types.specs.JoinAnswer.{JoinAnswer, IsJoinAnswer}
+use Rattle.cedar_types.specs.JoinAnswer.{JoinAnswer, IsLeastAnswer, IsJoinAnswer}
 use Rattle.cedar_types.specs.OwnBound.{IsOwnBound, HaveOwnBound, IsLeastOwnBound}
 use Rattle.cedar_types.specs.Ty.{Ty}
 use Rattle.cedar_types.specs.WellFormed.{IsWellFormed}
@@ -19,20 +19,22 @@ abbrev pub OwnBoundsOfCleanAreClean : Type 0
 OwnBoundsOfCleanAreClean =
     (mode : ValidationMode) (a b bound : Ty) → IsClean a → IsClean b → IsOwnBound mode a b bound → IsClean bound
 
--- any two well-formed types have an answer: where there is an own bound there is a least one, and else there is a help
+-- any two well-formed types have an answer: a well-formed least own bound, or a help where there is no own bound
 abbrev pub JoinsAreAnswered : Type 0
 JoinsAreAnswered =
-    (mode : ValidationMode) (a b : Ty) → IsWellFormed a → IsWellFormed b → (answer : JoinAnswer) × IsJoinAnswer mode a b answer
+    (mode : ValidationMode) (a b : Ty) → IsWellFormed a → IsWellFormed b
+    → (answer : JoinAnswer) × IsJoinAnswer mode a b answer × IfOk answer IsWellFormed
 
 -- a join is given exactly where there is an own bound
 abbrev pub JoinsAreGivenExactly : Type 0
 JoinsAreGivenExactly =
     (mode : ValidationMode) (a b : Ty) (answer : JoinAnswer) → IsJoinAnswer mode a b answer → IsOk answer ↔ HaveOwnBound mode a b
 
--- no two well-formed types are the join of the same types
-abbrev pub JoinsAreFixed : Type 0
-JoinsAreFixed =
-    (mode : ValidationMode) (a b join other : Ty) → IsWellFormed join → IsWellFormed other → IsLeastOwnBound mode a b join → IsLeastOwnBound mode a b other → join ≡ other
+-- two well-formed joins of the same types are the same
+abbrev pub JoinsAreUnique : Type 0
+JoinsAreUnique =
+    (mode : ValidationMode) (a b join other : Ty) → IsWellFormed join → IsWellFormed other
+    → IsLeastOwnBound mode a b join → IsLeastOwnBound mode a b other → join ≡ other
 
 -- where one type is below the other, the upper is the join
 abbrev pub UpperTypesAreJoins : Type 0
@@ -43,21 +45,24 @@ UpperTypesAreJoins =
 abbrev pub JoinsAreBelowCleanBounds : Type 0
 JoinsAreBelowCleanBounds =
     (mode : ValidationMode) (a b : Ty) (answer : JoinAnswer) → IsJoinAnswer mode a b answer
-        → MatchResult answer
-            (λ join. Below mode a join × Below mode b join × ((bound : Ty) → IsCleanBound mode (a ∷ b ∷ []) bound → Below mode join bound))
-            (λ given. (bound : Ty) → IsCleanBound mode (a ∷ b ∷ []) bound → ⊥)
+    → IfOk answer (λ join. Below mode a join × Below mode b join)
+    × ((bound : Ty) → IsCleanBound mode (a ∷ b ∷ []) bound → IsOkAnd answer (λ join. Below mode join bound))
 
--- the join of clean types is their least clean bound
+-- the join of clean types is their least clean bound, and is refused only where they have none
 abbrev pub JoinsOfCleanAreLeastClean : Type 0
 JoinsOfCleanAreLeastClean =
-    (mode : ValidationMode) (a b join : Ty) → IsClean a → IsClean b → IsLeastOwnBound mode a b join → IsLeast mode (IsCleanBound mode (a ∷ b ∷ [])) join
+    (mode : ValidationMode) (a b : Ty) (answer : JoinAnswer) → IsClean a → IsClean b → IsJoinAnswer mode a b answer
+    → IsLeastAnswer mode (IsCleanBound mode (a ∷ b ∷ [])) answer
 
--- the join of two types is that of the same types swapped
+-- two types swapped have the same own bounds, and so the same joins
 abbrev pub JoinsAreCommutative : Type 0
 JoinsAreCommutative =
-    (mode : ValidationMode) (a b join : Ty) → IsLeastOwnBound mode a b join → IsLeastOwnBound mode b a join
+    (mode : ValidationMode) (a b : Ty)
+    → (HaveOwnBound mode a b → HaveOwnBound mode b a)
+    × ((join : Ty) → IsLeastOwnBound mode a b join → IsLeastOwnBound mode b a join)
 
 -- a strict join is also the permissive one: it is below each own bound in permissive mode
 abbrev pub StrictJoinsArePermissive : Type 0
 StrictJoinsArePermissive =
-    (a b join : Ty) → IsWellFormed a → IsWellFormed b → IsLeastOwnBound Strict a b join → IsLeastOwnBound Permissive a b join
+    (a b join : Ty) → IsWellFormed a → IsWellFormed b
+    → IsLeastOwnBound Strict a b join → IsLeastOwnBound Permissive a b join

@@ -24,6 +24,7 @@ pub mod OwnBound
 pub mod Primitive
 pub mod ReduceLaws
 pub mod Samples
+pub mod StandsIn
 pub mod Stated
 pub mod Ty
 pub mod TypeText

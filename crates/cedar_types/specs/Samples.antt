@@ -7,46 +7,57 @@ use Rattle.cedar_types.specs.declared.open_tag.OpenTag.TheVariants.{OpenAttribut
 -- the names `Foo`, `Bar` and `ipaddr`
 abbrev pub foo_name : PlainName
 foo_name = record { base = codes "Foo"; path = [] }
+
 abbrev pub bar_name : PlainName
 bar_name = record { base = codes "Bar"; path = [] }
+
 abbrev pub ip_name : PlainName
 ip_name = record { base = codes "ipaddr"; path = [] }
 
 -- the entity types `Foo` and `Bar`, and their union
 abbrev pub foo_entity : Ty
 foo_entity = union_of (foo_name ∷ [])
+
 abbrev pub bar_entity : Ty
 bar_entity = union_of (bar_name ∷ [])
+
 abbrev pub foo_or_bar : Ty
 foo_or_bar = union_of (bar_name ∷ foo_name ∷ [])
 
 -- the sets of truth values, and of whole numbers
 abbrev pub set_of_truths : Ty
 set_of_truths = set_of (truth AnyBool)
+
 abbrev pub set_of_longs : Ty
 set_of_longs = set_of long
 
 -- closed `{bar: Long, foo: False}`, closed `{bar: Long, foo: String}`, and open `{bar: Long}`
 abbrev pub bar_and_false : Ty
 bar_and_false = record_of (field (codes "bar") true long (field (codes "foo") true (truth False) end)) ClosedAttributes
+
 abbrev pub bar_and_text : Ty
 bar_and_text = record_of (field (codes "bar") true long (field (codes "foo") true text end)) ClosedAttributes
+
 abbrev pub open_bar : Ty
 open_bar = record_of (field (codes "bar") true long end) OpenAttributes
 
 -- closed `{s: any-set, t: Long}`, closed `{s: Long, t: Long}`, and open `{t: Long}`
 abbrev pub any_set_and_long : Ty
 any_set_and_long = record_of (field (codes "s") true any_set (field (codes "t") true long end)) ClosedAttributes
+
 abbrev pub long_and_long : Ty
 long_and_long = record_of (field (codes "s") true long (field (codes "t") true long end)) ClosedAttributes
+
 abbrev pub open_t : Ty
 open_t = record_of (field (codes "t") true long end) OpenAttributes
 
 -- closed `{y: Long}`, closed `{y?: Long}`, and closed `{}`
 abbrev pub required_y : Ty
 required_y = record_of (field (codes "y") true long end) ClosedAttributes
+
 abbrev pub optional_y : Ty
 optional_y = record_of (field (codes "y") false long end) ClosedAttributes
+
 abbrev pub unit_record : Ty
 unit_record = record_of end ClosedAttributes
 

@@ -14,7 +14,7 @@ ghost use Rattle.cedar_types.specs.Clean.{IsClean};
 ghost use Rattle.cedar_types.specs.Consistent.{IsConsistent};
 ghost use Rattle.cedar_types.specs.CoreOf.{core_of};
 ghost use Rattle.cedar_types.specs.Disjoint.{AreDisjointTypes};
-ghost use Rattle.cedar_types.specs.InclusionLaws.{HasValuesOf, ListsNamesOf};
+ghost use Rattle.cedar_types.specs.InclusionLaws.{ValuesIncluded, ListsNames};
 ghost use Rattle.cedar_types.specs.JoinAnswer.{IsJoinAnswer, IsReduceAnswer};
 ghost use Rattle.cedar_types.specs.OwnBound.{HaveOwnBound, IsLeastOwnBound};
 ghost use Rattle.cedar_types.specs.Samples.{foo_name, ip_type, bar_and_false, bar_and_text, open_bar, any_set_and_long, long_and_long, open_t, required_y, optional_y, unit_record, set_of_truths, set_of_longs, foo_entity, bar_entity, foo_or_bar};
@@ -81,8 +81,8 @@ pub fn stated_types()
 
 /// With an optional attribute, inclusion of values alone isn't subtyping: the names are asked for.
 pub fn inclusion_asks_for_names()
-    ensures included { (extensions : Extensions) → HasValuesOf extensions optional_y unit_record }
-    ensures unlisted { ¬ ListsNamesOf optional_y unit_record }
+    ensures included { (extensions : Extensions) → ValuesIncluded extensions unit_record optional_y }
+    ensures unlisted { ¬ ListsNames unit_record optional_y }
     ensures not_below { ¬ Below mode.Permissive unit_record optional_y }
 {}
 

@@ -7,8 +7,12 @@ ghost use Rattle.cedar_below.specs.declared.validation_mode.ValidationMode.{Vali
 ghost use Rattle.cedar_below.specs.declared.validation_mode.ValidationMode.TheVariants as mode;
 ghost use Rattle.cedar_types.specs.Agree.{Agree};
 ghost use Rattle.cedar_types.specs.Below.{Below};
+ghost use Rattle.cedar_types.specs.Clean.{CleanIsWithoutAnySet};
+ghost use Rattle.cedar_types.specs.CoreOf.{CoreIsLackedExactly};
+ghost use Rattle.cedar_types.specs.Disjoint.{DisjointTypesShareNoValue};
 ghost use Rattle.cedar_types.specs.Has.{Has, HasUp};
-ghost use Rattle.cedar_types.specs.JoinLaws.{CleanBoundsAreOwn, OwnBoundsOfCleanAreClean};
+ghost use Rattle.cedar_types.specs.JoinLaws.{CleanBoundsAreOwn, OwnBoundsOfCleanAreClean, JoinsAreGivenExactly, JoinsAreUnique, UpperTypesAreJoins, JoinsAreBelowCleanBounds, JoinsOfCleanAreLeastClean, JoinsAreCommutative};
+ghost use Rattle.cedar_types.specs.ReduceLaws.{NothingIsReducedToNever, CleanAreReducedToLeastClean, CleanAreReducedInAnyOrder};
 ghost use Rattle.cedar_types.specs.WellFormed.{IsWellFormed};
 ghost use Rattle.cedar_types.specs.Ty.{Ty};
 
@@ -41,8 +45,44 @@ pub fn strict_subtyping_is_permissive_and_agrees()
     ensures { (a b : Ty) → IsWellFormed a → Below mode.Strict a b ↔ (Below mode.Permissive a b × Agree a b) }
 {}
 
+/// A type is clean exactly where the any-set stands nowhere in it.
+pub fn clean_types_are_without_the_any_set()
+    ensures { CleanIsWithoutAnySet }
+{}
+
 /// Every clean bound of two types is an own bound, and of clean types every own bound is a clean one.
 pub fn clean_bounds_are_own_bounds()
     ensures own { CleanBoundsAreOwn }
     ensures clean { OwnBoundsOfCleanAreClean }
+{}
+
+/// What follows for whatever answers a join of two types: it is given exactly where they have an own
+/// bound, there is one at most, it is the upper where one is below the other, it is below each clean
+/// bound and of clean types the least one, and the types may be swapped.
+pub fn joins_are_least_bounds()
+    ensures given { JoinsAreGivenExactly }
+    ensures unique { JoinsAreUnique }
+    ensures upper { UpperTypesAreJoins }
+    ensures below { JoinsAreBelowCleanBounds }
+    ensures of_clean { JoinsOfCleanAreLeastClean }
+    ensures swapped { JoinsAreCommutative }
+{}
+
+/// What follows for whatever joins types in turn from `Never`: of nothing it gives `Never`, and of clean
+/// types their least clean bound, in whatever order.
+pub fn reductions_are_least_bounds()
+    ensures nothing { NothingIsReducedToNever }
+    ensures of_clean { CleanAreReducedToLeastClean }
+    ensures any_order { CleanAreReducedInAnyOrder }
+{}
+
+/// No value has two disjoint types.
+pub fn disjoint_types_share_no_value()
+    ensures { DisjointTypesShareNoValue }
+{}
+
+/// A type has no core type exactly where `Never`, any entity, or a union of other than one entity type
+/// stands in it.
+pub fn core_types_are_lacked_exactly()
+    ensures { CoreIsLackedExactly }
 {}
