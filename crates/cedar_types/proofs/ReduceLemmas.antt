@@ -11,7 +11,7 @@ use Rattle.cedar_types.specs.Below.{Below}
 use Rattle.cedar_types.specs.Bound.{IsBound, IsCleanBound}
 use Rattle.cedar_types.specs.Clean.{IsClean}
 use Rattle.cedar_types.specs.JoinAnswer.{JoinAnswer, IsLeastAnswer, IsReduceAnswer}
-use Rattle.cedar_types.specs.ReduceLaws.{NothingIsReducedToNever, CleanAreReducedToLeastClean, CleanAreReducedInAnyOrder}
+use Rattle.cedar_types.specs.ReduceLaws.{EmptyIsReducedToNever, CleanAreReducedToLeastClean, CleanAreReducedInAnyOrder}
 use Rattle.cedar_types.specs.Ty.{Ty, never}
 use Rattle.cedar_types.specs.WellFormed.{IsWellFormed}
 
@@ -43,8 +43,8 @@ reduce_least_clean mode tys answer all reduced =
     (λ bound own. (own.0.1, own.1)) (λ bound own. ((tt, own.0), own.1)) (reduce_from mode never tys answer tt all reduced)
 
 -- nothing is reduced to `Never`
-pub reduce_nothing : NothingIsReducedToNever
-reduce_nothing mode answer is = is
+pub reduce_empty : EmptyIsReducedToNever
+reduce_empty mode answer is = is
 
 -- what holds of each of some types holds of each of those among them
 AllByRecursion-included : (P : Ty → Type 0) (tys others : List Ty) → Included others tys → AllByRecursion P tys → AllByRecursion P others

@@ -12,4 +12,5 @@ AreDisjointTypes _ _ = ⊥
 -- no value has two disjoint types
 abbrev pub DisjointTypesShareNoValue : Type 0
 DisjointTypesShareNoValue =
-    (extensions : Extensions) (value : Tree) (a b : Ty) → AreDisjointTypes a b → Has extensions value a → Has extensions value b → ⊥
+    (extensions : Extensions) (value : Tree) (a b : Ty) → AreDisjointTypes a b
+    → Has extensions value a → ¬ Has extensions value b

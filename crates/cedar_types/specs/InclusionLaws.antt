@@ -27,16 +27,18 @@ abbrev mutual
   pub FieldsListNames : Fields → Fields → Type 0
   FieldsListNames lower end = Unit {0}
   FieldsListNames lower (field name required ty upper) =
-      ((own_required : Bool) (own : Ty) → HasField lower name own_required own → ListsNames own ty) × FieldsListNames lower upper
+      ((own_required : Bool) (own : Ty) → HasField lower name own_required own → ListsNames own ty)
+      × FieldsListNames lower upper
 
 -- on stated types, permissive subtyping is inclusion of values
 abbrev pub SubtypingIsInclusion : Type 0
 SubtypingIsInclusion =
-    (extensions : Extensions) (a b : Ty) → IsWellFormed a → IsWellFormed b → IsStated extensions a → IsStated extensions b
-    → Below Permissive a b ↔ ValuesIncluded extensions a b
+    (extensions : Extensions) (a b : Ty) → IsWellFormed a → IsWellFormed b
+    → IsStated extensions a → IsStated extensions b → Below Permissive a b ↔ ValuesIncluded extensions a b
 
 -- with optional attributes too, it is inclusion of values where the lower type lists the upper's names
 abbrev pub SubtypingIsInclusionAndNames : Type 0
 SubtypingIsInclusionAndNames =
-    (extensions : Extensions) (a b : Ty) → IsWellFormed a → IsWellFormed b → IsInhabited extensions a → IsInhabited extensions b
+    (extensions : Extensions) (a b : Ty) → IsWellFormed a → IsWellFormed b
+    → IsInhabited extensions a → IsInhabited extensions b
     → Below Permissive a b ↔ (ValuesIncluded extensions a b × ListsNames a b)

@@ -28,7 +28,8 @@ JoinsAreAnswered =
 -- a join is given exactly where there is an own bound
 abbrev pub JoinsAreGivenExactly : Type 0
 JoinsAreGivenExactly =
-    (mode : ValidationMode) (a b : Ty) (answer : JoinAnswer) → IsJoinAnswer mode a b answer → IsOk answer ↔ HaveOwnBound mode a b
+    (mode : ValidationMode) (a b : Ty) (answer : JoinAnswer) → IsJoinAnswer mode a b answer
+    → IsOk answer ↔ HaveOwnBound mode a b
 
 -- two well-formed joins of the same types are the same
 abbrev pub JoinsAreUnique : Type 0

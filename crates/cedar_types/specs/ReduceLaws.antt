@@ -14,20 +14,21 @@ ReductionsAreAnswered =
     (mode : ValidationMode) (tys : List Ty) → AllByRecursion IsWellFormed tys
     → (answer : JoinAnswer) × IsReduceAnswer mode never tys answer × IfOk answer IsWellFormed
 
--- nothing is reduced to `Never`
-abbrev pub NothingIsReducedToNever : Type 0
-NothingIsReducedToNever = (mode : ValidationMode) (answer : JoinAnswer) → IsReduceAnswer mode never [] answer → answer ≡ Ok never
+-- no types at all are reduced to `Never`
+abbrev pub EmptyIsReducedToNever : Type 0
+EmptyIsReducedToNever =
+    (mode : ValidationMode) (answer : JoinAnswer) → IsReduceAnswer mode never [] answer → answer ≡ Ok never
 
 -- clean types are reduced to their least clean bound, and are refused only where they have none
 abbrev pub CleanAreReducedToLeastClean : Type 0
 CleanAreReducedToLeastClean =
-    (mode : ValidationMode) (tys : List Ty) (answer : JoinAnswer) → AllByRecursion IsClean tys → IsReduceAnswer mode never tys answer
-    → IsLeastAnswer mode (IsCleanBound mode tys) answer
+    (mode : ValidationMode) (tys : List Ty) (answer : JoinAnswer) → AllByRecursion IsClean tys
+    → IsReduceAnswer mode never tys answer → IsLeastAnswer mode (IsCleanBound mode tys) answer
 
 -- what clean types are reduced to doesn't depend on their order and repeats
 abbrev pub CleanAreReducedInAnyOrder : Type 0
 CleanAreReducedInAnyOrder =
-    (mode : ValidationMode) (tys others : List Ty) (join : Ty) (answer : JoinAnswer) → AllByRecursion IsClean tys
-    → Included tys others → Included others tys
+    (mode : ValidationMode) (tys others : List Ty) (join : Ty) (answer : JoinAnswer)
+    → AllByRecursion IsClean tys → Included tys others → Included others tys
     → IsReduceAnswer mode never tys (Ok join) → IsReduceAnswer mode never others answer
     → IsWellFormed join → IfOk answer IsWellFormed → answer ≡ Ok join

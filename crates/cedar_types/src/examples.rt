@@ -54,14 +54,17 @@ pub fn refused_joins_have_helps()
     ensures sets { IsJoinAnswer mode.Strict (set_of foo_entity) (set_of bar_entity) (Err help.EntityType) }
     ensures widths { IsJoinAnswer mode.Strict unit_record required_y (Err help.RecordWidth) }
     ensures flags { IsJoinAnswer mode.Strict required_y optional_y (Err help.AttributeQualifier) }
-    ensures flags_alone { (given : LubHelp) → IsJoinAnswer mode.Strict required_y optional_y (Err given) → given ≡ help.AttributeQualifier }
+    ensures flags_alone { (given : LubHelp) → IsJoinAnswer mode.Strict required_y optional_y (Err given)
+        → given ≡ help.AttributeQualifier }
     ensures types { IsJoinAnswer mode.Strict bar_and_false bar_and_text (Err help.None) }
 {}
 
 /// With the any-set, what types are reduced to depends on their order.
 pub fn order_matters_with_the_any_set()
-    ensures first { (mode : ValidationMode) → IsReduceAnswer mode never (any_set ∷ set_of_truths ∷ set_of_longs ∷ []) (Ok any_set) }
-    ensures last { (mode : ValidationMode) → IsReduceAnswer mode never (set_of_truths ∷ set_of_longs ∷ any_set ∷ []) (Err help.None) }
+    ensures first { (mode : ValidationMode)
+        → IsReduceAnswer mode never (any_set ∷ set_of_truths ∷ set_of_longs ∷ []) (Ok any_set) }
+    ensures last { (mode : ValidationMode)
+        → IsReduceAnswer mode never (set_of_truths ∷ set_of_longs ∷ any_set ∷ []) (Err help.None) }
 {}
 
 /// A type is clean where the any-set stands nowhere in it.
@@ -76,7 +79,8 @@ pub fn stated_types()
     ensures stated { (extensions : Extensions) → IsStated extensions bar_and_text }
     ensures optional { (extensions : Extensions) → ¬ IsStated extensions optional_y }
     ensures of_never { (extensions : Extensions) → ¬ IsStated extensions (set_of never) }
-    ensures without_functions { (extensions : Extensions) → ((function : PlainName) → IsUnknown extensions function) → ¬ IsStated extensions ip_type }
+    ensures without_functions { (extensions : Extensions)
+        → ((function : PlainName) → IsUnknown extensions function) → ¬ IsStated extensions ip_type }
 {}
 
 /// With an optional attribute, inclusion of values alone isn't subtyping: the names are asked for.

@@ -12,7 +12,7 @@ ghost use Rattle.cedar_types.specs.CoreOf.{CoreIsLackedExactly};
 ghost use Rattle.cedar_types.specs.Disjoint.{DisjointTypesShareNoValue};
 ghost use Rattle.cedar_types.specs.Has.{Has, HasUp};
 ghost use Rattle.cedar_types.specs.JoinLaws.{CleanBoundsAreOwn, OwnBoundsOfCleanAreClean, JoinsAreGivenExactly, JoinsAreUnique, UpperTypesAreJoins, JoinsAreBelowCleanBounds, JoinsOfCleanAreLeastClean, JoinsAreCommutative};
-ghost use Rattle.cedar_types.specs.ReduceLaws.{NothingIsReducedToNever, CleanAreReducedToLeastClean, CleanAreReducedInAnyOrder};
+ghost use Rattle.cedar_types.specs.ReduceLaws.{EmptyIsReducedToNever, CleanAreReducedToLeastClean, CleanAreReducedInAnyOrder};
 ghost use Rattle.cedar_types.specs.WellFormed.{IsWellFormed};
 ghost use Rattle.cedar_types.specs.Ty.{Ty};
 
@@ -71,7 +71,7 @@ pub fn joins_are_least_bounds()
 /// What follows for whatever joins types in turn from `Never`: of nothing it gives `Never`, and of clean
 /// types their least clean bound, in whatever order.
 pub fn reductions_are_least_bounds()
-    ensures nothing { NothingIsReducedToNever }
+    ensures nothing { EmptyIsReducedToNever }
     ensures of_clean { CleanAreReducedToLeastClean }
     ensures any_order { CleanAreReducedInAnyOrder }
 {}
