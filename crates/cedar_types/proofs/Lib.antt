@@ -17,8 +17,10 @@ pub mod MemberLemmas
 pub mod MemberParts
 pub mod MergedLemmas
 pub mod OwnBoundLemmas
+pub mod PartLemmas
 pub mod ReduceLemmas
 pub mod SetLemmas
+pub mod StrictJoinLemmas
 pub mod SubtypeLaws
 pub mod SubtypeLemmas
 pub mod TypeExamples

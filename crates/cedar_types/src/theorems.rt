@@ -11,7 +11,7 @@ ghost use Rattle.cedar_types.specs.Clean.{CleanIsWithoutAnySet};
 ghost use Rattle.cedar_types.specs.CoreOf.{CoreIsLackedExactly};
 ghost use Rattle.cedar_types.specs.Disjoint.{DisjointTypesShareNoValue};
 ghost use Rattle.cedar_types.specs.Has.{Has, HasUp};
-ghost use Rattle.cedar_types.specs.JoinLaws.{CleanBoundsAreOwn, OwnBoundsOfCleanAreClean, JoinsAreGivenExactly, JoinsAreUnique, UpperTypesAreJoins, JoinsAreBelowCleanBounds, JoinsOfCleanAreLeastClean, JoinsAreCommutative};
+ghost use Rattle.cedar_types.specs.JoinLaws.{CleanBoundsAreOwn, OwnBoundsOfCleanAreClean, JoinsAreGivenExactly, JoinsAreUnique, UpperTypesAreJoins, JoinsAreBelowCleanBounds, JoinsOfCleanAreLeastClean, JoinsAreCommutative, StrictJoinsArePermissive};
 ghost use Rattle.cedar_types.specs.ReduceLaws.{EmptyIsReducedToNever, CleanAreReducedToLeastClean, CleanAreReducedInAnyOrder};
 ghost use Rattle.cedar_types.specs.WellFormed.{IsWellFormed};
 ghost use Rattle.cedar_types.specs.Ty.{Ty};
@@ -66,6 +66,7 @@ pub fn joins_are_least_bounds()
     ensures below { JoinsAreBelowCleanBounds }
     ensures of_clean { JoinsOfCleanAreLeastClean }
     ensures swapped { JoinsAreCommutative }
+    ensures strict { StrictJoinsArePermissive }
 {}
 
 /// What follows for whatever joins types in turn from `Never`: of nothing it gives `Never`, and of clean

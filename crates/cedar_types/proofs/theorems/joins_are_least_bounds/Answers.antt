@@ -1,4 +1,5 @@
 use Rattle.cedar_types.proofs.JoinLemmas.{join_given_exactly, join_unique, upper_is_join, join_below_clean, join_least_clean, join_commutes}
+use Rattle.cedar_types.proofs.StrictJoinLemmas.{strict_is_permissive}
 use Rattle.cedar_types.proofs.theorems.joins_are_least_bounds.Goals as goal
 
 pub returns-clause-given : goal.returns-clause-given
@@ -18,3 +19,6 @@ returns-clause-of_clean c = join_least_clean
 
 pub returns-clause-swapped : goal.returns-clause-swapped
 returns-clause-swapped c = join_commutes
+
+pub returns-clause-strict : goal.returns-clause-strict
+returns-clause-strict c = strict_is_permissive
