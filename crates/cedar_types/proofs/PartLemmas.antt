@@ -54,6 +54,18 @@ within_named fa fb ta tb name ra rb a b ty has also =
     (λ e. (fb, tb, rb, inr refl, subst (HasField fb name rb) (sym e) also))
     either)
 
+-- what lies within two sets lies within their elements
+pub within_elements : (a b ty : Ty) → LiesWithin (IsElementOf (IsEither (set_of a) (set_of b))) ty → LiesWithin (IsEither a b) ty
+within_elements a b ty =
+    LiesWithin-more (IsElementOf (IsEither (set_of a) (set_of b))) (IsEither a b) ty
+    (λ of either. ⊎_elim (λ e. inl (let same : of ≡ a = cc in same)) (λ e. inr (let same : of ≡ b = cc in same)) either)
+
+-- what lies within two types lies within the elements of their sets
+pub within_sets : (a b ty : Ty) → LiesWithin (IsEither a b) ty → LiesWithin (IsElementOf (IsEither (set_of a) (set_of b))) ty
+within_sets a b ty =
+    LiesWithin-more (IsEither a b) (IsElementOf (IsEither (set_of a) (set_of b))) ty
+    (λ of either. ⊎_elim (λ e. inl (λ i. set_of (e i))) (λ e. inr (λ i. set_of (e i))) either)
+
 -- the attributes with another type at a name
 abbrev pub replaced : Text → Ty → Fields → Fields
 replaced name ty end = end

@@ -7,11 +7,10 @@ use Rattle.cedar_below.specs.declared.validation_mode.ValidationMode.TheVariants
 use Rattle.cedar_types.proofs.AgreeLaws.{Below-permissive, AreWellFormed-of, HasField-once}
 use Rattle.cedar_types.proofs.JoinLemmas.{upper_is_join}
 use Rattle.cedar_types.proofs.OwnBoundLemmas.{LiesWithin-more}
-use Rattle.cedar_types.proofs.PartLemmas.{least_at_name, within_both}
+use Rattle.cedar_types.proofs.PartLemmas.{least_at_name, within_both, within_elements, within_sets}
 use Rattle.cedar_types.proofs.SubtypeLaws.{Below-trans, HasBelow-of, HasField-name, HasField-named, FieldsBelow-names}
 use Rattle.cedar_types.specs.Attributes.{IsAscending, field_names}
 use Rattle.cedar_types.specs.Below.{HasField, TagsBelow, NamesBelow, Below, FieldsBelow}
-use Rattle.cedar_types.specs.JoinLaws.{StrictJoinsArePermissive}
 use Rattle.cedar_types.specs.OwnBound.{IsElementOf, IsNamedIn, LiesWithin, FieldsLieWithin, IsEither, IsOwnBound, IsLeastOwnBound}
 use Rattle.cedar_types.specs.Ty.{Ty, never, truth, long, text, any_entity, union_of, any_set, set_of, record_of, extension_of, Fields, end, field}
 use Rattle.cedar_types.specs.WellFormed.{IsWellFormed, AreWellFormed}
@@ -86,18 +85,6 @@ union_below names never b join least h k = never_first b join (union_of names) l
 union_below names (union_of own) b join least h k = above_same own names join least.0.0.0 h
 union_below names a b join least h k = elim h [ ]
 
--- what lies within two sets lies within their elements
-within_elements : (a b ty : Ty) → LiesWithin (IsElementOf (IsEither (set_of a) (set_of b))) ty → LiesWithin (IsEither a b) ty
-within_elements a b ty =
-    LiesWithin-more (IsElementOf (IsEither (set_of a) (set_of b))) (IsEither a b) ty
-    (λ of either. ⊎_elim (λ e. inl (let same : of ≡ a = cc in same)) (λ e. inr (let same : of ≡ b = cc in same)) either)
-
--- what lies within two types lies within the elements of their sets
-within_sets : (a b ty : Ty) → LiesWithin (IsEither a b) ty → LiesWithin (IsElementOf (IsEither (set_of a) (set_of b))) ty
-within_sets a b ty =
-    LiesWithin-more (IsEither a b) (IsElementOf (IsEither (set_of a) (set_of b))) ty
-    (λ of either. ⊎_elim (λ e. inl (λ i. set_of (e i))) (λ e. inr (λ i. set_of (e i))) either)
-
 -- the element type of a least own bound of two sets is the least own bound of their element types
 least_element : (a b join : Ty) → IsLeastOwnBound Strict (set_of a) (set_of b) (set_of join) → IsLeastOwnBound Strict a b join
 least_element a b join least = (
@@ -106,7 +93,7 @@ least_element a b join least = (
 )
 
 -- a tag is below another if it is below the closed one where the other is closed
-tag_below : (tag upper : OpenTag) → (upper ≡ ClosedAttributes → TagsBelow tag ClosedAttributes) → TagsBelow tag upper
+pub tag_below : (tag upper : OpenTag) → (upper ≡ ClosedAttributes → TagsBelow tag ClosedAttributes) → TagsBelow tag upper
 tag_below OpenAttributes OpenAttributes closed = tt
 tag_below ClosedAttributes OpenAttributes closed = tt
 tag_below tag ClosedAttributes closed = closed refl
@@ -119,13 +106,13 @@ tags_below fa fb fj ta tb tj upper least h k =
     (((subst (TagsBelow ta) e h, least.0.0.0.1, least.0.0.0.2), ((subst (TagsBelow tb) e k, least.0.0.1.0.1, least.0.0.1.0.2), tt)), least.0.1)).0)
 
 -- the names of a record with fewer fit where those of the record do
-names_below : (upper : OpenTag) (fj fa fc : Fields) → Included (field_names fj) (field_names fa) → NamesBelow Permissive upper fa fc → NamesBelow Permissive upper fj fc
+pub names_below : (upper : OpenTag) (fj fa fc : Fields) → Included (field_names fj) (field_names fa) → NamesBelow Permissive upper fa fc → NamesBelow Permissive upper fj fc
 names_below OpenAttributes fj fa fc within h = tt
 names_below ClosedAttributes fj fa fc within h = λ name among. h name (within name among)
 
 mutual
   -- a strict join is below each own bound in permissive mode
-  strict_below : (bound a b join : Ty) → IsWellFormed a → IsWellFormed b → IsWellFormed join → IsLeastOwnBound Strict a b join → IsOwnBound Permissive a b bound → Below Permissive join bound
+  pub strict_below : (bound a b join : Ty) → IsWellFormed a → IsWellFormed b → IsWellFormed join → IsLeastOwnBound Strict a b join → IsOwnBound Permissive a b bound → Below Permissive join bound
   strict_below any_entity a b join first second third least own = entity_below a b join least own.0.0 own.0.1.0
   strict_below (union_of names) a b join first second third least own = union_below names a b join least own.0.0 own.0.1.0
   strict_below (set_of c) never b join first second third least own = never_first b join (set_of c) least own.0.1.0
@@ -178,10 +165,3 @@ mutual
         ),
         strict_fields_below rest fa fb fj ta tb tj first second third least h.1 k.1 within.1,
       )
-
--- a strict join is the permissive join
-pub strict_is_permissive : StrictJoinsArePermissive
-strict_is_permissive a b join first second third least = (
-  ((Below-permissive a join least.0.0.0, (Below-permissive b join least.0.0.1.0, tt)), least.0.1),
-  λ bound own. strict_below bound a b join first second third least own,
-)

@@ -65,5 +65,5 @@ JoinsAreCommutative =
 -- a strict join is also the permissive one: it is below each own bound in permissive mode
 abbrev pub StrictJoinsArePermissive : Type 0
 StrictJoinsArePermissive =
-    (a b join : Ty) → IsWellFormed a → IsWellFormed b → IsWellFormed join
+    (a b join : Ty) → IsWellFormed a → IsWellFormed b
     → IsLeastOwnBound Strict a b join → IsLeastOwnBound Permissive a b join

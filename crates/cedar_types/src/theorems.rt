@@ -11,8 +11,8 @@ ghost use Rattle.cedar_types.specs.Clean.{CleanIsWithoutAnySet};
 ghost use Rattle.cedar_types.specs.CoreOf.{CoreIsLackedExactly};
 ghost use Rattle.cedar_types.specs.Disjoint.{DisjointTypesShareNoValue};
 ghost use Rattle.cedar_types.specs.Has.{Has, HasUp};
-ghost use Rattle.cedar_types.specs.JoinLaws.{CleanBoundsAreOwn, OwnBoundsOfCleanAreClean, JoinsAreGivenExactly, JoinsAreUnique, UpperTypesAreJoins, JoinsAreBelowCleanBounds, JoinsOfCleanAreLeastClean, JoinsAreCommutative, StrictJoinsArePermissive};
-ghost use Rattle.cedar_types.specs.ReduceLaws.{EmptyIsReducedToNever, CleanAreReducedToLeastClean, CleanAreReducedInAnyOrder};
+ghost use Rattle.cedar_types.specs.JoinLaws.{CleanBoundsAreOwn, OwnBoundsOfCleanAreClean, JoinsAreAnswered, JoinsAreGivenExactly, JoinsAreUnique, UpperTypesAreJoins, JoinsAreBelowCleanBounds, JoinsOfCleanAreLeastClean, JoinsAreCommutative, StrictJoinsArePermissive};
+ghost use Rattle.cedar_types.specs.ReduceLaws.{ReductionsAreAnswered, EmptyIsReducedToNever, CleanAreReducedToLeastClean, CleanAreReducedInAnyOrder};
 ghost use Rattle.cedar_types.specs.WellFormed.{IsWellFormed};
 ghost use Rattle.cedar_types.specs.Ty.{Ty};
 
@@ -56,9 +56,17 @@ pub fn clean_bounds_are_own_bounds()
     ensures clean { OwnBoundsOfCleanAreClean }
 {}
 
+/// Any two well-formed types have an answer of their join, and any list of them has one of joining them
+/// in turn; what it gives is well formed too.
+pub fn joins_are_answered()
+    ensures of_two { JoinsAreAnswered }
+    ensures in_turn { ReductionsAreAnswered }
+{}
+
 /// What follows for whatever answers a join of two types: it is given exactly where they have an own
 /// bound, there is one at most, it is the upper where one is below the other, it is below each clean
-/// bound and of clean types the least one, and the types may be swapped.
+/// bound and of clean types the least one, the types may be swapped, and a strict join is the
+/// permissive one.
 pub fn joins_are_least_bounds()
     ensures given { JoinsAreGivenExactly }
     ensures unique { JoinsAreUnique }
