@@ -23,6 +23,7 @@ pub mod OwnBoundLemmas
 pub mod PartLemmas
 pub mod RecordAnswers
 pub mod ReduceLemmas
+pub mod SampleValues
 pub mod SetLemmas
 pub mod StrictJoinLemmas
 pub mod StrictRecordAnswers
@@ -30,3 +31,4 @@ pub mod SubtypeLaws
 pub mod SubtypeLemmas
 pub mod TypeExamples
 pub mod UnionLemmas
+pub mod ValueInclusion

@@ -11,6 +11,7 @@ ghost use Rattle.cedar_types.specs.Clean.{CleanIsWithoutAnySet};
 ghost use Rattle.cedar_types.specs.CoreOf.{CoreIsLackedExactly};
 ghost use Rattle.cedar_types.specs.Disjoint.{DisjointTypesShareNoValue};
 ghost use Rattle.cedar_types.specs.Has.{Has, HasUp};
+ghost use Rattle.cedar_types.specs.InclusionLaws.{SubtypingIsInclusion, SubtypingIsInclusionAndNames};
 ghost use Rattle.cedar_types.specs.JoinLaws.{CleanBoundsAreOwn, OwnBoundsOfCleanAreClean, JoinsAreAnswered, JoinsAreGivenExactly, JoinsAreUnique, UpperTypesAreJoins, JoinsAreBelowCleanBounds, JoinsOfCleanAreLeastClean, JoinsAreCommutative, StrictJoinsArePermissive};
 ghost use Rattle.cedar_types.specs.ReduceLaws.{ReductionsAreAnswered, EmptyIsReducedToNever, CleanAreReducedToLeastClean, CleanAreReducedInAnyOrder};
 ghost use Rattle.cedar_types.specs.WellFormed.{IsWellFormed};
@@ -43,6 +44,13 @@ pub fn supertypes_have_the_values()
 /// Strict subtyping of a well-formed plain type is permissive subtyping, and agreement.
 pub fn strict_subtyping_is_permissive_and_agrees()
     ensures { (a b : Ty) → IsWellFormed a → Below mode.Strict a b ↔ (Below mode.Permissive a b × Agree a b) }
+{}
+
+/// On well-formed plain types, permissive subtyping is inclusion of values where both types are stated;
+/// and where they are only inhabited throughout, it is inclusion of values and of names.
+pub fn permissive_subtyping_is_inclusion()
+    ensures stated { SubtypingIsInclusion }
+    ensures with_optional { SubtypingIsInclusionAndNames }
 {}
 
 /// A type is clean exactly where the any-set stands nowhere in it.
