@@ -9,7 +9,7 @@ use Rattle.cedar_below.specs.declared.validation_mode.ValidationMode.TheVariants
 use Rattle.cedar_types.proofs.AgreeLaws.{HasField-once}
 use Rattle.cedar_types.proofs.OwnBoundLemmas.{LiesWithin-more}
 use Rattle.cedar_types.proofs.SubtypeLaws.{HasBelow-of}
-use Rattle.cedar_types.proofs.SubtypeLemmas.{HasBelow}
+use Rattle.cedar_types.proofs.SubtypeLemmas.{HasBelow, chosen_first}
 use Rattle.cedar_types.specs.Attributes.{IsAscending, field_names}
 use Rattle.cedar_types.specs.Below.{HasField, Below, FieldsBelow}
 use Rattle.cedar_types.specs.OwnBound.{IsElementOf, IsNamedIn, LiesWithin, FieldsLieWithin, IsEither, IsOwnBound, IsLeastOwnBound}
@@ -91,16 +91,11 @@ replaced_has name ty (field other flag of rest) n r t (inl same) =
 replaced_has name ty (field other flag of rest) n r t (inr there) =
     ⊎_elim (λ new. inl (new.0, new.1, (new.2.0, inr new.2.1))) (λ old. inr (inr old)) (replaced_has name ty rest n r t there)
 
--- a choice that is made
-made : (b : Bool) (ty of : Ty) → b ≡ true → (if b then ty else of) ≡ ty
-made true ty of e = refl
-made false ty of e = absurd cc
-
 -- the new type stands in the place of an old one of that name
 pub has_replaced : (name : Text) (ty : Ty) (fields : Fields) (r : Bool) (own : Ty) → HasField fields name r own → HasField (replaced name ty fields) name r ty
 has_replaced name ty end r own has = absurd has
 has_replaced name ty (field other flag of rest) r own (inl same) =
-    inl (same.0, same.1, made (bytes_eq name other) ty of ((bytes_eq-Decides name other).1 (sym same.0)))
+    inl (same.0, same.1, chosen_first (bytes_eq name other) ty of ((bytes_eq-Decides name other).1 (sym same.0)))
 has_replaced name ty (field other flag of rest) r own (inr there) = inr (has_replaced name ty rest r own there)
 
 -- a record stays above another as a type at a name becomes another above the other's

@@ -15,6 +15,7 @@ use Rattle.cedar_types.proofs.AgreeLaws.{HasField-once}
 use Rattle.cedar_types.proofs.Decisions.{IsDecided}
 use Rattle.cedar_types.proofs.RecordAnswers.{decide_texts, rest_ascending}
 use Rattle.cedar_types.proofs.SubtypeLaws.{HasField-name, HasField-named}
+use Rattle.cedar_types.proofs.SubtypeLemmas.{chosen_first, unchosen}
 use Rattle.cedar_types.specs.Attributes.{IsAscending, field_names}
 use Rattle.cedar_types.specs.Below.{HasField}
 use Rattle.cedar_types.specs.Has.{Has, HasBy, HasFieldsBy, HasTruth, OnlyListed}
@@ -42,19 +43,13 @@ some_fits P r found value e fits = subst (EntryFits P r) e fits
 
 -- the value at the first name
 pub entry_here : (n name : Text) (value : Tree) (rest : Entries) → n ≡ name → entry_at n (entry name value rest) ≡ Some value
-entry_here n name value rest same = made (bytes_eq n name) ((bytes_eq-Decides n name).1 same)
-  where
-    made : (b : Bool) → b ≡ true → (if b then Some value else entry_at n rest) ≡ Some value
-    made true e = refl
-    made false e = absurd cc
+entry_here n name value rest same =
+    chosen_first (bytes_eq n name) (Some value) (entry_at n rest) ((bytes_eq-Decides n name).1 same)
 
 -- the value at another name
 pub entry_there : (n name : Text) (value : Tree) (rest : Entries) → n ≢ name → entry_at n (entry name value rest) ≡ entry_at n rest
-entry_there n name value rest differ = unmade (bytes_eq n name) (λ e. differ ((bytes_eq-Decides n name).0 e))
-  where
-    unmade : (b : Bool) → (b ≡ true → ⊥) → (if b then Some value else entry_at n rest) ≡ entry_at n rest
-    unmade true none = absurd (none refl)
-    unmade false none = refl
+entry_there n name value rest differ =
+    unchosen (bytes_eq n name) (Some value) (entry_at n rest) (λ e. differ ((bytes_eq-Decides n name).0 e))
 
 -- there is no value at a name that isn't there
 pub absent_entry : (n : Text) (values : Entries) → ¬ Contains (entry_names values) n → entry_at n values ≡ None

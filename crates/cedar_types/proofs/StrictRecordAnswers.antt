@@ -11,7 +11,7 @@ use Rattle.cedar_types.proofs.AntisymmetryLaws.{Included-same}
 use Rattle.cedar_types.proofs.Decisions.{IsDecided, decide_flags, decide_among, all_among}
 use Rattle.cedar_types.proofs.PartLemmas.{FieldsBelow-from, FieldsLieWithin-from, FieldsLieWithin-of, within_both, within_named}
 use Rattle.cedar_types.proofs.RecordAnswers.{AreAnswered, IsJoined, in_more, joined_ascending, rest_ascending, end_ascending, decide_texts}
-use Rattle.cedar_types.proofs.SubtypeLaws.{HasBelow-of, HasField-name, HasField-named, FieldsBelow-names}
+use Rattle.cedar_types.proofs.SubtypeLaws.{FieldsWithin, HasBelow-of, HasField-name, HasField-named, FieldsBelow-names}
 use Rattle.cedar_types.specs.Attributes.{IsAscending, field_names}
 use Rattle.cedar_types.specs.Below.{HasField, TagsBelow, Below, FieldsBelow}
 use Rattle.cedar_types.specs.Help.{IsHelpAtName}
@@ -95,7 +95,7 @@ try_strict (field name required ty rest) fb ascending answers =
     by_answer before flag of has (Err it, none, formed) = inr (it, inr (inl (flag, of, has, inr none)))
 
 -- where a help is found at a name of two records, they have no own bound
-help_refuses : (part fa fb : Fields) (ta tb : OpenTag) (it : LubHelp) → IsAscending fa → IsAscending fb → ((n : Text) (r : Bool) (t : Ty) → HasField part n r t → HasField fa n r t) → IsHelpAtName part fb it → ¬ HaveOwnBound Strict (record_of fa ta) (record_of fb tb)
+help_refuses : (part fa fb : Fields) (ta tb : OpenTag) (it : LubHelp) → IsAscending fa → IsAscending fb → FieldsWithin part fa → IsHelpAtName part fb it → ¬ HaveOwnBound Strict (record_of fa ta) (record_of fb tb)
 help_refuses end fa fb ta tb it first second within found own = found
 help_refuses (field name required ty rest) fa fb ta tb it first second within (inl lacks) (record_of fc tc, own) =
     let mine = HasField-name fa name required ty (within name required ty (inl (refl, refl, refl))) in

@@ -17,7 +17,7 @@ use Rattle.cedar_types.proofs.Decisions.{decide_among, decide_flags}
 use Rattle.cedar_types.proofs.MemberLaws.{HasBy-above, HasFieldsBy-of}
 use Rattle.cedar_types.proofs.RecordAnswers.{decide_texts}
 use Rattle.cedar_types.proofs.SampleValues.{HasFields-from, fits_some, some_fits, entry_here, entry_there, absent_entry, entry_named, fresh_text, fresh_name, truth_sample, some_name, only_listed, Sample, inhabitant, sample}
-use Rattle.cedar_types.proofs.SubtypeLaws.{HasBelow-of, HasField-name, HasField-named, FieldsBelow-names}
+use Rattle.cedar_types.proofs.SubtypeLaws.{FieldsWithin, HasBelow-of, HasField-name, HasField-named, FieldsBelow-names}
 use Rattle.cedar_types.specs.Attributes.{IsAscending, field_names}
 use Rattle.cedar_types.specs.Below.{HasField, TagsBelow, NamesBelow, Below, FieldsBelow}
 use Rattle.cedar_types.specs.Has.{Has, HasBy, HasFieldsBy, OnlyListed}
@@ -222,7 +222,7 @@ mutual
   included_below extensions b (extension_of name) formed (value, gives) within lists = elim gives [ ]
 
   -- its attributes are below those of the other
-  fields_below : (extensions : Extensions) (part fa fb : Fields) (ta tb : OpenTag) → Inclusion extensions fa fb ta tb → ((n : Text) (r : Bool) (t : Ty) → HasField part n r t → HasField fb n r t) → Included (field_names fb) (field_names fa) → FieldsListNames fa part → FieldsBelow Permissive fa part
+  fields_below : (extensions : Extensions) (part fa fb : Fields) (ta tb : OpenTag) → Inclusion extensions fa fb ta tb → FieldsWithin part fb → Included (field_names fb) (field_names fa) → FieldsListNames fa part → FieldsBelow Permissive fa part
   fields_below extensions end fa fb ta tb known within names lists = tt
   fields_below extensions (field name required ty rest) fa fb ta tb known within names lists =
       let there = within name required ty (inl (refl, refl, refl)) in
@@ -280,7 +280,7 @@ mutual
   included_lists extensions a b formed lives all within = tt
 
   -- the types of its attributes list the names of those of the other
-  included_fields_list : (extensions : Extensions) (part fa fb : Fields) (ta tb : OpenTag) → Inclusion extensions fa fb ta tb → ((n : Text) (r : Bool) (t : Ty) → HasField part n r t → HasField fb n r t) → FieldsRequireAll part → FieldsListNames fa part
+  included_fields_list : (extensions : Extensions) (part fa fb : Fields) (ta tb : OpenTag) → Inclusion extensions fa fb ta tb → FieldsWithin part fb → FieldsRequireAll part → FieldsListNames fa part
   included_fields_list extensions end fa fb ta tb known within all = tt
   included_fields_list extensions (field name required ty rest) fa fb ta tb known within all = (
     (λ own_required own has.

@@ -13,7 +13,7 @@ tag_is_open OpenAttributes = true
 tag_is_open ClosedAttributes = false
 
 abbrev mutual
-  -- the core type of a type, if it has one, by the same cases
+  -- the core type of a type, case by case; some types have none
   pub core_of : Ty → Option CoreTy
   core_of never = None
   core_of (truth known) = Some core_truth

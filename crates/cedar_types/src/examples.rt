@@ -2,7 +2,6 @@
 
 ghost use Rattle.std.specs.Prelude.{◌≡◌, true, false, [], ◌∷◌, Some, None, Ok, Err, codes};
 ghost use Rattle.cedar_below.specs.CoreTy.{core_truth, core_long, core_set, core_empty_set, core_record, core_entity, core_end, core_field};
-ghost use Rattle.cedar_below.specs.Extensions.{function_named};
 ghost use Rattle.cedar_below.specs.Fits.{IsUnknown};
 ghost use Rattle.cedar_below.specs.PlainName.{PlainName};
 ghost use Rattle.cedar_below.specs.declared.extension.Extensions.{Extensions};
@@ -17,7 +16,9 @@ ghost use Rattle.cedar_types.specs.Disjoint.{AreDisjointTypes};
 ghost use Rattle.cedar_types.specs.InclusionLaws.{ValuesIncluded, ListsNames};
 ghost use Rattle.cedar_types.specs.JoinAnswer.{IsJoinAnswer, IsReduceAnswer};
 ghost use Rattle.cedar_types.specs.OwnBound.{HaveOwnBound, IsLeastOwnBound};
-ghost use Rattle.cedar_types.specs.Samples.{foo_name, ip_type, bar_and_false, bar_and_text, open_bar, any_set_and_long, long_and_long, open_t, required_y, optional_y, unit_record, set_of_truths, set_of_longs, foo_entity, bar_entity, foo_or_bar};
+ghost use Rattle.cedar_types.specs.Samples.{foo_name, ip_type, set_of_truths, set_of_longs, foo_entity, bar_entity, foo_or_bar};
+ghost use Rattle.cedar_types.specs.Samples.{bar_and_false, bar_and_text, open_bar, any_set_and_long, long_and_long, open_t};
+ghost use Rattle.cedar_types.specs.Samples.{required_y, optional_y, unit_record};
 ghost use Rattle.cedar_types.specs.Stated.{IsStated};
 ghost use Rattle.cedar_types.specs.Ty.{never, truth, long, any_set, set_of};
 ghost use Rattle.cedar_types.specs.TypeText.{ty_text};

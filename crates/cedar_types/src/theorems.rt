@@ -12,8 +12,11 @@ ghost use Rattle.cedar_types.specs.CoreOf.{CoreIsLackedExactly};
 ghost use Rattle.cedar_types.specs.Disjoint.{DisjointTypesShareNoValue};
 ghost use Rattle.cedar_types.specs.Has.{Has, HasUp};
 ghost use Rattle.cedar_types.specs.InclusionLaws.{SubtypingIsInclusion, SubtypingIsInclusionAndNames};
-ghost use Rattle.cedar_types.specs.JoinLaws.{CleanBoundsAreOwn, OwnBoundsOfCleanAreClean, JoinsAreAnswered, JoinsAreGivenExactly, JoinsAreUnique, UpperTypesAreJoins, JoinsAreBelowCleanBounds, JoinsOfCleanAreLeastClean, JoinsAreCommutative, StrictJoinsArePermissive};
-ghost use Rattle.cedar_types.specs.ReduceLaws.{ReductionsAreAnswered, EmptyIsReducedToNever, CleanAreReducedToLeastClean, CleanAreReducedInAnyOrder};
+ghost use Rattle.cedar_types.specs.JoinLaws.{CleanBoundsAreOwn, OwnBoundsOfCleanAreClean, JoinsAreAnswered, JoinsAreGivenExactly};
+ghost use Rattle.cedar_types.specs.JoinLaws.{JoinsAreUnique, UpperTypesAreJoins, JoinsAreBelowCleanBounds, JoinsOfCleanAreLeastClean};
+ghost use Rattle.cedar_types.specs.JoinLaws.{JoinsAreCommutative, StrictJoinsArePermissive};
+ghost use Rattle.cedar_types.specs.ReduceLaws.{ReductionsAreAnswered, EmptyIsReducedToNever};
+ghost use Rattle.cedar_types.specs.ReduceLaws.{CleanAreReducedToLeastClean, CleanAreReducedInAnyOrder};
 ghost use Rattle.cedar_types.specs.WellFormed.{IsWellFormed};
 ghost use Rattle.cedar_types.specs.Ty.{Ty};
 
