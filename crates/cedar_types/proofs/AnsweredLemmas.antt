@@ -1,5 +1,5 @@
 -- Answers of joins of types that aren't records.
-use Rattle.std.proofs.Common.{◌≡◌, ◌≢◌, ◌⊎◌, inl, inr, ⊎_elim, refl, sym, ap, subst, ◌∙◌, [], ◌∷◌, List, Ok, Err, IfOk, Contains, arith}
+use Rattle.std.proofs.Common.{◌≡◌, ◌≢◌, ◌⊎◌, inl, inr, ⊎_elim, refl, sym, subst, ◌∙◌, [], ◌∷◌, List, Ok, Err, IfOk, arith}
 use Rattle.cedar_below.proofs.Lists.{Contains-cons}
 use Rattle.cedar_below.proofs.PlainNames.{name_cmp-total, name_cmp-Equal}
 use Rattle.cedar_below.specs.Included.{Included}
@@ -14,7 +14,7 @@ use Rattle.cedar_types.specs.Below.{Below}
 use Rattle.cedar_types.specs.Help.{IsHelp}
 use Rattle.cedar_types.specs.JoinAnswer.{JoinAnswer, IsJoinAnswer}
 use Rattle.cedar_types.specs.OwnBound.{IsOwnBound, HaveOwnBound, IsLeastOwnBound}
-use Rattle.cedar_types.specs.Ty.{Ty, never, truth, long, text, any_entity, union_of, any_set, set_of, record_of, extension_of, Fields, end, field}
+use Rattle.cedar_types.specs.Ty.{Ty, never, truth, long, text, any_entity, union_of, any_set, set_of, record_of, extension_of}
 use Rattle.cedar_types.specs.WellFormed.{IsWellFormed}
 use Rattle.cedar_types.specs.declared.bool_type.BoolType.{BoolType}
 use Rattle.cedar_types.specs.declared.bool_type.BoolType.TheVariants.{AnyBool, True, False}

@@ -5,13 +5,10 @@ use Rattle.std.specs.Str.{bytes_eq}
 use Rattle.cedar_below.specs.Text.{Text}
 use Rattle.cedar_below.specs.declared.validation_mode.ValidationMode.{ValidationMode}
 use Rattle.cedar_below.specs.declared.validation_mode.ValidationMode.TheVariants.{Permissive}
-use Rattle.cedar_types.proofs.SubtypeLaws.{HasBelow-of, HasField-named}
-use Rattle.cedar_types.specs.Attributes.{field_names}
+use Rattle.cedar_types.proofs.SubtypeLaws.{HasBelow-of}
 use Rattle.cedar_types.specs.Below.{HasField, Below, FieldsBelow}
-use Rattle.cedar_types.specs.Ty.{Ty, truth, long, text, any_set, record_of, Fields, end, field}
+use Rattle.cedar_types.specs.Ty.{Ty, truth, long, text, any_set, Fields, end, field}
 use Rattle.cedar_types.specs.declared.bool_type.BoolType.{BoolType}
-use Rattle.cedar_types.specs.declared.open_tag.OpenTag.{OpenTag}
-use Rattle.cedar_types.specs.declared.open_tag.OpenTag.TheVariants.{OpenAttributes, ClosedAttributes}
 
 -- texts that a test tells apart differ
 pub texts_differ : (a b : Text) → bytes_eq a b ≡ false → ¬ (a ≡ b)

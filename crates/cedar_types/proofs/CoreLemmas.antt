@@ -1,10 +1,10 @@
-use Rattle.std.proofs.Common.{◌≡◌, ◌⊎◌, inl, inr, ⊎_elim, refl, ap, ◌∙◌, Option, Some, None}
+use Rattle.std.proofs.Common.{◌≡◌, ◌⊎◌, inl, inr, ⊎_elim, refl, ap, Option, Some, None}
 use Rattle.std.specs.Option.{option_map, option_zip}
 use Rattle.cedar_below.specs.CoreTy.{core_set, core_record, core_entity, core_field}
 use Rattle.cedar_types.specs.CoreOf.{core_of, core_fields, tag_is_open, LacksCore, CoreIsLackedExactly}
 use Rattle.cedar_types.specs.EntityLUB.{only_name}
 use Rattle.cedar_types.specs.StandsIn.{StandsIn, StandsInFields}
-use Rattle.cedar_types.specs.Ty.{Ty, never, truth, long, text, any_entity, union_of, any_set, set_of, record_of, extension_of, Fields, end, field}
+use Rattle.cedar_types.specs.Ty.{Ty, never, any_entity, union_of, set_of, record_of, Fields, end, field}
 
 -- where a function of a value gives none, there is no value
 unmapped : {A B : Type 0} (f : A → B) (found : Option A) → option_map f found ≡ None → found ≡ None

@@ -11,7 +11,7 @@ use Rattle.cedar_types.specs.Below.{HasField}
 use Rattle.cedar_types.specs.JoinAnswer.{IsJoinAnswer, IsReduceAnswer}
 use Rattle.cedar_types.specs.OwnBound.{HaveOwnBound}
 use Rattle.cedar_types.specs.Samples.{bar_and_false, bar_and_text, required_y, optional_y, unit_record, set_of_truths, set_of_longs}
-use Rattle.cedar_types.specs.Ty.{Ty, never, truth, long, text, any_set, record_of, Fields, end, field}
+use Rattle.cedar_types.specs.Ty.{Ty, never, long, text, any_set, record_of, end, field}
 use Rattle.cedar_types.specs.declared.bool_type.BoolType.TheVariants.{False}
 use Rattle.cedar_types.specs.declared.join_error.LubHelp.TheVariants as help
 

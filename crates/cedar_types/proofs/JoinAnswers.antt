@@ -12,7 +12,7 @@ use Rattle.cedar_types.specs.JoinAnswer.{JoinAnswer, IsReduceAnswer}
 use Rattle.cedar_types.proofs.SubtypeLaws.{Below-trans}
 use Rattle.cedar_types.specs.Below.{Below}
 use Rattle.cedar_types.specs.JoinLaws.{JoinsAreAnswered, StrictJoinsArePermissive}
-use Rattle.cedar_types.specs.OwnBound.{IsOwnBound, IsLeastOwnBound}
+use Rattle.cedar_types.specs.OwnBound.{IsOwnBound}
 use Rattle.cedar_types.specs.ReduceLaws.{ReductionsAreAnswered}
 use Rattle.cedar_types.specs.Ty.{Ty, never, truth, long, text, any_entity, union_of, any_set, set_of, record_of, extension_of, Fields, end, field}
 use Rattle.cedar_types.specs.WellFormed.{IsWellFormed, AreWellFormed}

@@ -1,6 +1,6 @@
-use Rattle.std.proofs.Common.{◌≡◌, ◌⊎◌, inl, inr, ⊎_elim, Bool, true, refl, sym, ap, subst, ◌∙◌, [], ◌∷◌, List, Contains, codes}
+use Rattle.std.proofs.Common.{◌≡◌, inl, inr, ⊎_elim, true, refl, sym, ap, ◌∙◌, [], ◌∷◌, List, Contains, codes}
 use Rattle.cedar_below.proofs.Inclusion.{Included-none, Included-cons, Included-head}
-use Rattle.cedar_below.proofs.Lists.{Contains-cons, Contains-cons_cases}
+use Rattle.cedar_below.proofs.Lists.{Contains-cons}
 use Rattle.cedar_below.specs.Included.{Included}
 use Rattle.cedar_below.specs.PlainName.{PlainName}
 use Rattle.cedar_below.specs.declared.validation_mode.ValidationMode.{ValidationMode}
@@ -8,7 +8,7 @@ use Rattle.cedar_below.specs.declared.validation_mode.ValidationMode.TheVariants
 use Rattle.cedar_types.proofs.ApartLemmas.{texts_differ, AreApart, AreApart-truth_long, AreApart-truth_text, AreApart-any_set_long, HasOnly, IsPair, IsPair-other, kept_below, unnamed}
 use Rattle.cedar_types.proofs.SubtypeLaws.{HasField-named}
 use Rattle.cedar_types.specs.Attributes.{field_names}
-use Rattle.cedar_types.specs.Below.{HasField, Below, FieldsBelow}
+use Rattle.cedar_types.specs.Below.{Below}
 use Rattle.cedar_types.specs.OwnBound.{HaveOwnBound, IsOwnBound, IsLeastOwnBound}
 use Rattle.cedar_types.specs.Samples.{bar_and_false, bar_and_text, open_bar, any_set_and_long, long_and_long, open_t, set_of_truths, set_of_longs, foo_entity, bar_entity, foo_or_bar, foo_name, bar_name}
 use Rattle.cedar_types.specs.Ty.{Ty, truth, long, text, any_entity, union_of, any_set, set_of, record_of, Fields, end, field}

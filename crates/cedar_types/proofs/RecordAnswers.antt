@@ -1,28 +1,24 @@
 -- Answers of joins of records.
-use Rattle.std.proofs.Common.{◌≡◌, ◌≢◌, ◌⊎◌, ◌↔◌, inl, inr, ⊎_elim, Bool, true, false, ◌&&◌, IsTrue, refl, sym, ap, subst, ◌∙◌, ℕ, length, List, [], ◌∷◌, Ok, Err, Contains, arith}
+use Rattle.std.proofs.Common.{◌≡◌, ◌↔◌, inl, inr, ⊎_elim, Bool, true, false, ◌&&◌, IsTrue, refl, sym, subst, ◌∙◌, Ok, Err}
 use Rattle.std.specs.List.{AllByRecursion}
 use Rattle.std.specs.List.Sorted.{IsStrictlySortedBy}
 use Rattle.std.specs.declared.cmp.Ordering.TheVariants.{Less}
-use Rattle.cedar_below.proofs.Texts.{text_cmp-total, text_cmp-Equal}
+use Rattle.cedar_below.proofs.Texts.{text_cmp-Equal}
 use Rattle.cedar_below.specs.Included.{Included}
 use Rattle.cedar_below.specs.Text.{Text, text_cmp}
 use Rattle.cedar_below.specs.declared.validation_mode.ValidationMode.{ValidationMode}
-use Rattle.cedar_below.specs.declared.validation_mode.ValidationMode.TheVariants.{Strict, Permissive}
+use Rattle.cedar_below.specs.declared.validation_mode.ValidationMode.TheVariants.{Permissive}
 use Rattle.cedar_types.proofs.AgreeLaws.{HasField-once}
-use Rattle.cedar_types.proofs.AnsweredLemmas.{IsAnswered, given, refused}
-use Rattle.cedar_types.proofs.Decisions.{IsDecided, decide_both, decide_flags, decide_same, decide_among, decide_included, each_of, of_each, all_among}
+use Rattle.cedar_types.proofs.AnsweredLemmas.{IsAnswered, given}
+use Rattle.cedar_types.proofs.Decisions.{IsDecided, decide_both, decide_same, decide_among, decide_included, of_each}
 use Rattle.cedar_types.proofs.PartLemmas.{FieldsBelow-from, FieldsLieWithin-from, FieldsLieWithin-of, within_both, within_named}
 use Rattle.cedar_types.proofs.StrictJoinLemmas.{tag_below, names_below}
 use Rattle.cedar_types.proofs.SubtypeLaws.{HasBelow-of, HasField-name, HasField-named, FieldsBelow-names}
 use Rattle.cedar_types.specs.Attributes.{IsAscending, field_names}
 use Rattle.cedar_types.specs.Below.{HasField, TagsBelow, NamesBelow, Below, FieldsBelow}
-use Rattle.cedar_types.specs.Help.{IsHelpAtName}
-use Rattle.cedar_types.specs.JoinAnswer.{IsJoinAnswer}
-use Rattle.cedar_types.specs.OwnBound.{IsNamedIn, LiesWithin, FieldsLieWithin, IsEither, IsOwnBound, HaveOwnBound, IsLeastOwnBound}
+use Rattle.cedar_types.specs.OwnBound.{IsEither, IsOwnBound, HaveOwnBound, IsLeastOwnBound}
 use Rattle.cedar_types.specs.Ty.{Ty, record_of, Fields, end, field}
 use Rattle.cedar_types.specs.WellFormed.{IsWellFormed, AreWellFormed}
-use Rattle.cedar_types.specs.declared.join_error.LubHelp.{LubHelp}
-use Rattle.cedar_types.specs.declared.join_error.LubHelp.TheVariants as help
 use Rattle.cedar_types.specs.declared.open_tag.OpenTag.{OpenTag}
 use Rattle.cedar_types.specs.declared.open_tag.OpenTag.TheVariants.{OpenAttributes, ClosedAttributes}
 

@@ -1,4 +1,4 @@
-use Rattle.std.proofs.Common.{◌≡◌, inl, inr, ap, refl, sym, subst, List, [], ◌∷◌, Ok, Err, IfOk, Contains}
+use Rattle.std.proofs.Common.{◌≡◌, inl, inr, ap, sym, subst, List, [], ◌∷◌, Ok, Err, IfOk}
 use Rattle.std.proofs.lemmas.List.Elements.{All-contains, All-from_recursion}
 use Rattle.std.specs.List.{AllByRecursion}
 use Rattle.cedar_below.proofs.Inclusion.{Included-head, Included-tail}
@@ -8,7 +8,7 @@ use Rattle.cedar_types.proofs.AntisymmetryLaws.{Below-same}
 use Rattle.cedar_types.proofs.JoinLemmas.{clean_is_own, own_is_clean}
 use Rattle.cedar_types.proofs.SubtypeLaws.{Below-itself, Below-trans}
 use Rattle.cedar_types.specs.Below.{Below}
-use Rattle.cedar_types.specs.Bound.{IsBound, IsCleanBound}
+use Rattle.cedar_types.specs.Bound.{IsCleanBound}
 use Rattle.cedar_types.specs.Clean.{IsClean}
 use Rattle.cedar_types.specs.JoinAnswer.{JoinAnswer, IsLeastAnswer, IsReduceAnswer}
 use Rattle.cedar_types.specs.ReduceLaws.{EmptyIsReducedToNever, CleanAreReducedToLeastClean, CleanAreReducedInAnyOrder}

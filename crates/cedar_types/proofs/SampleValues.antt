@@ -1,5 +1,5 @@
 -- Values of inhabited types, and of records with a chosen attribute.
-use Rattle.std.proofs.Common.{◌≡◌, ◌≢◌, ◌⊎◌, inl, inr, ⊎_elim, Bool, true, false, refl, sym, subst, ◌∙◌, ℕ, zero, suc, ◌+◌, ◌≤◌, pos, length, List, [], ◌∷◌, Option, Some, None, if◌then◌else◌, Contains, IsTrue, arith}
+use Rattle.std.proofs.Common.{◌≡◌, ◌≢◌, inl, inr, ⊎_elim, Bool, true, false, refl, sym, subst, ◌∙◌, ℕ, zero, suc, ◌+◌, ◌≤◌, pos, length, List, [], ◌∷◌, Option, Some, None, Contains, arith}
 use Rattle.std.proofs.lemmas.Slice.Eq.{bytes_eq-Decides}
 use Rattle.std.specs.Str.{bytes_eq}
 use Rattle.cedar_below.proofs.Inclusion.{Included-none, Included-cons}
@@ -7,14 +7,12 @@ use Rattle.cedar_below.proofs.Lists.{Contains-cons, Contains-cons_cases}
 use Rattle.cedar_below.specs.Fits.{EntryFits, Gives}
 use Rattle.cedar_below.specs.Included.{Included}
 use Rattle.cedar_below.specs.PlainName.{PlainName}
-use Rattle.cedar_below.specs.PlainUid.{PlainUid}
 use Rattle.cedar_below.specs.Text.{Text}
-use Rattle.cedar_below.specs.Tree.{Tree, truth_value, number_value, text_value, uid_value, set_value, map_value, Trees, no_tree, tree, Entries, no_entry, entry, entry_at, entry_names}
+use Rattle.cedar_below.specs.Tree.{Tree, truth_value, number_value, text_value, uid_value, set_value, map_value, Trees, no_tree, Entries, no_entry, entry, entry_at, entry_names}
 use Rattle.cedar_below.specs.declared.extension.Extensions.{Extensions}
 use Rattle.cedar_types.proofs.AgreeLaws.{HasField-once}
-use Rattle.cedar_types.proofs.Decisions.{IsDecided}
 use Rattle.cedar_types.proofs.RecordAnswers.{decide_texts, rest_ascending}
-use Rattle.cedar_types.proofs.SubtypeLaws.{HasField-name, HasField-named}
+use Rattle.cedar_types.proofs.SubtypeLaws.{HasField-name}
 use Rattle.cedar_types.proofs.SubtypeLemmas.{chosen_first, unchosen}
 use Rattle.cedar_types.specs.Attributes.{IsAscending, field_names}
 use Rattle.cedar_types.specs.Below.{HasField}

@@ -1,19 +1,16 @@
 -- A strict join is below each own bound in permissive mode.
-use Rattle.std.proofs.Common.{◌≡◌, inl, inr, ⊎_elim, Bool, refl, sym, subst, ◌∙◌, [], ◌∷◌}
+use Rattle.std.proofs.Common.{◌≡◌, ⊎_elim, refl, sym, subst, ◌∙◌}
 use Rattle.cedar_below.specs.Included.{Included}
-use Rattle.cedar_below.specs.Text.{Text}
-use Rattle.cedar_below.specs.declared.validation_mode.ValidationMode.{ValidationMode}
 use Rattle.cedar_below.specs.declared.validation_mode.ValidationMode.TheVariants.{Strict, Permissive}
 use Rattle.cedar_types.proofs.AgreeLaws.{Below-permissive, AreWellFormed-of, HasField-once}
 use Rattle.cedar_types.proofs.JoinLemmas.{upper_is_join}
-use Rattle.cedar_types.proofs.OwnBoundLemmas.{LiesWithin-more}
 use Rattle.cedar_types.proofs.PartLemmas.{least_at_name, within_both, within_elements, within_sets}
 use Rattle.cedar_types.proofs.SubtypeLaws.{Below-trans, HasBelow-of, HasField-name, HasField-named, FieldsBelow-names}
-use Rattle.cedar_types.specs.Attributes.{IsAscending, field_names}
-use Rattle.cedar_types.specs.Below.{HasField, TagsBelow, NamesBelow, Below, FieldsBelow}
-use Rattle.cedar_types.specs.OwnBound.{IsElementOf, IsNamedIn, LiesWithin, FieldsLieWithin, IsEither, IsOwnBound, IsLeastOwnBound}
+use Rattle.cedar_types.specs.Attributes.{field_names}
+use Rattle.cedar_types.specs.Below.{TagsBelow, NamesBelow, Below, FieldsBelow}
+use Rattle.cedar_types.specs.OwnBound.{FieldsLieWithin, IsEither, IsOwnBound, IsLeastOwnBound}
 use Rattle.cedar_types.specs.Ty.{Ty, never, truth, long, text, any_entity, union_of, any_set, set_of, record_of, extension_of, Fields, end, field}
-use Rattle.cedar_types.specs.WellFormed.{IsWellFormed, AreWellFormed}
+use Rattle.cedar_types.specs.WellFormed.{IsWellFormed}
 use Rattle.cedar_types.specs.declared.open_tag.OpenTag.{OpenTag}
 use Rattle.cedar_types.specs.declared.open_tag.OpenTag.TheVariants.{OpenAttributes, ClosedAttributes}
 

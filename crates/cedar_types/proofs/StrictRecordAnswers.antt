@@ -1,5 +1,5 @@
 -- Answers of joins of records in strict mode.
-use Rattle.std.proofs.Common.{◌≡◌, ◌≢◌, ◌⊎◌, inl, inr, ⊎_elim, Bool, refl, sym, subst, ◌∙◌, ℕ, length, Ok, Err, Contains, nat_eq, eqb-true, true, false}
+use Rattle.std.proofs.Common.{◌≡◌, ◌⊎◌, inl, inr, ⊎_elim, Bool, refl, sym, subst, ◌∙◌, ℕ, length, Ok, Err, Contains, nat_eq, eqb-true, true, false}
 use Rattle.std.proofs.lemmas.Bool.{eqb-false}
 use Rattle.cedar_below.proofs.Texts.{text_cmp-total, text_cmp-Equal}
 use Rattle.cedar_below.specs.Included.{Included}
@@ -13,7 +13,7 @@ use Rattle.cedar_types.proofs.PartLemmas.{FieldsBelow-from, FieldsLieWithin-from
 use Rattle.cedar_types.proofs.RecordAnswers.{AreAnswered, IsJoined, in_more, joined_ascending, rest_ascending, end_ascending, decide_texts}
 use Rattle.cedar_types.proofs.SubtypeLaws.{FieldsWithin, HasBelow-of, HasField-name, HasField-named, FieldsBelow-names}
 use Rattle.cedar_types.specs.Attributes.{IsAscending, field_names}
-use Rattle.cedar_types.specs.Below.{HasField, TagsBelow, Below, FieldsBelow}
+use Rattle.cedar_types.specs.Below.{HasField, TagsBelow, Below}
 use Rattle.cedar_types.specs.Help.{IsHelpAtName}
 use Rattle.cedar_types.specs.OwnBound.{IsEither, IsOwnBound, HaveOwnBound, IsLeastOwnBound}
 use Rattle.cedar_types.specs.Ty.{Ty, record_of, Fields, end, field}

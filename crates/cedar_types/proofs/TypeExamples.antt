@@ -1,8 +1,8 @@
-use Rattle.std.proofs.Common.{◌≡◌, inl, inr, ⊎_elim, true, false, refl, [], ◌∷◌, Contains, codes, arith}
+use Rattle.std.proofs.Common.{inl, inr, ⊎_elim, true, false, refl, [], ◌∷◌, codes, arith}
 use Rattle.cedar_below.proofs.Inclusion.{Included-none}
 use Rattle.cedar_below.proofs.Lists.{Contains-cons}
 use Rattle.cedar_below.specs.CoreTy.{core_record, core_end}
-use Rattle.cedar_below.specs.Tree.{Tree, map_value, no_entry, entry}
+use Rattle.cedar_below.specs.Tree.{map_value, no_entry, entry}
 use Rattle.cedar_below.specs.declared.extension.Extensions.{Extensions}
 use Rattle.cedar_types.specs.Consistent.{IsConsistent}
 use Rattle.cedar_types.specs.Disjoint.{AreDisjointTypes}

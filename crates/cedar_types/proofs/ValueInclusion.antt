@@ -1,6 +1,6 @@
 -- Permissive subtyping of inhabited types is inclusion of values, and of names.
-use Rattle.std.proofs.Common.{◌≡◌, ◌≢◌, inl, inr, ⊎_elim, Bool, true, false, refl, sym, subst, ◌∙◌, pos, [], ◌∷◌, Some, None, Contains, IsTrue, arith}
-use Rattle.cedar_below.proofs.Inclusion.{Included-none, Included-cons, Included-head}
+use Rattle.std.proofs.Common.{◌≡◌, ◌≢◌, inl, inr, ⊎_elim, Bool, true, false, refl, sym, subst, ◌∙◌, pos, [], Some, None, Contains, IsTrue}
+use Rattle.cedar_below.proofs.Inclusion.{Included-cons}
 use Rattle.cedar_below.proofs.Lists.{Contains-cons}
 use Rattle.cedar_below.specs.CoreTy.{core_extension}
 use Rattle.cedar_below.specs.CoreSchemaType.{result_type}
@@ -10,17 +10,16 @@ use Rattle.cedar_below.specs.PlainName.{PlainName}
 use Rattle.cedar_below.specs.Text.{Text}
 use Rattle.cedar_below.specs.Tree.{Tree, truth_value, number_value, text_value, uid_value, set_value, map_value, call_value, Trees, no_tree, tree, Entries, entry, entry_at, entry_names}
 use Rattle.cedar_below.specs.declared.extension.Extensions.{Extensions}
-use Rattle.cedar_below.specs.declared.extension.ExtensionFunction.{ExtensionFunction}
 use Rattle.cedar_below.specs.declared.validation_mode.ValidationMode.TheVariants.{Permissive}
 use Rattle.cedar_types.proofs.AgreeLaws.{HasField-once, AreWellFormed-of}
-use Rattle.cedar_types.proofs.Decisions.{decide_among, decide_flags}
+use Rattle.cedar_types.proofs.Decisions.{decide_among}
 use Rattle.cedar_types.proofs.MemberLaws.{HasBy-above, HasFieldsBy-of}
 use Rattle.cedar_types.proofs.RecordAnswers.{decide_texts}
-use Rattle.cedar_types.proofs.SampleValues.{HasFields-from, fits_some, some_fits, entry_here, entry_there, absent_entry, entry_named, fresh_text, fresh_name, truth_sample, some_name, only_listed, Sample, inhabitant, sample}
-use Rattle.cedar_types.proofs.SubtypeLaws.{FieldsWithin, HasBelow-of, HasField-name, HasField-named, FieldsBelow-names}
+use Rattle.cedar_types.proofs.SampleValues.{HasFields-from, fits_some, some_fits, entry_here, entry_there, absent_entry, fresh_text, fresh_name, truth_sample, some_name, only_listed, Sample, inhabitant, sample}
+use Rattle.cedar_types.proofs.SubtypeLaws.{FieldsWithin, HasField-name, HasField-named, FieldsBelow-names}
 use Rattle.cedar_types.specs.Attributes.{IsAscending, field_names}
 use Rattle.cedar_types.specs.Below.{HasField, TagsBelow, NamesBelow, Below, FieldsBelow}
-use Rattle.cedar_types.specs.Has.{Has, HasBy, HasFieldsBy, OnlyListed}
+use Rattle.cedar_types.specs.Has.{Has, OnlyListed}
 use Rattle.cedar_types.specs.InclusionLaws.{ValuesIncluded, ListsNames, FieldsListNames, SubtypingIsInclusion, SubtypingIsInclusionAndNames}
 use Rattle.cedar_types.specs.Stated.{IsInhabited, AreInhabited, RequiresAll, FieldsRequireAll}
 use Rattle.cedar_types.specs.Ty.{Ty, never, truth, long, text, any_entity, union_of, any_set, set_of, record_of, extension_of, Fields, end, field}
