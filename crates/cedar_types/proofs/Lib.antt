@@ -4,6 +4,7 @@ pub mod AnsweredLemmas
 pub mod AntisymmetryLaws
 pub mod ApartLemmas
 pub mod CleanLemmas
+pub mod CompareLemmas
 pub mod CopyLemmas
 pub mod CoreLemmas
 pub mod Decisions

@@ -8,8 +8,11 @@ ghost use Rattle.cedar_below.specs.declared.validation_mode.ValidationMode.TheVa
 ghost use Rattle.cedar_types.specs.Agree.{Agree};
 ghost use Rattle.cedar_types.specs.Below.{Below};
 ghost use Rattle.cedar_types.specs.Clean.{CleanIsWithoutAnySet};
+ghost use Rattle.cedar_types.specs.CompareLaws.{ComparesBy};
 ghost use Rattle.cedar_types.specs.CoreOf.{CoreIsLackedExactly};
 ghost use Rattle.cedar_types.specs.Disjoint.{DisjointTypesShareNoValue};
+ghost use Rattle.cedar_types.specs.EntityKind.{kind_ty};
+ghost use Rattle.cedar_types.specs.EntityLUB.{lub_names};
 ghost use Rattle.cedar_types.specs.Has.{Has, HasUp};
 ghost use Rattle.cedar_types.specs.InclusionLaws.{SubtypingIsInclusion, SubtypingIsInclusionAndNames};
 ghost use Rattle.cedar_types.specs.JoinLaws.{CleanBoundsAreOwn, OwnBoundsOfCleanAreClean, JoinsAreAnswered, JoinsAreGivenExactly};
@@ -19,6 +22,11 @@ ghost use Rattle.cedar_types.specs.ReduceLaws.{ReductionsAreAnswered, EmptyIsRed
 ghost use Rattle.cedar_types.specs.ReduceLaws.{CleanAreReducedToLeastClean, CleanAreReducedInAnyOrder};
 ghost use Rattle.cedar_types.specs.WellFormed.{IsWellFormed};
 ghost use Rattle.cedar_types.specs.Ty.{Ty};
+
+use crate::bool_type::BoolType;
+use crate::entity_kind::EntityKind;
+use crate::entity_lub::EntityLUB;
+use std::hash::Hash;
 
 /// Each type is below itself, in either mode.
 pub fn subtyping_is_reflexive()
@@ -105,4 +113,15 @@ pub fn disjoint_types_share_no_value()
 /// stands in it.
 pub fn core_types_are_lacked_exactly()
     ensures { CoreIsLackedExactly }
+{}
+
+/// Equality, order and hash of what is known of a truth value, of unions, and of kinds of entities go by
+/// what they stand for.
+pub fn entity_kinds_compare_by_what_they_stand_for()
+    ensures truths { ComparesBy (λ (known : BoolType). known)
+        ⟦<BoolType as PartialEq>⟧.eq ⟦<BoolType as Ord>⟧.cmp ⟦<BoolType as Hash>⟧.hash_input }
+    ensures unions { ComparesBy lub_names
+        ⟦<EntityLUB as PartialEq>⟧.eq ⟦<EntityLUB as Ord>⟧.cmp ⟦<EntityLUB as Hash>⟧.hash_input }
+    ensures kinds { ComparesBy kind_ty
+        ⟦<EntityKind as PartialEq>⟧.eq ⟦<EntityKind as Ord>⟧.cmp ⟦<EntityKind as Hash>⟧.hash_input }
 {}
