@@ -1,4 +1,4 @@
-//! Laws of types: what subtyping says of types, and of the values that have them.
+//! Laws of types: subtyping and the values that types have, joins, core types, and comparisons.
 
 ghost use Rattle.std.specs.Prelude.{◌≡◌, ◌↔◌};
 ghost use Rattle.cedar_below.specs.Tree.{Tree};
