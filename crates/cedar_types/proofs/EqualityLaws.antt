@@ -7,31 +7,27 @@ use Rattle.std.specs.Bool.{Decides}
 use Rattle.std.specs.Cmp.Lexicographic.{pointwise}
 use Rattle.std.specs.declared.rc.Rc.{Rc}
 use Rattle.std.specs.declared.string.String.{String}
-use Rattle.cedar_below.proofs.Names.{name_eq-same, entity_type_eq-same}
+use Rattle.cedar_below.proofs.Names.{name_eq-same}
 use Rattle.cedar_below.proofs.Texts.{text_eq-Decides}
-use Rattle.cedar_below.specs.EntityType.{type_name}
 use Rattle.cedar_below.specs.Name.{plain_name}
 use Rattle.cedar_below.specs.Text.{Text}
-use Rattle.cedar_below.specs.contracts.entity_type.EntityTypePartialEq.TheImpl as entity_type_eq
-use Rattle.cedar_below.specs.declared.entity_type.EntityType.{EntityType}
-use Rattle.cedar_types.specs.EntityKind.{kind_ty}
-use Rattle.cedar_types.specs.EntityLUB.{lub_names}
+use Rattle.cedar_types.proofs.CompareLemmas.{ties_from, bool_eq-same, kind_eq-same}
+use Rattle.cedar_types.specs.CompareLaws.{ComparesBy}
 use Rattle.cedar_types.specs.Meaning.{ty_of, attribute_of, fields_of, type_step, attribute_step, attributes_step}
 use Rattle.cedar_types.specs.Ty.{Ty, never, truth, long, text, any_entity, union_of, any_set, set_of, record_of, extension_of, Fields, end, field, fields_from}
 use Rattle.cedar_types.specs.contracts.attributes.AttributeTypePartialEq.TheImpl as attribute_type_eq
 use Rattle.cedar_types.specs.contracts.attributes.AttributesPartialEq.TheImpl as attributes_eq
-use Rattle.cedar_types.specs.contracts.bool_type.BoolTypePartialEq.TheImpl as bool_type_eq
-use Rattle.cedar_types.specs.contracts.entity_kind.EntityKindPartialEq.TheImpl as entity_kind_eq
-use Rattle.cedar_types.specs.contracts.entity_lub.EntityLUBPartialEq.TheImpl as entity_lub_eq
 use Rattle.cedar_types.specs.contracts.open_tag.OpenTagPartialEq.TheImpl as open_tag_eq
+use Rattle.cedar_types.specs.contracts.types.TypeHash.TheImpl as type_hash
+use Rattle.cedar_types.specs.contracts.types.TypeOrd.TheImpl as type_ord
 use Rattle.cedar_types.specs.contracts.types.TypePartialEq.TheImpl as type_eq
+use Rattle.cedar_types.specs.contracts.attributes.AttributesHash.TheImpl as attributes_hash
+use Rattle.cedar_types.specs.contracts.attributes.AttributesOrd.TheImpl as attributes_ord
+use Rattle.cedar_types.specs.contracts.attributes.AttributeTypeHash.TheImpl as attribute_type_hash
+use Rattle.cedar_types.specs.contracts.attributes.AttributeTypeOrd.TheImpl as attribute_type_ord
 use Rattle.cedar_types.specs.declared.attributes.AttributeType.{AttributeType, ind-AttributeType, roll-AttributeType, out-AttributeType, map-AttributeType, fold_out-AttributeType}
 use Rattle.cedar_types.specs.declared.attributes.Attributes.{Attributes, ind-Attributes, roll-Attributes, out-Attributes, roll-out-Attributes, out-roll-Attributes, map-Attributes, fold-roll-Attributes}
-use Rattle.cedar_types.specs.declared.bool_type.BoolType.{BoolType}
-use Rattle.cedar_types.specs.declared.bool_type.BoolType.TheVariants.{AnyBool, True, False}
-use Rattle.cedar_types.specs.declared.entity_kind.EntityKind.{EntityKind}
 use Rattle.cedar_types.specs.declared.entity_kind.EntityKind.TheVariants as kind
-use Rattle.cedar_types.specs.declared.entity_lub.EntityLUB.{EntityLUB}
 use Rattle.cedar_types.specs.declared.open_tag.OpenTag.{OpenTag}
 use Rattle.cedar_types.specs.declared.open_tag.OpenTag.TheVariants.{OpenAttributes, ClosedAttributes}
 use Rattle.cedar_types.specs.declared.types.Type.{«Type», roll-Type, out-Type, roll-out-Type, ind-Type, map-Type, fold-roll-Type}
@@ -40,37 +36,6 @@ use Rattle.cedar_types.specs.declared.types.Type.TheOpen as layer
 -- an answer is refused and what it would say fails
 pub none : {P : Type 0} → (P → ⊥) → Decides false P
 none fails = (λ e. absurd (false≢true e), λ holds. absurd (fails holds))
-
--- lists of entity types are equal exactly where their names are
-pub entity_types-Decides : (xs ys : List EntityType) → Decides (pointwise (entity_type_eq.ghosts).eq xs ys) (map type_name xs ≡ map type_name ys)
-entity_types-Decides [] [] = (λ _. refl, λ _. refl)
-entity_types-Decides [] (y ∷ ys) = none (λ e. cc)
-entity_types-Decides (x ∷ xs) [] = none (λ e. cc)
-entity_types-Decides (x ∷ xs) (y ∷ ys) =
-    Decides-like _ (λ both i. both.0 i ∷ both.1 i) (λ e. (cc, cc)) (Decides-and _ _ (entity_type_eq-same x y) (entity_types-Decides xs ys))
-
--- unions are equal exactly where their names are
-pub entity_lub-Decides : (a b : EntityLUB) → Decides ((entity_lub_eq.ghosts).eq a b) (lub_names a ≡ lub_names b)
-entity_lub-Decides a b = entity_types-Decides a.elements.items b.elements.items
-
--- kinds of entities are equal exactly where they admit the same
-pub entity_kind-Decides : (a b : EntityKind) → Decides ((entity_kind_eq.ghosts).eq a b) (kind_ty a ≡ kind_ty b)
-entity_kind-Decides kind.AnyEntity kind.AnyEntity = (λ _. refl, λ _. refl)
-entity_kind-Decides kind.AnyEntity (kind.Entity lub) = none (λ e. cc)
-entity_kind-Decides (kind.Entity lub) kind.AnyEntity = none (λ e. cc)
-entity_kind-Decides (kind.Entity lub) (kind.Entity other) = Decides-like _ (ap union_of) (λ e. cc) (entity_lub-Decides lub other)
-
--- tests of what is known of a truth value decide whether it is the same
-pub bool_type-Decides : (a b : BoolType) → Decides ((bool_type_eq.ghosts).eq a b) (a ≡ b)
-bool_type-Decides AnyBool AnyBool = (λ _. refl, λ _. refl)
-bool_type-Decides AnyBool True = none (λ e. cc)
-bool_type-Decides AnyBool False = none (λ e. cc)
-bool_type-Decides True AnyBool = none (λ e. cc)
-bool_type-Decides True True = (λ _. refl, λ _. refl)
-bool_type-Decides True False = none (λ e. cc)
-bool_type-Decides False AnyBool = none (λ e. cc)
-bool_type-Decides False True = none (λ e. cc)
-bool_type-Decides False False = (λ _. refl, λ _. refl)
 
 -- tests of tags decide whether they are the same
 pub open_tag-Decides : (a b : OpenTag) → Decides ((open_tag_eq.ghosts).eq a b) (a ≡ b)
@@ -155,10 +120,10 @@ same_shape x z same = sym (shape-folded x) ∙ (ap shape same ∙ shape-folded z
 layers-Decides : (y : Told) (z : layer.Type-F «Type» AttributeType Attributes) → Decides (type_eq.Laws.unfolded (roll-Type (parts y)) (roll-Type z)) (folded (parts y) ≡ folded z)
 unfolding out-Type denote.Hole.Carrier.out roll-Type denote.Hole.Carrier.roll
 layers-Decides layer.Never layer.Never = (λ _. refl, λ _. refl)
-layers-Decides (layer.Bool a) (layer.Bool b) = Decides-like _ (ap truth) (λ e. cc) (bool_type-Decides a b)
+layers-Decides (layer.Bool a) (layer.Bool b) = Decides-like _ (ap truth) (λ e. cc) (bool_eq-same a b)
 layers-Decides layer.Long layer.Long = (λ _. refl, λ _. refl)
 layers-Decides layer.String layer.String = (λ _. refl, λ _. refl)
-layers-Decides (layer.Entity a) (layer.Entity b) = entity_kind-Decides a b
+layers-Decides (layer.Entity a) (layer.Entity b) = kind_eq-same a b
 layers-Decides (layer.Set None) (layer.Set None) = (λ _. refl, λ _. refl)
 layers-Decides (layer.Set None) (layer.Set (Some b)) = none (λ e. cc)
 layers-Decides (layer.Set (Some a)) (layer.Set None) = none (λ e. cc)
@@ -293,3 +258,30 @@ attributes-Decides a = ind-Attributes IsTold IsToldAttribute AreTold type_told a
 -- two attributes are equal exactly where their flags and their types are
 pub attribute-Decides : (a : AttributeType) → IsToldAttribute a
 attribute-Decides a = ind-AttributeType IsTold IsToldAttribute AreTold type_told attribute_told attributes_told a
+
+-- comparisons of types agree
+pub types_compare : ComparesBy ty_of (type_eq.ghosts).eq (type_ord.ghosts).cmp (type_hash.ghosts).hash_input
+types_compare = record {
+  equality = types-Decides;
+  order = type_ord.Laws.total-law;
+  ties = ties_from ty_of (type_eq.ghosts).eq (type_ord.ghosts).cmp types-Decides type_ord.Laws.matches_eq-law;
+  hash = λ a b e. type_hash.Laws.respects_eq-law a b ((types-Decides a b).1 e);
+}
+
+-- comparisons of attributes agree
+pub attributes_compare : ComparesBy fields_of (attributes_eq.ghosts).eq (attributes_ord.ghosts).cmp (attributes_hash.ghosts).hash_input
+attributes_compare = record {
+  equality = attributes-Decides;
+  order = attributes_ord.Laws.total-law;
+  ties = ties_from fields_of (attributes_eq.ghosts).eq (attributes_ord.ghosts).cmp attributes-Decides attributes_ord.Laws.matches_eq-law;
+  hash = λ a b e. attributes_hash.Laws.respects_eq-law a b ((attributes-Decides a b).1 e);
+}
+
+-- comparisons of one attribute agree
+pub attribute_compare : ComparesBy attribute_of (attribute_type_eq.ghosts).eq (attribute_type_ord.ghosts).cmp (attribute_type_hash.ghosts).hash_input
+attribute_compare = record {
+  equality = attribute-Decides;
+  order = attribute_type_ord.Laws.total-law;
+  ties = ties_from attribute_of (attribute_type_eq.ghosts).eq (attribute_type_ord.ghosts).cmp attribute-Decides attribute_type_ord.Laws.matches_eq-law;
+  hash = λ a b e. attribute_type_hash.Laws.respects_eq-law a b ((attribute-Decides a b).1 e);
+}

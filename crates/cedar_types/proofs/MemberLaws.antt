@@ -45,7 +45,7 @@ OnlyListed-above Permissive ClosedAttributes ClosedAttributes values lower upper
     λ name among. names name (listed name among)
 
 -- what the values have at one of the attributes
-HasFieldsBy-of : (calls : PlainName → Trees → PlainName → Type 0) (values : Entries) (fields : Fields) (name : Text) (required : Bool) (ty : Ty) → HasFieldsBy calls values fields → HasField fields name required ty → EntryFits (λ value. HasBy calls value ty) required (entry_at name values)
+pub HasFieldsBy-of : (calls : PlainName → Trees → PlainName → Type 0) (values : Entries) (fields : Fields) (name : Text) (required : Bool) (ty : Ty) → HasFieldsBy calls values fields → HasField fields name required ty → EntryFits (λ value. HasBy calls value ty) required (entry_at name values)
 HasFieldsBy-of calls values end name required ty has among = absurd among
 HasFieldsBy-of calls values (field other flag of rest) name required ty has (inl same) =
     let P : Text → Bool → Ty → Type 0 = λ n r t. EntryFits (λ value. HasBy calls value t) r (entry_at n values) in

@@ -55,12 +55,12 @@ above_differs name other less e =
     cc
 
 -- a choice that isn't made
-unchosen : {A : Type 0} (b : Bool) (x y : A) → (b ≡ true → ⊥) → (if b then x else y) ≡ y
+pub unchosen : {A : Type 0} (b : Bool) (x y : A) → (b ≡ true → ⊥) → (if b then x else y) ≡ y
 unchosen true x y never = absurd (never refl)
 unchosen false x y never = refl
 
 -- a choice that is made
-chosen_first : {A : Type 0} (b : Bool) (x y : A) → b ≡ true → (if b then x else y) ≡ x
+pub chosen_first : {A : Type 0} (b : Bool) (x y : A) → b ≡ true → (if b then x else y) ≡ x
 chosen_first true x y made = refl
 chosen_first false x y made = absurd cc
 

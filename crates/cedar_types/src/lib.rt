@@ -17,6 +17,7 @@ mod entity_kind;
 mod entity_lub;
 mod entity_type;
 mod entity_type_kind;
+pub mod examples;
 mod join_error;
 mod member;
 mod open_tag;
