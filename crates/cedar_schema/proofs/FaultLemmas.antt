@@ -22,7 +22,7 @@ use Rattle.cedar_types.specs.declared.entity_type.ValidatorEntityType.{Validator
 use Rattle.cedar_below.specs.declared.entity_type.EntityType.{EntityType}
 
 -- the name that a list of possibilities resolves to is one of them, and is defined
-first_defined : (defined : Defined) (kind : ReferenceType) (names : List PlainName) (name : PlainName) → IsFirstDefined defined kind names name → Contains names name × IsDefined defined kind name
+pub first_defined : (defined : Defined) (kind : ReferenceType) (names : List PlainName) (name : PlainName) → IsFirstDefined defined kind names name → Contains names name × IsDefined defined kind name
 first_defined defined kind [] name none = absurd none
 first_defined defined kind (first ∷ rest) name found =
     ⊎_elim

@@ -14,10 +14,10 @@ use Rattle.cedar_schema.specs.WrittenOut.{WrittenOut, MembersWrittenOut, as_text
 use Rattle.cedar_types.specs.Ty.{Ty, Fields}
 
 -- a reference to an entity type names no common type
-no_common : (defined : Defined) (kind : ReferenceType) (name : PlainName) (body : Expr) → kind ≡ Entity → IsCommon defined kind name body → ⊥
-no_common defined Common name body is common = cc
-no_common defined Entity name body is common = common.0
-no_common defined CommonOrEntity name body is common = cc
+pub names_no_common : (defined : Defined) (kind : ReferenceType) (name : PlainName) (body : Expr) → kind ≡ Entity → IsCommon defined kind name body → ⊥
+names_no_common defined Common name body is common = cc
+names_no_common defined Entity name body is common = common.0
+names_no_common defined CommonOrEntity name body is common = cc
 
 -- where the entity types are the same, a reference to one names the same
 entity_like : (defined other : Defined) → defined.entities ≡ other.entities → (kind : ReferenceType) (name : PlainName) → IsEntity defined kind name → IsEntity other kind name
@@ -28,7 +28,7 @@ entity_like defined other same kind name is_entity =
 -- where the entity types are the same, a name is defined for references to entity types in the one as in the other
 defined_like : (defined other : Defined) → defined.entities ≡ other.entities → (kind : ReferenceType) → kind ≡ Entity → (name : PlainName) → IsDefined defined kind name → IsDefined other kind name
 defined_like defined other same kind is name found =
-    ⊎_elim (λ common. absurd (no_common defined kind name common.0 is common.1)) (λ is_entity. inr (entity_like defined other same kind name is_entity)) found
+    ⊎_elim (λ common. absurd (names_no_common defined kind name common.0 is common.1)) (λ is_entity. inr (entity_like defined other same kind name is_entity)) found
 
 -- a reference to an entity type resolves alike
 pub resolves_like : (defined other : Defined) → defined.entities ≡ other.entities → (reference : Reference) → reference.kind ≡ Entity → (name : PlainName) → ResolvesTo defined reference name → ResolvesTo other reference name
@@ -52,9 +52,9 @@ mutual
   written_like defined other same alone (as_record members) = as_record (members_written_like defined other same alone members)
   written_like defined other same alone (as_entity reference name resolves is_entity none) =
       as_entity reference name (resolves_like defined other same reference alone name resolves) (entity_like defined other same reference.kind name is_entity)
-      (λ body common. no_common other reference.kind name body alone common)
+      (λ body common. names_no_common other reference.kind name body alone common)
   written_like defined other same alone (as_common reference name body resolves is_common written) =
-      absurd (no_common defined reference.kind name body alone is_common)
+      absurd (names_no_common defined reference.kind name body alone is_common)
   written_like defined other same alone (as_extension name) = absurd alone
 
   -- the same of the attributes of a record

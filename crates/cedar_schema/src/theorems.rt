@@ -7,7 +7,8 @@ ghost use Rattle.cedar_below.specs.declared.extension.Extensions.{Extensions};
 ghost use Rattle.cedar_names.specs.Expr.{Expr};
 ghost use Rattle.cedar_schema.specs.Bag.{Bag, defined_names};
 ghost use Rattle.cedar_schema.specs.EndToEnd.{
-    AdmitsTheSame, BagsDeclareAtMostOneSchema, DeclaredTypesHaveTheDeclaredValues,
+    AdmitsTheSame, BagsDeclareAtMostOneSchema, DeclaredSchemasAreClosed, DeclaredSchemasAreValid,
+    DeclaredTypesHaveTheDeclaredValues,
 };
 ghost use Rattle.cedar_schema.specs.IllFormed.{IsIllFormed};
 ghost use Rattle.cedar_schema.specs.PlainSchema.{schema_of};
@@ -50,4 +51,11 @@ pub fn declared_types_have_the_declared_values()
 pub fn schemas_compare_by_what_they_declare()
     ensures { (a b : ValidatorSchema) → IsTrue (⟦<ValidatorSchema as PartialEq>⟧.eq a b)
         ↔ SameSchema (schema_of a) (schema_of b) }
+{}
+
+/// The schema that a bag declares which isn't ill-formed is valid, where the references of the bag fit
+/// their places; and its descendants are closed, so that validation gives it back unchanged.
+pub fn declared_schemas_are_valid()
+    ensures valid { DeclaredSchemasAreValid }
+    ensures closed { DeclaredSchemasAreClosed }
 {}
