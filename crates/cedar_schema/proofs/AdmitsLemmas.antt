@@ -1,23 +1,20 @@
 -- A type has just the values that the expression admits which is written out as it.
-use Rattle.std.proofs.Common.{◌≡◌, ◌↔◌, zero, suc, Bool, true, false, List, [], ◌∷◌, Option, Some, None, ap, sym, subst, ◌∙◌, refl, arith, Contains, ⊎_elim}
+use Rattle.std.proofs.Common.{◌≡◌, Bool, false, List, [], ◌∷◌, Option, Some, None, ap, sym, subst, refl, arith, ⊎_elim}
 use Rattle.cedar_below.proofs.Lists.{Contains-cons_cases}
 use Rattle.cedar_below.specs.Fits.{Gives, EntryFits}
 use Rattle.cedar_below.specs.Included.{Included}
 use Rattle.cedar_below.specs.PlainName.{PlainName}
-use Rattle.cedar_below.specs.PlainUid.{PlainUid}
 use Rattle.cedar_below.specs.Text.{Text}
 use Rattle.cedar_below.specs.Tree.{Tree, truth_value, number_value, text_value, uid_value, set_value, map_value, call_value, Trees, no_tree, tree, Entries, entry_at, entry_names, EachTree}
 use Rattle.cedar_below.specs.declared.extension.Extensions.{Extensions}
-use Rattle.cedar_names.specs.Expr.{Expr, text_expr, long_expr, truth_expr, named, record_expr, extension_expr, Members, member}
-use Rattle.cedar_names.specs.Reference.{Reference}
+use Rattle.cedar_names.specs.Expr.{Expr, Members, member}
 use Rattle.cedar_schema.proofs.ResolutionLemmas.{IsFirst-same, HasOneDefinition, same_definition}
 use Rattle.cedar_schema.specs.Admits.{Admits, AdmitsEach, AdmitsMembers, member_names, admits_text, admits_long, admits_truth, admits_set, admits_record, admits_entity, admits_common, admits_extension, admits_none, admits_first, admits_no_member, admits_missing, admits_there}
 use Rattle.cedar_schema.specs.Defined.{Defined, IsDefined, IsCommon, IsEntity, ResolvesTo}
 use Rattle.cedar_schema.specs.WrittenOut.{WrittenOut, MembersWrittenOut, as_text, as_long, as_truth, as_set, as_record, as_entity, as_common, as_extension, as_no_member, as_member}
 use Rattle.cedar_types.specs.Attributes.{field_names}
-use Rattle.cedar_types.specs.Has.{Has, HasBy, HasFieldsBy}
-use Rattle.cedar_types.specs.Ty.{Ty, Fields, text, long, truth, extension_of, union_of, record_of, set_of}
-use Rattle.cedar_types.specs.declared.bool_type.BoolType.TheVariants.{AnyBool}
+use Rattle.cedar_types.specs.Has.{Has, HasFieldsBy}
+use Rattle.cedar_types.specs.Ty.{Ty, Fields}
 
 -- what is written out keeps the names of a record's attributes
 same_names : (defined : Defined) {members : Members} {fields : Fields} → MembersWrittenOut defined members fields → field_names fields ≡ member_names members

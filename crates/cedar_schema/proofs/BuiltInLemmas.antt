@@ -1,12 +1,12 @@
 -- Built-in types and aliases: their names are their own, and what they stand for refers to nothing.
 use Rattle.std.proofs.Common.{◌≡◌, ◌≢◌, ◌⊎◌, ◌||◌, ◌&&◌, zero, suc, Bool, true, false, List, [], ◌∷◌, ◌++◌, None, Some, map, ap, sym, subst, ◌∙◌, refl, inl, inr, ⊎_elim, arith, Contains, All, AllPairs, codes, not}
 use Rattle.std.proofs.lemmas.Bool.{false≢true}
-use Rattle.std.proofs.lemmas.List.Elements.{All-contains, All-tail, Contains-append_left, Contains-append_right, Contains-append_cases}
+use Rattle.std.proofs.lemmas.List.Elements.{All-contains, All-tail, Contains-append_cases}
 use Rattle.std.proofs.lemmas.Slice.Eq.{bytes_eq-Decides}
 use Rattle.std.specs.List.{filter}
 use Rattle.std.specs.Option.{is_none}
 use Rattle.std.specs.Str.{bytes_eq}
-use Rattle.cedar_below.proofs.Lists.{Contains-cons, Contains-cons_cases}
+use Rattle.cedar_below.proofs.Lists.{Contains-cons_cases}
 use Rattle.cedar_below.specs.Extensions.{extension_types}
 use Rattle.cedar_below.specs.Identifier.{reserved_word}
 use Rattle.cedar_below.specs.PlainName.{PlainName, IsUnqualified}
@@ -14,7 +14,7 @@ use Rattle.cedar_below.specs.Text.{Text}
 use Rattle.cedar_below.specs.TypeNames.{TypeNamesFit, core_type_words}
 use Rattle.cedar_below.specs.declared.extension.Extensions.{Extensions}
 use Rattle.cedar_names.specs.Declaration.{Declaration, Body, common_type, entity_type, action}
-use Rattle.cedar_names.specs.Expr.{Expr, truth_expr, long_expr, text_expr, extension_expr}
+use Rattle.cedar_names.specs.Expr.{Expr, extension_expr}
 use Rattle.cedar_names.specs.Reference.{Reference, path_within}
 use Rattle.cedar_schema.proofs.DeclaredLemmas.{Contains-preimage}
 use Rattle.cedar_schema.proofs.PlacesLemmas.{Twice-distinct, Twice-append, value_once, Contains-filter}

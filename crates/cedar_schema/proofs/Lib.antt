@@ -2,8 +2,11 @@ pub mod AdmitsLemmas
 pub mod BuildingLemmas
 pub mod BuiltInLemmas
 pub mod BuiltLemmas
+pub mod ChainLemmas
+pub mod DeclarationLemmas
 pub mod DeclaredLemmas
 pub mod FaultLemmas
+pub mod MentionLemmas
 pub mod PartBag
 pub mod PartDefinition
 pub mod PartFaults

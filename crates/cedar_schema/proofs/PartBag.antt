@@ -1,11 +1,8 @@
 -- The bag of a definition of the part: entity types of the empty namespace alone.
-use Rattle.std.proofs.Common.{◌≡◌, ◌⊎◌, zero, suc, List, [], ◌∷◌, ◌++◌, None, Some, map, ap, sym, subst, ◌∙◌, refl, inl, inr, ⊎_elim, arith, Contains}
+use Rattle.std.proofs.Common.{◌≡◌, zero, suc, List, [], ◌∷◌, ◌++◌, None, map, ap, sym, subst, ◌∙◌, refl, inr, arith, Contains}
 use Rattle.std.proofs.lemmas.List.{append-nil}
-use Rattle.std.specs.List.{AllByRecursion}
-use Rattle.cedar_below.proofs.Lists.{Contains-cons, Contains-cons_cases}
+use Rattle.cedar_below.proofs.Lists.{Contains-cons}
 use Rattle.cedar_below.specs.PlainName.{PlainName}
-use Rattle.cedar_below.specs.PlainUid.{PlainUid}
-use Rattle.cedar_below.specs.UnreservedId.{unreserved_id_text}
 use Rattle.cedar_below.specs.declared.extension.Extensions.{Extensions}
 use Rattle.cedar_names.specs.ActionBody.{ActionBody}
 use Rattle.cedar_names.specs.Declaration.{Declaration, Body, entity_type, action, common_declarations, entity_declarations, action_declarations, raw_declarations}
@@ -17,10 +14,9 @@ use Rattle.cedar_names.specs.Reference.{Reference}
 use Rattle.cedar_names.specs.declared.json_schema.fragment.NamespaceDefinition.{NamespaceDefinition}
 use Rattle.cedar_names.specs.declared.json_schema.raw_name.RawName.{RawName}
 use Rattle.cedar_schema.proofs.DeclaredLemmas.{Entries}
-use Rattle.cedar_schema.specs.Bag.{Bag, declared_name, declared_common, declared_entities, declared_actions, action_uids, defined_names}
-use Rattle.cedar_schema.specs.Counted.{CountsIn, CountsInEntity, IsEntityPlace, entity_parents, IsCounted, IsPlaced}
-use Rattle.cedar_schema.specs.Defined.{Defined}
-use Rattle.cedar_schema.specs.EntityFaults.{Declared, declared_by_entries, defined_by, name_here, IsCounted as IsCountedEntity}
+use Rattle.cedar_schema.specs.Bag.{Bag, declared_common, declared_entities, declared_actions, defined_names}
+use Rattle.cedar_schema.specs.Counted.{CountsIn, CountsInEntity, entity_parents, IsCounted}
+use Rattle.cedar_schema.specs.EntityFaults.{declared_by_entries, defined_by, name_here, IsCounted as IsCountedEntity}
 
 -- the declarations of entity types in the empty namespace
 abbrev pub declarations_here : Entries → Bag

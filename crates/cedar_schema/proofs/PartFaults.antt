@@ -1,5 +1,5 @@
 -- The faults of a definition of the part: those of its entity types, and no others.
-use Rattle.std.proofs.Common.{◌≡◌, ◌≢◌, ◌⊎◌, zero, suc, List, [], ◌∷◌, ◌++◌, Option, None, Some, map, ap, sym, subst, ◌∙◌, refl, inl, inr, ⊎_elim, arith, Contains}
+use Rattle.std.proofs.Common.{◌≡◌, ◌≢◌, zero, suc, List, [], ◌∷◌, ◌++◌, Option, None, Some, map, ap, sym, subst, refl, inl, ⊎_elim, arith, Contains}
 use Rattle.std.specs.List.{AllByRecursion}
 use Rattle.std.specs.List.Sorted.{IsStrictlySortedBy}
 use Rattle.cedar_below.proofs.PlainNames.{name_cmp-total}
@@ -11,20 +11,19 @@ use Rattle.cedar_below.specs.Text.{Text}
 use Rattle.cedar_below.specs.TypeNames.{TypeNamesFit}
 use Rattle.cedar_below.specs.declared.extension.Extensions.{Extensions}
 use Rattle.cedar_names.specs.ActionBody.{ActionBody}
-use Rattle.cedar_names.specs.Declaration.{Declaration, Body}
+use Rattle.cedar_names.specs.Declaration.{Body}
 use Rattle.cedar_names.specs.EntityBody.{EntityBody, standard, enumerated, external, raw_entity_body}
 use Rattle.cedar_names.specs.Expr.{Expr}
 use Rattle.cedar_names.specs.Part.{NamesEntitiesAlone, IsPlainStandard}
 use Rattle.cedar_names.specs.Reference.{Reference}
+use Rattle.cedar_schema.proofs.ChainLemmas.{first_step}
 use Rattle.cedar_schema.proofs.BuiltInLemmas.{built_ins_once, refers_declared}
 use Rattle.cedar_schema.proofs.DeclaredLemmas.{Entries, Contains-preimage}
 use Rattle.cedar_schema.proofs.PartBag.{declarations_here, no_common, no_actions, just_entities, same_entities, is_entity_declaration, no_action_declared, counted_in_entity, counted_of_entity, no_parents}
 use Rattle.cedar_schema.proofs.PartWritten.{unresolved_like, written_like, refers_to_entity, no_extension}
 use Rattle.cedar_schema.proofs.PlacesLemmas.{Twice-ascending}
-use Rattle.cedar_schema.specs.Bag.{Bag, declared_common, declared_entities, declared_actions, declared_types, action_uids, built_ins, defined_names}
-use Rattle.cedar_schema.specs.Chain.{Chain, one, more}
-use Rattle.cedar_schema.specs.Counted.{CountsInEntity, entity_parents, IsEntityPlace, IsPlaced, HasToResolve}
-use Rattle.cedar_schema.specs.Defined.{Defined}
+use Rattle.cedar_schema.specs.Bag.{declared_entities, declared_actions, declared_types, action_uids, built_ins, defined_names}
+use Rattle.cedar_schema.specs.Counted.{CountsInEntity, IsEntityPlace, IsPlaced}
 use Rattle.cedar_schema.specs.Descent.{HasParentAction}
 use Rattle.cedar_schema.specs.EntityFaults.{Declared, declared_by_entries, defined_by, IsEntityFault, IsCounted as IsCountedEntity}
 use Rattle.cedar_schema.specs.Fault.{Fault, action_attributes, open_record, undeclared_entity_types, type_not_defined, action_not_defined, type_shadowing, action_shadowing, duplicate_entity_type, duplicate_common_type, duplicate_action, action_cycle, common_type_cycle, action_entity_type, shape_not_record, context_not_record, unknown_extension_type, reserved_name, external_below_enumerated}
@@ -115,11 +114,6 @@ no_common_step : (entries : Entries) (extensions : Extensions) (name other : Pla
 no_common_step entries extensions name other (definition, reference, body, among, refers, resolves, is_common) =
     let P : List (PlainName × Expr) → Type 0 = λ common. Contains common (name, definition) in
     omega (arith, (subst P (no_common entries) (refers_declared (declarations_here entries) extensions name definition reference among refers)).1)
-
--- a chain begins with a step
-pub first_step : {A : Type 0} (Step : A → A → Type 0) (a b : A) → Chain Step a b → (c : A) × Step a c
-first_step Step a b (one step) = (b, step)
-first_step Step a b (more {b = c} step rest) = (c, step)
 
 module _ (entries : Entries) (extensions : Extensions) (plain : ArePlain entries) where
   -- a fault of the entity types is one of the bag

@@ -1,5 +1,5 @@
 -- The schema of a definition of the part is the declared one.
-use Rattle.std.proofs.Common.{◌≡◌, ◌↔◌, inr, zero, suc, List, [], ◌∷◌, Option, None, Some, map, ap, sym, subst, ◌∙◌, refl, arith, Contains}
+use Rattle.std.proofs.Common.{◌≡◌, ◌↔◌, inr, zero, suc, List, [], ◌∷◌, Option, None, Some, map, sym, subst, ◌∙◌, refl, arith, Contains}
 use Rattle.std.proofs.lemmas.Simd.{map-map}
 use Rattle.std.specs.List.Sorted.{IsStrictlySortedBy}
 use Rattle.std.specs.Map.{keys_of}
@@ -13,10 +13,11 @@ use Rattle.cedar_names.specs.ActionBody.{ActionBody}
 use Rattle.cedar_names.specs.EntityBody.{EntityBody, standard, enumerated, external}
 use Rattle.cedar_names.specs.Expr.{Expr}
 use Rattle.cedar_names.specs.Part.{IsPlainStandard}
+use Rattle.cedar_schema.proofs.ChainLemmas.{first_step}
 use Rattle.cedar_schema.proofs.BuiltLemmas.{Types, FitEach-keys}
 use Rattle.cedar_schema.proofs.DeclaredLemmas.{Entries, Contains-preimage}
-use Rattle.cedar_schema.proofs.PartBag.{declarations_here, no_actions, just_entities, same_entities, no_parents}
-use Rattle.cedar_schema.proofs.PartFaults.{ArePlain, AreAscending, plain_of, declared_from, no_action_in, first_step}
+use Rattle.cedar_schema.proofs.PartBag.{declarations_here, just_entities, same_entities, no_parents}
+use Rattle.cedar_schema.proofs.PartFaults.{ArePlain, AreAscending, plain_of, declared_from, no_action_in}
 use Rattle.cedar_schema.proofs.PartWritten.{written_like}
 use Rattle.cedar_schema.specs.Bag.{declared_entities, declared_actions, defined_names}
 use Rattle.cedar_schema.specs.DeclaredSchema.{IsDeclaredEntityType, IsDeclaredSchema}

@@ -1,5 +1,5 @@
 -- Expressions that name entity types alone: what they are written out as depends on the entity types alone.
-use Rattle.std.proofs.Common.{◌≡◌, ◌⊎◌, List, [], ◌∷◌, sym, subst, refl, inl, inr, ⊎_elim, Contains}
+use Rattle.std.proofs.Common.{◌≡◌, List, sym, subst, inr, ⊎_elim, Contains}
 use Rattle.cedar_below.specs.PlainName.{PlainName}
 use Rattle.cedar_below.specs.Text.{Text}
 use Rattle.cedar_names.specs.Expr.{Expr, text_expr, long_expr, truth_expr, set_expr, record_expr, named, extension_expr, Members, no_member, member}

@@ -1,9 +1,9 @@
 -- References resolve to one name, and an expression is written out as one type.
-use Rattle.std.proofs.Common.{◌≡◌, ◌⊎◌, List, [], ◌∷◌, ap, sym, subst, ◌∙◌, refl, inl, inr, ⊎_elim, arith, Contains}
+use Rattle.std.proofs.Common.{◌≡◌, List, [], ◌∷◌, ap, sym, subst, ◌∙◌, refl, inl, inr, ⊎_elim, Contains}
 use Rattle.cedar_below.specs.PlainName.{PlainName}
 use Rattle.cedar_names.specs.Expr.{Expr}
 use Rattle.cedar_names.specs.Reference.{Reference}
-use Rattle.cedar_schema.specs.Defined.{Defined, IsDefined, IsCommon, IsEntity, ResolvesTo}
+use Rattle.cedar_schema.specs.Defined.{Defined, IsDefined, IsCommon, ResolvesTo}
 use Rattle.cedar_schema.specs.Places.{IsFirst}
 use Rattle.cedar_schema.specs.WrittenOut.{WrittenOut, MembersWrittenOut, as_text, as_long, as_truth, as_set, as_record, as_entity, as_common, as_extension, as_no_member, as_member}
 use Rattle.cedar_types.specs.Ty.{Ty, Fields, set_of, record_of, union_of, field}

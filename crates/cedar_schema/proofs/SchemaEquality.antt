@@ -1,21 +1,20 @@
 -- Schemas are equal exactly where they are the same, whatever their locations.
-use Rattle.std.proofs.Common.{◌≡◌, ◌&&◌, Bool, List, [], ◌∷◌, map, refl, ap}
+use Rattle.std.proofs.Common.{◌&&◌, Bool, [], ◌∷◌, map, refl, ap}
 use Rattle.std.proofs.lemmas.Bool.Decides.{Decides-and, Decides-like}
 use Rattle.std.specs.Bool.{Decides}
 use Rattle.std.specs.Cmp.Lexicographic.{pointwise}
 use Rattle.cedar_below.proofs.Names.{entity_type_eq-same}
-use Rattle.cedar_below.specs.EntityType.{type_name}
 use Rattle.cedar_below.specs.contracts.entity_type.EntityTypePartialEq.TheImpl as name_eq
 use Rattle.cedar_below.specs.declared.entity_type.EntityType.{EntityType}
 use Rattle.cedar_schema.proofs.BuiltLemmas.{Types}
 use Rattle.cedar_schema.proofs.PartSchema.{plain_entry}
-use Rattle.cedar_schema.specs.PlainSchema.{SchemaEntityType, schema_of}
+use Rattle.cedar_schema.specs.PlainSchema.{schema_of}
 use Rattle.cedar_schema.specs.SameSchema.{AreSame, SameEntityType, SameSchema}
 use Rattle.cedar_schema.specs.contracts.schema.ValidatorSchemaPartialEq.TheImpl as schema_eq
 use Rattle.cedar_schema.specs.declared.schema.ValidatorSchema.{ValidatorSchema}
 use Rattle.cedar_types.proofs.EntityTypeEquality.{entity_types-Same}
 use Rattle.cedar_types.proofs.EqualityLaws.{none}
-use Rattle.cedar_types.specs.ValidatorEntityType.{PlainEntityType, entity_type_of}
+use Rattle.cedar_types.specs.ValidatorEntityType.{PlainEntityType}
 use Rattle.cedar_types.specs.contracts.entity_type.ValidatorEntityTypePartialEq.TheImpl as entity_type_eq
 use Rattle.cedar_types.specs.declared.entity_type.ValidatorEntityType.{ValidatorEntityType}
 

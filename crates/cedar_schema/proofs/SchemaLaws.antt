@@ -1,6 +1,5 @@
 -- A bag that isn't ill-formed declares one schema, and the types of it have just the declared values.
-use Rattle.std.proofs.Common.{◌≡◌, ◌↔◌, ◌⊎◌, zero, suc, List, [], ◌∷◌, ◌++◌, Option, Some, None, map, ap, sym, subst, ◌∙◌, refl, inl, inr, ⊎_elim, arith, Contains}
-use Rattle.std.specs.List.Sorted.{IsStrictlySortedBy}
+use Rattle.std.proofs.Common.{◌≡◌, ◌↔◌, List, [], ◌∷◌, Option, Some, None, map, ap, sym, subst, ◌∙◌, refl, inl, inr, Contains}
 use Rattle.cedar_below.proofs.Lists.{Contains-cons}
 use Rattle.cedar_below.proofs.PlainNames.{name_cmp-total, uid_cmp-total}
 use Rattle.cedar_below.specs.Extensions.{extension_types}
@@ -11,13 +10,12 @@ use Rattle.cedar_below.specs.declared.extension.Extensions.{Extensions}
 use Rattle.cedar_names.specs.ActionBody.{ActionBody, Requests, requests, elsewhere}
 use Rattle.cedar_names.specs.EntityBody.{EntityBody, standard, enumerated, external}
 use Rattle.cedar_names.specs.Expr.{Expr}
-use Rattle.cedar_names.specs.Reference.{Reference}
 use Rattle.cedar_schema.proofs.AdmitsLemmas.{has_admitted, admitted_of}
 use Rattle.cedar_schema.proofs.BuiltInLemmas.{one_definition}
 use Rattle.cedar_schema.proofs.DeclaredLemmas.{Contains-preimage}
 use Rattle.cedar_schema.proofs.PlacesLemmas.{Contains-image, value_once}
 use Rattle.cedar_schema.proofs.ResolutionLemmas.{HasOneDefinition, written_once}
-use Rattle.cedar_schema.specs.Bag.{Bag, declared_entities, declared_actions, action_uids, defined_names}
+use Rattle.cedar_schema.specs.Bag.{Bag, declared_entities, declared_actions, defined_names}
 use Rattle.cedar_schema.specs.DeclaredSchema.{IsDeclaredEntityType, IsNamedBy, ActionKindFits, IsDeclaredAction, IsDefinedAction, IsEntityOfAction, IsDeclaredSchema}
 use Rattle.cedar_schema.specs.Defined.{Defined}
 use Rattle.cedar_schema.specs.Descent.{IsDescendant, IsDescendantAction}
@@ -25,7 +23,6 @@ use Rattle.cedar_schema.specs.EndToEnd.{AdmitsTheSame, TypesAdmitTheDeclared}
 use Rattle.cedar_schema.specs.Fault.{duplicate_entity_type, duplicate_common_type, duplicate_action}
 use Rattle.cedar_schema.specs.Fits.{KindFits, TagsFit}
 use Rattle.cedar_schema.specs.IllFormed.{IsIllFormed}
-use Rattle.cedar_schema.specs.Places.{Twice}
 use Rattle.cedar_schema.specs.PlainSchema.{SchemaEntityType, ActionKind, defined_action, external_action, SchemaAction, ActionEntity, PlainSchema}
 use Rattle.cedar_schema.specs.SameSchema.{SameItems, AreSame, SameEntityType, SameActionKind, SameAction, SameActionEntity, SameSchema}
 use Rattle.cedar_schema.specs.WrittenOut.{WrittenOut}

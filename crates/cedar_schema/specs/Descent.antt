@@ -1,4 +1,4 @@
-use Rattle.std.specs.Prelude.{◌≡◌, Contains, List}
+use Rattle.std.specs.Prelude.{◌≡◌, Contains}
 use Rattle.cedar_below.specs.PlainName.{PlainName}
 use Rattle.cedar_below.specs.PlainUid.{PlainUid}
 use Rattle.cedar_below.specs.declared.extension.Extensions.{Extensions}

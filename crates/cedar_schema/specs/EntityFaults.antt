@@ -1,4 +1,4 @@
-use Rattle.std.specs.Prelude.{◌≡◌, ◌≢◌, ◌⊎◌, List, [], map, Option, Some, None, Contains}
+use Rattle.std.specs.Prelude.{◌≢◌, List, [], map, Option, None, Contains}
 use Rattle.cedar_below.specs.PlainName.{PlainName, IsActionType}
 use Rattle.cedar_below.specs.UnreservedId.{unreserved_id_text}
 use Rattle.cedar_below.specs.declared.unreserved_id.UnreservedId.{UnreservedId}

@@ -1,4 +1,4 @@
-use Rattle.std.specs.Prelude.{◌≡◌, List}
+use Rattle.std.specs.Prelude.{◌≡◌}
 use Rattle.std.specs.List.Sorted.{IsPermutation}
 use Rattle.cedar_names.specs.ActionBody.{ActionBody, Requests, requests, elsewhere}
 use Rattle.cedar_names.specs.Declaration.{Declaration, Body, common_type, entity_type, action}

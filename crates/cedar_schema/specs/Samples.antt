@@ -1,13 +1,13 @@
-use Rattle.std.specs.Prelude.{Bool, true, false, List, [], ◌∷◌, Option, Some, None, codes}
+use Rattle.std.specs.Prelude.{true, false, List, [], ◌∷◌, Some, None, codes}
 use Rattle.cedar_below.specs.PlainName.{PlainName, action_word}
 use Rattle.cedar_below.specs.Text.{Text}
-use Rattle.cedar_names.specs.ActionBody.{ActionBody, Requests, requests}
-use Rattle.cedar_names.specs.Declaration.{Declaration, Body, common_type, entity_type, action}
+use Rattle.cedar_names.specs.ActionBody.{requests}
+use Rattle.cedar_names.specs.Declaration.{Declaration, common_type, entity_type, action}
 use Rattle.cedar_names.specs.EntityBody.{standard, enumerated, external}
-use Rattle.cedar_names.specs.Expr.{Expr, record_expr, set_expr, long_expr, text_expr, named, Members, no_member, member}
-use Rattle.cedar_names.specs.Reference.{Reference, ActionReference, reference_to}
+use Rattle.cedar_names.specs.Expr.{Expr, record_expr, set_expr, long_expr, named, Members, no_member, member}
+use Rattle.cedar_names.specs.Reference.{Reference, reference_to}
 use Rattle.cedar_names.specs.declared.json_schema.reference_type.ReferenceType.{ReferenceType}
-use Rattle.cedar_names.specs.declared.json_schema.reference_type.ReferenceType.TheVariants.{Common, Entity, CommonOrEntity}
+use Rattle.cedar_names.specs.declared.json_schema.reference_type.ReferenceType.TheVariants.{Entity, CommonOrEntity}
 use Rattle.cedar_schema.specs.Bag.{Bag, alias_name}
 
 -- the namespace `N`

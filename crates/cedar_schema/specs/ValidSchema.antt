@@ -1,8 +1,7 @@
-use Rattle.std.specs.Prelude.{◌≡◌, ◌⊎◌, List, map, Some, Contains}
+use Rattle.std.specs.Prelude.{◌≡◌, ◌⊎◌, map, Some, Contains}
 use Rattle.cedar_below.specs.Extensions.{extension_types}
 use Rattle.cedar_below.specs.PlainName.{PlainName, IsUnqualified, IsReserved, IsActionType}
 use Rattle.cedar_below.specs.PlainUid.{PlainUid}
-use Rattle.cedar_below.specs.Text.{Text}
 use Rattle.cedar_below.specs.declared.extension.Extensions.{Extensions}
 use Rattle.cedar_schema.specs.Chain.{Chain}
 use Rattle.cedar_schema.specs.PlainSchema.{SchemaEntityType, ActionKind, defined_action, external_action, SchemaAction, PlainSchema}

@@ -1,10 +1,10 @@
-use Rattle.std.proofs.Common.{◌≡◌, zero, suc, [], ◌∷◌, ap, refl, inl, inr, ⊎_elim, arith, Contains, codes}
+use Rattle.std.proofs.Common.{◌≡◌, zero, suc, ap, refl, inl, arith, Contains, codes}
 use Rattle.cedar_below.specs.PlainName.{PlainName}
 use Rattle.cedar_below.specs.declared.extension.Extensions.{Extensions}
 use Rattle.cedar_names.specs.Expr.{Expr}
 use Rattle.cedar_names.specs.declared.json_schema.reference_type.ReferenceType.TheVariants.{CommonOrEntity}
 use Rattle.cedar_schema.proofs.BuiltInLemmas.{refers_declared, unlike_texts}
-use Rattle.cedar_schema.proofs.PartFaults.{first_step}
+use Rattle.cedar_schema.proofs.ChainLemmas.{first_step}
 use Rattle.cedar_schema.specs.Bag.{alias_name, built_in_name, declared_common, defined_names}
 use Rattle.cedar_schema.specs.Chain.{Chain, one, more}
 use Rattle.cedar_schema.specs.IllFormed.{RefersToCommon}

@@ -1,11 +1,7 @@
-use Rattle.std.proofs.Common.{◌≡◌, ℤ, zero, suc, [], ◌∷◌, refl, sym, inl, inr, arith, Contains, codes}
-use Rattle.cedar_below.specs.Text.{Text}
-use Rattle.cedar_below.specs.Tree.{Tree, map_value, number_value, entry, no_entry}
-use Rattle.cedar_below.specs.declared.extension.Extensions.{Extensions}
+use Rattle.std.proofs.Common.{zero, suc, [], ◌∷◌, refl, arith, Contains, codes}
+use Rattle.cedar_below.specs.Tree.{number_value}
 use Rattle.cedar_schema.proofs.BuiltInLemmas.{unlike_texts}
-use Rattle.cedar_schema.specs.Admits.{Admits, admits_record, admits_missing, admits_there, admits_no_member, admits_long}
-use Rattle.cedar_schema.specs.Bag.{defined_names}
-use Rattle.cedar_schema.specs.Samples.{optional_record}
+use Rattle.cedar_schema.specs.Admits.{admits_record, admits_missing, admits_there, admits_no_member, admits_long}
 use Rattle.cedar_schema.proofs.examples.optional_attributes_may_be_missing.Goals as goal
 
 -- another name isn't listed

@@ -1,4 +1,4 @@
-use Rattle.std.proofs.Common.{◌≡◌, zero, suc, None, false, [], ◌∷◌, refl, sym, subst, inl, inr, arith, Contains, codes}
+use Rattle.std.proofs.Common.{◌≡◌, zero, suc, [], ◌∷◌, refl, subst, inl, inr, arith, Contains, codes}
 use Rattle.cedar_below.specs.PlainName.{PlainName, IsActionType, action_word}
 use Rattle.cedar_below.specs.declared.extension.Extensions.{Extensions}
 use Rattle.cedar_names.specs.Reference.{Reference}
