@@ -12,6 +12,7 @@ pub mod PartDefinition
 pub mod PartFaults
 pub mod PartSchema
 pub mod PartWritten
+pub mod PlacedLemmas
 pub mod PlacesLemmas
 pub mod RecordLemmas
 pub mod ResolutionLemmas

@@ -1,11 +1,15 @@
 //! Laws of declarations: what a bag of declarations that isn't ill-formed declares.
 
-ghost use Rattle.std.specs.Prelude.{◌≡◌, ◌↔◌, IsTrue};
+ghost use Rattle.std.specs.Prelude.{◌≡◌, ◌↔◌, IsTrue, List};
 ghost use Rattle.cedar_below.specs.Extensions.{extension_types};
 ghost use Rattle.cedar_below.specs.TypeNames.{TypeNamesFit};
 ghost use Rattle.cedar_below.specs.declared.extension.Extensions.{Extensions};
+ghost use Rattle.cedar_names.specs.Declaration.{raw_bag};
 ghost use Rattle.cedar_names.specs.Expr.{Expr};
+ghost use Rattle.cedar_names.specs.declared.json_schema.fragment.Fragment.{Fragment};
+ghost use Rattle.cedar_names.specs.declared.json_schema.raw_name.RawName.{RawName};
 ghost use Rattle.cedar_schema.specs.Bag.{Bag, defined_names};
+ghost use Rattle.cedar_schema.specs.Counted.{PlacesFit};
 ghost use Rattle.cedar_schema.specs.EndToEnd.{
     AdmitsTheSame, BagsDeclareAtMostOneSchema, DeclaredSchemasAreClosed, DeclaredSchemasAreValid,
     DeclaredTypesHaveTheDeclaredValues,
@@ -58,4 +62,9 @@ pub fn schemas_compare_by_what_they_declare()
 pub fn declared_schemas_are_valid()
     ensures valid { DeclaredSchemasAreValid }
     ensures closed { DeclaredSchemasAreClosed }
+{}
+
+/// The references of fragments whose names are as they were written fit their places.
+pub fn raw_references_fit_their_places()
+    ensures { (fragments : List (Fragment RawName)) → PlacesFit (raw_bag fragments) }
 {}
