@@ -76,13 +76,6 @@ fn is_same(lower: &EntityLUB, upper: &EntityLUB) -> bool
     lower == upper
 }
 
-/// Whether two names are the same, whatever their locations.
-fn is_same_name(lower: &Name, upper: &Name) -> bool
-    ensures { IsTrue result ↔ (plain_name lower.now ≡ plain_name upper.now) }
-{
-    lower == upper
-}
-
 impl EntityKind {
     /// Whether the entities of this kind are entities of the other: in strict mode the kinds are the
     /// same, and in permissive mode the other one is any entity or has each entity type of this one.
@@ -169,9 +162,7 @@ impl Type {
                     && names_fit(lower, upper, *upper_tag, mode)
                     && fields_fit(lower, upper, mode)
             }
-            (Type::ExtensionType { name: lower }, Type::ExtensionType { name: upper }) => {
-                is_same_name(lower, upper)
-            }
+            (Type::ExtensionType { name: lower }, Type::ExtensionType { name: upper }) => lower.is_same(upper),
             _ => false,
         }
     }
