@@ -5,24 +5,24 @@ use Rattle.std.specs.declared.alloc.Global.{Global}
 use Rattle.std.specs.declared.rc.Rc.{Rc}
 use Rattle.std.specs.declared.string.String.{String}
 use Rattle.cedar_below.proofs.TreeLemmas.{drop-at, entry_at-entries, not-Decides}
-use Rattle.cedar_below.specs.Fits.{EntryFits, Gives}
+use Rattle.cedar_below.specs.Fits.{EntryFits, Gives, NamesListed}
 use Rattle.cedar_below.specs.Name.{plain_name}
 use Rattle.cedar_below.specs.RestrictedExpr.{tree_of, trees_of, entries_of}
 use Rattle.cedar_below.specs.Text.{Text}
-use Rattle.cedar_below.specs.Tree.{Tree, uid_value, map_value, Trees, Entries, entry_at, EachTree, SomeTree}
+use Rattle.cedar_below.specs.Tree.{Tree, uid_value, map_value, Trees, Entries, entry_at, entry_names, EachTree, SomeTree}
 use Rattle.cedar_below.specs.declared.extension.Extensions.{Extensions}
 use Rattle.cedar_below.specs.declared.name.Name.{Name}
 use Rattle.cedar_below.specs.declared.value.RestrictedExpr.{RestrictedExpr}
 use Rattle.cedar_types.proofs.AnswerLemmas.{IsBoth, IsRightSoFar, IsRightSoFar-more, IsRight-test}
 use Rattle.cedar_types.specs.Answers.{Answer, IsRight}
+use Rattle.cedar_types.specs.Attributes.{field_names}
 use Rattle.cedar_types.specs.EntityKind.{kind_ty}
-use Rattle.cedar_types.specs.Has.{Has, HasUp, Meets, HasFieldsBy, FieldsMeet, MayGive, SomeEntry, HasUid, OnlyListed}
+use Rattle.cedar_types.specs.Has.{Has, HasUp, Meets, HasFieldsBy, FieldsMeet, MayGive, SomeEntry, HasUid, is_open}
 use Rattle.cedar_types.specs.Meaning.{ty_of, fields_of, attribute_of, type_step, attribute_step, attributes_step}
 use Rattle.cedar_types.specs.Ty.{Ty, set_of, record_of, extension_of, Fields, field}
 use Rattle.cedar_types.specs.declared.attributes.AttributeType.{AttributeType, out-AttributeType, fold_out-AttributeType}
 use Rattle.cedar_types.specs.declared.attributes.Attributes.{Attributes}
 use Rattle.cedar_types.specs.declared.entity_kind.EntityKind.{EntityKind}
-use Rattle.cedar_types.specs.declared.entity_kind.EntityKind.TheVariants as kind
 use Rattle.cedar_below.specs.PlainUid.{PlainUid}
 use Rattle.std.specs.Bool.{Decides}
 use Rattle.cedar_types.specs.declared.open_tag.OpenTag.{OpenTag}
@@ -124,11 +124,10 @@ IsRightFor-at extensions value tree of ty answer same_value same_type right =
 
 -- the test of a uid decides whether it has the type of a kind
 pub IsRightFor-uid : (extensions : Extensions) (uid : PlainUid) (of : EntityKind) (b : Bool) → Decides b (HasUid uid (kind_ty of)) → IsRightFor extensions (uid_value uid) (kind_ty of) (Ok b)
-IsRightFor-uid extensions uid kind.AnyEntity b decides = IsRight-test b _ _ decides
-IsRightFor-uid extensions uid (kind.Entity lub) b decides = IsRight-test b _ _ decides
+IsRightFor-uid extensions uid of b decides = IsRight-test b _ _ decides
 
 -- where no attribute is unlisted, the answer for the listed ones is that for the record
-pub IsRightFor-listed : (extensions : Extensions) (values : Entries) (fields : Fields) (tag : OpenTag) (answer : Answer) → OnlyListed tag values fields → IsRightForFields extensions values fields answer → IsRightFor extensions (map_value values) (record_of fields tag) answer
+pub IsRightFor-listed : (extensions : Extensions) (values : Entries) (fields : Fields) (tag : OpenTag) (answer : Answer) → NamesListed (is_open tag) (entry_names values) (field_names fields) → IsRightForFields extensions values fields answer → IsRightFor extensions (map_value values) (record_of fields tag) answer
 IsRightFor-listed extensions values fields tag answer listed right = record {
   yes = (λ e. (listed, right.yes.0 e), λ both. right.yes.1 both.1);
   no = (λ e may. right.no.0 e may.1, λ never. right.no.1 (λ may. never (listed, may)));
@@ -136,7 +135,7 @@ IsRightFor-listed extensions values fields tag answer listed right = record {
 }
 
 -- where some attribute is unlisted, the record can't have the type
-pub IsRightFor-unlisted : (extensions : Extensions) (values : Entries) (fields : Fields) (tag : OpenTag) → ¬ OnlyListed tag values fields → IsRightFor extensions (map_value values) (record_of fields tag) (Ok false)
+pub IsRightFor-unlisted : (extensions : Extensions) (values : Entries) (fields : Fields) (tag : OpenTag) → ¬ NamesListed (is_open tag) (entry_names values) (field_names fields) → IsRightFor extensions (map_value values) (record_of fields tag) (Ok false)
 IsRightFor-unlisted extensions values fields tag unlisted = record {
   yes = (λ e. absurd cc, λ both. absurd (unlisted both.0));
   no = (λ _ may. unlisted may.0, λ _. refl);

@@ -25,6 +25,8 @@ mod subtype;
 #[cfg(test)]
 mod subtype_tests;
 #[cfg(test)]
+mod test_values;
+#[cfg(test)]
 mod tests;
 pub mod theorems;
 mod type_queries;

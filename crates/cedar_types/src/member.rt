@@ -1,7 +1,7 @@
 //! Membership of values in types.
 
 ghost use Rattle.std.specs.Prelude.{◌≡◌, ◌↔◌, ◌⊎◌, IsTrue, true, false, IfErr};
-ghost use Rattle.cedar_below.specs.Fits.{EntryFits, Gives, IsUnknown};
+ghost use Rattle.cedar_below.specs.Fits.{EntryFits, Gives, IsUnknown, NamesListed};
 ghost use Rattle.cedar_below.specs.EntityUID.{uid_of};
 ghost use Rattle.cedar_below.specs.Included.{Included};
 ghost use Rattle.cedar_below.specs.Name.{plain_name};
@@ -11,7 +11,7 @@ ghost use Rattle.cedar_below.specs.Value.{value_expr};
 ghost use Rattle.cedar_types.specs.Answers.{IsRight};
 ghost use Rattle.cedar_types.specs.Attributes.{field_names};
 ghost use Rattle.cedar_types.specs.EntityKind.{kind_ty};
-ghost use Rattle.cedar_types.specs.Has.{Has, HasUp, Meets, HasFieldsBy, FieldsMeet, MayGive, OnlyListed, HasTruth, HasUid};
+ghost use Rattle.cedar_types.specs.Has.{Has, HasUp, Meets, HasFieldsBy, FieldsMeet, MayGive, HasTruth, HasUid, is_open};
 ghost use Rattle.cedar_types.specs.Meaning.{ty_of, fields_of};
 
 use crate::attributes::Attributes;
@@ -77,7 +77,7 @@ fn all_listed(values: &BTreeMap<String, RestrictedExpr>, attrs: &Attributes) -> 
 
 /// Whether a record has no attribute that isn't listed, but where it is open.
 fn only_listed(values: &BTreeMap<String, RestrictedExpr>, attrs: &Attributes, tag: OpenTag) -> bool
-    ensures { IsTrue result ↔ OnlyListed tag (entries_of values.now) (fields_of attrs.now) }
+    ensures { IsTrue result ↔ NamesListed (is_open tag) (entry_names (entries_of values.now)) (field_names (fields_of attrs.now)) }
 {
     match tag {
         OpenTag::OpenAttributes => true,

@@ -162,7 +162,8 @@ impl Type {
                     && names_fit(lower, upper, *upper_tag, mode)
                     && fields_fit(lower, upper, mode)
             }
-            (Type::ExtensionType { name: lower }, Type::ExtensionType { name: upper }) => lower.is_same(upper),
+            (Type::ExtensionType { name: lower }, Type::ExtensionType { name: upper }) =>
+                lower.is_same(upper),
             _ => false,
         }
     }

@@ -135,7 +135,8 @@ impl Type {
         Type::ExtensionType { name }
     }
 
-    /// The record type of these attributes, or want of memory. Of repeated names the last wins.
+    /// The record type of these attributes, or want of memory. Of repeated names the last wins. The
+    /// items have to come to an end.
     pub fn record_with_attributes<I: IntoIterator<Item = (String, AttributeType)>>(
         alloc: Global,
         items: I,
@@ -152,7 +153,7 @@ impl Type {
     }
 
     /// The record type of these attributes, each of which has to be there, or want of memory. Of
-    /// repeated names the last wins.
+    /// repeated names the last wins. The items have to come to an end.
     pub fn record_with_required_attributes<I: IntoIterator<Item = (String, Rc<Type>)>>(
         alloc: Global,
         items: I,
@@ -175,7 +176,7 @@ impl Type {
         name == "Bool" || name == "Long" || name == "String"
     }
 
-    /// An equal type with the same locations, which shares its parts, or want of memory.
+    /// An equal type, or want of memory.
     pub fn clone(&self) -> M<Self>
         ensures { IfOk result (λ copy. ty_of copy ≡ ty_of self.now) }
     {
