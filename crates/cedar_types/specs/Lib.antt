@@ -11,6 +11,7 @@ pub mod Has
 pub mod LubHelp
 pub mod Meaning
 pub mod Primitive
+pub mod TakesText
 pub mod Ty
 pub mod ValidatorEntityType
 pub mod WellFormed

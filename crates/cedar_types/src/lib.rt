@@ -24,6 +24,7 @@ mod show;
 mod subtype;
 #[cfg(test)]
 mod subtype_tests;
+pub mod subtyping_examples;
 #[cfg(test)]
 mod test_values;
 #[cfg(test)]
