@@ -9,4 +9,7 @@ use Rattle.cedar_below.specs.declared.extension.Extensions.{Extensions}
 -- a function of that name takes a text and returns values of that extension type
 abbrev pub TakesText : Extensions → PlainName → PlainName → Type 0
 TakesText extensions name ty =
-    (function : ExtensionFunction) × IsKnown extensions name function × (result_type function ≡ Some (core_extension ty)) × (argument_types function ≡ core_text ∷ [])
+    (function : ExtensionFunction)
+    × IsKnown extensions name function
+    × (result_type function ≡ Some (core_extension ty))
+    × (argument_types function ≡ core_text ∷ [])

@@ -48,8 +48,10 @@ pub fn closed_records_by_example()
 
 /// An open record is never below a closed one, and lists fewer names above in permissive mode alone.
 pub fn open_records_by_example()
-    ensures fewer_names { Below Permissive (record_of (field (codes "a") true long end) OpenAttributes) (record_of end OpenAttributes) }
-    ensures same_names { ¬ Below Strict (record_of (field (codes "a") true long end) OpenAttributes) (record_of end OpenAttributes) }
+    ensures fewer_names { Below Permissive (record_of (field (codes "a") true long end) OpenAttributes)
+        (record_of end OpenAttributes) }
+    ensures same_names { ¬ Below Strict (record_of (field (codes "a") true long end) OpenAttributes)
+        (record_of end OpenAttributes) }
     ensures closed { (mode : ValidationMode) → Below mode (record_of end ClosedAttributes) (record_of end OpenAttributes) }
     ensures not_open { (mode : ValidationMode) → ¬ Below mode (record_of end OpenAttributes) (record_of end ClosedAttributes) }
 {}
@@ -85,7 +87,8 @@ pub fn agreement_by_example()
 pub fn members_of_records_by_example()
     ensures listed { (extensions : Extensions) → Has extensions (map_value (entry (codes "a") (number_value (pos 1)) no_entry))
         (record_of (field (codes "a") true long end) ClosedAttributes) }
-    ensures other_kind { (extensions : Extensions) → ¬ HasUp extensions (map_value (entry (codes "a") (text_value (codes "x")) no_entry))
+    ensures other_kind { (extensions : Extensions) →
+        ¬ HasUp extensions (map_value (entry (codes "a") (text_value (codes "x")) no_entry))
         (record_of (field (codes "a") true long end) ClosedAttributes) }
     ensures missing { (extensions : Extensions) → ¬ HasUp extensions (map_value no_entry)
         (record_of (field (codes "a") true long end) ClosedAttributes) }
@@ -117,14 +120,17 @@ pub fn unknown_calls_by_example()
         HasUp extensions (call_value unknown args) (extension_of ty) }
     ensures has_not { (extensions : Extensions) (unknown ty : PlainName) (args : Trees) → IsUnknown extensions unknown →
         ¬ Has extensions (call_value unknown args) (extension_of ty) }
-    ensures long { (extensions : Extensions) (unknown : PlainName) (args : Trees) → ¬ HasUp extensions (call_value unknown args) long }
+    ensures long { (extensions : Extensions) (unknown : PlainName) (args : Trees) →
+        ¬ HasUp extensions (call_value unknown args) long }
     ensures meets { (extensions : Extensions) (unknown ty : PlainName) (args : Trees) → IsUnknown extensions unknown →
         Meets extensions unknown (call_value unknown args) (extension_of ty) }
-    ensures in_set { (extensions : Extensions) (unknown ty : PlainName) (args : Trees) (value : Tree) → IsUnknown extensions unknown →
+    ensures in_set { (extensions : Extensions) (unknown ty : PlainName) (args : Trees) (value : Tree) →
+        IsUnknown extensions unknown →
         Meets extensions unknown (set_value (tree value (tree (call_value unknown args) no_tree))) (set_of (extension_of ty)) }
     ensures as_argument { (extensions : Extensions) (function unknown ty : PlainName) (args : Trees) → function ≢ unknown →
         ¬ Meets extensions unknown (call_value function (tree (call_value unknown args) no_tree)) (extension_of ty) }
     ensures beside_a_mismatch { (extensions : Extensions) (unknown ty : PlainName) (args : Trees) →
-        ¬ HasUp extensions (map_value (entry (codes "a") (call_value unknown args) (entry (codes "b") (text_value (codes "x")) no_entry)))
+        ¬ HasUp extensions
+        (map_value (entry (codes "a") (call_value unknown args) (entry (codes "b") (text_value (codes "x")) no_entry)))
         (record_of (field (codes "a") true (extension_of ty) (field (codes "b") true long end)) ClosedAttributes) }
 {}
