@@ -1,6 +1,7 @@
 pub mod AgreeLaws
 pub mod AnswerLemmas
 pub mod AntisymmetryLaws
+pub mod CallLemmas
 pub mod CopyLemmas
 pub mod Extensional
 pub mod FieldLemmas

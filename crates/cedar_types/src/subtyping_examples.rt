@@ -105,8 +105,9 @@ pub fn members_of_records_by_example()
 pub fn known_calls_by_example()
     ensures none { (extensions : Extensions) (ip ipaddr : PlainName) → TakesText extensions ip ipaddr →
         Has extensions (call_value ip no_tree) (extension_of ipaddr) }
-    ensures first { (extensions : Extensions) (ip ipaddr : PlainName) (rest : Trees) → TakesText extensions ip ipaddr →
-        Has extensions (call_value ip (tree (text_value (codes "x")) rest)) (extension_of ipaddr) }
+    ensures first { (extensions : Extensions) (ip ipaddr : PlainName) (word : Text) (rest : Trees) →
+        TakesText extensions ip ipaddr →
+        Has extensions (call_value ip (tree (text_value word) rest)) (extension_of ipaddr) }
     ensures number { (extensions : Extensions) (ip ipaddr : PlainName) → TakesText extensions ip ipaddr →
         ¬ HasUp extensions (call_value ip (tree (number_value (pos 3)) no_tree)) (extension_of ipaddr) }
     ensures unknown { (extensions : Extensions) (ip ipaddr unknown : PlainName) → TakesText extensions ip ipaddr →
@@ -127,6 +128,16 @@ pub fn unknown_calls_by_example()
     ensures in_set { (extensions : Extensions) (unknown ty : PlainName) (args : Trees) (value : Tree) →
         IsUnknown extensions unknown →
         Meets extensions unknown (set_value (tree value (tree (call_value unknown args) no_tree))) (set_of (extension_of ty)) }
+    ensures beside_a_member { (extensions : Extensions) (ip ipaddr unknown : PlainName) (word : Text) →
+        TakesText extensions ip ipaddr → IsUnknown extensions unknown →
+        HasUp extensions
+        (set_value (tree (call_value ip (tree (text_value word) no_tree)) (tree (call_value unknown no_tree) no_tree)))
+        (set_of (extension_of ipaddr)) }
+    ensures no_member { (extensions : Extensions) (ip ipaddr unknown : PlainName) (word : Text) →
+        TakesText extensions ip ipaddr → IsUnknown extensions unknown →
+        ¬ Has extensions
+        (set_value (tree (call_value ip (tree (text_value word) no_tree)) (tree (call_value unknown no_tree) no_tree)))
+        (set_of (extension_of ipaddr)) }
     ensures as_argument { (extensions : Extensions) (function unknown ty : PlainName) (args : Trees) → function ≢ unknown →
         ¬ Meets extensions unknown (call_value function (tree (call_value unknown args) no_tree)) (extension_of ty) }
     ensures beside_a_mismatch { (extensions : Extensions) (unknown ty : PlainName) (args : Trees) →
