@@ -1,4 +1,4 @@
-ghost use Rattle.std.specs.Prelude.{◌≡◌, List, Bool, true, false, map, length, IfOk, Option, Some, None, string_bytes};
+ghost use Rattle.std.specs.Prelude.{◌≡◌, List, true, false, map, IfOk, Option, None, string_bytes};
 ghost use Rattle.std.specs.Iterator.{IsFinite, Drains};
 ghost use Rattle.std.specs.Option.{option_copied, option_map};
 ghost use Rattle.std.specs.BTreeMap.{keys};

@@ -1,7 +1,7 @@
 //! Membership of values in types.
 
 ghost use Rattle.std.specs.Prelude.{◌≡◌, ◌↔◌, ◌⊎◌, IsTrue, true, false, IfErr};
-ghost use Rattle.cedar_below.specs.Fits.{EntryFits, Gives, IsUnknown, NamesListed};
+ghost use Rattle.cedar_below.specs.Fits.{Gives, IsUnknown, NamesListed};
 ghost use Rattle.cedar_below.specs.EntityUID.{uid_of};
 ghost use Rattle.cedar_below.specs.Included.{Included};
 ghost use Rattle.cedar_below.specs.Name.{plain_name};

@@ -2,7 +2,6 @@
 
 ghost use Rattle.std.specs.Prelude.{◌≡◌, ◌↔◌, IsTrue, map, string_bytes};
 ghost use Rattle.cedar_below.specs.Included.{Included};
-ghost use Rattle.cedar_below.specs.Name.{plain_name};
 ghost use Rattle.cedar_types.specs.Below.{Below, FieldsBelow, AttributeBelow, FlagsBelow, TagsBelow, NamesBelow};
 ghost use Rattle.cedar_types.specs.Attributes.{IsAscending, field_names};
 ghost use Rattle.cedar_types.specs.EntityKind.{kind_ty};
@@ -15,7 +14,7 @@ use crate::entity_kind::EntityKind;
 use crate::entity_lub::EntityLUB;
 use crate::open_tag::OpenTag;
 use crate::types::Type;
-use cedar_below::{Name, ValidationMode};
+use cedar_below::ValidationMode;
 use std::collections::btree_map;
 
 /// Whether an attribute's flag fits below another's.

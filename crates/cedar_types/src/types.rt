@@ -8,7 +8,7 @@ ghost use Rattle.cedar_below.specs.Name.{plain_name};
 ghost use Rattle.cedar_types.specs.Attributes.{IsRecordOf, plain_attributes, plain_required};
 ghost use Rattle.cedar_types.specs.Meaning.{ty_of};
 ghost use Rattle.cedar_types.specs.Primitive.{primitive_words};
-ghost use Rattle.cedar_types.specs.Ty.{Ty, truth, long, text, any_entity, union_of, any_set, set_of, record_of, extension_of, end};
+ghost use Rattle.cedar_types.specs.Ty.{truth, long, text, any_entity, union_of, any_set, set_of, record_of, extension_of, end};
 ghost use Rattle.cedar_types.specs.declared.attributes.AttributeType.{AttributeType};
 ghost use Rattle.cedar_types.specs.declared.types.Type.{«Type»};
 ghost use Rattle.cedar_types.specs.declared.bool_type.BoolType.TheVariants as known;
