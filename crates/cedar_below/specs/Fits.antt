@@ -60,4 +60,7 @@ ArgumentsFit _ _ _ = Unit {0}
 -- a call gives a value of that extension type: a function of that name returns one, and the arguments fit
 abbrev pub Gives : Extensions → PlainName → Trees → PlainName → Type 0
 Gives extensions name args ty =
-    (function : ExtensionFunction) × IsKnown extensions name function × (result_type function ≡ Some (core_extension ty)) × ArgumentsFit extensions args (argument_types function)
+    (function : ExtensionFunction)
+    × IsKnown extensions name function
+    × (result_type function ≡ Some (core_extension ty))
+    × ArgumentsFit extensions args (argument_types function)

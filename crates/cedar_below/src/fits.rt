@@ -23,20 +23,13 @@ fn is_same_type(ty: &EntityType, other: &EntityType) -> bool
     ty == other
 }
 
-/// Whether two names are the same, whatever their locations.
-fn is_same_name(name: &Name, other: &Name) -> bool
-    ensures { IsTrue result ↔ (plain_name name.now ≡ plain_name other.now) }
-{
-    name == other
-}
-
 impl ExtensionFunction {
     /// Whether the function returns values of this extension type.
     pub fn returns(&self, ty: &Name) -> bool
         ensures { IsTrue result ↔ (result_type self.now ≡ Some (core_extension (plain_name ty.now))) }
     {
         match &self.return_type {
-            Some(CoreSchemaType::Extension { name }) => is_same_name(name, ty),
+            Some(CoreSchemaType::Extension { name }) => name.is_same(ty),
             _ => false,
         }
     }

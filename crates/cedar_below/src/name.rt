@@ -64,6 +64,13 @@ impl Name {
         self.name.is_unqualified()
     }
 
+    /// Whether the names are the same, whatever their locations.
+    pub fn is_same(&self, other: &Name) -> bool
+        ensures { IsTrue result ↔ (plain_name self.now ≡ plain_name other.now) }
+    {
+        self == other
+    }
+
     /// The same name, where one is asked for that might be reserved.
     pub fn as_internal(&self) -> &InternalName
         ensures name { name_of result.now ≡ plain_name self.now }

@@ -1,4 +1,4 @@
-use Rattle.std.proofs.Common.{◌≡◌, inl, inr, Bool, sym, ap, subst, ◌∙◌, Some, Contains}
+use Rattle.std.proofs.Common.{◌≡◌, ◌↔◌, inl, inr, Bool, sym, ap, subst, ◌∙◌, Some, Contains}
 use Rattle.cedar_below.specs.Text.{Text}
 use Rattle.cedar_below.specs.declared.validation_mode.ValidationMode.TheVariants.{Strict, Permissive}
 use Rattle.cedar_types.proofs.SubtypeLaws.{FieldsBelow-names}
@@ -102,3 +102,8 @@ mutual
       let own = h.0 in
       let alike = g.0 own.0 own.1 own.2 in
       ((own.0, own.1, own.2, alike.0, Below-strict own.1 ty own.4 alike.1), FieldsBelow-strict a rest h.1 g.1)
+
+-- what is well formed is below strictly exactly where it is below permissively and agrees
+pub Below-strict-both : (a b : Ty) → IsWellFormed a → Below Strict a b ↔ (Below Permissive a b × Agree a b)
+Below-strict-both a b formed =
+    (λ below. (Below-permissive a b below, Agree-strict a b formed below), λ both. Below-strict a b both.0 both.1)

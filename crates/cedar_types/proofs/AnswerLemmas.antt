@@ -1,4 +1,4 @@
-use Rattle.std.proofs.Common.{◌≡◌, ◌⊎◌, inl, inr, Bool, true, false, Ok, Err, refl, sym, subst, IfErr, ⊎_elim, Option, Some, None, IsSome}
+use Rattle.std.proofs.Common.{◌≡◌, ◌↔◌, ◌⊎◌, inl, inr, Bool, true, false, Ok, Err, refl, sym, subst, IfErr, ⊎_elim, Option, Some, None, IsSome}
 use Rattle.std.specs.Bool.{Decides}
 use Rattle.cedar_below.specs.Name.{plain_name}
 use Rattle.cedar_below.specs.PlainName.{PlainName}
@@ -11,7 +11,7 @@ use Rattle.cedar_below.specs.declared.extension.Extensions.{Extensions}
 use Rattle.cedar_below.specs.declared.extension.ExtensionFunction.{ExtensionFunction}
 use Rattle.cedar_below.specs.declared.extension.ExtensionFunctionLookupError.{ExtensionFunctionLookupError}
 use Rattle.cedar_types.specs.Has.{MayGive}
-use Rattle.cedar_types.specs.Answers.{Answer, IsRight, both_of}
+use Rattle.cedar_types.specs.Answers.{Answer, IsRight}
 
 -- a test decides a part in which no call stands
 pub IsRight-test : (b : Bool) (H : Type 0) (M : PlainName → Type 0) → Decides b H → IsRight (Ok b) H H M
@@ -26,77 +26,70 @@ IsRight-test false H M decides = record {
   fault = tt;
 }
 
--- what two right answers give together is right of both
-pub IsRight-both : (a b : Answer) (H K U V : Type 0) (M N : PlainName → Type 0) → IsRight a H U M → IsRight b K V N → IsRight (both_of a b) (H × K) (U × V) (λ f. M f ⊎ N f)
-IsRight-both (Ok true) b H K U V M N first second = record {
-  yes = (λ e. (first.yes.0 refl, second.yes.0 e), λ both. second.yes.1 both.1);
-  no = (λ e may. second.no.0 e may.1, λ never. second.no.1 (λ v. (let e = first.no.1 (λ u. never (u, v)) in cc)));
-  fault = IfErr-right b M N second.fault;
-}
-  where
-    IfErr-right : (b : Answer) (M N : PlainName → Type 0) → IfErr b (λ error. N (plain_name error.name.now)) → IfErr b (λ error. M (plain_name error.name.now) ⊎ N (plain_name error.name.now))
-    IfErr-right (Ok b) M N h = tt
-    IfErr-right (Err error) M N h = inr h
-IsRight-both (Ok false) b H K U V M N first second = record {
-  yes = (λ e. absurd cc, λ both. first.yes.1 both.0);
-  no = (λ _ may. first.no.0 refl may.0, λ _. refl);
-  fault = tt;
-}
-IsRight-both (Err error) (Ok true) H K U V M N first second = record {
-  yes = (λ e. absurd cc, λ both. first.yes.1 both.0);
-  no = (λ e. absurd cc, λ never. first.no.1 (λ u. (let e = second.no.1 (λ v. never (u, v)) in cc)));
-  fault = inl first.fault;
-}
-IsRight-both (Err error) (Ok false) H K U V M N first second = record {
-  yes = (λ e. absurd cc, λ both. second.yes.1 both.1);
-  no = (λ _ may. second.no.0 refl may.1, λ _. refl);
-  fault = tt;
-}
-IsRight-both (Err error) (Err other) H K U V M N first second = record {
-  yes = (λ e. absurd cc, λ both. first.yes.1 both.0);
-  no = (λ e. absurd cc, λ never. first.no.1 (λ u. (let e = second.no.1 (λ v. never (u, v)) in cc)));
-  fault = inl first.fault;
-}
+-- what two answers give together: yes where both are yes, no where one is no, and else the fault of one of them
+pub record IsBoth (first second both : Answer) : Type 0 where
+  pub yes : (both ≡ Ok true) ↔ ((first ≡ Ok true) × (second ≡ Ok true))
+  pub no : (both ≡ Ok false) ↔ ((first ≡ Ok false) ⊎ (second ≡ Ok false))
+  pub fault : IfErr both (λ error. (first ≡ Err error) ⊎ (second ≡ Err error))
 
--- three answers are joined alike from either end
-both_of-assoc : (a b d : Answer) → both_of (both_of a b) d ≡ both_of a (both_of b d)
-both_of-assoc (Ok true) b d = refl
-both_of-assoc (Ok false) b d = refl
-both_of-assoc (Err error) (Ok true) d = refl
-both_of-assoc (Err error) (Ok false) (Ok true) = refl
-both_of-assoc (Err error) (Ok false) (Ok false) = refl
-both_of-assoc (Err error) (Ok false) (Err third) = refl
-both_of-assoc (Err error) (Err other) (Ok true) = refl
-both_of-assoc (Err error) (Err other) (Ok false) = refl
-both_of-assoc (Err error) (Err other) (Err third) = refl
-
--- with any right answer for what is left, the answer so far gives one that is right of the whole
+-- an answer is right so far: what is left decides about the whole where the answer isn't no, and the fault is one of
+-- the whole
 pub record IsRightSoFar (so_far : Answer) (H U : Type 0) (M : PlainName → Type 0) (Whole MayWhole : Type 0) (Meeting : PlainName → Type 0) : Type 0 where
-  pub with_rest : (rest : Answer) → IsRight rest H U M → IsRight (both_of so_far rest) Whole MayWhole Meeting
+  pub yes : so_far ≡ Ok true → H → Whole
+  pub parts : Whole → (so_far ≡ Ok true) × H
+  pub no : so_far ≡ Ok false → ¬ MayWhole
+  pub may : MayWhole → U
+  pub undecided : ¬ (so_far ≡ Ok false) → ¬ MayWhole → ¬ U
+  pub fault : IfErr so_far (λ error. Meeting (plain_name error.name.now))
+  pub meets : (unknown : PlainName) → M unknown → Meeting unknown
 
 -- at first all is left
 pub IsRightSoFar-none : (H U : Type 0) (M : PlainName → Type 0) → IsRightSoFar (Ok true) H U M H U M
-IsRightSoFar-none H U M = record { with_rest = λ rest right. right }
-
--- one more part is answered
-pub IsRightSoFar-more : (so_far b : Answer) (H K U V : Type 0) (M N : PlainName → Type 0) (Whole MayWhole : Type 0) (Meeting : PlainName → Type 0) → IsRightSoFar so_far (H × K) (U × V) (λ f. M f ⊎ N f) Whole MayWhole Meeting → IsRight b H U M → IsRightSoFar (both_of so_far b) K V N Whole MayWhole Meeting
-IsRightSoFar-more so_far b H K U V M N Whole MayWhole Meeting before right = record {
-  with_rest = λ rest right_rest.
-      (let P : Answer → Type 0 = λ answer. IsRight answer Whole MayWhole Meeting in
-      subst P (sym (both_of-assoc so_far b rest)) (before.with_rest (both_of b rest) (IsRight-both b rest H K U V M N right right_rest)));
+IsRightSoFar-none H U M = record {
+  yes = λ _ h. h;
+  parts = λ h. (refl, h);
+  no = λ e. absurd cc;
+  may = λ u. u;
+  undecided = λ _ never. never;
+  fault = tt;
+  meets = λ unknown m. m;
 }
 
--- an answer joined with yes is itself
-both_of-yes : (a : Answer) → both_of a (Ok true) ≡ a
-both_of-yes (Ok true) = refl
-both_of-yes (Ok false) = refl
-both_of-yes (Err error) = refl
+-- what holds of the one error of an answer
+IfErr-of : (answer : Answer) (P : ExtensionFunctionLookupError → Type 0) (error : ExtensionFunctionLookupError) → answer ≡ Err error → IfErr answer P → P error
+IfErr-of answer P error is holds =
+    let Q : Answer → Type 0 = λ given. IfErr given P in
+    subst Q is holds
+
+-- an answer that holds in a weaker form
+IfErr-weaker : (answer : Answer) (P Q : ExtensionFunctionLookupError → Type 0) → ((error : ExtensionFunctionLookupError) → P error → Q error) → IfErr answer P → IfErr answer Q
+IfErr-weaker (Ok b) P Q weaker holds = tt
+IfErr-weaker (Err error) P Q weaker holds = weaker error holds
+
+-- one more part is answered
+pub IsRightSoFar-more : (so_far b next : Answer) (H K U V : Type 0) (M N : PlainName → Type 0) (Whole MayWhole : Type 0) (Meeting : PlainName → Type 0) → IsBoth so_far b next → IsRightSoFar so_far (H × K) (U × V) (λ f. M f ⊎ N f) Whole MayWhole Meeting → IsRight b H U M → IsRightSoFar next K V N Whole MayWhole Meeting
+IsRightSoFar-more so_far b next H K U V M N Whole MayWhole Meeting both before right = record {
+  yes = λ e k. (let parts = both.yes.0 e in before.yes parts.0 (right.yes.0 parts.1, k));
+  parts = λ whole. (let parts = before.parts whole in (both.yes.1 (parts.0, right.yes.1 parts.1.0), parts.1.1));
+  no = λ e may. ⊎_elim (λ first. before.no first may) (λ second. right.no.0 second (before.may may).0) (both.no.0 e);
+  may = λ may. (before.may may).1;
+  undecided = λ open_still never v. open_still (both.no.1 (inr (right.no.1 (λ u. before.undecided (λ first. open_still (both.no.1 (inl first))) never (u, v)))));
+  fault = IfErr-weaker next _ _ (λ error either. ⊎_elim (λ first. IfErr-of so_far _ error first before.fault) (λ second. before.meets (plain_name error.name.now) (inl (IfErr-of b _ error second right.fault))) either) both.fault;
+  meets = λ unknown n. before.meets unknown (inr n);
+}
 
 -- at last nothing is left
 pub IsRightSoFar-all : (so_far : Answer) (M : PlainName → Type 0) (Whole MayWhole : Type 0) (Meeting : PlainName → Type 0) → IsRightSoFar so_far (Unit {0}) (Unit {0}) M Whole MayWhole Meeting → IsRight so_far Whole MayWhole Meeting
-IsRightSoFar-all so_far M Whole MayWhole Meeting before =
-    let P : Answer → Type 0 = λ answer. IsRight answer Whole MayWhole Meeting in
-    subst P (both_of-yes so_far) (before.with_rest (Ok true) (record { yes = (λ _. tt, λ _. refl); no = (λ e. absurd cc, λ never. absurd (never tt)); fault = tt }))
+IsRightSoFar-all so_far M Whole MayWhole Meeting before = record {
+  yes = (λ e. before.yes e tt, λ whole. (before.parts whole).0);
+  no = (before.no, λ never. decided so_far (λ open_still. before.undecided open_still never tt));
+  fault = before.fault;
+}
+  where
+    decided : (answer : Answer) → ¬ ¬ (answer ≡ Ok false) → answer ≡ Ok false
+    decided (Ok true) open_still = absurd (open_still (λ e. cc))
+    decided (Ok false) open_still = refl
+    decided (Err error) open_still = absurd (open_still (λ e. cc))
 
 -- a known call: its test decides whether it gives the value, and it has a function
 pub IsRight-known : (extensions : Extensions) (name : PlainName) (args : Trees) (ty : PlainName) (function : ExtensionFunction) (b : Bool) → function_named extensions name ≡ Some function → Decides b ((result_type function ≡ Some (core_extension ty)) × ArgumentsFit extensions args (argument_types function)) → IsRight (Ok b) (Gives extensions name args ty) (MayGive extensions name args ty) (λ unknown. (name ≡ unknown) × IsUnknown extensions unknown)

@@ -47,8 +47,10 @@ plain_attributes-insert_next all copy rest key key' value value' sorted same_key
     let Q : Text → Type 0 = λ bytes. AllByRecursion (λ name. text_cmp bytes name ≡ Greater) (map (λ item. item.0) (plain_attributes copy)) in
     let R : List Text → Type 0 = AllByRecursion (λ name. text_cmp (string_bytes key') name ≡ Greater) in
     let is_end = insert_entry-end string_cmp copy key' value' (of_keys (λ name. text_cmp (string_bytes key') name ≡ Greater) (keys_of copy) (subst R (names-keys copy) (subst Q (sym same_key) above))) in
+    let pushed : plain_attributes (copy ++ (key', value') ∷ []) ≡ plain_attributes copy ++ (string_bytes key', attribute_of value') ∷ [] =
+    map-append (λ item. (string_bytes item.0, attribute_of item.1)) copy ((key', value') ∷ []) in
     ap (λ entries. plain_attributes entries ++ plain_attributes rest) is_end
-    ∙ (ap (λ items. items ++ plain_attributes rest) (map-append (λ item. (string_bytes item.0, attribute_of item.1)) copy ((key', value') ∷ []))
+    ∙ (ap (λ items. items ++ plain_attributes rest) pushed
     ∙ (append_assoc (plain_attributes copy) ((string_bytes key', attribute_of value') ∷ []) (plain_attributes rest)
     ∙ (ap (λ name. plain_attributes copy ++ (name, attribute_of value') ∷ plain_attributes rest) same_key
     ∙ (ap (λ attribute. plain_attributes copy ++ (string_bytes key, attribute) ∷ plain_attributes rest) same_value

@@ -3,6 +3,7 @@ pub mod AnswerLemmas
 pub mod AnsweredLemmas
 pub mod AntisymmetryLaws
 pub mod ApartLemmas
+pub mod CallLemmas
 pub mod CleanLemmas
 pub mod CompareLemmas
 pub mod CopyLemmas

@@ -1,12 +1,13 @@
 use Rattle.std.proofs.Common.{◌≡◌, ◌⊎◌, inl, inr, ⊎_elim, Bool, true, false, refl, sym, subst, ◌∙◌, Option, Some, None, Contains}
-use Rattle.cedar_below.specs.Fits.{EntryFits}
+use Rattle.cedar_below.specs.Fits.{EntryFits, NamesListed}
 use Rattle.cedar_below.specs.PlainName.{PlainName}
 use Rattle.cedar_below.specs.Text.{Text}
-use Rattle.cedar_below.specs.Tree.{Tree, truth_value, number_value, text_value, uid_value, set_value, map_value, call_value, Trees, no_tree, tree, Entries, entry_at, EachTree}
+use Rattle.cedar_below.specs.Tree.{Tree, truth_value, number_value, text_value, uid_value, set_value, map_value, call_value, Trees, no_tree, tree, Entries, entry_at, entry_names, EachTree}
 use Rattle.cedar_below.specs.declared.validation_mode.ValidationMode.{ValidationMode}
 use Rattle.cedar_below.specs.declared.validation_mode.ValidationMode.TheVariants.{Strict, Permissive}
+use Rattle.cedar_types.specs.Attributes.{field_names}
 use Rattle.cedar_types.specs.Below.{HasField, FlagsBelow, TagsBelow, NamesBelow, Below, FieldsBelow}
-use Rattle.cedar_types.specs.Has.{HasBy, HasFieldsBy, HasTruth, OnlyListed}
+use Rattle.cedar_types.specs.Has.{HasBy, HasFieldsBy, HasTruth, is_open}
 use Rattle.cedar_types.specs.Ty.{Ty, truth, long, text, any_entity, union_of, any_set, set_of, record_of, extension_of, Fields, end, field}
 use Rattle.cedar_types.specs.declared.bool_type.BoolType.{BoolType}
 use Rattle.cedar_types.specs.declared.bool_type.BoolType.TheVariants as known
@@ -36,12 +37,12 @@ HasTruth-above value a b has below =
     ⊎_elim (λ any. subst (HasTruth value) (sym any) tt) (λ same. subst (HasTruth value) same has) below
 
 -- a record whose attributes are listed lists them in a record type above
-OnlyListed-above : (mode : ValidationMode) (tag upper_tag : OpenTag) (values : Entries) (lower upper : Fields) → OnlyListed tag values lower → TagsBelow tag upper_tag → NamesBelow mode upper_tag lower upper → OnlyListed upper_tag values upper
-OnlyListed-above mode tag OpenAttributes values lower upper listed tags names = tt
-OnlyListed-above mode OpenAttributes ClosedAttributes values lower upper listed tags names = elim tags [ ]
-OnlyListed-above Strict ClosedAttributes ClosedAttributes values lower upper listed tags names =
+NamesListed-above : (mode : ValidationMode) (tag upper_tag : OpenTag) (values : Entries) (lower upper : Fields) → NamesListed (is_open tag) (entry_names values) (field_names lower) → TagsBelow tag upper_tag → NamesBelow mode upper_tag lower upper → NamesListed (is_open upper_tag) (entry_names values) (field_names upper)
+NamesListed-above mode tag OpenAttributes values lower upper listed tags names = tt
+NamesListed-above mode OpenAttributes ClosedAttributes values lower upper listed tags names = elim tags [ ]
+NamesListed-above Strict ClosedAttributes ClosedAttributes values lower upper listed tags names =
     λ name among. names name (listed name among)
-OnlyListed-above Permissive ClosedAttributes ClosedAttributes values lower upper listed tags names =
+NamesListed-above Permissive ClosedAttributes ClosedAttributes values lower upper listed tags names =
     λ name among. names name (listed name among)
 
 -- what the values have at one of the attributes
@@ -77,7 +78,7 @@ mutual
       EachTree-weaker (λ value. HasBy calls value a) (λ value. HasBy calls value b) values (λ value has. HasBy-above calls value mode a b has k) h
   HasBy-above calls (set_value values) mode (set_of a) b h k = elim k [ ]
   HasBy-above calls (map_value values) mode (record_of a tag) (record_of b upper_tag) h k =
-      (OnlyListed-above mode tag upper_tag values a b h.0 k.0 k.1, HasFieldsBy-above calls values mode a b h.1 k.2)
+      (NamesListed-above mode tag upper_tag values a b h.0 k.0 k.1, HasFieldsBy-above calls values mode a b h.1 k.2)
   HasBy-above calls (map_value values) mode (record_of a tag) b h k = elim k [ ]
   HasBy-above calls (call_value function args) mode (extension_of a) (extension_of b) h k = subst (calls function args) k h
   HasBy-above calls (call_value function args) mode (extension_of a) b h k = elim k [ ]

@@ -5,24 +5,24 @@ use Rattle.std.specs.declared.alloc.Global.{Global}
 use Rattle.std.specs.declared.rc.Rc.{Rc}
 use Rattle.std.specs.declared.string.String.{String}
 use Rattle.cedar_below.proofs.TreeLemmas.{drop-at, entry_at-entries, not-Decides}
-use Rattle.cedar_below.specs.Fits.{EntryFits, Gives}
+use Rattle.cedar_below.specs.Fits.{EntryFits, Gives, NamesListed}
 use Rattle.cedar_below.specs.Name.{plain_name}
 use Rattle.cedar_below.specs.RestrictedExpr.{tree_of, trees_of, entries_of}
 use Rattle.cedar_below.specs.Text.{Text}
-use Rattle.cedar_below.specs.Tree.{Tree, uid_value, map_value, Trees, Entries, entry_at, EachTree, SomeTree}
+use Rattle.cedar_below.specs.Tree.{Tree, uid_value, map_value, Trees, Entries, entry_at, entry_names, EachTree, SomeTree}
 use Rattle.cedar_below.specs.declared.extension.Extensions.{Extensions}
 use Rattle.cedar_below.specs.declared.name.Name.{Name}
 use Rattle.cedar_below.specs.declared.value.RestrictedExpr.{RestrictedExpr}
-use Rattle.cedar_types.proofs.AnswerLemmas.{IsRightSoFar, IsRightSoFar-more, IsRight-test}
-use Rattle.cedar_types.specs.Answers.{Answer, IsRight, both_of}
+use Rattle.cedar_types.proofs.AnswerLemmas.{IsBoth, IsRightSoFar, IsRightSoFar-more, IsRight-test}
+use Rattle.cedar_types.specs.Answers.{Answer, IsRight}
+use Rattle.cedar_types.specs.Attributes.{field_names}
 use Rattle.cedar_types.specs.EntityKind.{kind_ty}
-use Rattle.cedar_types.specs.Has.{Has, HasUp, Meets, HasFieldsBy, FieldsMeet, MayGive, SomeEntry, HasUid, OnlyListed}
+use Rattle.cedar_types.specs.Has.{Has, HasUp, Meets, HasFieldsBy, FieldsMeet, MayGive, SomeEntry, HasUid, is_open}
 use Rattle.cedar_types.specs.Meaning.{ty_of, fields_of, attribute_of, type_step, attribute_step, attributes_step}
 use Rattle.cedar_types.specs.Ty.{Ty, set_of, record_of, extension_of, Fields, field}
 use Rattle.cedar_types.specs.declared.attributes.AttributeType.{AttributeType, out-AttributeType, fold_out-AttributeType}
 use Rattle.cedar_types.specs.declared.attributes.Attributes.{Attributes}
 use Rattle.cedar_types.specs.declared.entity_kind.EntityKind.{EntityKind}
-use Rattle.cedar_types.specs.declared.entity_kind.EntityKind.TheVariants as kind
 use Rattle.cedar_below.specs.PlainUid.{PlainUid}
 use Rattle.std.specs.Bool.{Decides}
 use Rattle.cedar_types.specs.declared.open_tag.OpenTag.{OpenTag}
@@ -56,11 +56,10 @@ FieldsSoFar extensions values all rest so_far =
     IsRightSoFar so_far (HasFieldsBy (Gives extensions) values rest) (HasFieldsBy (MayGive extensions) values rest) (λ unknown. FieldsMeet extensions unknown values rest) (HasFieldsBy (Gives extensions) values all) (HasFieldsBy (MayGive extensions) values all) (λ unknown. FieldsMeet extensions unknown values all)
 
 -- one more element is answered
-pub ElementsSoFar-more : (extensions : Extensions) (ty : Ty) (values : List RestrictedExpr) (i : ℕ) (x : RestrictedExpr) (so_far b next : Answer) → i < length values → x ≡ get_or values i x → next ≡ both_of so_far b → IsRightFor extensions (tree_of x) ty b → ElementsSoFar extensions ty (trees_of values) (trees_of (drop i values)) so_far → ElementsSoFar extensions ty (trees_of values) (trees_of (drop (i + 1) values)) next
-ElementsSoFar-more extensions ty values i x so_far b next below is joined right before =
+pub ElementsSoFar-more : (extensions : Extensions) (ty : Ty) (values : List RestrictedExpr) (i : ℕ) (x : RestrictedExpr) (so_far b next : Answer) → i < length values → x ≡ get_or values i x → IsBoth so_far b next → IsRightFor extensions (tree_of x) ty b → ElementsSoFar extensions ty (trees_of values) (trees_of (drop i values)) so_far → ElementsSoFar extensions ty (trees_of values) (trees_of (drop (i + 1) values)) next
+ElementsSoFar-more extensions ty values i x so_far b next below is both right before =
     let P : List RestrictedExpr → Type 0 = λ rest. ElementsSoFar extensions ty (trees_of values) (trees_of rest) so_far in
-    let Q : Answer → Type 0 = ElementsSoFar extensions ty (trees_of values) (trees_of (drop (i + 1) values)) in
-    subst Q (sym joined) (IsRightSoFar-more so_far b _ _ _ _ _ _ _ _ _ (subst P (drop-at values i x below is) before) right)
+    IsRightSoFar-more so_far b next _ _ _ _ _ _ _ _ _ both (subst P (drop-at values i x below is) before) right
 
 -- an answer is right of whether what is found at a name is as it has to be
 abbrev pub IsRightForEntry : Extensions → Option Tree → Bool × Ty → Answer → Type 0
@@ -68,10 +67,9 @@ IsRightForEntry extensions found attribute answer =
     IsRight answer (EntryFits (λ value. Has extensions value attribute.1) attribute.0 found) (EntryFits (λ value. HasUp extensions value attribute.1) attribute.0 found) (λ unknown. SomeEntry (λ value. Meets extensions unknown value attribute.1) found)
 
 -- one more attribute is answered
-pub FieldsSoFar-more : (extensions : Extensions) (values : Entries) (all rest : Fields) (name : Text) (attribute : Bool × Ty) (so_far b next : Answer) → next ≡ both_of so_far b → IsRightForEntry extensions (entry_at name values) attribute b → FieldsSoFar extensions values all (field name attribute.0 attribute.1 rest) so_far → FieldsSoFar extensions values all rest next
-FieldsSoFar-more extensions values all rest name attribute so_far b next joined right before =
-    let Q : Answer → Type 0 = FieldsSoFar extensions values all rest in
-    subst Q (sym joined) (IsRightSoFar-more so_far b _ _ _ _ _ _ _ _ _ before right)
+pub FieldsSoFar-more : (extensions : Extensions) (values : Entries) (all rest : Fields) (name : Text) (attribute : Bool × Ty) (so_far b next : Answer) → IsBoth so_far b next → IsRightForEntry extensions (entry_at name values) attribute b → FieldsSoFar extensions values all (field name attribute.0 attribute.1 rest) so_far → FieldsSoFar extensions values all rest next
+FieldsSoFar-more extensions values all rest name attribute so_far b next both right before =
+    IsRightSoFar-more so_far b next _ _ _ _ _ _ _ _ _ both before right
 
 -- an answer for the value that is found at a name
 pub IsRightForEntry-Some : (extensions : Extensions) (name : Text) (values : BTreeMap (String Global) RestrictedExpr) (attribute : Bool × Ty) (got : Option (Bor RestrictedExpr)) (value : Bor RestrictedExpr) (answer : Answer) → option_copied got ≡ get_by_text values name → got ≡ Some value → IsRightFor extensions (tree_of value.now) attribute.1 answer → IsRightForEntry extensions (entry_at name (entries_of values)) attribute answer
@@ -126,11 +124,10 @@ IsRightFor-at extensions value tree of ty answer same_value same_type right =
 
 -- the test of a uid decides whether it has the type of a kind
 pub IsRightFor-uid : (extensions : Extensions) (uid : PlainUid) (of : EntityKind) (b : Bool) → Decides b (HasUid uid (kind_ty of)) → IsRightFor extensions (uid_value uid) (kind_ty of) (Ok b)
-IsRightFor-uid extensions uid kind.AnyEntity b decides = IsRight-test b _ _ decides
-IsRightFor-uid extensions uid (kind.Entity lub) b decides = IsRight-test b _ _ decides
+IsRightFor-uid extensions uid of b decides = IsRight-test b _ _ decides
 
 -- where no attribute is unlisted, the answer for the listed ones is that for the record
-pub IsRightFor-listed : (extensions : Extensions) (values : Entries) (fields : Fields) (tag : OpenTag) (answer : Answer) → OnlyListed tag values fields → IsRightForFields extensions values fields answer → IsRightFor extensions (map_value values) (record_of fields tag) answer
+pub IsRightFor-listed : (extensions : Extensions) (values : Entries) (fields : Fields) (tag : OpenTag) (answer : Answer) → NamesListed (is_open tag) (entry_names values) (field_names fields) → IsRightForFields extensions values fields answer → IsRightFor extensions (map_value values) (record_of fields tag) answer
 IsRightFor-listed extensions values fields tag answer listed right = record {
   yes = (λ e. (listed, right.yes.0 e), λ both. right.yes.1 both.1);
   no = (λ e may. right.no.0 e may.1, λ never. right.no.1 (λ may. never (listed, may)));
@@ -138,7 +135,7 @@ IsRightFor-listed extensions values fields tag answer listed right = record {
 }
 
 -- where some attribute is unlisted, the record can't have the type
-pub IsRightFor-unlisted : (extensions : Extensions) (values : Entries) (fields : Fields) (tag : OpenTag) → ¬ OnlyListed tag values fields → IsRightFor extensions (map_value values) (record_of fields tag) (Ok false)
+pub IsRightFor-unlisted : (extensions : Extensions) (values : Entries) (fields : Fields) (tag : OpenTag) → ¬ NamesListed (is_open tag) (entry_names values) (field_names fields) → IsRightFor extensions (map_value values) (record_of fields tag) (Ok false)
 IsRightFor-unlisted extensions values fields tag unlisted = record {
   yes = (λ e. absurd cc, λ both. absurd (unlisted both.0));
   no = (λ _ may. unlisted may.0, λ _. refl);

@@ -4,7 +4,7 @@ use Rattle.std.proofs.lemmas.Slice.Eq.{bytes_eq-Decides}
 use Rattle.std.specs.Str.{bytes_eq}
 use Rattle.cedar_below.proofs.Inclusion.{Included-none, Included-cons}
 use Rattle.cedar_below.proofs.Lists.{Contains-cons, Contains-cons_cases}
-use Rattle.cedar_below.specs.Fits.{EntryFits, Gives}
+use Rattle.cedar_below.specs.Fits.{EntryFits, Gives, NamesListed}
 use Rattle.cedar_below.specs.Included.{Included}
 use Rattle.cedar_below.specs.PlainName.{PlainName}
 use Rattle.cedar_below.specs.Text.{Text}
@@ -16,7 +16,7 @@ use Rattle.cedar_types.proofs.SubtypeLaws.{HasField-name}
 use Rattle.cedar_types.proofs.SubtypeLemmas.{chosen_first, unchosen}
 use Rattle.cedar_types.specs.Attributes.{IsAscending, field_names}
 use Rattle.cedar_types.specs.Below.{HasField}
-use Rattle.cedar_types.specs.Has.{Has, HasBy, HasFieldsBy, HasTruth, OnlyListed}
+use Rattle.cedar_types.specs.Has.{Has, HasBy, HasFieldsBy, HasTruth, is_open}
 use Rattle.cedar_types.specs.Stated.{IsInhabited, AreInhabited}
 use Rattle.cedar_types.specs.Ty.{Ty, never, truth, long, text, any_entity, union_of, any_set, set_of, record_of, extension_of, Fields, end, field}
 use Rattle.cedar_types.specs.WellFormed.{IsWellFormed, AreWellFormed}
@@ -117,7 +117,7 @@ some_name [] some = absurd (some refl)
 some_name (name ∷ rest) some = (name, Contains-cons name rest name (inl refl))
 
 -- a record whose names are listed has only listed names
-pub only_listed : (tag : OpenTag) (values : Entries) (fields : Fields) → Included (entry_names values) (field_names fields) → OnlyListed tag values fields
+pub only_listed : (tag : OpenTag) (values : Entries) (fields : Fields) → Included (entry_names values) (field_names fields) → NamesListed (is_open tag) (entry_names values) (field_names fields)
 only_listed OpenAttributes values fields listed = tt
 only_listed ClosedAttributes values fields listed = listed
 

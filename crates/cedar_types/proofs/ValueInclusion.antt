@@ -4,7 +4,7 @@ use Rattle.cedar_below.proofs.Inclusion.{Included-cons}
 use Rattle.cedar_below.proofs.Lists.{Contains-cons}
 use Rattle.cedar_below.specs.CoreTy.{core_extension}
 use Rattle.cedar_below.specs.CoreSchemaType.{result_type}
-use Rattle.cedar_below.specs.Fits.{EntryFits, Gives}
+use Rattle.cedar_below.specs.Fits.{EntryFits, Gives, NamesListed}
 use Rattle.cedar_below.specs.Included.{Included}
 use Rattle.cedar_below.specs.PlainName.{PlainName}
 use Rattle.cedar_below.specs.Text.{Text}
@@ -19,7 +19,7 @@ use Rattle.cedar_types.proofs.SampleValues.{HasFields-from, fits_some, some_fits
 use Rattle.cedar_types.proofs.SubtypeLaws.{FieldsWithin, HasField-name, HasField-named, FieldsBelow-names}
 use Rattle.cedar_types.specs.Attributes.{IsAscending, field_names}
 use Rattle.cedar_types.specs.Below.{HasField, TagsBelow, NamesBelow, Below, FieldsBelow}
-use Rattle.cedar_types.specs.Has.{Has, OnlyListed}
+use Rattle.cedar_types.specs.Has.{Has, is_open}
 use Rattle.cedar_types.specs.InclusionLaws.{ValuesIncluded, ListsNames, FieldsListNames, SubtypingIsInclusion, SubtypingIsInclusionAndNames}
 use Rattle.cedar_types.specs.Stated.{IsInhabited, AreInhabited, RequiresAll, FieldsRequireAll}
 use Rattle.cedar_types.specs.Ty.{Ty, never, truth, long, text, any_entity, union_of, any_set, set_of, record_of, extension_of, Fields, end, field}
@@ -57,7 +57,7 @@ record Inclusion (extensions : Extensions) (fa fb : Fields) (ta tb : OpenTag) : 
   within : ValuesIncluded extensions (record_of fa ta) (record_of fb tb)
 
 -- a sample of the first record with every name, and one further value
-with_value : (extensions : Extensions) (fa : Fields) (ta : OpenTag) (n : Text) (value : Tree) (it : Sample extensions fa n) → IsAscending fa → ((r : Bool) (t : Ty) → HasField fa n r t → Has extensions value t) → OnlyListed ta (entry n value it.values) fa → Has extensions (map_value (entry n value it.values)) (record_of fa ta)
+with_value : (extensions : Extensions) (fa : Fields) (ta : OpenTag) (n : Text) (value : Tree) (it : Sample extensions fa n) → IsAscending fa → ((r : Bool) (t : Ty) → HasField fa n r t → Has extensions value t) → NamesListed (is_open ta) (entry_names (entry n value it.values)) (field_names fa) → Has extensions (map_value (entry n value it.values)) (record_of fa ta)
 with_value extensions fa ta n value it ascending fits listed = (
   listed,
   HasFields-from (Gives extensions) (entry n value it.values) fa
@@ -70,7 +70,7 @@ with_value extensions fa ta n value it ascending fits listed = (
 )
 
 -- the names of a sample with a further value are listed if that one is
-more_listed : (extensions : Extensions) (fa : Fields) (ta : OpenTag) (n : Text) (value : Tree) (it : Sample extensions fa n) → Contains (field_names fa) n → OnlyListed ta (entry n value it.values) fa
+more_listed : (extensions : Extensions) (fa : Fields) (ta : OpenTag) (n : Text) (value : Tree) (it : Sample extensions fa n) → Contains (field_names fa) n → NamesListed (is_open ta) (entry_names (entry n value it.values)) (field_names fa)
 more_listed extensions fa ta n value it among =
     only_listed ta (entry n value it.values) fa (Included-cons n (entry_names it.values) (field_names fa) among it.listed)
 

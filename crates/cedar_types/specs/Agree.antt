@@ -14,11 +14,14 @@ abbrev mutual
   Agree (union_of lower) (union_of upper) = lower ≡ upper
   Agree (set_of lower) (set_of upper) = Agree lower upper
   Agree (record_of lower tag) (record_of upper upper_tag) =
-      Included (field_names lower) (field_names upper) × Included (field_names upper) (field_names lower) × FieldsAgree lower upper
+      Included (field_names lower) (field_names upper)
+      × Included (field_names upper) (field_names lower)
+      × FieldsAgree lower upper
   Agree _ _ = Unit {0}
 
   -- the attributes of a name that both records have are required alike, and their types agree
   pub FieldsAgree : Fields → Fields → Type 0
   FieldsAgree lower end = Unit {0}
   FieldsAgree lower (field name required ty upper) =
-      ((own_required : Bool) (own : Ty) → HasField lower name own_required own → (own_required ≡ required) × Agree own ty) × FieldsAgree lower upper
+      ((own_required : Bool) (own : Ty) → HasField lower name own_required own → (own_required ≡ required) × Agree own ty)
+      × FieldsAgree lower upper

@@ -1,4 +1,4 @@
-use Rattle.std.specs.Prelude.{◌≡◌, ◌↔◌, Bool, true, false, Result, Ok, Err, IfErr}
+use Rattle.std.specs.Prelude.{◌≡◌, ◌↔◌, Bool, true, false, Result, Ok, IfErr}
 use Rattle.cedar_below.specs.Name.{plain_name}
 use Rattle.cedar_below.specs.PlainName.{PlainName}
 use Rattle.cedar_below.specs.declared.extension.ExtensionFunctionLookupError.{ExtensionFunctionLookupError}
@@ -13,11 +13,3 @@ pub record IsRight (answer : Answer) (Holds MayHold : Type 0) (Meeting : PlainNa
   pub yes : (answer ≡ Ok true) ↔ Holds
   pub no : (answer ≡ Ok false) ↔ ¬ MayHold
   pub fault : IfErr answer (λ error. Meeting (plain_name error.name.now))
-
--- what two parts answer together: no if either says no, and else the first fault of either
-abbrev pub both_of : Answer → Answer → Answer
-both_of (Ok true) second = second
-both_of (Ok false) second = Ok false
-both_of (Err error) (Ok true) = Err error
-both_of (Err error) (Ok false) = Ok false
-both_of (Err error) (Err other) = Err error

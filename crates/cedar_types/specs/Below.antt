@@ -54,7 +54,12 @@ abbrev mutual
   pub FieldsBelow : ValidationMode → Fields → Fields → Type 0
   FieldsBelow mode lower end = Unit {0}
   FieldsBelow mode lower (field name required ty upper) =
-      ((own_required : Bool) × (own : Ty) × HasField lower name own_required own × FlagsBelow mode own_required required × Below mode own ty) × FieldsBelow mode lower upper
+      ((own_required : Bool)
+      × (own : Ty)
+      × HasField lower name own_required own
+      × FlagsBelow mode own_required required
+      × Below mode own ty)
+      × FieldsBelow mode lower upper
 
 -- one attribute is below another: its flag fits and its type is below
 abbrev pub AttributeBelow : ValidationMode → Bool × Ty → Bool × Ty → Type 0

@@ -1,6 +1,5 @@
 use Rattle.std.specs.Prelude.{◌≡◌, ◌⊎◌, Bool, true, false, Contains, Option, Some, None}
-use Rattle.cedar_below.specs.Fits.{IsUnknown, EntryFits, Gives}
-use Rattle.cedar_below.specs.Included.{Included}
+use Rattle.cedar_below.specs.Fits.{IsUnknown, EntryFits, Gives, NamesListed}
 use Rattle.cedar_below.specs.PlainName.{PlainName}
 use Rattle.cedar_below.specs.PlainUid.{PlainUid}
 use Rattle.cedar_below.specs.Tree.{Tree, truth_value, number_value, text_value, uid_value, set_value, map_value, call_value, Trees, Entries, entry_at, entry_names, EachTree, SomeTree}
@@ -24,10 +23,10 @@ HasUid uid any_entity = Unit {0}
 HasUid uid (union_of names) = Contains names uid.ty
 HasUid _ _ = ⊥
 
--- a record has no attribute that isn't listed, but where it is open
-abbrev pub OnlyListed : OpenTag → Entries → Fields → Type 0
-OnlyListed OpenAttributes values fields = Unit {0}
-OnlyListed ClosedAttributes values fields = Included (entry_names values) (field_names fields)
+-- whether a record with that tag may have attributes that aren't listed
+abbrev pub is_open : OpenTag → Bool
+is_open OpenAttributes = true
+is_open ClosedAttributes = false
 
 abbrev mutual
   -- a value has a type, where it is given which calls have which extension types
@@ -35,11 +34,11 @@ abbrev mutual
   HasBy calls (truth_value value) (truth known) = HasTruth value known
   HasBy calls (number_value value) long = Unit {0}
   HasBy calls (text_value value) text = Unit {0}
-  HasBy calls (uid_value uid) any_entity = Unit {0}
-  HasBy calls (uid_value uid) (union_of names) = Contains names uid.ty
+  HasBy calls (uid_value uid) ty = HasUid uid ty
   HasBy calls (set_value values) any_set = Unit {0}
   HasBy calls (set_value values) (set_of ty) = EachTree (λ value. HasBy calls value ty) values
-  HasBy calls (map_value values) (record_of fields tag) = OnlyListed tag values fields × HasFieldsBy calls values fields
+  HasBy calls (map_value values) (record_of fields tag) =
+      NamesListed (is_open tag) (entry_names values) (field_names fields) × HasFieldsBy calls values fields
   HasBy calls (call_value function args) (extension_of name) = calls function args name
   HasBy _ _ _ = ⊥
 

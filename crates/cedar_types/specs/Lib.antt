@@ -26,6 +26,7 @@ pub mod ReduceLaws
 pub mod Samples
 pub mod StandsIn
 pub mod Stated
+pub mod TakesText
 pub mod Ty
 pub mod TypeText
 pub mod ValidatorEntityType

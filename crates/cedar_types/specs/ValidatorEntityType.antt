@@ -19,4 +19,5 @@ descendant_names it = map type_name it.descendants.keys
 
 -- the same names stand in both lists, whatever their order and repeats
 abbrev pub SameMembers : List PlainName → List PlainName → Type 0
-SameMembers names others = (name : PlainName) → (Contains names name → Contains others name) × (Contains others name → Contains names name)
+SameMembers names others =
+    (name : PlainName) → (Contains names name → Contains others name) × (Contains others name → Contains names name)

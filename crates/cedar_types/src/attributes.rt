@@ -1,4 +1,4 @@
-ghost use Rattle.std.specs.Prelude.{◌≡◌, List, Bool, true, false, map, length, IfOk, Option, Some, None, string_bytes};
+ghost use Rattle.std.specs.Prelude.{◌≡◌, List, true, false, map, IfOk, Option, None, string_bytes};
 ghost use Rattle.std.specs.Iterator.{IsFinite, Drains};
 ghost use Rattle.std.specs.Option.{option_copied, option_map};
 ghost use Rattle.std.specs.BTreeMap.{keys};
@@ -94,7 +94,7 @@ impl AttributeType {
         self.is_required
     }
 
-    /// An equal attribute at the same location, which shares the type, or want of memory.
+    /// An equal attribute at the same location, or want of memory.
     pub fn clone(&self) -> M<Self>
         ensures attribute { IfOk result (λ copy. attribute_of copy ≡ attribute_of self.now) }
         ensures loc { IfOk result (λ copy. attribute_loc copy ≡ attribute_loc self.now) }
@@ -123,7 +123,8 @@ impl Attributes {
         self.alloc
     }
 
-    /// The attributes of these names. Of repeated names the last wins.
+    /// The attributes of these names, or want of memory. Of repeated names the last wins. The items
+    /// have to come to an end.
     pub fn with_attributes<I: IntoIterator<Item = (String, AttributeType)>>(
         alloc: Global,
         items: I,
@@ -140,7 +141,8 @@ impl Attributes {
         Ok(Attributes { attrs, alloc })
     }
 
-    /// The attributes of these names, each of which has to be there. Of repeated names the last wins.
+    /// The attributes of these names, each of which has to be there, or want of memory. Of repeated
+    /// names the last wins. The items have to come to an end.
     pub fn with_required_attributes<I: IntoIterator<Item = (String, Rc<Type>)>>(
         alloc: Global,
         items: I,
@@ -180,7 +182,7 @@ impl Attributes {
         self.attrs.get(name)
     }
 
-    /// Equal attributes at the same locations, which share their types, or want of memory.
+    /// Equal attributes, or want of memory.
     pub fn clone(&self) -> M<Self>
         ensures { IfOk result (λ copy. fields_of copy ≡ fields_of self.now) }
     {

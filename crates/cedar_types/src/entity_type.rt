@@ -42,7 +42,7 @@ impl ValidatorEntityType {
     ghost use Rattle.cedar_types.specs.Ty.{field_at};
     ghost use Rattle.cedar_types.specs.ValidatorEntityType.{entity_type_of, descendant_names, SameMembers};
 
-    /// An entity type of some kind, or want of memory.
+    /// An entity type of some kind, or want of memory. The descendants have to come to an end.
     fn with_kind<I: IntoIterator<Item = EntityType>>(
         alloc: Global,
         name: EntityType,
@@ -67,7 +67,7 @@ impl ValidatorEntityType {
     }
 
     /// A standard entity type: with attributes, and with tags if a type of tags is given. Or want of
-    /// memory.
+    /// memory. The descendants have to come to an end.
     pub fn new_standard<I: IntoIterator<Item = EntityType>>(
         alloc: Global,
         name: EntityType,
@@ -89,7 +89,8 @@ impl ValidatorEntityType {
         Self::with_kind(alloc, name, descendants, kind, loc)
     }
 
-    /// An enumerated entity type, whose only entities have these ids. Or want of memory.
+    /// An enumerated entity type, whose only entities have these ids. Or want of memory. The
+    /// descendants have to come to an end.
     pub fn new_enum<I: IntoIterator<Item = EntityType>>(
         alloc: Global,
         name: EntityType,
@@ -108,7 +109,8 @@ impl ValidatorEntityType {
         Self::with_kind(alloc, name, descendants, kind, loc)
     }
 
-    /// An external entity type, which is declared elsewhere. Or want of memory.
+    /// An external entity type, which is declared elsewhere. Or want of memory. The descendants have
+    /// to come to an end.
     pub fn new_external<I: IntoIterator<Item = EntityType>>(
         alloc: Global,
         name: EntityType,

@@ -25,6 +25,9 @@ mod show;
 mod subtype;
 #[cfg(test)]
 mod subtype_tests;
+pub mod subtyping_examples;
+#[cfg(test)]
+mod test_values;
 #[cfg(test)]
 mod tests;
 pub mod theorems;

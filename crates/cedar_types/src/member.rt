@@ -1,17 +1,17 @@
 //! Membership of values in types.
 
-ghost use Rattle.std.specs.Prelude.{◌≡◌, ◌↔◌, IsTrue, true, false, IfErr};
-ghost use Rattle.cedar_below.specs.Fits.{EntryFits, Gives, IsUnknown};
+ghost use Rattle.std.specs.Prelude.{◌≡◌, ◌↔◌, ◌⊎◌, IsTrue, true, false, IfErr};
+ghost use Rattle.cedar_below.specs.Fits.{Gives, IsUnknown, NamesListed};
 ghost use Rattle.cedar_below.specs.EntityUID.{uid_of};
 ghost use Rattle.cedar_below.specs.Included.{Included};
 ghost use Rattle.cedar_below.specs.Name.{plain_name};
 ghost use Rattle.cedar_below.specs.RestrictedExpr.{tree_of, trees_of, entries_of};
 ghost use Rattle.cedar_below.specs.Tree.{EachTree, SomeTree, entry_names};
 ghost use Rattle.cedar_below.specs.Value.{value_expr};
-ghost use Rattle.cedar_types.specs.Answers.{IsRight, both_of};
+ghost use Rattle.cedar_types.specs.Answers.{IsRight};
 ghost use Rattle.cedar_types.specs.Attributes.{field_names};
 ghost use Rattle.cedar_types.specs.EntityKind.{kind_ty};
-ghost use Rattle.cedar_types.specs.Has.{Has, HasUp, Meets, HasFieldsBy, FieldsMeet, MayGive, OnlyListed, HasTruth, HasUid};
+ghost use Rattle.cedar_types.specs.Has.{Has, HasUp, Meets, HasFieldsBy, FieldsMeet, MayGive, HasTruth, HasUid, is_open};
 ghost use Rattle.cedar_types.specs.Meaning.{ty_of, fields_of};
 
 use crate::attributes::Attributes;
@@ -27,9 +27,12 @@ use std::collections::BTreeMap;
 /// Whether a value has a type, or the lookup fault of a function that it calls.
 type Answer<'v> = Result<bool, ExtensionFunctionLookupError<'v>>;
 
-/// What two parts answer together: no if either says no, and else the first fault of either.
+/// What two parts answer together: yes where both say yes, no where one says no, and else the fault
+/// of one of them.
 fn both<'v>(first: Answer<'v>, second: Answer<'v>) -> Answer<'v>
-    ensures { result ≡ both_of first.entry second.entry }
+    ensures yes { (result ≡ Ok true) ↔ ((first.entry ≡ Ok true) × (second.entry ≡ Ok true)) }
+    ensures no { (result ≡ Ok false) ↔ ((first.entry ≡ Ok false) ⊎ (second.entry ≡ Ok false)) }
+    ensures fault { IfErr result (λ error. (first.entry ≡ Err error) ⊎ (second.entry ≡ Err error)) }
 {
     match (first, second) {
         (Ok(true), second) => second,
@@ -74,7 +77,7 @@ fn all_listed(values: &BTreeMap<String, RestrictedExpr>, attrs: &Attributes) -> 
 
 /// Whether a record has no attribute that isn't listed, but where it is open.
 fn only_listed(values: &BTreeMap<String, RestrictedExpr>, attrs: &Attributes, tag: OpenTag) -> bool
-    ensures { IsTrue result ↔ OnlyListed tag (entries_of values.now) (fields_of attrs.now) }
+    ensures { IsTrue result ↔ NamesListed (is_open tag) (entry_names (entries_of values.now)) (field_names (fields_of attrs.now)) }
 {
     match tag {
         OpenTag::OpenAttributes => true,

@@ -2,7 +2,6 @@
 
 ghost use Rattle.std.specs.Prelude.{◌≡◌, ◌↔◌, IsTrue, map, string_bytes};
 ghost use Rattle.cedar_below.specs.Included.{Included};
-ghost use Rattle.cedar_below.specs.Name.{plain_name};
 ghost use Rattle.cedar_types.specs.Below.{Below, FieldsBelow, AttributeBelow, FlagsBelow, TagsBelow, NamesBelow};
 ghost use Rattle.cedar_types.specs.Attributes.{IsAscending, field_names};
 ghost use Rattle.cedar_types.specs.EntityKind.{kind_ty};
@@ -15,7 +14,7 @@ use crate::entity_kind::EntityKind;
 use crate::entity_lub::EntityLUB;
 use crate::open_tag::OpenTag;
 use crate::types::Type;
-use cedar_below::{Name, ValidationMode};
+use cedar_below::ValidationMode;
 use std::collections::btree_map;
 
 /// Whether an attribute's flag fits below another's.
@@ -72,13 +71,6 @@ fn is_included(lower: &EntityLUB, upper: &EntityLUB) -> bool
 /// Whether two unions have the same entity types.
 fn is_same(lower: &EntityLUB, upper: &EntityLUB) -> bool
     ensures { IsTrue result ↔ (lub_names lower.now ≡ lub_names upper.now) }
-{
-    lower == upper
-}
-
-/// Whether two names are the same, whatever their locations.
-fn is_same_name(lower: &Name, upper: &Name) -> bool
-    ensures { IsTrue result ↔ (plain_name lower.now ≡ plain_name upper.now) }
 {
     lower == upper
 }
@@ -169,9 +161,8 @@ impl Type {
                     && names_fit(lower, upper, *upper_tag, mode)
                     && fields_fit(lower, upper, mode)
             }
-            (Type::ExtensionType { name: lower }, Type::ExtensionType { name: upper }) => {
-                is_same_name(lower, upper)
-            }
+            (Type::ExtensionType { name: lower }, Type::ExtensionType { name: upper }) =>
+                lower.is_same(upper),
             _ => false,
         }
     }

@@ -1,21 +1,13 @@
 use super::*;
+use crate::test_values::{entity_type, name, set, text};
 use cedar_below::{
-    CoreSchemaType, Eid, EntityType, EntityUID, ExtensionFunction, Extensions, Id, InternalName,
-    Name, RestrictedExpr, ValidationMode, Value,
+    CoreSchemaType, Eid, EntityUID, ExtensionFunction, Extensions, RestrictedExpr, ValidationMode,
+    Value,
 };
 use std::alloc::Global;
 use std::collections::BTreeMap;
 use std::rc::Rc;
 use std::test::Fail;
-
-fn text(alloc: Global, text: &str) -> Result<String, Fail> {
-    Ok(String::from_str(alloc, text)?)
-}
-
-fn name(alloc: Global, word: &str) -> Result<Name, Fail> {
-    let id = Id::new(text(alloc, word)?).ok_or("no identifier")?;
-    Ok(Name::new(InternalName::new(id, Vec::new(alloc), None)).ok_or("a reserved name")?)
-}
 
 /// Extensions with the type `ipaddr`, and the function `ip` of a text that returns it.
 fn extensions(alloc: Global) -> Result<Extensions, Fail> {
@@ -55,10 +47,6 @@ fn record<const N: usize>(
 fn closed(alloc: Global, is_required: bool, ty: Type) -> Result<Type, Fail> {
     let one = [attribute(alloc, "a", is_required, ty)?];
     record(alloc, OpenTag::ClosedAttributes, one)
-}
-
-fn set(alloc: Global, element: Type) -> Result<Type, Fail> {
-    Ok(Type::set(Rc::new(alloc, element)?))
 }
 
 fn ipaddr(alloc: Global) -> Result<Type, Fail> {
@@ -161,13 +149,13 @@ fn sets_are_below_sets_of_more(rt: HostRuntime) -> Result<(), Fail> {
 #[test]
 fn entities_are_below_any_entity_in_permissive_mode(rt: HostRuntime) -> Result<(), Fail> {
     let alloc = rt.alloc();
-    let color = Type::named_entity_reference(alloc, EntityType::new(name(alloc, "Color")?))?;
-    let user = Type::named_entity_reference(alloc, EntityType::new(name(alloc, "User")?))?;
+    let color = Type::named_entity_reference(alloc, entity_type(alloc, "Color")?)?;
+    let user = Type::named_entity_reference(alloc, entity_type(alloc, "User")?)?;
     assert_eq!(rt; below(&color, &Type::any_entity_reference()), (false, true));
     assert_eq!(rt; below(&color, &color), (true, true));
     assert_eq!(rt; below(&color, &user), (false, false));
     let uid = EntityUID::new(
-        EntityType::new(name(alloc, "Color")?),
+        entity_type(alloc, "Color")?,
         Eid(text(alloc, "blue")?),
         None,
     );
@@ -246,15 +234,15 @@ fn records_have_what_is_required(rt: HostRuntime) -> Result<(), Fail> {
 
 /// The kind of the entities of one type.
 fn kind(alloc: Global, word: &str) -> Result<EntityKind, Fail> {
-    let ty = EntityType::new(name(alloc, word)?);
+    let ty = entity_type(alloc, word)?;
     Ok(EntityKind::Entity(EntityLUB::single_entity(alloc, ty)?))
 }
 
 #[test]
 fn kinds_are_below_what_has_their_entity_types(rt: HostRuntime) -> Result<(), Fail> {
     let alloc = rt.alloc();
-    let color = EntityLUB::single_entity(alloc, EntityType::new(name(alloc, "Color")?))?;
-    let user = EntityLUB::single_entity(alloc, EntityType::new(name(alloc, "User")?))?;
+    let color = EntityLUB::single_entity(alloc, entity_type(alloc, "Color")?)?;
+    let user = EntityLUB::single_entity(alloc, entity_type(alloc, "User")?)?;
     let both = EntityKind::Entity(color.least_upper_bound(&user)?);
     let color = kind(alloc, "Color")?;
     let any = EntityKind::AnyEntity;

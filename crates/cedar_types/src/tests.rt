@@ -1,5 +1,6 @@
 use super::*;
-use cedar_below::{Eid, EntityType, Id, InternalName, Loc, Memory, Name, NonEmpty};
+use crate::test_values::{entity_type, name, name_in, set, text};
+use cedar_below::{Eid, EntityType, Loc, Memory, NonEmpty};
 use std::alloc::Global;
 use std::cmp::Ordering;
 use std::hash::{DefaultHasher, Hash, Hasher};
@@ -13,27 +14,6 @@ const PLACE: Loc = Loc {
     stop: 5,
 };
 
-fn text(alloc: Global, text: &str) -> Result<String, Fail> {
-    Ok(String::from_str(alloc, text)?)
-}
-
-fn id(alloc: Global, word: &str) -> Result<Id, Fail> {
-    Ok(Id::new(text(alloc, word)?).ok_or("no identifier")?)
-}
-
-fn name(alloc: Global, path: &[&str], base: &str) -> Result<Name, Fail> {
-    let mut parts = Vec::new(alloc);
-    for part in path {
-        parts.push(id(alloc, part)?)?;
-    }
-    let internal = InternalName::new(id(alloc, base)?, parts, None);
-    Ok(Name::new(internal).ok_or("a reserved name")?)
-}
-
-fn entity_type(alloc: Global, base: &str) -> Result<EntityType, Fail> {
-    Ok(EntityType::new(name(alloc, &[], base)?))
-}
-
 fn single(alloc: Global, base: &str) -> Result<EntityLUB, Fail> {
     Ok(EntityLUB::single_entity(alloc, entity_type(alloc, base)?)?)
 }
@@ -44,10 +24,6 @@ fn union(alloc: Global, first: &str, second: &str) -> Result<EntityLUB, Fail> {
 
 fn entity(alloc: Global, base: &str) -> Result<Type, Fail> {
     Ok(Type::named_entity_reference(alloc, entity_type(alloc, base)?)?)
-}
-
-fn set(alloc: Global, element: Type) -> Result<Type, Fail> {
-    Ok(Type::set(Rc::new(alloc, element)?))
 }
 
 fn required(alloc: Global, ty: Type) -> Result<AttributeType, Fail> {
@@ -84,12 +60,12 @@ fn types_print_their_words(rt: HostRuntime) -> Result<(), Fail> {
         (Type::any_set(), "Set<__cedar::internal::Any>"),
         (Type::any_entity_reference(), "__cedar::internal::AnyEntity"),
         (entity(alloc, "Foo")?, "Foo"),
-        (Type::extension(name(alloc, &[], "ipaddr")?), "ipaddr"),
+        (Type::extension(name(alloc, "ipaddr")?), "ipaddr"),
     ];
     for (ty, printed) in cases {
         assert_eq!(rt; ty.to_string(alloc)?.as_str(), printed);
     }
-    let qualified = EntityType::new(name(alloc, &["N"], "Foo")?);
+    let qualified = EntityType::new(name_in(alloc, &["N"], "Foo")?);
     let qualified = Type::named_entity_reference(alloc, qualified)?;
     assert_eq!(rt; qualified.to_string(alloc)?.as_str(), "N::Foo");
     let either = Type::Entity(EntityKind::Entity(union(alloc, "Foo", "Bar")?));
@@ -271,7 +247,7 @@ fn copies_are_equal(rt: HostRuntime) -> Result<(), Fail> {
         Type::any_set(),
         set(alloc, Type::Never)?,
         record,
-        Type::extension(name(alloc, &["N"], "ipaddr")?),
+        Type::extension(name_in(alloc, &["N"], "ipaddr")?),
     ];
     for ty in &cases {
         assert_eq!(rt; ty.clone()?, *ty);

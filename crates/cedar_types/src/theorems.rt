@@ -7,6 +7,7 @@ ghost use Rattle.cedar_below.specs.declared.validation_mode.ValidationMode.{Vali
 ghost use Rattle.cedar_below.specs.declared.validation_mode.ValidationMode.TheVariants as mode;
 ghost use Rattle.cedar_types.specs.Agree.{Agree};
 ghost use Rattle.cedar_types.specs.Below.{Below};
+ghost use Rattle.cedar_types.specs.Attributes.{IsAscending};
 ghost use Rattle.cedar_types.specs.Clean.{CleanIsWithoutAnySet};
 ghost use Rattle.cedar_types.specs.CompareLaws.{ComparesBy};
 ghost use Rattle.cedar_types.specs.CoreOf.{CoreIsLackedExactly};
@@ -22,7 +23,7 @@ ghost use Rattle.cedar_types.specs.Meaning.{ty_of, attribute_of, fields_of};
 ghost use Rattle.cedar_types.specs.ReduceLaws.{ReductionsAreAnswered, EmptyIsReducedToNever};
 ghost use Rattle.cedar_types.specs.ReduceLaws.{CleanAreReducedToLeastClean, CleanAreReducedInAnyOrder};
 ghost use Rattle.cedar_types.specs.ValidatorEntityType.{entity_type_of, descendant_names, SameMembers};
-ghost use Rattle.cedar_types.specs.WellFormed.{IsWellFormed};
+ghost use Rattle.cedar_types.specs.WellFormed.{IsWellFormed, AreWellFormed};
 ghost use Rattle.cedar_types.specs.Ty.{Ty};
 ghost use Rattle.cedar_types.specs.declared.entity_type.ValidatorEntityType.{ValidatorEntityType};
 
@@ -62,6 +63,51 @@ pub fn supertypes_have_the_values()
 pub fn strict_subtyping_is_permissive_and_agrees()
     ensures { (a b : Ty) → IsWellFormed a → Below mode.Strict a b ↔ (Below mode.Permissive a b × Agree a b) }
 {}
+
+/// The attributes of a record have ascending names, and each stands for a well-formed plain type.
+#[cycle(well_formed)]
+fn attributes_are_well_formed(attrs: &Attributes)
+    ensures ascending { IsAscending (fields_of attrs.now) }
+    ensures types { AreWellFormed (fields_of attrs.now) }
+{
+    for (_, attribute) in &attrs.attrs {
+        types_are_well_formed(&attribute.attr_type);
+    }
+}
+
+/// Each type stands for a well-formed plain type.
+///
+/// It goes over the type, and is there for its contract: that the names of a map are in order is
+/// known of a map that is gone over.
+#[cycle(well_formed)]
+pub fn types_are_well_formed(ty: &Type)
+    ensures { IsWellFormed (ty_of ty.now) }
+{
+    match ty {
+        Type::Set {
+            element_type: Some(element),
+        } => types_are_well_formed(element),
+        Type::Record { attrs, .. } => attributes_are_well_formed(attrs),
+        _ => {}
+    }
+}
+
+/// Types that are below each other stand for the same plain type, in either mode.
+pub fn subtyping_of_types_is_antisymmetric(a: &Type, b: &Type)
+    ensures { (mode : ValidationMode) → Below mode (ty_of a.now) (ty_of b.now) → Below mode (ty_of b.now) (ty_of a.now)
+        → ty_of a.now ≡ ty_of b.now }
+{
+    types_are_well_formed(a);
+    types_are_well_formed(b);
+}
+
+/// Strict subtyping of types is permissive subtyping, and agreement.
+pub fn strict_subtyping_of_types_is_permissive_and_agrees(a: &Type, b: &Type)
+    ensures { Below mode.Strict (ty_of a.now) (ty_of b.now)
+        ↔ (Below mode.Permissive (ty_of a.now) (ty_of b.now) × Agree (ty_of a.now) (ty_of b.now)) }
+{
+    types_are_well_formed(a);
+}
 
 /// On well-formed plain types, permissive subtyping is inclusion of values where both types are stated;
 /// and where they are only inhabited throughout, it is inclusion of values and of names.

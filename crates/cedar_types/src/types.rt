@@ -8,7 +8,7 @@ ghost use Rattle.cedar_below.specs.Name.{plain_name};
 ghost use Rattle.cedar_types.specs.Attributes.{IsRecordOf, plain_attributes, plain_required};
 ghost use Rattle.cedar_types.specs.Meaning.{ty_of};
 ghost use Rattle.cedar_types.specs.Primitive.{primitive_words};
-ghost use Rattle.cedar_types.specs.Ty.{Ty, truth, long, text, any_entity, union_of, any_set, set_of, record_of, extension_of, end};
+ghost use Rattle.cedar_types.specs.Ty.{truth, long, text, any_entity, union_of, any_set, set_of, record_of, extension_of, end};
 ghost use Rattle.cedar_types.specs.declared.attributes.AttributeType.{AttributeType};
 ghost use Rattle.cedar_types.specs.declared.types.Type.{«Type»};
 ghost use Rattle.cedar_types.specs.declared.bool_type.BoolType.TheVariants as known;
@@ -135,7 +135,8 @@ impl Type {
         Type::ExtensionType { name }
     }
 
-    /// The record type of these attributes, or want of memory. Of repeated names the last wins.
+    /// The record type of these attributes, or want of memory. Of repeated names the last wins. The
+    /// items have to come to an end.
     pub fn record_with_attributes<I: IntoIterator<Item = (String, AttributeType)>>(
         alloc: Global,
         items: I,
@@ -152,7 +153,7 @@ impl Type {
     }
 
     /// The record type of these attributes, each of which has to be there, or want of memory. Of
-    /// repeated names the last wins.
+    /// repeated names the last wins. The items have to come to an end.
     pub fn record_with_required_attributes<I: IntoIterator<Item = (String, Rc<Type>)>>(
         alloc: Global,
         items: I,
@@ -175,7 +176,7 @@ impl Type {
         name == "Bool" || name == "Long" || name == "String"
     }
 
-    /// An equal type with the same locations, which shares its parts, or want of memory.
+    /// An equal type, or want of memory.
     pub fn clone(&self) -> M<Self>
         ensures { IfOk result (λ copy. ty_of copy ≡ ty_of self.now) }
     {

@@ -26,7 +26,7 @@ member::elements_have-loop-value-init t c = IsRightSoFar-none _ _ _
 pub member::elements_have-loop-value-preserved : goal.member::elements_have-loop-value-preserved
 member::elements_have-loop-value-preserved t c =
     let right : IsRightFor c.args.extensions.now (tree_of c.value-item.result) (ty_of c.args.ty.now) c.typecheck_restricted_expr.result = record { yes = c.typecheck_restricted_expr.ensures.has; no = c.typecheck_restricted_expr.ensures.lacks; fault = c.typecheck_restricted_expr.ensures.fault } in
-    ElementsSoFar-more c.args.extensions.now (ty_of c.args.ty.now) c.args.values.now c.loop-value.value-index c.value-item.result c.loop-value.so_far c.typecheck_restricted_expr.result c.both-so_far.result c.loop-value-test.true c.value-item.is c.both-so_far.ensures right c.loop-value.invariant
+    ElementsSoFar-more c.args.extensions.now (ty_of c.args.ty.now) c.args.values.now c.loop-value.value-index c.value-item.result c.loop-value.so_far c.typecheck_restricted_expr.result c.both-so_far.result c.loop-value-test.true c.value-item.is (record { yes = c.both-so_far.ensures.yes; no = c.both-so_far.ensures.no; fault = c.both-so_far.ensures.fault }) right c.loop-value.invariant
 
 pub member::elements_have-returns : goal.member::elements_have-returns
 member::elements_have-returns t c =
@@ -60,7 +60,7 @@ member::fields_have-loop-name-preserved t c =
           )
       | member::fields_have-in-None-get w ↦ IsRightForEntry-None extensions (string_bytes c.in-Some.name.now) values attribute c.get.result c.match-get.answer c.get.ensures.value w.in-None-get.is (w.answer-is ∙ ap (λ (p : Bool × Ty). Ok (not p.0)) (sym parts))
     ] in
-    FieldsSoFar-more extensions (entries_of values) (fields_of c.args.attrs.now) _ (string_bytes c.in-Some.name.now) attribute c.loop-name.so_far c.match-get.answer c.both-so_far.result c.both-so_far.ensures right before
+    FieldsSoFar-more extensions (entries_of values) (fields_of c.args.attrs.now) _ (string_bytes c.in-Some.name.now) attribute c.loop-name.so_far c.match-get.answer c.both-so_far.result (record { yes = c.both-so_far.ensures.yes; no = c.both-so_far.ensures.no; fault = c.both-so_far.ensures.fault }) right before
 
 pub member::fields_have-returns : goal.member::fields_have-returns
 member::fields_have-returns t c =

@@ -1,0 +1,7 @@
+use Rattle.cedar_types.specs.Meaning.{ty_of}
+use Rattle.cedar_types.proofs.AntisymmetryLaws.{Below-same}
+use Rattle.cedar_types.proofs.theorems.subtyping_of_types_is_antisymmetric.Goals as goal
+
+pub returns : goal.returns
+returns c mode =
+    Below-same mode (ty_of c.args.a.now) (ty_of c.args.b.now) c.types_are_well_formed.ensures c.types_are_well_formed-2.ensures

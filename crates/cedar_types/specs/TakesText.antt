@@ -1,0 +1,15 @@
+use Rattle.std.specs.Prelude.{◌≡◌, [], ◌∷◌, Some}
+use Rattle.cedar_below.specs.CoreSchemaType.{argument_types, result_type}
+use Rattle.cedar_below.specs.CoreTy.{core_text, core_extension}
+use Rattle.cedar_below.specs.Fits.{IsKnown}
+use Rattle.cedar_below.specs.PlainName.{PlainName}
+use Rattle.cedar_below.specs.declared.extension.ExtensionFunction.{ExtensionFunction}
+use Rattle.cedar_below.specs.declared.extension.Extensions.{Extensions}
+
+-- a function of that name takes a text and returns values of that extension type
+abbrev pub TakesText : Extensions → PlainName → PlainName → Type 0
+TakesText extensions name ty =
+    (function : ExtensionFunction)
+    × IsKnown extensions name function
+    × (result_type function ≡ Some (core_extension ty))
+    × (argument_types function ≡ core_text ∷ [])
