@@ -1,3 +1,5 @@
+//! Core types: those that arguments and results of extension functions have.
+
 use crate::entity_type::EntityType;
 use crate::name::Name;
 use std::collections::BTreeMap;

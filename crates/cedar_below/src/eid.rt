@@ -1,3 +1,5 @@
+//! Ids of entities.
+
 ghost use Rattle.std.specs.Prelude.{◌≡◌, IfOk, string_bytes};
 ghost use Rattle.cedar_below.specs.Eid.{eid_text};
 

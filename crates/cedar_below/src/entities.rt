@@ -1,3 +1,5 @@
+//! Collections of entities by uid.
+
 ghost use Rattle.cedar_below.specs.KeyedEntities.{IsKeyed};
 
 use crate::entity::Entity;

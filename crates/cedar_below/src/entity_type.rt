@@ -1,3 +1,5 @@
+//! Names of entity types.
+
 ghost use Rattle.std.specs.Prelude.{◌≡◌, ◌↔◌, IsTrue, IfOk};
 ghost use Rattle.cedar_below.specs.EntityType.{type_name, type_loc};
 ghost use Rattle.cedar_below.specs.Name.{plain_name, plain_loc};

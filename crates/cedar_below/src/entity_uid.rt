@@ -1,3 +1,5 @@
+//! Uids of entities: a type and an id.
+
 ghost use Rattle.std.specs.Prelude.{◌≡◌, ◌↔◌, IsTrue, IfOk};
 ghost use Rattle.cedar_below.specs.Eid.{eid_text};
 ghost use Rattle.cedar_below.specs.EntityType.{type_name};

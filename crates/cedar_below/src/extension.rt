@@ -1,3 +1,5 @@
+//! Extension types and functions.
+
 ghost use Rattle.std.specs.Prelude.{◌≡◌, ◌↔◌, IsTrue, IsOk, IsSome, IfOk, IfErr, Contains, map};
 ghost use Rattle.cedar_below.specs.Extensions.{extension_types, function_named};
 ghost use Rattle.cedar_below.specs.Name.{plain_name, at_name};

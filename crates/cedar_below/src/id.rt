@@ -1,3 +1,5 @@
+//! Identifiers.
+
 ghost use Rattle.std.specs.Prelude.{◌≡◌, ◌≢◌, ◌↔◌, IsTrue, IsSome, IfSome, IfOk, string_bytes};
 ghost use Rattle.std.specs.List.{list_all};
 ghost use Rattle.cedar_below.specs.Identifier.{IsIdentifier, begins_identifier, is_identifier_start, is_identifier_byte, reserved_word};

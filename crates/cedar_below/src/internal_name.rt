@@ -1,3 +1,5 @@
+//! Names that may be reserved.
+
 ghost use Rattle.std.specs.Prelude.{◌≡◌, ◌↔◌, IsTrue, IfOk, Contains, map};
 ghost use Rattle.cedar_below.specs.Identifier.{reserved_word};
 ghost use Rattle.cedar_below.specs.Id.{id_text};

@@ -1,3 +1,5 @@
+//! Names that are not reserved.
+
 ghost use Rattle.std.specs.Prelude.{◌≡◌, ◌↔◌, IsTrue, IsSome, IfSome, IfOk, map};
 ghost use Rattle.cedar_below.specs.Id.{id_text};
 ghost use Rattle.cedar_below.specs.InternalName.{name_of, name_loc};

@@ -1,3 +1,5 @@
+//! Lists that are not empty.
+
 ghost use Rattle.std.specs.Prelude.{◌≡◌, IfOk, map};
 ghost use Rattle.cedar_below.specs.Eid.{eid_text};
 ghost use Rattle.cedar_below.specs.NonEmpty.{items_of};

@@ -1,3 +1,5 @@
+//! Tests of names, values, extensions and entities.
+
 use super::*;
 use std::alloc::Global;
 use std::collections::{BTreeMap, BTreeSet};

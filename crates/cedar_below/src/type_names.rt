@@ -1,3 +1,5 @@
+//! Whether names of extension types fit.
+
 ghost use Rattle.std.specs.Prelude.{◌≡◌, ◌≢◌, ◌↔◌, IsTrue, All, AllPairs, Contains, map};
 ghost use Rattle.cedar_below.specs.Name.{plain_name};
 ghost use Rattle.cedar_below.specs.PlainName.{IsUnqualified};

@@ -1,3 +1,5 @@
+//! Identifiers that are not reserved.
+
 ghost use Rattle.std.specs.Prelude.{◌≡◌, ◌≢◌, ◌↔◌, IsSome, IfSome, IfOk, string_bytes};
 ghost use Rattle.cedar_below.specs.Id.{id_text};
 ghost use Rattle.cedar_below.specs.Identifier.{IsIdentifier, reserved_word};

@@ -1,3 +1,5 @@
+//! The two modes of validation.
+
 /// How far types may differ and still be related.
 #[derive(Clone, Copy, Debug, PartialEq, Eq)]
 pub enum ValidationMode {

@@ -1,3 +1,5 @@
+//! Values and the expressions that they are given by.
+
 ghost use Rattle.std.specs.Prelude.{◌≡◌};
 ghost use Rattle.cedar_below.specs.Value.{value_expr};
 

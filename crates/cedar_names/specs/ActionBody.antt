@@ -12,7 +12,8 @@ use Rattle.cedar_names.specs.declared.json_schema.action_type.ApplySpec.{ApplySp
 use Rattle.cedar_names.specs.declared.json_schema.reference_type.ReferenceType.{ReferenceType}
 use Rattle.cedar_names.specs.declared.json_schema.reference_type.ReferenceType.TheVariants.{Entity}
 
--- the requests that an action is for: those with one of the principals and one of the resources, and the context; or, of an external action, whatever its definition says elsewhere
+-- the requests that an action is for: those with one of the principals and one of the resources, and the context; or,
+-- of an external action, whatever its definition says elsewhere
 pub data Requests : Type 0 where
   requests : List Reference → List Reference → Expr → Requests
   elsewhere : Requests
@@ -43,7 +44,8 @@ module _ (N : Type 0) (refer : ReferenceType → N → Reference) (namespace : O
   parent_actions None = []
   parent_actions (Some parents) = map parent_action parents.items
 
-  -- the requests that an action is for; where none are written it is for none, and its context is the closed record without attributes
+  -- the requests that an action is for; where none are written it is for none, and its context is the closed record
+  -- without attributes
   abbrev pub applies_to : Option (ApplySpec N) → Requests
   applies_to None = requests [] [] (record_expr no_member false)
   applies_to (Some it) =

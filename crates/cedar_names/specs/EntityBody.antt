@@ -14,7 +14,8 @@ use Rattle.cedar_names.specs.declared.json_schema.raw_name.RawName.{RawName}
 use Rattle.cedar_names.specs.declared.json_schema.reference_type.ReferenceType.{ReferenceType}
 use Rattle.cedar_names.specs.declared.json_schema.reference_type.ReferenceType.TheVariants.{Entity}
 
--- what is declared of an entity type: its parents, its shape and the type of its tags, or its choices, or of an external one its parents alone
+-- what is declared of an entity type: its parents, its shape and the type of its tags, or its choices, or of an
+-- external one its parents alone
 pub data EntityBody : Type 0 where
   standard : List Reference → Expr → Option Expr → EntityBody
   enumerated : List Text → EntityBody

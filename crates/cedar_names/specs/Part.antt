@@ -27,7 +27,8 @@ abbrev pub IsPlainStandard : EntityBody → Type 0
 IsPlainStandard (standard parents shape tags) = (parents ≡ []) × (tags ≡ None) × NamesEntitiesAlone shape
 IsPlainStandard _ = ⊥
 
--- the part of all definitions that a schema can be built from so far: standard entity types without parents and tags, whose shapes name entity types alone, and nothing else
+-- the part of all definitions that a schema can be built from so far: standard entity types without parents and tags,
+-- whose shapes name entity types alone, and nothing else
 pub record IsInPart (definition : NamespaceDefinition RawName) : Type 0 where
   pub no_common_types : definition.common_types.entries ≡ []
   pub no_actions : definition.actions.entries ≡ []

@@ -3,7 +3,8 @@ use Rattle.cedar_below.specs.PlainName.{PlainName}
 use Rattle.cedar_below.specs.Text.{Text}
 use Rattle.cedar_names.specs.declared.json_schema.reference_type.ReferenceType.{ReferenceType}
 
--- a reference to a type: the names that it may stand for, the first to be tried first, and the kinds of definition that it may name
+-- a reference to a type: the names that it may stand for, the first to be tried first, and the kinds of definition that
+-- it may name
 pub record Reference : Type 0 where
   pub possibilities : List PlainName
   pub kind : ReferenceType
@@ -22,7 +23,8 @@ path_within (Some namespace) = namespace.path ++ namespace.base ∷ []
 abbrev pub name_within : Option PlainName → Text → PlainName
 name_within namespace id = record { base = id; path = path_within namespace }
 
--- the names that a base name after a path may stand for in a namespace: without a path the name in the namespace and then the name itself, with one itself alone
+-- the names that a base name after a path may stand for in a namespace: without a path the name in the namespace and
+-- then the name itself, with one itself alone
 abbrev pub names_within : PlainName → Text → List Text → List PlainName
 names_within namespace base [] = name_within (Some namespace) base ∷ record { base = base; path = [] } ∷ []
 names_within namespace base (part ∷ path) = record { base = base; path = part ∷ path } ∷ []

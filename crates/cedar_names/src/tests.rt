@@ -1,3 +1,5 @@
+//! Tests of fragments and of their names.
+
 use crate::below::{Id, InternalName, Loc, Memory, Name, NonEmpty, UnreservedId};
 use crate::json_schema::{
     ActionEntityUID, ActionType, ApplySpec, AttributesOrContext, CommonType, CommonTypeId,

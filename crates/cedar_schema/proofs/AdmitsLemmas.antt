@@ -68,9 +68,10 @@ mutual
   members_have_admitted defined extensions one admits_no_member as_no_member = tt
   members_have_admitted defined extensions one (admits_missing {values = values} {name = name} missing rest) (as_member {ty = ty} first others) =
       (entry_missing (λ value. Has extensions value ty) (entry_at name values) missing, members_have_admitted defined extensions one rest others)
-  members_have_admitted defined extensions one (admits_there {values = values} {name = name} {required = required} value there admitted rest) (as_member {ty = ty} first others) =
-      (entry_of (λ each. Has extensions each ty) required (entry_at name values) value there (has_admitted defined extensions one admitted first),
-        members_have_admitted defined extensions one rest others)
+  members_have_admitted defined extensions one (admits_there {values = values} {name = name} {required = required} value there admitted rest) (as_member {ty = ty} first others) = (
+    entry_of (λ each. Has extensions each ty) required (entry_at name values) value there (has_admitted defined extensions one admitted first),
+    members_have_admitted defined extensions one rest others,
+  )
 
 -- an attribute is admitted in a record as it is found there
 entry_admitted : (defined : Defined) (extensions : Extensions) (values : Entries) (name : Text) (required : Bool) (expr : Expr) (rest : Members) (ty : Ty) (found : Option Tree) → entry_at name values ≡ found → ((value : Tree) → Has extensions value ty → Admits defined extensions value expr) → EntryFits (λ value. Has extensions value ty) required found → AdmitsMembers defined extensions values rest → AdmitsMembers defined extensions values (member name required expr rest)

@@ -58,13 +58,13 @@ extensions_once [] plain distinct word twice = twice
 extensions_once (first ∷ rest) plain distinct word twice =
     ⊎_elim
     (λ here.
-      let found = entry_name rest word here.1 in
-      let first_plain : IsUnqualified first = plain zero first (omega arith) in
-      let found_plain : IsUnqualified found.0 = All-contains IsUnqualified rest found.0 (All-tail IsUnqualified first rest plain) found.1 in
-      let same : first ≡ found.0 = same_unqualified first found.0 first_plain found_plain (here.0 ∙ sym found.2) in
-      Twice-distinct (first ∷ rest) found.0 distinct (inl (same, found.1)))
+    let found = entry_name rest word here.1 in
+    let first_plain : IsUnqualified first = plain zero first (omega arith) in
+    let found_plain : IsUnqualified found.0 = All-contains IsUnqualified rest found.0 (All-tail IsUnqualified first rest plain) found.1 in
+    let same : first ≡ found.0 = same_unqualified first found.0 first_plain found_plain (here.0 ∙ sym found.2) in
+    Twice-distinct (first ∷ rest) found.0 distinct (inl (same, found.1)))
     (λ later. extensions_once rest (All-tail IsUnqualified first rest plain)
-      (λ i j d below within. distinct (suc i) (suc j) d (omega (arith, below)) (omega (arith, within))) word later)
+    (λ i j d below within. distinct (suc i) (suc j) d (omega (arith, below)) (omega (arith, within))) word later)
     twice
 
 -- no built-in base name stands for two types
@@ -73,12 +73,12 @@ built_in_once extensions fit word twice =
     let names = extension_types extensions in
     ⊎_elim (words_once word)
     (λ others. ⊎_elim
-      (extensions_once names fit.unqualified fit.distinct word)
-      (λ both.
-        let found = entry_name names word both.1 in
-        let P : Text → Type 0 = Contains core_type_words in
-        All-contains (λ name. ¬ Contains core_type_words name.base) names found.0 fit.free found.1 (subst P (sym found.2) both.0))
-      others)
+    (extensions_once names fit.unqualified fit.distinct word)
+    (λ both.
+    let found = entry_name names word both.1 in
+    let P : Text → Type 0 = Contains core_type_words in
+    All-contains (λ name. ¬ Contains core_type_words name.base) names found.0 fit.free found.1 (subst P (sym found.2) both.0))
+    others)
     (Twice-append core_type_words (map (λ entry. entry.0) (extension_entries names)) word twice)
 
 -- what stands twice among images stands twice among the items, where the images tell them apart
@@ -125,17 +125,18 @@ declared_plainly (it ∷ rest) name body plain among =
     (λ later. or_later _ (is_declared_here rest name.base) (declared_plainly rest name body plain later))
     (Contains-append_cases (common_in (declared_name it) it.body) (declared_common rest) (name, body) among)
   where
-  or_later : (b c : Bool) → c ≡ true → (b || c) ≡ true
-  or_later true c is = refl
-  or_later false c is = is
-  here_declared : (it : Declaration) (rest : Bag) (name : PlainName) (body : Expr) → IsUnqualified name → (of : Body) → it.body ≡ of → Contains (common_in (declared_name it) of) (name, body) → is_declared_here (it ∷ rest) name.base ≡ true
-  here_declared it rest name body plain (common_type definition) is here =
-      let named : declared_name it ≡ name = ⊎_elim (λ same. ap (λ each. each.0) same) (λ none. absurd (omega (arith, none.1))) (Contains-cons_cases (declared_name it, definition) [] (name, body) here) in
-      let none : it.namespace ≡ None = no_path it.namespace (ap (λ each. each.path) named ∙ plain) in
-      all_or (is_none it.namespace) (is_type it.body) (bytes_eq name.base it.id) (is_declared_here rest name.base)
-      (ap is_none none) (ap is_type is) ((bytes_eq-Decides name.base it.id).1 (ap (λ each. each.base) (sym named)))
-  here_declared it rest name body plain (entity_type other) is here = absurd (omega (arith, here.1))
-  here_declared it rest name body plain (action other) is here = absurd (omega (arith, here.1))
+    or_later : (b c : Bool) → c ≡ true → (b || c) ≡ true
+    or_later true c is = refl
+    or_later false c is = is
+
+    here_declared : (it : Declaration) (rest : Bag) (name : PlainName) (body : Expr) → IsUnqualified name → (of : Body) → it.body ≡ of → Contains (common_in (declared_name it) of) (name, body) → is_declared_here (it ∷ rest) name.base ≡ true
+    here_declared it rest name body plain (common_type definition) is here =
+        let named : declared_name it ≡ name = ⊎_elim (λ same. ap (λ each. each.0) same) (λ none. absurd (omega (arith, none.1))) (Contains-cons_cases (declared_name it, definition) [] (name, body) here) in
+        let none : it.namespace ≡ None = no_path it.namespace (ap (λ each. each.path) named ∙ plain) in
+        all_or (is_none it.namespace) (is_type it.body) (bytes_eq name.base it.id) (is_declared_here rest name.base)
+        (ap is_none none) (ap is_type is) ((bytes_eq-Decides name.base it.id).1 (ap (λ each. each.base) (sym named)))
+    here_declared it rest name body plain (entity_type other) is here = absurd (omega (arith, here.1))
+    here_declared it rest name body plain (action other) is here = absurd (omega (arith, here.1))
 
 -- an alias stands for what a built-in type does whose base name no type in the empty namespace has
 pub alias_of : (bag : Bag) (extensions : Extensions) (name : PlainName) (body : Expr) → Contains (aliases bag extensions) (name, body) → Contains (built_in_types extensions) (name.base, body) × IsUnqualified name × (is_declared_here bag name.base ≡ false)
@@ -148,9 +149,9 @@ alias_of bag extensions name body among =
     let Q : Text → Type 0 = λ each. is_declared_here bag each ≡ false in
     (subst P (λ i. (word i, (found.2 i).1)) passed.0, ap (λ each. each.0.path) (sym found.2), subst Q word (not_true (is_declared_here bag found.0.0) passed.1))
   where
-  not_true : (b : Bool) → not b ≡ true → b ≡ false
-  not_true true is = absurd (false≢true is)
-  not_true false is = refl
+    not_true : (b : Bool) → not b ≡ true → b ≡ false
+    not_true true is = absurd (false≢true is)
+    not_true false is = refl
 
 -- a built-in type has the reserved word before its base name
 pub built_in_path : (extensions : Extensions) (name : PlainName) (body : Expr) → Contains (built_ins extensions) (name, body) → IsUnqualified name → ⊥
@@ -158,8 +159,8 @@ built_in_path extensions name body among plain =
     let found = Contains-preimage (λ it. (built_in_name it.0, it.1)) (built_in_types extensions) (name, body) among in
     qualified (ap (λ each. each.0.path) found.2 ∙ plain)
   where
-  qualified : reserved_word ∷ [] ≡ [] → ⊥
-  qualified wrong = cc
+    qualified : reserved_word ∷ [] ≡ [] → ⊥
+    qualified wrong = cc
 
 -- an alias and what is declared or built in have different names
 alias_apart : (bag : Bag) (extensions : Extensions) (name : PlainName) (body other : Expr) → Contains (aliases bag extensions) (name, body) → Contains (declared_common bag ++ built_ins extensions) (name, other) → ⊥
@@ -179,13 +180,13 @@ pub one_definition : (bag : Bag) (extensions : Extensions) → TypeNamesFit (ext
 one_definition bag extensions fit once name body other among among' =
     ⊎_elim
     (λ here. ⊎_elim
-      (λ here'. value_once (declared_common bag ++ built_ins extensions) once name body other here here')
-      (λ alias'. absurd (alias_apart bag extensions name other body alias' here))
-      (common_cases bag extensions (name, other) among'))
+    (λ here'. value_once (declared_common bag ++ built_ins extensions) once name body other here here')
+    (λ alias'. absurd (alias_apart bag extensions name other body alias' here))
+    (common_cases bag extensions (name, other) among'))
     (λ alias. ⊎_elim
-      (λ here'. absurd (alias_apart bag extensions name body other alias here'))
-      (λ alias'. value_once (built_in_types extensions) (built_in_once extensions fit) name.base body other (alias_of bag extensions name body alias).0 (alias_of bag extensions name other alias').0)
-      (common_cases bag extensions (name, other) among'))
+    (λ here'. absurd (alias_apart bag extensions name body other alias here'))
+    (λ alias'. value_once (built_in_types extensions) (built_in_once extensions fit) name.base body other (alias_of bag extensions name body alias).0 (alias_of bag extensions name other alias').0)
+    (common_cases bag extensions (name, other) among'))
     (common_cases bag extensions (name, body) among)
 
 -- what a built-in base name stands for refers to nothing
@@ -206,11 +207,11 @@ pub refers_declared : (bag : Bag) (extensions : Extensions) (name : PlainName) (
 refers_declared bag extensions name body reference among refers =
     ⊎_elim
     (λ here. ⊎_elim
-      (λ declared. declared)
-      (λ built_in.
-        let found = Contains-preimage (λ it. (built_in_name it.0, it.1)) (built_in_types extensions) (name, body) built_in in
-        let P : Expr → Type 0 = λ each. Refers each reference in
-        absurd (built_in_refers extensions found.0.0 found.0.1 reference found.1 (subst P (ap (λ each. each.1) (sym found.2)) refers)))
-      (Contains-append_cases (declared_common bag) (built_ins extensions) (name, body) here))
+    (λ declared. declared)
+    (λ built_in.
+    let found = Contains-preimage (λ it. (built_in_name it.0, it.1)) (built_in_types extensions) (name, body) built_in in
+    let P : Expr → Type 0 = λ each. Refers each reference in
+    absurd (built_in_refers extensions found.0.0 found.0.1 reference found.1 (subst P (ap (λ each. each.1) (sym found.2)) refers)))
+    (Contains-append_cases (declared_common bag) (built_ins extensions) (name, body) here))
     (λ alias. absurd (built_in_refers extensions name.base body reference (alias_of bag extensions name body alias).0 refers))
     (common_cases bag extensions (name, body) among)

@@ -20,4 +20,3 @@ chain_of_chains Step Other each a b (more {b = c} step rest) = chain_after Other
 pub last_step : {A : Type 0} (Step : A → A → Type 0) (a b : A) → Chain Step a b → (c : A) × Step c b
 last_step Step a b (one step) = (a, step)
 last_step Step a b (more {b = c} step rest) = last_step Step c b rest
-

@@ -19,11 +19,11 @@ entity_declaration (it ∷ rest) name body among =
     (λ later. let other = entity_declaration rest name body later in (other.0, Contains-cons it rest other.0 (inr other.1), other.2))
     (Contains-append_cases (entity_in (declared_name it) it.body) (declared_entities rest) (name, body) among)
   where
-  found : (of : Body) → it.body ≡ of → Contains (entity_in (declared_name it) of) (name, body) → it.body ≡ entity_type body
-  found (common_type definition) is here = absurd (omega (arith, here.1))
-  found (entity_type other) is here =
-      ⊎_elim (λ same. is ∙ ap (λ (each : PlainName × EntityBody). entity_type each.1) same) (λ nothing. absurd (omega (arith, nothing.1))) (Contains-cons_cases (declared_name it, other) [] (name, body) here)
-  found (action other) is here = absurd (omega (arith, here.1))
+    found : (of : Body) → it.body ≡ of → Contains (entity_in (declared_name it) of) (name, body) → it.body ≡ entity_type body
+    found (common_type definition) is here = absurd (omega (arith, here.1))
+    found (entity_type other) is here =
+        ⊎_elim (λ same. is ∙ ap (λ (each : PlainName × EntityBody). entity_type each.1) same) (λ nothing. absurd (omega (arith, nothing.1))) (Contains-cons_cases (declared_name it, other) [] (name, body) here)
+    found (action other) is here = absurd (omega (arith, here.1))
 
 -- an action that is declared is so by a declaration of the bag
 pub action_declaration : (bag : Bag) (uid : PlainUid) (body : ActionBody) → Contains (declared_actions bag) (uid, body) → (it : Declaration) × Contains bag it × (it.body ≡ action body) × (declared_uid it ≡ uid)
@@ -34,11 +34,11 @@ action_declaration (it ∷ rest) uid body among =
     (λ later. let other = action_declaration rest uid body later in (other.0, Contains-cons it rest other.0 (inr other.1), other.2, other.3))
     (Contains-append_cases (action_in (declared_uid it) it.body) (declared_actions rest) (uid, body) among)
   where
-  found : (of : Body) → it.body ≡ of → Contains (action_in (declared_uid it) of) (uid, body) → (it.body ≡ action body) × (declared_uid it ≡ uid)
-  found (common_type definition) is here = absurd (omega (arith, here.1))
-  found (entity_type other) is here = absurd (omega (arith, here.1))
-  found (action other) is here =
-      ⊎_elim (λ same. (is ∙ ap (λ (each : PlainUid × ActionBody). action each.1) same, ap (λ (each : PlainUid × ActionBody). each.0) same)) (λ nothing. absurd (omega (arith, nothing.1))) (Contains-cons_cases (declared_uid it, other) [] (uid, body) here)
+    found : (of : Body) → it.body ≡ of → Contains (action_in (declared_uid it) of) (uid, body) → (it.body ≡ action body) × (declared_uid it ≡ uid)
+    found (common_type definition) is here = absurd (omega (arith, here.1))
+    found (entity_type other) is here = absurd (omega (arith, here.1))
+    found (action other) is here =
+        ⊎_elim (λ same. (is ∙ ap (λ (each : PlainUid × ActionBody). action each.1) same, ap (λ (each : PlainUid × ActionBody). each.0) same)) (λ nothing. absurd (omega (arith, nothing.1))) (Contains-cons_cases (declared_uid it, other) [] (uid, body) here)
 
 -- a common type that is declared is so by a declaration of the bag
 pub common_declaration : (bag : Bag) (name : PlainName) (definition : Expr) → Contains (declared_common bag) (name, definition) → (it : Declaration) × Contains bag it × (it.body ≡ common_type definition)
@@ -49,9 +49,8 @@ common_declaration (it ∷ rest) name definition among =
     (λ later. let other = common_declaration rest name definition later in (other.0, Contains-cons it rest other.0 (inr other.1), other.2))
     (Contains-append_cases (common_in (declared_name it) it.body) (declared_common rest) (name, definition) among)
   where
-  found : (of : Body) → it.body ≡ of → Contains (common_in (declared_name it) of) (name, definition) → it.body ≡ common_type definition
-  found (common_type other) is here =
-      ⊎_elim (λ same. is ∙ ap (λ (each : PlainName × Expr). common_type each.1) same) (λ nothing. absurd (omega (arith, nothing.1))) (Contains-cons_cases (declared_name it, other) [] (name, definition) here)
-  found (entity_type other) is here = absurd (omega (arith, here.1))
-  found (action other) is here = absurd (omega (arith, here.1))
-
+    found : (of : Body) → it.body ≡ of → Contains (common_in (declared_name it) of) (name, definition) → it.body ≡ common_type definition
+    found (common_type other) is here =
+        ⊎_elim (λ same. is ∙ ap (λ (each : PlainName × Expr). common_type each.1) same) (λ nothing. absurd (omega (arith, nothing.1))) (Contains-cons_cases (declared_name it, other) [] (name, definition) here)
+    found (entity_type other) is here = absurd (omega (arith, here.1))
+    found (action other) is here = absurd (omega (arith, here.1))

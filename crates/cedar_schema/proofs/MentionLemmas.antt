@@ -103,9 +103,9 @@ is_type_name-Decides name ty =
 known_or_not : (extensions : Extensions) (name : PlainName) → Contains (extension_types extensions) name ⊎ (Contains (extension_types extensions) name → ⊥)
 known_or_not extensions name =
     by (list_any (is_type_name name) extensions.types.items) (list_any-Contains plain_name name (is_type_name name) (is_type_name-Decides name) extensions.types.items) where
-  by : (answer : Bool) → Decides answer (Contains (extension_types extensions) name) → Contains (extension_types extensions) name ⊎ (Contains (extension_types extensions) name → ⊥)
-  by true decides = inl (decides.0 refl)
-  by false decides = inr (λ among. false≢true (decides.1 among))
+      by : (answer : Bool) → Decides answer (Contains (extension_types extensions) name) → Contains (extension_types extensions) name ⊎ (Contains (extension_types extensions) name → ⊥)
+      by true decides = inl (decides.0 refl)
+      by false decides = inr (λ among. false≢true (decides.1 among))
 
 -- where the bag isn't ill-formed, what counts mentions known extension types alone
 pub known_counted : (bag : Bag) (extensions : Extensions) → (IsIllFormed bag extensions → ⊥) → (expr : Expr) → IsCounted bag expr → IsKnown extensions expr
@@ -133,15 +133,14 @@ pub known_common : (bag : Bag) (extensions : Extensions) → TypeNamesFit (exten
 known_common bag extensions fit well name body among =
     ⊎_elim
     (λ here. ⊎_elim
-      (λ declared.
-        (let found = common_declaration bag name body declared in
-         let P : Body → Type 0 = λ each. CountsIn each body in
-         known_counted bag extensions well body (found.0, found.1, subst P (sym found.2) refl)))
-      (λ built_in.
-        (let found = Contains-preimage (λ it. (built_in_name it.0, it.1)) (built_in_types extensions) (name, body) built_in in
-         let P : Expr → Type 0 = IsKnown extensions in
-         subst P (ap (λ each. each.1) found.2) (known_built_in extensions fit found.0.0 found.0.1 found.1)))
-      (Contains-append_cases (declared_common bag) (built_ins extensions) (name, body) here))
+    (λ declared.
+    (let found = common_declaration bag name body declared in
+    let P : Body → Type 0 = λ each. CountsIn each body in
+    known_counted bag extensions well body (found.0, found.1, subst P (sym found.2) refl)))
+    (λ built_in.
+    (let found = Contains-preimage (λ it. (built_in_name it.0, it.1)) (built_in_types extensions) (name, body) built_in in
+    let P : Expr → Type 0 = IsKnown extensions in
+    subst P (ap (λ each. each.1) found.2) (known_built_in extensions fit found.0.0 found.0.1 found.1)))
+    (Contains-append_cases (declared_common bag) (built_ins extensions) (name, body) here))
     (λ alias. known_built_in extensions fit name.base body (alias_of bag extensions name body alias).0)
     (common_cases bag extensions (name, body) among)
-

@@ -26,8 +26,8 @@ declarations_here = entity_declarations RawName (raw_reference None) None
 pub part_bag : (definition : NamespaceDefinition RawName) → IsInPart definition → raw_declarations None definition ≡ declarations_here definition.entity_types.entries
 part_bag definition part =
     (λ i. common_declarations RawName (raw_reference None) None (part.no_common_types i)
-      ++ declarations_here definition.entity_types.entries
-      ++ action_declarations RawName (raw_reference None) None (part.no_actions i))
+    ++ declarations_here definition.entity_types.entries
+    ++ action_declarations RawName (raw_reference None) None (part.no_actions i))
     ∙ append-nil (declarations_here definition.entity_types.entries)
 
 -- they declare no common type
@@ -65,8 +65,8 @@ pub no_action_declared : (entries : Entries) (it : Declaration) (body : ActionBo
 no_action_declared entries it body among is =
     let found = is_entity_declaration entries it among in
     unlike _ _ (sym found.2 ∙ is) where
-  unlike : (entity : EntityBody) (body : ActionBody) → entity_type entity ≡ action body → ⊥
-  unlike entity body wrong = cc
+      unlike : (entity : EntityBody) (body : ActionBody) → entity_type entity ≡ action body → ⊥
+      unlike entity body wrong = cc
 
 -- an expression that counts does so in what is declared of an entity type
 pub counted_in_entity : (entries : Entries) (expr : Expr) → IsCounted (declarations_here entries) expr → IsCountedEntity (declared_by_entries entries) expr

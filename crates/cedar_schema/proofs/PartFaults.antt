@@ -46,9 +46,9 @@ plain_of (entry ∷ rest) plain entity (suc k, below, is) = plain_of rest plain.
 alone_in : (body : EntityBody) (expr : Expr) → IsPlainStandard body → CountsInEntity body expr → NamesEntitiesAlone expr
 alone_in (standard parents shape tags) expr plain counts =
     ⊎_elim (λ is. subst NamesEntitiesAlone is plain.2) (λ is. absurd (no_tags tags expr plain.1 is)) counts where
-  no_tags : (tags : Option Expr) (expr : Expr) → tags ≡ None → tags ≡ Some expr → ⊥
-  no_tags None expr none is = cc
-  no_tags (Some tag) expr none is = cc
+      no_tags : (tags : Option Expr) (expr : Expr) → tags ≡ None → tags ≡ Some expr → ⊥
+      no_tags None expr none is = cc
+      no_tags (Some tag) expr none is = cc
 alone_in (enumerated choices) expr plain counts = absurd plain
 alone_in (external parents) expr plain counts = absurd plain
 
@@ -119,17 +119,24 @@ module _ (entries : Entries) (extensions : Extensions) (plain : ArePlain entries
   -- a fault of the entity types is one of the bag
   pub fault_of_bag : (fault : Fault) → IsEntityFault (declared_by_entries entries) fault → IsFault (declarations_here entries) extensions fault
   fault_of_bag open_record at_fault = (at_fault.0, counted_of_entity entries at_fault.0 at_fault.1, at_fault.2)
-  fault_of_bag (type_not_defined references) at_fault =
-      (at_fault.0, λ reference listed.
+  fault_of_bag (type_not_defined references) at_fault = (
+    at_fault.0,
+    λ reference listed.
         (let found = at_fault.1 reference listed in
-         let alone = refers_to_entity found.0 reference (counted_alone entries plain found.0 found.1) found.2 in
-         (inl (found.0, counted_of_entity entries found.0 found.1, found.2),
-           unresolved_like (defined_by (declared_by_entries entries)) (defined_names (declarations_here entries) extensions) (sym (same_entities entries extensions)) reference alone found.3)))
+        let alone = refers_to_entity found.0 reference (counted_alone entries plain found.0 found.1) found.2 in (
+          inl (found.0, counted_of_entity entries found.0 found.1, found.2),
+          unresolved_like (defined_by (declared_by_entries entries)) (defined_names (declarations_here entries) extensions) (sym (same_entities entries extensions)) reference alone found.3,
+        )),
+  )
   fault_of_bag (action_entity_type name) at_fault = (at_fault.0, declared_from entries (name, at_fault.0) at_fault.1, at_fault.2)
   fault_of_bag (shape_not_record name) at_fault =
-      let alone = shape_alone entries plain name at_fault.0 at_fault.1 at_fault.2 at_fault.3 in
-      (at_fault.0, at_fault.1, at_fault.2, declared_from entries (name, standard at_fault.0 at_fault.1 at_fault.2) at_fault.3,
-        no_record_back entries extensions at_fault.1 alone at_fault.4)
+      let alone = shape_alone entries plain name at_fault.0 at_fault.1 at_fault.2 at_fault.3 in (
+        at_fault.0,
+        at_fault.1,
+        at_fault.2,
+        declared_from entries (name, standard at_fault.0 at_fault.1 at_fault.2) at_fault.3,
+        no_record_back entries extensions at_fault.1 alone at_fault.4,
+      )
   fault_of_bag _ at_fault = absurd at_fault
 
 -- the entity types are declared in the order of their names
@@ -153,16 +160,18 @@ module _ (entries : Entries) (extensions : Extensions) (plain : ArePlain entries
       let found = some_first names at_fault.0 in
       let named = at_fault.1 found.0 found.1 in
       absurd (no_place entries plain named.1 named.2)
-  entity_fault_of (type_not_defined references) at_fault =
-      (at_fault.0, λ reference listed.
+  entity_fault_of (type_not_defined references) at_fault = (
+    at_fault.0,
+    λ reference listed.
         (let found = at_fault.1 reference listed in
-         ⊎_elim
-         (λ counts.
-           (let counted = counted_in_entity entries counts.0 counts.1 in
-            let alone = refers_to_entity counts.0 reference (counted_alone entries plain counts.0 counted) counts.2 in
-            (counts.0, counted, counts.2, unresolved_like (defined_names (declarations_here entries) extensions) (defined_by (declared_by_entries entries)) (same_entities entries extensions) reference alone found.1)))
-         (λ placed. absurd (no_place entries plain reference placed))
-         found.0))
+        ⊎_elim
+        (λ counts.
+        (let counted = counted_in_entity entries counts.0 counts.1 in
+        let alone = refers_to_entity counts.0 reference (counted_alone entries plain counts.0 counted) counts.2 in
+        (counts.0, counted, counts.2, unresolved_like (defined_names (declarations_here entries) extensions) (defined_by (declared_by_entries entries)) (same_entities entries extensions) reference alone found.1)))
+        (λ placed. absurd (no_place entries plain reference placed))
+        found.0),
+  )
   entity_fault_of (action_not_defined actions) at_fault =
       let found = some_first actions at_fault.0 in
       let unknown = at_fault.1 found.0 found.1 in
@@ -188,9 +197,13 @@ module _ (entries : Entries) (extensions : Extensions) (plain : ArePlain entries
       absurd (no_common_step entries extensions name step.0 step.1)
   entity_fault_of (action_entity_type name) at_fault = (at_fault.0, declared_to entries (name, at_fault.0) at_fault.1, at_fault.2)
   entity_fault_of (shape_not_record name) at_fault =
-      let among = declared_to entries (name, standard at_fault.0 at_fault.1 at_fault.2) at_fault.3 in
-      (at_fault.0, at_fault.1, at_fault.2, among,
-        no_record_like entries extensions at_fault.1 (shape_alone entries plain name at_fault.0 at_fault.1 at_fault.2 among) at_fault.4)
+      let among = declared_to entries (name, standard at_fault.0 at_fault.1 at_fault.2) at_fault.3 in (
+        at_fault.0,
+        at_fault.1,
+        at_fault.2,
+        among,
+        no_record_like entries extensions at_fault.1 (shape_alone entries plain name at_fault.0 at_fault.1 at_fault.2 among) at_fault.4,
+      )
   entity_fault_of (context_not_record uid) at_fault = absurd (no_action_in entries (uid, at_fault.0) at_fault.4)
   entity_fault_of (unknown_extension_type name) at_fault =
       let counted = counted_in_entity entries at_fault.0 at_fault.1 in
@@ -201,8 +214,8 @@ module _ (entries : Entries) (extensions : Extensions) (plain : ArePlain entries
       ⊎_elim
       (λ type_here. absurd (omega (arith, (subst Q (no_path_here entries name (subst P (just_entities entries) type_here)) at_fault.1).1)))
       (λ action_type.
-        (let found = Contains-preimage (λ uid. uid.ty) (action_uids (declarations_here entries)) name action_type in
-         absurd (no_action_among (λ it. it.0) entries found.0 found.1)))
+      (let found = Contains-preimage (λ uid. uid.ty) (action_uids (declarations_here entries)) name action_type in
+      absurd (no_action_among (λ it. it.0) entries found.0 found.1)))
       at_fault.0
   entity_fault_of (external_below_enumerated lower upper) at_fault =
       absurd (plain_of entries plain (lower, external at_fault.0) (declared_to entries (lower, external at_fault.0) at_fault.2))

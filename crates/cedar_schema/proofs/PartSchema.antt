@@ -53,10 +53,10 @@ declaration_of defined (entity ∷ declared) (first ∷ entries) entry each (suc
 kind_like : (defined other : Defined) → defined.entities ≡ other.entities → (body : EntityBody) (kind : Kind) → IsPlainStandard body → KindFits defined body kind → KindFits other body kind
 kind_like defined other same (standard parents shape tags) (standard_kind fields tag ty) plain fits =
     (written_like defined other same plain.2 fits.0, fits.1, tags_like tags ty plain.1 fits.2) where
-  tags_like : (tags : Option Expr) (ty : Option Ty) → tags ≡ None → TagsFit defined tags ty → TagsFit other tags ty
-  tags_like None None none fits = tt
-  tags_like None (Some ty) none fits = absurd fits
-  tags_like (Some tag) ty none fits = absurd cc
+      tags_like : (tags : Option Expr) (ty : Option Ty) → tags ≡ None → TagsFit defined tags ty → TagsFit other tags ty
+      tags_like None None none fits = tt
+      tags_like None (Some ty) none fits = absurd fits
+      tags_like (Some tag) ty none fits = absurd cc
 kind_like defined other same (standard parents shape tags) (enumerated_kind choices) plain fits = absurd fits
 kind_like defined other same (standard parents shape tags) external_kind plain fits = absurd fits
 kind_like defined other same (enumerated choices) kind plain fits = absurd plain
@@ -100,15 +100,15 @@ schema_of_part entries extensions schema plain ascending each =
     let S : List PlainName → Type 0 = λ here. (name : PlainName) → Contains here name → Contains (map (λ (it : PlainName × SchemaEntityType). it.0) (schema_entity_types schema)) name in
     record {
       entity_types = λ it among.
-        (let entry = Contains-preimage plain_entry types it among in
-         let found = declaration_of (defined_by declared) declared types entry.0 each entry.1 in
-         subst Q entry.2 (declared_entry entries extensions plain found.0 entry.0 found.1 found.2));
+          (let entry = Contains-preimage plain_entry types it among in
+          let found = declaration_of (defined_by declared) declared types entry.0 each entry.1 in
+          subst Q entry.2 (declared_entry entries extensions plain found.0 entry.0 found.1 found.2));
       each_entity_type = subst R (sym (just_entities entries)) (subst S names (λ name among. among));
       entity_types_in_order = subst P (sym names) ascending;
       actions = λ it among. absurd (omega (arith, among.1));
       each_action = λ uid among.
-        (let found = Contains-preimage (λ (it : PlainUid × ActionBody). it.0) (declared_actions (declarations_here entries)) uid among in
-         absurd (no_action_in entries found.0 found.1));
+          (let found = Contains-preimage (λ (it : PlainUid × ActionBody). it.0) (declared_actions (declarations_here entries)) uid among in
+          absurd (no_action_in entries found.0 found.1));
       actions_in_order = tt;
       action_entities = λ it among. absurd (omega (arith, among.1));
       each_action_entity = λ uid defined. absurd (no_action_in entries (uid, defined.0) defined.4);

@@ -1,13 +1,13 @@
 -- The references of raw fragments fit their places.
-use Rattle.std.proofs.Common.{◌≡◌, ◌⊎◌, Bool, true, false, List, [], ◌∷◌, ◌++◌, Option, None, Some, map, ap, sym, subst, refl, inl, inr, ⊎_elim, arith, Contains}
+use Rattle.std.proofs.Common.{◌≡◌, Bool, true, false, List, [], ◌∷◌, ◌++◌, Option, None, Some, map, ap, sym, subst, refl, inl, inr, ⊎_elim, arith, Contains}
 use Rattle.std.proofs.lemmas.List.Elements.{Contains-append_cases}
 use Rattle.std.specs.List.{flat_map}
 use Rattle.std.specs.Option.{option_map}
 use Rattle.cedar_below.proofs.Lists.{Contains-cons}
 use Rattle.cedar_below.specs.Name.{plain_name}
 use Rattle.cedar_below.specs.PlainName.{PlainName}
-use Rattle.cedar_names.specs.ActionBody.{Requests, requests, elsewhere, requests_by}
-use Rattle.cedar_names.specs.Declaration.{Declaration, Body, common_declarations, entity_declarations, action_declarations, raw_declarations, raw_fragment, raw_bag}
+use Rattle.cedar_names.specs.ActionBody.{requests_by}
+use Rattle.cedar_names.specs.Declaration.{Declaration, common_declarations, entity_declarations, action_declarations, raw_declarations, raw_fragment, raw_bag}
 use Rattle.cedar_names.specs.EntityBody.{kind_body}
 use Rattle.cedar_names.specs.RawExpr.{raw_reference}
 use Rattle.cedar_names.specs.Reference.{Reference}
@@ -60,9 +60,9 @@ module _ (namespace : Option PlainName) where
       let actions = action_declarations RawName (raw_reference namespace) namespace definition.actions.entries in
       ⊎_elim
       (λ types. ⊎_elim
-        (λ here. let found = Contains-preimage _ definition.common_types.entries it here in absurd (subst P (sym found.2) place))
-        (λ here. let found = Contains-preimage _ definition.entity_types.entries it here in parents_fit found.0.1.kind found.0.1.external reference (subst P (sym found.2) place))
-        (Contains-append_cases common entities it types))
+      (λ here. let found = Contains-preimage _ definition.common_types.entries it here in absurd (subst P (sym found.2) place))
+      (λ here. let found = Contains-preimage _ definition.entity_types.entries it here in parents_fit found.0.1.kind found.0.1.external reference (subst P (sym found.2) place))
+      (Contains-append_cases common entities it types))
       (λ here. let found = Contains-preimage _ definition.actions.entries it here in requests_fit found.0.1.external found.0.1.applies_to reference (subst P (sym found.2) place))
       (Contains-append_cases (common ++ entities) actions it among)
 

@@ -42,20 +42,21 @@ value_once (first ∷ rest) once key value other among among' =
     let keys = map (λ entry. entry.0) rest in
     ⊎_elim
     (λ here. ⊎_elim
-      (λ here'. ap (λ entry. entry.1) (sym here ∙ here'))
-      (λ later'. absurd (once key (inl (ap (λ entry. entry.0) here, Contains-image (λ entry. entry.0) rest (key, other) later'))))
-      (Contains-cons_cases first rest (key, other) among'))
+    (λ here'. ap (λ entry. entry.1) (sym here ∙ here'))
+    (λ later'. absurd (once key (inl (ap (λ entry. entry.0) here, Contains-image (λ entry. entry.0) rest (key, other) later'))))
+    (Contains-cons_cases first rest (key, other) among'))
     (λ later. ⊎_elim
-      (λ here'. absurd (once key (inl (ap (λ entry. entry.0) here', Contains-image (λ entry. entry.0) rest (key, value) later))))
-      (λ later'. value_once rest (λ each twice. once each (inr twice)) key value other later later')
-      (Contains-cons_cases first rest (key, other) among'))
+    (λ here'. absurd (once key (inl (ap (λ entry. entry.0) here', Contains-image (λ entry. entry.0) rest (key, value) later))))
+    (λ later'. value_once rest (λ each twice. once each (inr twice)) key value other later later')
+    (Contains-cons_cases first rest (key, other) among'))
     (Contains-cons_cases first rest (key, value) among)
 
 -- an item that a test keeps stands in the list, and passes
 pub Contains-filter : {A : Type 0} (p : A → Bool) (xs : List A) (x : A) → Contains (filter p xs) x → Contains xs x × (p x ≡ true)
-Contains-filter p xs x among =
-    (All-contains (Contains xs) (filter p xs) x (All-filter p (Contains xs) xs (All-contains_itself xs)) among,
-      All-contains (λ each. p each ≡ true) (filter p xs) x (filter_passes p xs) among)
+Contains-filter p xs x among = (
+  All-contains (Contains xs) (filter p xs) x (All-filter p (Contains xs) xs (All-contains_itself xs)) among,
+  All-contains (λ each. p each ≡ true) (filter p xs) x (filter_passes p xs) among,
+)
 
 -- no item stands twice in a list that ascends
 pub Twice-ascending : {A : Type 0} (R : A → A → Ordering) → IsTotalOrder R → (xs : List A) (x : A) → IsStrictlySortedBy R xs → Twice xs x → ⊥

@@ -145,9 +145,10 @@ same_in_turn : {A K : Type 0} (key : A → K) (P : A → Type 0) (R : A → A �
 same_in_turn key P R same [] [] keys each each' = tt
 same_in_turn key P R same [] (other ∷ others) keys each each' = absurd cc
 same_in_turn key P R same (it ∷ items) [] keys each each' = absurd cc
-same_in_turn key P R same (it ∷ items) (other ∷ others) keys each each' =
-    (same it other (ap (first_of (key it)) keys) (each it (Contains-cons it items it (inl refl))) (each' other (Contains-cons other others other (inl refl))),
-      same_in_turn key P R same items others (ap rest_of keys) (λ x among. each x (Contains-cons it items x (inr among))) (λ x among. each' x (Contains-cons other others x (inr among))))
+same_in_turn key P R same (it ∷ items) (other ∷ others) keys each each' = (
+  same it other (ap (first_of (key it)) keys) (each it (Contains-cons it items it (inl refl))) (each' other (Contains-cons other others other (inl refl))),
+  same_in_turn key P R same items others (ap rest_of keys) (λ x among. each x (Contains-cons it items x (inr among))) (λ x among. each' x (Contains-cons other others x (inr among))),
+)
 
 -- keys that are all among those of another list, if each item of it is declared and each that is declared is there
 keys_included : {A K : Type 0} (key : A → K) (Q : K → Type 0) (items others : List A) → ((it : A) → Contains items it → Q (key it)) → ((k : K) → Q k → Contains (map key others) k) → (k : K) → Contains (map key items) k → Contains (map key others) k
@@ -194,24 +195,24 @@ types_admit bag extensions fit well schema declared =
     let one = one_of_well_formed bag extensions fit well in
     let fits = λ (name : PlainName) (body : EntityBody) (it : SchemaEntityType) (among : Contains (declared_entities bag) (name, body)) (there : Contains schema.entity_types (name, it)).
     (let found = declared.entity_types (name, it) there in
-     let P : EntityBody → Type 0 = λ each. KindFits defined each it.kind in
-     subst P (value_once (declared_entities bag) (λ each twice. well (duplicate_entity_type each, twice)) name found.body body found.declared among) found.kind) in
+    let P : EntityBody → Type 0 = λ each. KindFits defined each it.kind in
+    subst P (value_once (declared_entities bag) (λ each twice. well (duplicate_entity_type each, twice)) name found.body body found.declared among) found.kind) in
     record {
       attributes = λ name parents shape tags it fields tag tag_ty among there is.
-        (let P : Kind → Type 0 = KindFits defined (standard parents shape tags) in
-         let kind_fits = subst P is (fits name (standard parents shape tags) it among there) in
-         let Q : OpenTag → Type 0 = λ each. AdmitsTheSame bag extensions shape (record_of fields each) in
-         subst Q (sym kind_fits.1) (admits_the_same bag extensions one shape (record_of fields ClosedAttributes) kind_fits.0));
+          (let P : Kind → Type 0 = KindFits defined (standard parents shape tags) in
+          let kind_fits = subst P is (fits name (standard parents shape tags) it among there) in
+          let Q : OpenTag → Type 0 = λ each. AdmitsTheSame bag extensions shape (record_of fields each) in
+          subst Q (sym kind_fits.1) (admits_the_same bag extensions one shape (record_of fields ClosedAttributes) kind_fits.0));
       tags = λ name parents shape tags it fields tag tag_ty among there is.
-        (let P : Kind → Type 0 = KindFits defined (standard parents shape (Some tags)) in
-         let kind_fits = subst P is (fits name (standard parents shape (Some tags)) it among there) in
-         admits_the_same bag extensions one tags tag_ty kind_fits.2);
+          (let P : Kind → Type 0 = KindFits defined (standard parents shape (Some tags)) in
+          let kind_fits = subst P is (fits name (standard parents shape (Some tags)) it among there) in
+          admits_the_same bag extensions one tags tag_ty kind_fits.2);
       contexts = λ uid body principals resources context it principal_types resource_types ty among applies there is.
-        (let found = declared.actions (uid, it) there in
-         let same = value_once (declared_actions bag) (λ each twice. well (duplicate_action each, twice)) uid found.body body found.declared among in
-         let P : ActionBody → Type 0 = λ each. ActionKindFits defined each.applies_to it.kind in
-         let Q : Requests → Type 0 = λ each. ActionKindFits defined each it.kind in
-         let R : ActionKind → Type 0 = ActionKindFits defined (requests principals resources context) in
-         let kind_fits = subst R is (subst Q applies (subst P same found.kind)) in
-         admits_the_same bag extensions one context ty kind_fits.2);
+          (let found = declared.actions (uid, it) there in
+          let same = value_once (declared_actions bag) (λ each twice. well (duplicate_action each, twice)) uid found.body body found.declared among in
+          let P : ActionBody → Type 0 = λ each. ActionKindFits defined each.applies_to it.kind in
+          let Q : Requests → Type 0 = λ each. ActionKindFits defined each it.kind in
+          let R : ActionKind → Type 0 = ActionKindFits defined (requests principals resources context) in
+          let kind_fits = subst R is (subst Q applies (subst P same found.kind)) in
+          admits_the_same bag extensions one context ty kind_fits.2);
     }

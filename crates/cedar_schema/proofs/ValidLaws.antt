@@ -56,11 +56,11 @@ module _ (bag : Bag) (extensions : Extensions) (schema : PlainSchema) (declared 
   pub declared_closed : IsClosedSchema schema
   declared_closed = record {
     entity_types = λ lower upper chain.
-      (let last = last_step (ListsDescendant schema) lower upper chain in
-       (last.1.0, last.1.1, ((declared.entity_types (upper, last.1.0) last.1.1).descendants lower).1 (reached_descendant lower upper chain)));
+        (let last = last_step (ListsDescendant schema) lower upper chain in
+        (last.1.0, last.1.1, ((declared.entity_types (upper, last.1.0) last.1.1).descendants lower).1 (reached_descendant lower upper chain)));
     actions = λ lower upper chain.
-      (let last = last_step (ListsDescendantAction schema) lower upper chain in
-       (last.1.0, last.1.1, ((declared.actions (upper, last.1.0) last.1.1).descendants lower).1 (reached_action lower upper chain)));
+        (let last = last_step (ListsDescendantAction schema) lower upper chain in
+        (last.1.0, last.1.1, ((declared.actions (upper, last.1.0) last.1.1).descendants lower).1 (reached_action lower upper chain)));
   }
 
 module _ (bag : Bag) (extensions : Extensions) (schema : PlainSchema) (fit : TypeNamesFit (extension_types extensions)) (places : PlacesFit bag) (well : IsIllFormed bag extensions → ⊥) (declared : IsDeclaredSchema bag extensions schema) where
@@ -70,8 +70,8 @@ module _ (bag : Bag) (extensions : Extensions) (schema : PlainSchema) (fit : Typ
       ⊎_elim
       (λ here. inl (declared.each_entity_type name here))
       (λ later.
-        (let found = Contains-preimage (λ uid. uid.ty) (action_uids bag) name later in
-         inr (found.0, declared.each_action found.0 found.1, found.2)))
+      (let found = Contains-preimage (λ uid. uid.ty) (action_uids bag) name later in
+      inr (found.0, declared.each_action found.0 found.1, found.2)))
       (Contains-append_cases (map (λ it. it.0) (declared_entities bag)) (map (λ uid. uid.ty) (action_uids bag)) name among)
 
   -- a declared action's type is that of actions
@@ -91,12 +91,12 @@ module _ (bag : Bag) (extensions : Extensions) (schema : PlainSchema) (fit : Typ
       (λ same. tags_written tags tag_ty fits.2 same)
       of_kind
     where
-    tags_written : (tags : Option Expr) (tag_ty : Option Ty) → TagsFit (defined_names bag extensions) tags tag_ty → tag_ty ≡ Some ty → (expr : Expr) × ((shape ≡ expr) ⊎ (tags ≡ Some expr)) × WrittenOut (defined_names bag extensions) expr ty
-    tags_written (Some expr) (Some other) written same =
-        let P : Option Ty → Type 0 = TagsFit (defined_names bag extensions) (Some expr) in (expr, inr refl, subst P same written)
-    tags_written (Some expr) None written same = absurd written
-    tags_written None (Some other) written same = absurd written
-    tags_written None None written same = absurd cc
+      tags_written : (tags : Option Expr) (tag_ty : Option Ty) → TagsFit (defined_names bag extensions) tags tag_ty → tag_ty ≡ Some ty → (expr : Expr) × ((shape ≡ expr) ⊎ (tags ≡ Some expr)) × WrittenOut (defined_names bag extensions) expr ty
+      tags_written (Some expr) (Some other) written same =
+          let P : Option Ty → Type 0 = TagsFit (defined_names bag extensions) (Some expr) in (expr, inr refl, subst P same written)
+      tags_written (Some expr) None written same = absurd written
+      tags_written None (Some other) written same = absurd written
+      tags_written None None written same = absurd cc
   kind_written (standard parents shape tags) (enumerated_kind choices) ty fits of_kind = absurd fits
   kind_written (standard parents shape tags) external_kind ty fits of_kind = absurd fits
   kind_written (enumerated choices) (standard_kind fields tag tag_ty) ty fits of_kind = absurd fits
@@ -119,17 +119,17 @@ module _ (bag : Bag) (extensions : Extensions) (schema : PlainSchema) (fit : Typ
   type_written ty type_in =
       ⊎_elim
       (λ of_entity.
-        (let it = declared.entity_types of_entity.0 of_entity.1 in
-         let found = kind_written it.body of_entity.0.1.kind ty it.kind of_entity.2 in
-         let declaration = entity_declaration bag of_entity.0.0 it.body it.declared in
-         let P : Body → Type 0 = λ body. CountsIn body found.0 in
-         (found.0, (declaration.0, declaration.1, subst P (sym declaration.2) found.1), found.2)))
+      (let it = declared.entity_types of_entity.0 of_entity.1 in
+      let found = kind_written it.body of_entity.0.1.kind ty it.kind of_entity.2 in
+      let declaration = entity_declaration bag of_entity.0.0 it.body it.declared in
+      let P : Body → Type 0 = λ body. CountsIn body found.0 in
+      (found.0, (declaration.0, declaration.1, subst P (sym declaration.2) found.1), found.2)))
       (λ of_action.
-        (let it = declared.actions of_action.0 of_action.1 in
-         let found = context_written it.body.applies_to of_action.0.1.kind ty it.kind of_action.2 in
-         let declaration = action_declaration bag of_action.0.0 it.body it.declared in
-         let P : Body → Type 0 = λ body. CountsIn body found.0 in
-         (found.0, (declaration.0, declaration.1, subst P (sym declaration.2) found.1), found.2)))
+      (let it = declared.actions of_action.0 of_action.1 in
+      let found = context_written it.body.applies_to of_action.0.1.kind ty it.kind of_action.2 in
+      let declaration = action_declaration bag of_action.0.0 it.body it.declared in
+      let P : Body → Type 0 = λ body. CountsIn body found.0 in
+      (found.0, (declaration.0, declaration.1, subst P (sym declaration.2) found.1), found.2)))
       type_in
 
   -- the name of an entity type of the schema is declared
@@ -152,27 +152,27 @@ module _ (bag : Bag) (extensions : Extensions) (schema : PlainSchema) (fit : Typ
   declared_external : (name : PlainName) → IsOfKind schema name IsExternal → (parents : List Reference) × Contains (declared_entities bag) (name, external parents)
   declared_external name (it, there, is_external) =
       let found = declared.entity_types (name, it) there in by found.body it.kind found.kind is_external found.declared where
-    by : (body : EntityBody) (kind : Kind) → KindFits (defined_names bag extensions) body kind → IsExternal kind → Contains (declared_entities bag) (name, body) → (parents : List Reference) × Contains (declared_entities bag) (name, external parents)
-    by (external parents) kind fits is_external among = (parents, among)
-    by (standard parents shape tags) (standard_kind fields tag tag_ty) fits is_external among = absurd is_external
-    by (standard parents shape tags) (enumerated_kind ids) fits is_external among = absurd fits
-    by (standard parents shape tags) external_kind fits is_external among = absurd fits
-    by (enumerated choices) (standard_kind fields tag tag_ty) fits is_external among = absurd fits
-    by (enumerated choices) (enumerated_kind ids) fits is_external among = absurd is_external
-    by (enumerated choices) external_kind fits is_external among = absurd fits
+        by : (body : EntityBody) (kind : Kind) → KindFits (defined_names bag extensions) body kind → IsExternal kind → Contains (declared_entities bag) (name, body) → (parents : List Reference) × Contains (declared_entities bag) (name, external parents)
+        by (external parents) kind fits is_external among = (parents, among)
+        by (standard parents shape tags) (standard_kind fields tag tag_ty) fits is_external among = absurd is_external
+        by (standard parents shape tags) (enumerated_kind ids) fits is_external among = absurd fits
+        by (standard parents shape tags) external_kind fits is_external among = absurd fits
+        by (enumerated choices) (standard_kind fields tag tag_ty) fits is_external among = absurd fits
+        by (enumerated choices) (enumerated_kind ids) fits is_external among = absurd is_external
+        by (enumerated choices) external_kind fits is_external among = absurd fits
 
   -- an enumerated entity type of the schema is declared as one
   declared_enumerated : (name : PlainName) → IsOfKind schema name IsEnumerated → (choices : List Text) × Contains (declared_entities bag) (name, enumerated choices)
   declared_enumerated name (it, there, is_enumerated) =
       let found = declared.entity_types (name, it) there in by found.body it.kind found.kind is_enumerated found.declared where
-    by : (body : EntityBody) (kind : Kind) → KindFits (defined_names bag extensions) body kind → IsEnumerated kind → Contains (declared_entities bag) (name, body) → (choices : List Text) × Contains (declared_entities bag) (name, enumerated choices)
-    by (enumerated choices) kind fits is_enumerated among = (choices, among)
-    by (standard parents shape tags) (standard_kind fields tag tag_ty) fits is_enumerated among = absurd is_enumerated
-    by (standard parents shape tags) (enumerated_kind ids) fits is_enumerated among = absurd fits
-    by (standard parents shape tags) external_kind fits is_enumerated among = absurd fits
-    by (external parents) (standard_kind fields tag tag_ty) fits is_enumerated among = absurd fits
-    by (external parents) (enumerated_kind ids) fits is_enumerated among = absurd fits
-    by (external parents) external_kind fits is_enumerated among = absurd is_enumerated
+        by : (body : EntityBody) (kind : Kind) → KindFits (defined_names bag extensions) body kind → IsEnumerated kind → Contains (declared_entities bag) (name, body) → (choices : List Text) × Contains (declared_entities bag) (name, enumerated choices)
+        by (enumerated choices) kind fits is_enumerated among = (choices, among)
+        by (standard parents shape tags) (standard_kind fields tag tag_ty) fits is_enumerated among = absurd is_enumerated
+        by (standard parents shape tags) (enumerated_kind ids) fits is_enumerated among = absurd fits
+        by (standard parents shape tags) external_kind fits is_enumerated among = absurd fits
+        by (external parents) (standard_kind fields tag tag_ty) fits is_enumerated among = absurd fits
+        by (external parents) (enumerated_kind ids) fits is_enumerated among = absurd fits
+        by (external parents) external_kind fits is_enumerated among = absurd is_enumerated
 
   -- a principal or a resource of an action of the schema is named at its place
   named_place : (it : PlainUid × SchemaAction) (name : PlainName) → Contains schema.actions it → IsPrincipalOrResourceOf it.1.kind name → (reference : Reference) × IsPlaced bag reference × ResolvesTo (defined_names bag extensions) reference name
@@ -183,15 +183,15 @@ module _ (bag : Bag) (extensions : Extensions) (schema : PlainSchema) (fit : Typ
       let P : Body → Type 0 = λ body. IsEntityPlace body place.0 in
       (place.0, (declaration.0, declaration.1, subst P (sym declaration.2) place.1), place.2)
     where
-    by : (body : Requests) (kind : ActionKind) → ActionKindFits (defined_names bag extensions) body kind → IsPrincipalOrResourceOf kind name → (reference : Reference) × IsPrincipalOrResource body reference × ResolvesTo (defined_names bag extensions) reference name
-    by (requests principals resources context) (defined_action ps rs ty) fits names =
-        ⊎_elim
-        (λ principal. let found = (fits.0 name).0 principal in (found.0, inl found.1, found.2))
-        (λ resource. let found = (fits.1 name).0 resource in (found.0, inr found.1, found.2))
-        names
-    by (requests principals resources context) external_action fits names = absurd names
-    by elsewhere (defined_action ps rs ty) fits names = absurd fits
-    by elsewhere external_action fits names = absurd names
+      by : (body : Requests) (kind : ActionKind) → ActionKindFits (defined_names bag extensions) body kind → IsPrincipalOrResourceOf kind name → (reference : Reference) × IsPrincipalOrResource body reference × ResolvesTo (defined_names bag extensions) reference name
+      by (requests principals resources context) (defined_action ps rs ty) fits names =
+          ⊎_elim
+          (λ principal. let found = (fits.0 name).0 principal in (found.0, inl found.1, found.2))
+          (λ resource. let found = (fits.1 name).0 resource in (found.0, inr found.1, found.2))
+          names
+      by (requests principals resources context) external_action fits names = absurd names
+      by elsewhere (defined_action ps rs ty) fits names = absurd fits
+      by elsewhere external_action fits names = absurd names
 
   -- what a reference at the place of an entity type resolves to can be named as one
   placed_entity : (reference : Reference) (name : PlainName) → IsPlaced bag reference → ResolvesTo (defined_names bag extensions) reference name → Contains (defined_names bag extensions).entities name
@@ -209,10 +209,15 @@ module _ (bag : Bag) (extensions : Extensions) (schema : PlainSchema) (fit : Typ
       ⊎_elim
       (λ known. known)
       (λ of_action.
-        (let is_action : IsActionType name = ap (λ (each : PlainName). each.base) (sym of_action.2) ∙ action_type of_action.0 of_action.1 in
-         let P : PlainName → Type 0 = λ each. IsActionType each × (reference : Reference) × IsPlaced bag reference × ResolvesTo (defined_names bag extensions) reference each in
-         absurd (well (undeclared_entity_types (name ∷ []), (λ none. cc,
-           λ each among. ⊎_elim (λ same. subst P same (is_action, place.0, place.1, place.2)) (λ nothing. absurd (omega (arith, nothing.1))) (Contains-cons_cases name [] each among))))))
+      (let is_action : IsActionType name = ap (λ (each : PlainName). each.base) (sym of_action.2) ∙ action_type of_action.0 of_action.1 in
+      let P : PlainName → Type 0 = λ each. IsActionType each × (reference : Reference) × IsPlaced bag reference × ResolvesTo (defined_names bag extensions) reference each in
+      absurd (well (
+        undeclared_entity_types (name ∷ []),
+        (
+          λ none. cc,
+          λ each among. ⊎_elim (λ same. subst P same (is_action, place.0, place.1, place.2)) (λ nothing. absurd (omega (arith, nothing.1))) (Contains-cons_cases name [] each among),
+        ),
+      ))))
       (entity_known name (placed_entity place.0 name place.1 place.2))
 
   -- a descendant that the schema lists is an entity type of it
@@ -247,23 +252,23 @@ module _ (bag : Bag) (extensions : Extensions) (schema : PlainSchema) (fit : Typ
   pub declared_valid : IsValidSchema extensions schema
   declared_valid = record {
     types_known = λ ty name type_in mentions.
-      (let found = type_written ty type_in in entity_known name (mentions_entity (defined_names bag extensions) found.2 name mentions));
+        (let found = type_written ty type_in in entity_known name (mentions_entity (defined_names bag extensions) found.2 name mentions));
     extensions_known = λ ty name type_in mentions.
-      (let found = type_written ty type_in in
-       known_written (defined_names bag extensions) extensions (known_common bag extensions fit well) found.2 (known_counted bag extensions well found.0 found.1) name mentions);
+        (let found = type_written ty type_in in
+        known_written (defined_names bag extensions) extensions (known_common bag extensions fit well) found.2 (known_counted bag extensions well found.0 found.1) name mentions);
     no_action_type = λ name has is_action. let found = declared_type name has in well (action_entity_type name, (found.0, found.1, is_action));
     action_uids = action_type;
     no_action_cycle = λ uid chain. well (action_cycle uid, reached_action bag extensions schema declared uid uid chain);
     no_external_below_enumerated = λ lower upper first second chain.
-      (let external_type = declared_external lower first in
-       let enumerated_type = declared_enumerated upper second in
-       well (external_below_enumerated lower upper, (external_type.0, enumerated_type.0, external_type.1, enumerated_type.1, reached_descendant bag extensions schema declared lower upper chain)));
+        (let external_type = declared_external lower first in
+        let enumerated_type = declared_enumerated upper second in
+        well (external_below_enumerated lower upper, (external_type.0, enumerated_type.0, external_type.1, enumerated_type.1, reached_descendant bag extensions schema declared lower upper chain)));
     no_enumerated_below = enumerated_below_none;
     descendants_known = descendant_known;
     requests_known = request_known;
     action_descendants_known = action_descendant_known;
     no_shadowed_type = λ name qualified first second plain not_plain not_reserved same.
-      well (type_shadowing name qualified, (among_types name first, among_types qualified second, plain, not_plain, not_reserved, same));
+        well (type_shadowing name qualified, (among_types name first, among_types qualified second, plain, not_plain, not_reserved, same));
     no_shadowed_action = λ uid qualified first second plain not_plain same.
-      well (action_shadowing uid qualified, (declared_action_uid uid first, declared_action_uid qualified second, plain, not_plain, same));
+        well (action_shadowing uid qualified, (declared_action_uid uid first, declared_action_uid qualified second, plain, not_plain, same));
   }

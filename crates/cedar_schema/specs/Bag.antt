@@ -89,11 +89,13 @@ alias_name word = record { base = word; path = [] }
 abbrev pub built_ins : Extensions → List (PlainName × Expr)
 built_ins extensions = map (λ it. (built_in_name it.0, it.1)) (built_in_types extensions)
 
--- the aliases: the built-in types under their base names alone, but for those of which a type is declared in the empty namespace
+-- the aliases: the built-in types under their base names alone, but for those of which a type is declared in the empty
+-- namespace
 abbrev pub aliases : Bag → Extensions → List (PlainName × Expr)
 aliases bag extensions = map (λ it. (alias_name it.0, it.1)) (filter (λ it. not (is_declared_here bag it.0)) (built_in_types extensions))
 
--- the names that a reference can name: of common types those that are declared, the built-in ones and the aliases; of entity types those that are declared, and the types of the declared actions
+-- the names that a reference can name: of common types those that are declared, the built-in ones and the aliases; of
+-- entity types those that are declared, and the types of the declared actions
 abbrev pub defined_names : Bag → Extensions → Defined
 defined_names bag extensions = record {
   common = declared_common bag ++ built_ins extensions ++ aliases bag extensions;

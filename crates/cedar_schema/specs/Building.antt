@@ -22,7 +22,8 @@ defined_in declarations = defined_by (declared_by_entries declarations.entries)
 abbrev pub IsExprFault : Defined → Expr → Fault → Type 0
 IsExprFault defined expr open_record = HasOpenRecord expr
 IsExprFault defined expr (type_not_defined references) =
-    (references ≢ []) × ((reference : Reference) → Contains references reference → Refers expr reference × IsUnresolved defined reference)
+    (references ≢ []) × ((reference : Reference) → Contains references reference → Refers expr reference
+    × IsUnresolved defined reference)
 IsExprFault defined expr want_of_memory = Unit {0}
 IsExprFault defined expr _ = ⊥
 

@@ -32,10 +32,12 @@ entity_parents (external parents) = parents
 
 -- the reference is to a principal or a resource of the requests
 abbrev pub IsPrincipalOrResource : Requests → Reference → Type 0
-IsPrincipalOrResource (requests principals resources context) reference = Contains principals reference ⊎ Contains resources reference
+IsPrincipalOrResource (requests principals resources context) reference = Contains principals reference
+    ⊎ Contains resources reference
 IsPrincipalOrResource elsewhere reference = ⊥
 
--- the reference has to name an entity type: it is to a parent of an entity type, external ones too, or to a principal or a resource of an action that isn't external
+-- the reference has to name an entity type: it is to a parent of an entity type, external ones too, or to a principal
+-- or a resource of an action that isn't external
 abbrev pub IsEntityPlace : Body → Reference → Type 0
 IsEntityPlace (common_type definition) reference = ⊥
 IsEntityPlace (entity_type body) reference = Contains (entity_parents body) reference

@@ -25,9 +25,11 @@ pub record IsDeclaredEntityType (bag : Bag) (extensions : Extensions) (it : Plai
 
 -- the name is that which some of the references resolves to
 abbrev pub IsNamedBy : Defined → List Reference → PlainName → Type 0
-IsNamedBy defined references name = (reference : Reference) × Contains references reference × ResolvesTo defined reference name
+IsNamedBy defined references name = (reference : Reference) × Contains references reference
+    × ResolvesTo defined reference name
 
--- the kind of an action is the declared one: the names of the principals and of the resources, and the context written out; or external
+-- the kind of an action is the declared one: the names of the principals and of the resources, and the context written
+-- out; or external
 abbrev pub ActionKindFits : Defined → Requests → ActionKind → Type 0
 ActionKindFits defined (requests principals resources context) (defined_action principal_types resource_types ty) =
     ((name : PlainName) → Contains principal_types name ↔ IsNamedBy defined principals name)
@@ -50,21 +52,27 @@ IsDefinedAction bag uid =
     (body : ActionBody) × (principals : List Reference) × (resources : List Reference) × (context : Expr)
     × Contains (declared_actions bag) (uid, body) × (body.applies_to ≡ requests principals resources context)
 
--- the entity is that of an action that is defined: without attributes and tags, and just below the actions whose descendant it is
+-- the entity is that of an action that is defined: without attributes and tags, and just below the actions whose
+-- descendant it is
 pub record IsEntityOfAction (bag : Bag) (it : ActionEntity) : Type 0 where
   pub defined : IsDefinedAction bag it.uid
   pub attributes : it.attributes ≡ no_entry
   pub tags : it.tags ≡ no_entry
   pub ancestors : (upper : PlainUid) → Contains it.ancestors upper ↔ IsDescendantAction bag it.uid upper
 
--- the schema is the one that the bag declares: it has just the declared entity types and actions, each once and as it is declared, and the entities of the defined actions
+-- the schema is the one that the bag declares: it has just the declared entity types and actions, each once and as it
+-- is declared, and the entities of the defined actions
 pub record IsDeclaredSchema (bag : Bag) (extensions : Extensions) (schema : PlainSchema) : Type 0 where
-  pub entity_types : (it : PlainName × SchemaEntityType) → Contains schema.entity_types it → IsDeclaredEntityType bag extensions it
-  pub each_entity_type : (name : PlainName) → Contains (map (λ it. it.0) (declared_entities bag)) name → Contains (map (λ it. it.0) schema.entity_types) name
+  pub entity_types : (it : PlainName × SchemaEntityType) → Contains schema.entity_types it
+      → IsDeclaredEntityType bag extensions it
+  pub each_entity_type : (name : PlainName) → Contains (map (λ it. it.0) (declared_entities bag)) name
+      → Contains (map (λ it. it.0) schema.entity_types) name
   pub entity_types_in_order : IsStrictlySortedBy name_cmp (map (λ it. it.0) schema.entity_types)
   pub actions : (it : PlainUid × SchemaAction) → Contains schema.actions it → IsDeclaredAction bag extensions it
-  pub each_action : (uid : PlainUid) → Contains (map (λ it. it.0) (declared_actions bag)) uid → Contains (map (λ it. it.0) schema.actions) uid
+  pub each_action : (uid : PlainUid) → Contains (map (λ it. it.0) (declared_actions bag)) uid
+      → Contains (map (λ it. it.0) schema.actions) uid
   pub actions_in_order : IsStrictlySortedBy uid_cmp (map (λ it. it.0) schema.actions)
   pub action_entities : (it : ActionEntity) → Contains schema.action_entities it → IsEntityOfAction bag it
-  pub each_action_entity : (uid : PlainUid) → IsDefinedAction bag uid → Contains (map (λ it. it.uid) schema.action_entities) uid
+  pub each_action_entity : (uid : PlainUid) → IsDefinedAction bag uid
+      → Contains (map (λ it. it.uid) schema.action_entities) uid
   pub action_entities_in_order : IsStrictlySortedBy uid_cmp (map (λ it. it.uid) schema.action_entities)

@@ -45,4 +45,5 @@ ResolvesTo defined reference name = IsFirstDefined defined reference.kind refere
 
 -- no possibility of the reference is defined in a kind that it permits
 abbrev pub IsUnresolved : Defined → Reference → Type 0
-IsUnresolved defined reference = (name : PlainName) → Contains reference.possibilities name → IsDefined defined reference.kind name → ⊥
+IsUnresolved defined reference = (name : PlainName) → Contains reference.possibilities name
+    → IsDefined defined reference.kind name → ⊥

@@ -11,7 +11,8 @@ use Rattle.cedar_schema.specs.Counted.{entity_parents}
 use Rattle.cedar_schema.specs.Defined.{ResolvesTo}
 use Rattle.cedar_schema.specs.Places.{IsFirst}
 
--- the reference to an action names the uid: of the names that its type may stand for the first under which its id is that of a declared action
+-- the reference to an action names the uid: of the names that its type may stand for the first under which its id is
+-- that of a declared action
 abbrev pub NamesAction : Bag → ActionReference → PlainUid → Type 0
 NamesAction bag reference uid =
     IsFirst (λ ty. Contains (action_uids bag) (record { ty = ty; eid = reference.id })) reference.ty.possibilities uid.ty × (uid.eid ≡ reference.id)
@@ -19,13 +20,15 @@ NamesAction bag reference uid =
 -- the reference to an action names nothing
 abbrev pub NamesNoAction : Bag → ActionReference → Type 0
 NamesNoAction bag reference =
-    (ty : PlainName) → Contains reference.ty.possibilities ty → Contains (action_uids bag) (record { ty = ty; eid = reference.id }) → ⊥
+    (ty : PlainName) → Contains reference.ty.possibilities ty
+    → Contains (action_uids bag) (record { ty = ty; eid = reference.id }) → ⊥
 
 -- the one entity type is declared with the other as a parent
 abbrev pub HasParent : Bag → Extensions → PlainName → PlainName → Type 0
 HasParent bag extensions lower upper =
     (body : EntityBody) × (reference : Reference)
-    × Contains (declared_entities bag) (lower, body) × Contains (entity_parents body) reference × ResolvesTo (defined_names bag extensions) reference upper
+    × Contains (declared_entities bag) (lower, body) × Contains (entity_parents body) reference
+    × ResolvesTo (defined_names bag extensions) reference upper
 
 -- the one action is declared with the other as a parent
 abbrev pub HasParentAction : Bag → PlainUid → PlainUid → Type 0

@@ -26,21 +26,27 @@ use Rattle.cedar_types.specs.declared.open_tag.OpenTag.{OpenTag}
 
 -- the type has just the values that the expression admits
 abbrev pub AdmitsTheSame : Bag → Extensions → Expr → Ty → Type 0
-AdmitsTheSame bag extensions expr ty = (value : Tree) → Has extensions value ty ↔ Admits (defined_names bag extensions) extensions value expr
+AdmitsTheSame bag extensions expr ty = (value : Tree) → Has extensions value ty
+    ↔ Admits (defined_names bag extensions) extensions value expr
 
--- the attributes of each standard entity type, its tags, and the context of each action have just the values that what is declared of them admits
+-- the attributes of each standard entity type, its tags, and the context of each action have just the values that what
+-- is declared of them admits
 pub record TypesAdmitTheDeclared (bag : Bag) (extensions : Extensions) (schema : PlainSchema) : Type 0 where
   pub attributes : (name : PlainName) (parents : List Reference) (shape : Expr) (tags : Option Expr) (it : SchemaEntityType) (fields : Fields) (tag : OpenTag) (tag_ty : Option Ty)
-      → Contains (declared_entities bag) (name, standard parents shape tags) → Contains schema.entity_types (name, it) → it.kind ≡ standard_kind fields tag tag_ty
+      → Contains (declared_entities bag) (name, standard parents shape tags) → Contains schema.entity_types (name, it)
+      → it.kind ≡ standard_kind fields tag tag_ty
       → AdmitsTheSame bag extensions shape (record_of fields tag)
   pub tags : (name : PlainName) (parents : List Reference) (shape tags : Expr) (it : SchemaEntityType) (fields : Fields) (tag : OpenTag) (tag_ty : Ty)
-      → Contains (declared_entities bag) (name, standard parents shape (Some tags)) → Contains schema.entity_types (name, it) → it.kind ≡ standard_kind fields tag (Some tag_ty)
+      → Contains (declared_entities bag) (name, standard parents shape (Some tags))
+      → Contains schema.entity_types (name, it) → it.kind ≡ standard_kind fields tag (Some tag_ty)
       → AdmitsTheSame bag extensions tags tag_ty
   pub contexts : (uid : PlainUid) (body : ActionBody) (principals resources : List Reference) (context : Expr) (it : SchemaAction) (principal_types resource_types : List PlainName) (ty : Ty)
-      → Contains (declared_actions bag) (uid, body) → body.applies_to ≡ requests principals resources context → Contains schema.actions (uid, it) → it.kind ≡ defined_action principal_types resource_types ty
+      → Contains (declared_actions bag) (uid, body) → body.applies_to ≡ requests principals resources context
+      → Contains schema.actions (uid, it) → it.kind ≡ defined_action principal_types resource_types ty
       → AdmitsTheSame bag extensions context ty
 
--- what a builder answers for a bag is right, want of memory aside: a refusal names a fault of the bag; otherwise nothing is at fault, the schema is the declared one and the only one, and its types have just the declared values
+-- what a builder answers for a bag is right, want of memory aside: a refusal names a fault of the bag; otherwise
+-- nothing is at fault, the schema is the declared one and the only one, and its types have just the declared values
 pub record IsBuiltFrom (bag : Bag) (extensions : Extensions) (answer : Result PlainSchema Fault) : Type 0 where
   pub fault : IfErr answer (λ fault. (fault ≡ want_of_memory) ⊎ IsFault bag extensions fault)
   pub well_formed : OnOk answer (IsIllFormed bag extensions → ⊥)
@@ -50,27 +56,33 @@ pub record IsBuiltFrom (bag : Bag) (extensions : Extensions) (answer : Result Pl
 
 -- a law: a bag that isn't ill-formed declares at most one schema
 abbrev pub BagsDeclareAtMostOneSchema : Type 0
-BagsDeclareAtMostOneSchema = (bag : Bag) (extensions : Extensions) → TypeNamesFit (extension_types extensions) → (IsIllFormed bag extensions → ⊥)
-    → (schema other : PlainSchema) → IsDeclaredSchema bag extensions schema → IsDeclaredSchema bag extensions other → SameSchema schema other
+BagsDeclareAtMostOneSchema = (bag : Bag) (extensions : Extensions) → TypeNamesFit (extension_types extensions)
+    → (IsIllFormed bag extensions → ⊥)
+    → (schema other : PlainSchema) → IsDeclaredSchema bag extensions schema → IsDeclaredSchema bag extensions other
+    → SameSchema schema other
 
 -- a law: the types of the schema that a bag declares which isn't ill-formed have just the declared values
 abbrev pub DeclaredTypesHaveTheDeclaredValues : Type 0
-DeclaredTypesHaveTheDeclaredValues = (bag : Bag) (extensions : Extensions) → TypeNamesFit (extension_types extensions) → (IsIllFormed bag extensions → ⊥)
+DeclaredTypesHaveTheDeclaredValues = (bag : Bag) (extensions : Extensions) → TypeNamesFit (extension_types extensions)
+    → (IsIllFormed bag extensions → ⊥)
     → (schema : PlainSchema) → IsDeclaredSchema bag extensions schema → TypesAdmitTheDeclared bag extensions schema
 
 -- a law to be proved: a bag that isn't ill-formed declares a schema
 abbrev pub BagsDeclareASchema : Type 0
-BagsDeclareASchema = (bag : Bag) (extensions : Extensions) → TypeNamesFit (extension_types extensions) → (IsIllFormed bag extensions → ⊥)
+BagsDeclareASchema = (bag : Bag) (extensions : Extensions) → TypeNamesFit (extension_types extensions)
+    → (IsIllFormed bag extensions → ⊥)
     → (schema : PlainSchema) × IsDeclaredSchema bag extensions schema
 
 -- a law to be proved: bags that are the same are ill-formed both or neither, and declare the same schemas
 abbrev pub SameBagsDeclareTheSame : Type 0
 SameBagsDeclareTheSame = (bag other : Bag) (extensions : Extensions) → SameBag bag other
-    → (IsIllFormed bag extensions ↔ IsIllFormed other extensions) × ((schema : PlainSchema) → IsDeclaredSchema bag extensions schema ↔ IsDeclaredSchema other extensions schema)
+    → (IsIllFormed bag extensions ↔ IsIllFormed other extensions)
+    × ((schema : PlainSchema) → IsDeclaredSchema bag extensions schema ↔ IsDeclaredSchema other extensions schema)
 
 -- a law: the schema that a bag declares is valid, where the bag isn't ill-formed and its references fit their places
 abbrev pub DeclaredSchemasAreValid : Type 0
-DeclaredSchemasAreValid = (bag : Bag) (extensions : Extensions) (schema : PlainSchema) → TypeNamesFit (extension_types extensions) → PlacesFit bag
+DeclaredSchemasAreValid = (bag : Bag) (extensions : Extensions) (schema : PlainSchema)
+    → TypeNamesFit (extension_types extensions) → PlacesFit bag
     → (IsIllFormed bag extensions → ⊥) → IsDeclaredSchema bag extensions schema → IsValidSchema extensions schema
 
 -- a law: the descendants of the schema that a bag declares are closed, so that validation gives it back unchanged

@@ -38,12 +38,14 @@ defined_by declared = record { common = []; entities = map (λ entity. entity.0)
 abbrev pub IsCounted : Declared → Expr → Type 0
 IsCounted declared expr = (entity : PlainName × EntityBody) × Contains declared entity × CountsInEntity entity.1 expr
 
--- the fault is in the declarations of entity types: an open record that counts, references that count and that nothing resolves, an entity type with the base name of actions, or a shape that is written out as no record
+-- the fault is in the declarations of entity types: an open record that counts, references that count and that nothing
+-- resolves, an entity type with the base name of actions, or a shape that is written out as no record
 abbrev pub IsEntityFault : Declared → Fault → Type 0
 IsEntityFault declared open_record = (expr : Expr) × IsCounted declared expr × HasOpenRecord expr
 IsEntityFault declared (type_not_defined references) =
     (references ≢ [])
-    × ((reference : Reference) → Contains references reference → (expr : Expr) × IsCounted declared expr × Refers expr reference × IsUnresolved (defined_by declared) reference)
+    × ((reference : Reference) → Contains references reference → (expr : Expr) × IsCounted declared expr
+    × Refers expr reference × IsUnresolved (defined_by declared) reference)
 IsEntityFault declared (action_entity_type name) = (body : EntityBody) × Contains declared (name, body) × IsActionType name
 IsEntityFault declared (shape_not_record name) =
     (parents : List Reference) × (shape : Expr) × (tags : Option Expr)

@@ -19,13 +19,15 @@ pub record Environment : Type 0 where
 -- the environment is of requests that an action is for: one of the principals with one of the resources, and the context
 abbrev pub IsRequest : Defined → Requests → Environment → Type 0
 IsRequest defined (requests principals resources context) it =
-    IsNamedBy defined principals it.principal × IsNamedBy defined resources it.resource × WrittenOut defined context it.context
+    IsNamedBy defined principals it.principal × IsNamedBy defined resources it.resource
+    × WrittenOut defined context it.context
 IsRequest defined elsewhere it = ⊥
 
 -- the environment is declared: it is of requests that its action is for
 abbrev pub IsEnvironment : Bag → Extensions → Environment → Type 0
 IsEnvironment bag extensions it =
-    (body : ActionBody) × Contains (declared_actions bag) (it.action, body) × IsRequest (defined_names bag extensions) body.applies_to it
+    (body : ActionBody) × Contains (declared_actions bag) (it.action, body)
+    × IsRequest (defined_names bag extensions) body.applies_to it
 
 -- the environments are just the declared ones, each once
 pub record AreEnvironments (bag : Bag) (extensions : Extensions) (environments : List Environment) : Type 0 where

@@ -19,7 +19,8 @@ TagsFit defined (Some expr) (Some ty) = WrittenOut defined expr ty
 TagsFit defined None None = Unit {0}
 TagsFit defined _ _ = ⊥
 
--- the kind is the one that is declared: closed attributes that are the shape written out, with its tags; the same choices; or external
+-- the kind is the one that is declared: closed attributes that are the shape written out, with its tags; the same
+-- choices; or external
 abbrev pub KindFits : Defined → EntityBody → Kind → Type 0
 KindFits defined (standard parents shape tags) (standard_kind fields tag ty) = WrittenOut defined shape (record_of fields ClosedAttributes) × (tag ≡ ClosedAttributes) × TagsFit defined tags ty
 KindFits defined (enumerated ids) (enumerated_kind choices) = ids ≡ choices
@@ -27,7 +28,8 @@ KindFits defined (external parents) external_kind = Unit {0}
 KindFits defined _ _ = ⊥
 
 -- the entity type of a schema is the one that is declared; nothing is declared to be below another, so it has no descendants
-pub record Fits (defined : Defined) (entity : PlainName × EntityBody) (entry : EntityType × ValidatorEntityType) : Type 0 where
+pub record Fits (defined : Defined) (entity : PlainName × EntityBody) (entry : EntityType
+    × ValidatorEntityType) : Type 0 where
   pub key : type_name entry.0 ≡ entity.0
   pub name : (entity_type_of entry.1).name ≡ entity.0
   pub kind : KindFits defined entity.1 (entity_type_of entry.1).kind

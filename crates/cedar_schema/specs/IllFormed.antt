@@ -24,35 +24,41 @@ use Rattle.cedar_schema.specs.WrittenOut.{IsNoRecord}
 -- an action of this id is declared with attributes in the namespace
 abbrev pub HasAttributes : Bag → Option PlainName → Text → Type 0
 HasAttributes bag namespace id =
-    (body : ActionBody) × Contains bag (record { namespace = namespace; id = id; body = action body }) × (body.has_attributes ≡ true)
+    (body : ActionBody) × Contains bag (record { namespace = namespace; id = id; body = action body })
+    × (body.has_attributes ≡ true)
 
 -- an action is declared with a parent of this id and type that names nothing
 abbrev pub HasUnknownParent : Bag → Text × Option Reference → Type 0
 HasUnknownParent bag carried =
     (uid : PlainUid) × (body : ActionBody) × (parent : ActionReference)
-    × Contains (declared_actions bag) (uid, body) × Contains body.parents parent × (carried ≡ (parent.id, Some parent.ty)) × NamesNoAction bag parent
+    × Contains (declared_actions bag) (uid, body) × Contains body.parents parent
+    × (carried ≡ (parent.id, Some parent.ty)) × NamesNoAction bag parent
 
 -- the definition of the one common type refers to the other
 abbrev pub RefersToCommon : Defined → PlainName → PlainName → Type 0
 RefersToCommon defined name other =
     (definition : Expr) × (reference : Reference) × (body : Expr)
-    × Contains defined.common (name, definition) × Refers definition reference × ResolvesTo defined reference other × IsCommon defined reference.kind other body
+    × Contains defined.common (name, definition) × Refers definition reference × ResolvesTo defined reference other
+    × IsCommon defined reference.kind other body
 
 -- the refusal names a fault of the bag, over the extensions that are handed in
 abbrev pub IsFault : Bag → Extensions → Fault → Type 0
 -- in one namespace each of these ids, in order, is that of an action with attributes
 IsFault bag extensions (action_attributes ids) =
-    (ids ≢ []) × IsStrictlySortedBy text_cmp ids × (namespace : Option PlainName) × ((id : Text) → Contains ids id → HasAttributes bag namespace id)
+    (ids ≢ []) × IsStrictlySortedBy text_cmp ids × (namespace : Option PlainName)
+    × ((id : Text) → Contains ids id → HasAttributes bag namespace id)
 -- a record type that admits further attributes counts
 IsFault bag extensions open_record = (expr : Expr) × IsCounted bag expr × HasOpenRecord expr
 -- each of these is an action's type that stands where an entity type has to
 IsFault bag extensions (undeclared_entity_types names) =
     (names ≢ [])
-    × ((name : PlainName) → Contains names name → IsActionType name × (reference : Reference) × IsPlaced bag reference × ResolvesTo (defined_names bag extensions) reference name)
+    × ((name : PlainName) → Contains names name → IsActionType name × (reference : Reference) × IsPlaced bag reference
+    × ResolvesTo (defined_names bag extensions) reference name)
 -- each of these has to name something and doesn't
 IsFault bag extensions (type_not_defined references) =
     (references ≢ [])
-    × ((reference : Reference) → Contains references reference → HasToResolve bag reference × IsUnresolved (defined_names bag extensions) reference)
+    × ((reference : Reference) → Contains references reference → HasToResolve bag reference
+    × IsUnresolved (defined_names bag extensions) reference)
 -- each of these is a parent of an action and names nothing
 IsFault bag extensions (action_not_defined actions) =
     (actions ≢ []) × ((carried : Text × Option Reference) → Contains actions carried → HasUnknownParent bag carried)
@@ -72,24 +78,29 @@ IsFault bag extensions (duplicate_action uid) = Twice (action_uids bag) uid
 IsFault bag extensions (action_cycle uid) = IsDescendantAction bag uid uid
 IsFault bag extensions (common_type_cycle name) = Chain (RefersToCommon (defined_names bag extensions)) name name
 -- an entity type is declared with the base name of actions' types
-IsFault bag extensions (action_entity_type name) = (body : EntityBody) × Contains (declared_entities bag) (name, body) × IsActionType name
+IsFault bag extensions (action_entity_type name) = (body : EntityBody) × Contains (declared_entities bag) (name, body)
+    × IsActionType name
 -- a shape or a context is written out as a type that is no record type
 IsFault bag extensions (shape_not_record name) =
     (parents : List Reference) × (shape : Expr) × (tags : Option Expr)
     × Contains (declared_entities bag) (name, standard parents shape tags) × IsNoRecord (defined_names bag extensions) shape
 IsFault bag extensions (context_not_record uid) =
     (body : ActionBody) × (principals : List Reference) × (resources : List Reference) × (context : Expr)
-    × Contains (declared_actions bag) (uid, body) × (body.applies_to ≡ requests principals resources context) × IsNoRecord (defined_names bag extensions) context
+    × Contains (declared_actions bag) (uid, body) × (body.applies_to ≡ requests principals resources context)
+    × IsNoRecord (defined_names bag extensions) context
 -- an extension type counts that wasn't handed in
 IsFault bag extensions (unknown_extension_type name) =
-    (expr : Expr) × IsCounted bag expr × MentionsExtension expr name.base × IsUnqualified name × (Contains (extension_types extensions) name → ⊥)
+    (expr : Expr) × IsCounted bag expr × MentionsExtension expr name.base × IsUnqualified name
+    × (Contains (extension_types extensions) name → ⊥)
 -- an entity type or an action is declared in a reserved namespace; of an action the name is that of its type
 IsFault bag extensions (reserved_name name) =
-    (Contains (map (λ it. it.0) (declared_entities bag)) name ⊎ Contains (map (λ uid. uid.ty) (action_uids bag)) name) × Contains name.path reserved_word
+    (Contains (map (λ it. it.0) (declared_entities bag)) name ⊎ Contains (map (λ uid. uid.ty) (action_uids bag)) name)
+    × Contains name.path reserved_word
 -- an external entity type is a descendant of an enumerated one
 IsFault bag extensions (external_below_enumerated lower upper) =
     (parents : List Reference) × (choices : List Text)
-    × Contains (declared_entities bag) (lower, external parents) × Contains (declared_entities bag) (upper, enumerated choices) × IsDescendant bag extensions lower upper
+    × Contains (declared_entities bag) (lower, external parents)
+    × Contains (declared_entities bag) (upper, enumerated choices) × IsDescendant bag extensions lower upper
 -- no other refusal is one of declarations
 IsFault bag extensions _ = ⊥
 

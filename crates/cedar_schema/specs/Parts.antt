@@ -49,4 +49,5 @@ abbrev mutual
   -- the same of some attribute of a record
   pub MembersMentionExtension : Members → Text → Type 0
   MembersMentionExtension no_member word = ⊥
-  MembersMentionExtension (member name required expr rest) word = MentionsExtension expr word ⊎ MembersMentionExtension rest word
+  MembersMentionExtension (member name required expr rest) word = MentionsExtension expr word
+      ⊎ MembersMentionExtension rest word

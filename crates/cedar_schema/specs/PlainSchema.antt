@@ -15,7 +15,8 @@ pub record SchemaEntityType : Type 0 where
   pub kind : Kind
   pub descendants : List PlainName
 
--- the requests that an action of a schema is for: their principals and resources, in some order, and their context; an external action has none of its own
+-- the requests that an action of a schema is for: their principals and resources, in some order, and their context; an
+-- external action has none of its own
 pub data ActionKind : Type 0 where
   defined_action : List PlainName → List PlainName → Ty → ActionKind
   external_action : ActionKind

@@ -24,7 +24,8 @@ SameRequests _ _ = ⊥
 -- the same is declared of an action; its parents are a set
 abbrev pub SameActionBody : ActionBody → ActionBody → Type 0
 SameActionBody it other =
-    (it.has_attributes ≡ other.has_attributes) × SameItems it.parents other.parents × SameRequests it.applies_to other.applies_to
+    (it.has_attributes ≡ other.has_attributes) × SameItems it.parents other.parents
+    × SameRequests it.applies_to other.applies_to
 
 -- the same is declared
 abbrev pub SameBody : Body → Body → Type 0

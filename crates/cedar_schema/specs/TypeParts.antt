@@ -26,4 +26,5 @@ abbrev mutual
   -- the extension type stands in the type of some attribute
   pub FieldsMentionExtensionType : Fields → PlainName → Type 0
   FieldsMentionExtensionType end name = ⊥
-  FieldsMentionExtensionType (field text required ty rest) name = MentionsExtensionType ty name ⊎ FieldsMentionExtensionType rest name
+  FieldsMentionExtensionType (field text required ty rest) name = MentionsExtensionType ty name
+      ⊎ FieldsMentionExtensionType rest name

@@ -9,21 +9,30 @@ use Rattle.cedar_types.specs.declared.bool_type.BoolType.TheVariants.{AnyBool}
 use Rattle.cedar_types.specs.declared.open_tag.OpenTag.TheVariants.{ClosedAttributes}
 
 mutual
-  -- the expression is written out as the type: a record as the closed record of the same names and flags, an entity type as the union of it alone, and a common type as whatever its definition is written out as; a name that is both is taken as the common type
+  -- the expression is written out as the type: a record as the closed record of the same names and flags, an entity
+  -- type as the union of it alone, and a common type as whatever its definition is written out as; a name that is both
+  -- is taken as the common type
   pub data WrittenOut (defined : Defined) : Expr → Ty → Type 0 where
     as_text : WrittenOut defined text_expr text
     as_long : WrittenOut defined long_expr long
     as_truth : WrittenOut defined truth_expr (truth AnyBool)
     as_set : {element : Expr} {ty : Ty} → WrittenOut defined element ty → WrittenOut defined (set_expr element) (set_of ty)
-    as_record : {members : Members} {fields : Fields} {additional : Bool} → MembersWrittenOut defined members fields → WrittenOut defined (record_expr members additional) (record_of fields ClosedAttributes)
-    as_entity : (reference : Reference) (name : PlainName) → ResolvesTo defined reference name → IsEntity defined reference.kind name → ((body : Expr) → IsCommon defined reference.kind name body → ⊥) → WrittenOut defined (named reference) (union_of (name ∷ []))
-    as_common : (reference : Reference) (name : PlainName) (body : Expr) {ty : Ty} → ResolvesTo defined reference name → IsCommon defined reference.kind name body → WrittenOut defined body ty → WrittenOut defined (named reference) ty
-    as_extension : (name : Text) → WrittenOut defined (extension_expr name) (extension_of (record { base = name; path = [] }))
+    as_record : {members : Members} {fields : Fields} {additional : Bool} → MembersWrittenOut defined members fields
+        → WrittenOut defined (record_expr members additional) (record_of fields ClosedAttributes)
+    as_entity : (reference : Reference) (name : PlainName) → ResolvesTo defined reference name
+        → IsEntity defined reference.kind name → ((body : Expr) → IsCommon defined reference.kind name body → ⊥)
+        → WrittenOut defined (named reference) (union_of (name ∷ []))
+    as_common : (reference : Reference) (name : PlainName) (body : Expr) {ty : Ty} → ResolvesTo defined reference name
+        → IsCommon defined reference.kind name body → WrittenOut defined body ty → WrittenOut defined (named reference) ty
+    as_extension : (name : Text)
+        → WrittenOut defined (extension_expr name) (extension_of (record { base = name; path = [] }))
 
   -- the same of the attributes of a record, each under its name and with its flag
   pub data MembersWrittenOut (defined : Defined) : Members → Fields → Type 0 where
     as_no_member : MembersWrittenOut defined no_member end
-    as_member : {name : Text} {required : Bool} {expr : Expr} {ty : Ty} {rest : Members} {fields : Fields} → WrittenOut defined expr ty → MembersWrittenOut defined rest fields → MembersWrittenOut defined (member name required expr rest) (field name required ty fields)
+    as_member : {name : Text} {required : Bool} {expr : Expr} {ty : Ty} {rest : Members} {fields : Fields}
+        → WrittenOut defined expr ty → MembersWrittenOut defined rest fields
+        → MembersWrittenOut defined (member name required expr rest) (field name required ty fields)
 
 -- the type is that of records
 abbrev pub IsRecordType : Ty → Type 0

@@ -1,28 +1,28 @@
 //! How a schema is built from declarations.
 
-ghost use Rattle.std.specs.Prelude.{◌≡◌, ◌⊎◌, ◌↔◌, IsTrue, IsSome, IfSome, IfOk, IfErr, OnOk, Contains, [], ◌∷◌, None, map};
 ghost use Rattle.cedar_below.specs.EntityType.{type_name};
 ghost use Rattle.cedar_below.specs.InternalName.{name_of};
 ghost use Rattle.cedar_below.specs.PlainName.{IsActionType, name_cmp};
+ghost use Rattle.cedar_names.specs.EntityBody.{raw_entity_body};
+ghost use Rattle.cedar_names.specs.Expr.{Expr, named};
 ghost use Rattle.cedar_names.specs.Part.{NamesEntitiesAlone, IsPlainStandard, IsInPart};
 ghost use Rattle.cedar_names.specs.RawExpr.{raw_expr, raw_variant, raw_record};
 ghost use Rattle.cedar_names.specs.RawName.{raw_name};
-ghost use Rattle.cedar_names.specs.EntityBody.{raw_entity_body};
-ghost use Rattle.cedar_names.specs.Expr.{Expr, named};
-ghost use Rattle.std.specs.List.{AllByRecursion};
-ghost use Rattle.std.specs.List.Sorted.{IsStrictlySortedBy};
-ghost use Rattle.cedar_types.specs.ValidatorEntityType.{entity_type_of, descendant_names};
 ghost use Rattle.cedar_names.specs.Reference.{reference_to};
 ghost use Rattle.cedar_names.specs.declared.json_schema.reference_type.ReferenceType.TheVariants.{Entity};
-ghost use Rattle.cedar_schema.specs.Counted.{CountsInEntity};
 ghost use Rattle.cedar_schema.specs.Building.{defined_in, IsExprFault, IsShapeFault, IsBodyFault, IsSound};
+ghost use Rattle.cedar_schema.specs.Counted.{CountsInEntity};
 ghost use Rattle.cedar_schema.specs.EntityFaults.{declared_by, name_here, IsEntityFault, defined_by};
-ghost use Rattle.cedar_schema.specs.Fits.{KindFits, FitEach};
 ghost use Rattle.cedar_schema.specs.Fault.{Fault, fault_of, want_of_memory, type_not_defined, action_entity_type};
+ghost use Rattle.cedar_schema.specs.Fits.{KindFits, FitEach};
 ghost use Rattle.cedar_schema.specs.Parts.{HasOpenRecord};
 ghost use Rattle.cedar_schema.specs.WrittenOut.{WrittenOut};
-ghost use Rattle.cedar_types.specs.Ty.{record_of};
 ghost use Rattle.cedar_types.specs.Meaning.{ty_of, fields_of};
+ghost use Rattle.cedar_types.specs.Ty.{record_of};
+ghost use Rattle.cedar_types.specs.ValidatorEntityType.{entity_type_of, descendant_names};
+ghost use Rattle.std.specs.List.Sorted.{IsStrictlySortedBy};
+ghost use Rattle.std.specs.List.{AllByRecursion};
+ghost use Rattle.std.specs.Prelude.{◌≡◌, ◌⊎◌, ◌↔◌, IsTrue, IsSome, IfSome, IfOk, IfErr, OnOk, Contains, [], ◌∷◌, None, map};
 
 use crate::schema_error::{ContextOrShape, SchemaError, UnsupportedFeature};
 use cedar_below::{EntityType, InternalName, Loc, M, Name, NonEmpty, UnreservedId};
@@ -45,7 +45,8 @@ fn declared_type(
     name: &InternalName,
     declarations: &Declarations,
 ) -> M<Option<EntityType>>
-    ensures declared { IfOk result (λ found. IsSome found ↔ Contains (defined_in declarations.now).entities (name_of name.now)) }
+    ensures declared { IfOk result (λ found. IsSome found
+        ↔ Contains (defined_in declarations.now).entities (name_of name.now)) }
     ensures name { IfOk result (λ found. IfSome found (λ ty. type_name ty ≡ name_of name.now)) }
 {
     if !name.is_unqualified() {
@@ -81,8 +82,10 @@ fn entity_reference(
     name: &RawName,
     declarations: &Declarations,
 ) -> Result<Type, SchemaError>
-    ensures written_out { IfOk result (λ written. WrittenOut (defined_in declarations.now) (named (reference_to None Entity (raw_name name.now))) (ty_of written)) }
-    ensures fault { IfErr result (λ error. IsExprFault (defined_in declarations.now) (named (reference_to None Entity (raw_name name.now))) (fault_of error)) }
+    ensures written_out { IfOk result (λ written.
+        WrittenOut (defined_in declarations.now) (named (reference_to None Entity (raw_name name.now))) (ty_of written)) }
+    ensures fault { IfErr result (λ error.
+        IsExprFault (defined_in declarations.now) (named (reference_to None Entity (raw_name name.now))) (fault_of error)) }
 {
     match declared_type(alloc, name.as_internal(), declarations)? {
         Some(ty) => Ok(Type::named_entity_reference(alloc, ty)?),
@@ -98,9 +101,11 @@ fn type_of(
     declarations: &Declarations,
 ) -> Result<Type, SchemaError>
     requires { NamesEntitiesAlone (raw_expr None ty.now) }
-    ensures written_out { IfOk result (λ written. WrittenOut (defined_in declarations.now) (raw_expr None ty.now) (ty_of written)) }
+    ensures written_out { IfOk result (λ written.
+        WrittenOut (defined_in declarations.now) (raw_expr None ty.now) (ty_of written)) }
     ensures closed { OnOk result (HasOpenRecord (raw_expr None ty.now) → ⊥) }
-    ensures fault { IfErr result (λ error. IsExprFault (defined_in declarations.now) (raw_expr None ty.now) (fault_of error)) }
+    ensures fault { IfErr result (λ error.
+        IsExprFault (defined_in declarations.now) (raw_expr None ty.now) (fault_of error)) }
 {
     match ty {
         json_schema::Type::Plain { ty, .. } => variant_of(alloc, ty, declarations),
@@ -116,9 +121,11 @@ fn variant_of(
     declarations: &Declarations,
 ) -> Result<Type, SchemaError>
     requires { NamesEntitiesAlone (raw_variant None ty.now) }
-    ensures written_out { IfOk result (λ written. WrittenOut (defined_in declarations.now) (raw_variant None ty.now) (ty_of written)) }
+    ensures written_out { IfOk result (λ written.
+        WrittenOut (defined_in declarations.now) (raw_variant None ty.now) (ty_of written)) }
     ensures closed { OnOk result (HasOpenRecord (raw_variant None ty.now) → ⊥) }
-    ensures fault { IfErr result (λ error. IsExprFault (defined_in declarations.now) (raw_variant None ty.now) (fault_of error)) }
+    ensures fault { IfErr result (λ error.
+        IsExprFault (defined_in declarations.now) (raw_variant None ty.now) (fault_of error)) }
 {
     match ty {
         TypeVariant::String => Ok(Type::primitive_string()),
@@ -146,9 +153,11 @@ fn attributes_of(
     declarations: &Declarations,
 ) -> Result<Attributes, SchemaError>
     requires { NamesEntitiesAlone (raw_record None record_type.now) }
-    ensures written_out { IfOk result (λ written. WrittenOut (defined_in declarations.now) (raw_record None record_type.now) (record_of (fields_of written) OpenTag.ClosedAttributes)) }
+    ensures written_out { IfOk result (λ written.
+        WrittenOut (defined_in declarations.now) (raw_record None record_type.now) (record_of (fields_of written) OpenTag.ClosedAttributes)) }
     ensures closed { OnOk result (HasOpenRecord (raw_record None record_type.now) → ⊥) }
-    ensures fault { IfErr result (λ error. IsExprFault (defined_in declarations.now) (raw_record None record_type.now) (fault_of error)) }
+    ensures fault { IfErr result (λ error.
+        IsExprFault (defined_in declarations.now) (raw_record None record_type.now) (fault_of error)) }
 {
     if record_type.additional_attributes {
         return Err(SchemaError::UnsupportedFeature(UnsupportedFeature::OpenRecordsAndEntities));
@@ -171,7 +180,8 @@ fn entity_type_name(
 ) -> Result<EntityType, SchemaError>
     ensures name { IfOk result (λ ty. type_name ty ≡ name_here id.now) }
     ensures no_action { OnOk result (IsActionType (name_here id.now) → ⊥) }
-    ensures fault { IfErr result (λ error. (fault_of error ≡ want_of_memory) ⊎ ((fault_of error ≡ action_entity_type (name_here id.now)) × IsActionType (name_here id.now))) }
+    ensures fault { IfErr result (λ error. (fault_of error ≡ want_of_memory)
+        ⊎ ((fault_of error ≡ action_entity_type (name_here id.now)) × IsActionType (name_here id.now))) }
 {
     let name = InternalName::new(id.clone()?.into_id(), Vec::new(alloc), loc);
     match Name::new(name) {
@@ -196,9 +206,11 @@ fn shape_attributes(
     declarations: &Declarations,
 ) -> Result<Attributes, SchemaError>
     requires { NamesEntitiesAlone (raw_expr None shape.now) }
-    ensures written_out { IfOk result (λ written. WrittenOut (defined_in declarations.now) (raw_expr None shape.now) (record_of (fields_of written) OpenTag.ClosedAttributes)) }
+    ensures written_out { IfOk result (λ written.
+        WrittenOut (defined_in declarations.now) (raw_expr None shape.now) (record_of (fields_of written) OpenTag.ClosedAttributes)) }
     ensures closed { OnOk result (HasOpenRecord (raw_expr None shape.now) → ⊥) }
-    ensures fault { IfErr result (λ error. IsShapeFault (defined_in declarations.now) (type_name name.now) (raw_expr None shape.now) (fault_of error)) }
+    ensures fault { IfErr result (λ error.
+        IsShapeFault (defined_in declarations.now) (type_name name.now) (raw_expr None shape.now) (fault_of error)) }
 {
     let written = type_of(alloc, shape, declarations)?;
     if let Type::Record { attrs, .. } = written {
@@ -216,10 +228,13 @@ fn entity_type(
 ) -> Result<ValidatorEntityType, SchemaError>
     requires { IsPlainStandard (raw_entity_body None declaration.now) }
     ensures name { IfOk result (λ ty. (entity_type_of ty).name ≡ type_name name) }
-    ensures kind { IfOk result (λ ty. KindFits (defined_in declarations.now) (raw_entity_body None declaration.now) (entity_type_of ty).kind) }
+    ensures kind { IfOk result (λ ty.
+        KindFits (defined_in declarations.now) (raw_entity_body None declaration.now) (entity_type_of ty).kind) }
     ensures no_descendants { IfOk result (λ ty. descendant_names ty ≡ []) }
-    ensures closed { OnOk result ((expr : Expr) → CountsInEntity (raw_entity_body None declaration.now) expr → HasOpenRecord expr → ⊥) }
-    ensures fault { IfErr result (λ error. IsBodyFault (defined_in declarations.now) (type_name name) (raw_entity_body None declaration.now) (fault_of error)) }
+    ensures closed { OnOk result ((expr : Expr) → CountsInEntity (raw_entity_body None declaration.now) expr
+        → HasOpenRecord expr → ⊥) }
+    ensures fault { IfErr result (λ error.
+        IsBodyFault (defined_in declarations.now) (type_name name) (raw_entity_body None declaration.now) (fault_of error)) }
 {
     let EntityTypeKind::Standard(standard) = &declaration.kind else {
         unreachable!();
@@ -243,10 +258,12 @@ pub(crate) fn entity_types(
     definition: &NamespaceDefinition<RawName>,
 ) -> Result<BTreeMap<EntityType, ValidatorEntityType>, SchemaError>
     requires { IsInPart definition.now }
-    ensures fits { IfOk result (λ types. FitEach (defined_by (declared_by definition.now)) (declared_by definition.now) types.entries) }
+    ensures fits { IfOk result (λ types.
+        FitEach (defined_by (declared_by definition.now)) (declared_by definition.now) types.entries) }
     ensures sound { OnOk result (AllByRecursion IsSound (declared_by definition.now)) }
     ensures in_order { OnOk result (IsStrictlySortedBy name_cmp (map (λ entity. entity.0) (declared_by definition.now))) }
-    ensures fault { IfErr result (λ error. (fault_of error ≡ want_of_memory) ⊎ IsEntityFault (declared_by definition.now) (fault_of error)) }
+    ensures fault { IfErr result (λ error. (fault_of error ≡ want_of_memory)
+        ⊎ IsEntityFault (declared_by definition.now) (fault_of error)) }
 {
     let mut types = BTreeMap::new(alloc);
     for (id, declaration) in definition.entity_types.iter() {

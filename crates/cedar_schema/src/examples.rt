@@ -18,14 +18,31 @@ ghost use Rattle.cedar_schema.specs.Counted.{HasToResolve};
 ghost use Rattle.cedar_schema.specs.Defined.{ResolvesTo};
 ghost use Rattle.cedar_schema.specs.Descent.{IsDescendant};
 ghost use Rattle.cedar_schema.specs.Fault.{
-    open_record, undeclared_entity_types, type_shadowing, duplicate_entity_type, common_type_cycle,
-    external_below_enumerated,
+  open_record,
+  undeclared_entity_types,
+  type_shadowing,
+  duplicate_entity_type,
+  common_type_cycle,
+  external_below_enumerated,
 };
 ghost use Rattle.cedar_schema.specs.IllFormed.{IsFault};
 ghost use Rattle.cedar_schema.specs.Samples.{
-    within_sample, refer_here, refer_within, entity_here, cycle_bag, both_bag, alias_bag, shadow_bag,
-    actions_bag, tint_bag, ring_bag, principal_bag, nested_bag, open_bag, external_bag,
-    optional_record,
+  within_sample,
+  refer_here,
+  refer_within,
+  entity_here,
+  cycle_bag,
+  both_bag,
+  alias_bag,
+  shadow_bag,
+  actions_bag,
+  tint_bag,
+  ring_bag,
+  principal_bag,
+  nested_bag,
+  open_bag,
+  external_bag,
+  optional_record,
 };
 ghost use Rattle.cedar_schema.specs.WrittenOut.{WrittenOut};
 ghost use Rattle.cedar_types.specs.Ty.{long, text, union_of};
@@ -86,7 +103,7 @@ pub fn duplicates_are_found()
         extensions (duplicate_entity_type (alias_name (codes "T"))) }
     ensures apart { (extensions : Extensions) → IsFault
         (entity_here (codes "T") [] no_member ∷ entity_here (codes "U") [] no_member
-            ∷ entity_here (codes "T") [] no_member ∷ [])
+        ∷ entity_here (codes "T") [] no_member ∷ [])
         extensions (duplicate_entity_type (alias_name (codes "T"))) }
     ensures once { (extensions : Extensions) → IsFault
         (entity_here (codes "T") [] no_member ∷ entity_here (codes "U") [] no_member ∷ [])
@@ -134,8 +151,8 @@ pub fn optional_attributes_may_be_missing()
         (map_value no_entry) optional_record }
     ensures there { (extensions : Extensions) (number : ℤ)
         → Admits (defined_names [] extensions) extensions
-            (map_value (entry (codes "a") (number_value number) no_entry)) optional_record }
+        (map_value (entry (codes "a") (number_value number) no_entry)) optional_record }
     ensures further { (extensions : Extensions) (number : ℤ)
         → Admits (defined_names [] extensions) extensions
-            (map_value (entry (codes "b") (number_value number) no_entry)) optional_record → ⊥ }
+        (map_value (entry (codes "b") (number_value number) no_entry)) optional_record → ⊥ }
 {}

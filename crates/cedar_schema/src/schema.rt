@@ -1,3 +1,5 @@
+//! Schemas: how one is built, and what it answers.
+
 ghost use Rattle.std.specs.Prelude.{◌≡◌, ◌⊎◌, [], IfOk, IfErr, OnOk, None, map};
 ghost use Rattle.std.specs.Option.{option_copied};
 ghost use Rattle.cedar_below.specs.EntityType.{type_name};
@@ -41,8 +43,11 @@ impl ValidatorSchema {
 
     /// The schema that a definition in the empty namespace declares, over the given extensions.
     ///
-    /// An error other than want of memory names a fault of the definition; where there is none, the
-    /// schema is the one that is declared.
+    /// The definition has to lie in the part that schemas are built from so far, which
+    /// [`NamespaceDefinition::in_part`] tests, and the names of the extension types have to fit, which
+    /// [`Extensions::type_names_fit`] tests. An error other than want of memory names a fault of the
+    /// declarations (Cedar's rules of schemas, with RFC 24 for resolution and RFC 70 for shadowing);
+    /// where there is none, the schema is the one that is declared, and the only one.
     pub fn from_namespace_def(
         alloc: Global,
         definition: NamespaceDefinition<RawName>,

@@ -1,3 +1,5 @@
+//! Why no schema is built.
+
 ghost use Rattle.std.specs.Prelude.{◌≡◌};
 ghost use Rattle.cedar_schema.specs.Fault.{fault_of, kind_text, want_of_memory};
 

@@ -11,8 +11,11 @@ ghost use Rattle.cedar_names.specs.declared.json_schema.raw_name.RawName.{RawNam
 ghost use Rattle.cedar_schema.specs.Bag.{Bag, defined_names};
 ghost use Rattle.cedar_schema.specs.Counted.{PlacesFit};
 ghost use Rattle.cedar_schema.specs.EndToEnd.{
-    AdmitsTheSame, BagsDeclareAtMostOneSchema, DeclaredSchemasAreClosed, DeclaredSchemasAreValid,
-    DeclaredTypesHaveTheDeclaredValues,
+  AdmitsTheSame,
+  BagsDeclareAtMostOneSchema,
+  DeclaredSchemasAreClosed,
+  DeclaredSchemasAreValid,
+  DeclaredTypesHaveTheDeclaredValues,
 };
 ghost use Rattle.cedar_schema.specs.IllFormed.{IsIllFormed};
 ghost use Rattle.cedar_schema.specs.PlainSchema.{schema_of};

@@ -1,12 +1,11 @@
 -- Entity types of schemas are equal exactly where they are the same, whatever their locations.
-use Rattle.std.proofs.Common.{◌≡◌, ◌&&◌, Bool, true, false, Option, Some, None, List, [], ◌∷◌, map, refl, ap, sym, ◌∙◌, nat_eq, string_bytes, Contains}
+use Rattle.std.proofs.Common.{◌≡◌, Bool, true, false, Option, Some, None, List, [], ◌∷◌, map, refl, ap, nat_eq}
 use Rattle.std.proofs.lemmas.Bool.{false≢true}
 use Rattle.std.proofs.lemmas.Bool.Decides.{Decides-and, Decides-like}
 use Rattle.std.proofs.lemmas.Map.Lookups.{hash_set_eq_decides}
 use Rattle.std.specs.Bool.{Decides}
 use Rattle.std.specs.Cmp.Lexicographic.{pointwise}
 use Rattle.std.specs.HashSet.{hash_set_eq}
-use Rattle.std.specs.List.{list_any}
 use Rattle.std.specs.Option.{option_eq, option_map}
 use Rattle.cedar_below.proofs.Names.{entity_type_eq-same}
 use Rattle.cedar_below.proofs.Texts.{text_eq-Decides}
@@ -15,12 +14,10 @@ use Rattle.cedar_below.specs.EntityType.{type_name}
 use Rattle.cedar_below.specs.contracts.entity_type.EntityTypeEq.TheImpl as entity_type_equal
 use Rattle.cedar_below.specs.contracts.entity_type.EntityTypePartialEq.TheImpl as name_eq
 use Rattle.cedar_below.specs.declared.eid.Eid.{Eid}
-use Rattle.cedar_below.specs.declared.entity_type.EntityType.{EntityType}
 use Rattle.cedar_types.proofs.EqualityLaws.{none, types-Decides, attributes-Decides, open_tag-Decides}
 use Rattle.cedar_types.proofs.MemberLemmas.{list_any-names, SameMembers-searches}
-use Rattle.cedar_types.specs.EntityTypeKind.{Kind, standard, enumerated, external, kind_of, standard_kind, kind_fields, kind_tag, kind_tags}
+use Rattle.cedar_types.specs.EntityTypeKind.{standard, enumerated, kind_of, kind_fields, kind_tag, kind_tags}
 use Rattle.cedar_types.specs.Meaning.{ty_of}
-use Rattle.cedar_types.specs.Ty.{Ty}
 use Rattle.cedar_types.specs.ValidatorEntityType.{PlainEntityType, entity_type_of, descendant_names, SameMembers}
 use Rattle.cedar_types.specs.contracts.entity_type.ValidatorEntityTypePartialEq.TheImpl as entity_type_eq
 use Rattle.cedar_types.specs.contracts.entity_type_kind.ValidatorEntityTypeKindPartialEq.TheImpl as kind_eq

@@ -1,15 +1,13 @@
 -- Types are equal exactly where they stand for the same plain type.
-use Rattle.std.proofs.Common.{◌≡◌, ◌&&◌, Bool, true, false, Option, Some, None, List, [], ◌∷◌, Global, map, refl, ap, sym, subst, ◌∙◌, string_bytes, ℕ, nat_eq, arith}
+use Rattle.std.proofs.Common.{◌≡◌, ◌&&◌, Bool, true, false, Some, None, List, [], ◌∷◌, Global, map, refl, ap, sym, subst, ◌∙◌, string_bytes, ℕ, nat_eq, arith}
 use Rattle.std.proofs.lemmas.Bool.{false≢true}
 use Rattle.std.proofs.lemmas.Bool.Decides.{Decides-and, Decides-like}
 use Rattle.std.proofs.lemmas.Simd.{map-map}
 use Rattle.std.specs.Bool.{Decides}
 use Rattle.std.specs.Cmp.Lexicographic.{pointwise}
-use Rattle.std.specs.declared.rc.Rc.{Rc}
 use Rattle.std.specs.declared.string.String.{String}
 use Rattle.cedar_below.proofs.Names.{name_eq-same}
 use Rattle.cedar_below.proofs.Texts.{text_eq-Decides}
-use Rattle.cedar_below.specs.Name.{plain_name}
 use Rattle.cedar_below.specs.Text.{Text}
 use Rattle.cedar_types.proofs.CompareLemmas.{ties_from, bool_eq-same, kind_eq-same}
 use Rattle.cedar_types.specs.CompareLaws.{ComparesBy}
@@ -139,11 +137,11 @@ type_told x y is b =
     let z = out-Type b in
     let rolled : Decides ((type_eq.ghosts).eq (roll-Type (parts y)) (roll-Type z)) (folded (parts y) ≡ folded z) =
     (let D : Bool → Type 0 = λ answer. Decides answer (folded (parts y) ≡ folded z) in
-     subst D (sym (type_eq.Laws.is (roll-Type (parts y)) (roll-Type z))) (layers-Decides y z)) in
+    subst D (sym (type_eq.Laws.is (roll-Type (parts y)) (roll-Type z))) (layers-Decides y z)) in
     let whole : Decides ((type_eq.ghosts).eq (roll-Type (parts y)) (roll-Type z)) (ty_of (roll-Type (parts y)) ≡ ty_of (roll-Type z)) =
     (let first = fold-roll-Type Ty (Bool × Ty) Fields type_step attribute_step attributes_step (parts y) in
-     let second = fold-roll-Type Ty (Bool × Ty) Fields type_step attribute_step attributes_step z in
-     Decides-like _ (λ e. first ∙ (e ∙ sym second)) (λ e. sym first ∙ (e ∙ second)) rolled) in
+    let second = fold-roll-Type Ty (Bool × Ty) Fields type_step attribute_step attributes_step z in
+    Decides-like _ (λ e. first ∙ (e ∙ sym second)) (λ e. sym first ∙ (e ∙ second)) rolled) in
     let P : layer.Type-F «Type» AttributeType Attributes → Type 0 = λ each. Decides ((type_eq.ghosts).eq (roll-Type each) b) (ty_of (roll-Type each) ≡ ty_of b) in
     let Q : «Type» → Type 0 = λ each. Decides ((type_eq.ghosts).eq (roll-Type (parts y)) each) (ty_of (roll-Type (parts y)) ≡ ty_of each) in
     subst P is (subst Q (roll-out-Type b) whole)
@@ -169,9 +167,9 @@ attribute_told x y is b =
     let whole : D ((attribute_type_eq.ghosts).eq a b) =
     subst D (sym (attribute_type_eq.Laws.is a b))
     (Decides-like _
-      (λ both. attribute_of-parts a ∙ ((λ i. (both.1 i, both.0 i)) ∙ sym (attribute_of-parts b)))
-      (λ e. let same = sym (attribute_of-parts a) ∙ (e ∙ attribute_of-parts b) in (ap (λ pair. pair.1) same, ap (λ pair. pair.0) same))
-      parts_told) in
+    (λ both. attribute_of-parts a ∙ ((λ i. (both.1 i, both.0 i)) ∙ sym (attribute_of-parts b)))
+    (λ e. let same = sym (attribute_of-parts a) ∙ (e ∙ attribute_of-parts b) in (ap (λ pair. pair.1) same, ap (λ pair. pair.0) same))
+    parts_told) in
     let P : layer.AttributeType-F «Type» AttributeType Attributes → Type 0 = λ each. Decides ((attribute_type_eq.ghosts).eq (roll-AttributeType each) b) (attribute_of (roll-AttributeType each) ≡ attribute_of b) in
     subst P is whole
 

@@ -1,3 +1,5 @@
+//! Attributes of records, by name.
+
 ghost use Rattle.std.specs.Prelude.{◌≡◌, List, true, false, map, IfOk, Option, None, string_bytes};
 ghost use Rattle.std.specs.Iterator.{IsFinite, Drains};
 ghost use Rattle.std.specs.Option.{option_copied, option_map};

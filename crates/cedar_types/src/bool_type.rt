@@ -1,3 +1,5 @@
+//! What is known of a truth value.
+
 ghost use Rattle.std.specs.Prelude.{◌≡◌};
 
 use cedar_below::M;

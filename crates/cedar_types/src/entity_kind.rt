@@ -1,3 +1,5 @@
+//! Kinds of entities: any, or those of a union.
+
 use crate::entity_lub::EntityLUB;
 use cedar_below::M;
 

@@ -1,3 +1,5 @@
+//! Unions of entity types.
+
 ghost use Rattle.std.specs.Prelude.{◌≡◌, ◌≢◌, [], map, IfOk};
 ghost use Rattle.std.specs.List.Sorted.{IsPermutation, IsSorted, IsStrictlySortedBy, IsStrictlySortedBy-prop};
 ghost use Rattle.cedar_below.specs.EntityType.{type_name};

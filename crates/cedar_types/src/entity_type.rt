@@ -1,3 +1,5 @@
+//! Entity types of a schema.
+
 ghost use Rattle.std.specs.Prelude.{◌≡◌, []};
 ghost use Rattle.cedar_types.specs.Attributes.{field_names};
 ghost use Rattle.cedar_types.specs.Meaning.{fields_of};

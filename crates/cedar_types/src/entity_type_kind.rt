@@ -1,3 +1,5 @@
+//! How an entity type of a schema is declared.
+
 ghost use Rattle.std.specs.Prelude.{◌≡◌, IfOk};
 ghost use Rattle.std.specs.Option.{option_copied, option_map};
 ghost use Rattle.cedar_types.specs.EntityTypeKind.{standard_kind, standard, kind_of, kind_fields, kind_tag, kind_tags};

@@ -1,3 +1,5 @@
+//! Why two types have no join.
+
 use cedar_below::Memory;
 use std::fmt;
 use thiserror::Error;

@@ -1,3 +1,5 @@
+//! How types are printed.
+
 use crate::bool_type::BoolType;
 use crate::entity_kind::EntityKind;
 use crate::entity_lub::EntityLUB;

@@ -1,3 +1,5 @@
+//! Tests of subtyping and of membership.
+
 use super::*;
 use crate::test_values::{entity_type, name, set, text};
 use cedar_below::{

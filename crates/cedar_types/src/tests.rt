@@ -1,3 +1,5 @@
+//! Tests of types and of their parts.
+
 use super::*;
 use crate::test_values::{entity_type, name, name_in, set, text};
 use cedar_below::{Eid, EntityType, Loc, Memory, NonEmpty};

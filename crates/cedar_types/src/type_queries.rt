@@ -1,3 +1,5 @@
+//! What a type is, and the unions in it.
+
 ghost use Rattle.std.specs.Prelude.{◌≡◌};
 ghost use Rattle.std.specs.Option.{option_copied, option_map};
 ghost use Rattle.cedar_types.specs.EntityKind.{kind_names};

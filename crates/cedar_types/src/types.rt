@@ -1,3 +1,5 @@
+//! Types of the validator.
+
 ghost use Rattle.std.specs.Prelude.{◌≡◌, ◌↔◌, List, [], ◌∷◌, IsTrue, IfOk, Contains, if◌then◌else◌};
 ghost use Rattle.std.specs.Iterator.{IsFinite, Drains};
 ghost use Rattle.std.specs.declared.alloc.Global.{Global};

@@ -1,3 +1,5 @@
+//! What the words of the program ask for.
+
 ghost use Rattle.std.specs.Prelude.{◌≡◌, ◌↔◌, IsSome, map, string_bytes};
 ghost use Rattle.schema_show.specs.Words.{IsCommand};
 

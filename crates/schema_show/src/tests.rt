@@ -1,3 +1,5 @@
+//! Tests of the program.
+
 use crate::run::run;
 use std::alloc::Global;
 use std::io;

@@ -10,30 +10,30 @@ use std::collections::BTreeMap;
 use std::test::Fail;
 
 /// The id that a text spells.
-pub fn id(alloc: Global, text: &str) -> Result<UnreservedId, Fail> {
+pub(crate) fn id(alloc: Global, text: &str) -> Result<UnreservedId, Fail> {
     Ok(UnreservedId::new(String::from_str(alloc, text)?).ok_or("an identifier")?)
 }
 
 /// The name in the empty namespace that a text spells.
-pub fn raw(alloc: Global, text: &str) -> Result<RawName, Fail> {
+pub(crate) fn raw(alloc: Global, text: &str) -> Result<RawName, Fail> {
     let base = Id::new(String::from_str(alloc, text)?).ok_or("an identifier")?;
     Ok(RawName::new(InternalName::new(base, Vec::new(alloc), None)))
 }
 
 /// A type that is written out.
-pub fn plain(ty: TypeVariant<RawName>) -> Type<RawName> {
+pub(crate) fn plain(ty: TypeVariant<RawName>) -> Type<RawName> {
     Type::Plain { ty, loc: None }
 }
 
 /// The type of the entities of one type.
-pub fn entity(alloc: Global, name: &str) -> Result<Type<RawName>, Fail> {
+pub(crate) fn entity(alloc: Global, name: &str) -> Result<Type<RawName>, Fail> {
     Ok(plain(TypeVariant::Entity {
         name: raw(alloc, name)?,
     }))
 }
 
 /// A record type without attributes.
-pub fn no_attributes(alloc: Global) -> RecordType<RawName> {
+pub(crate) fn no_attributes(alloc: Global) -> RecordType<RawName> {
     RecordType {
         attributes: BTreeMap::new(alloc),
         additional_attributes: false,
@@ -41,7 +41,7 @@ pub fn no_attributes(alloc: Global) -> RecordType<RawName> {
 }
 
 /// A closed record type with one attribute, which has to be there.
-pub fn record_of(
+pub(crate) fn record_of(
     alloc: Global,
     name: &str,
     ty: Type<RawName>,
@@ -59,7 +59,11 @@ pub fn record_of(
 }
 
 /// The declaration of a standard entity type of a shape, without parents and tags.
-pub fn standard(alloc: Global, shape: Type<RawName>, loc: Option<Loc>) -> EntityType<RawName> {
+pub(crate) fn standard(
+    alloc: Global,
+    shape: Type<RawName>,
+    loc: Option<Loc>,
+) -> EntityType<RawName> {
     EntityType {
         kind: EntityTypeKind::Standard(StandardEntityType {
             member_of_types: Vec::new(alloc),
@@ -72,7 +76,7 @@ pub fn standard(alloc: Global, shape: Type<RawName>, loc: Option<Loc>) -> Entity
 }
 
 /// A definition that declares nothing.
-pub fn nothing(alloc: Global) -> NamespaceDefinition<RawName> {
+pub(crate) fn nothing(alloc: Global) -> NamespaceDefinition<RawName> {
     NamespaceDefinition {
         common_types: BTreeMap::new(alloc),
         entity_types: BTreeMap::new(alloc),
@@ -82,7 +86,7 @@ pub fn nothing(alloc: Global) -> NamespaceDefinition<RawName> {
 }
 
 /// A definition that declares one entity type.
-pub fn one(
+pub(crate) fn one(
     alloc: Global,
     name: &str,
     declaration: EntityType<RawName>,
@@ -95,6 +99,6 @@ pub fn one(
 }
 
 /// No extension types and no functions.
-pub fn no_extensions(alloc: Global) -> Extensions {
+pub(crate) fn no_extensions(alloc: Global) -> Extensions {
     Extensions::new(Vec::new(alloc), BTreeMap::new(alloc))
 }

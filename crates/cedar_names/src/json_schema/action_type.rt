@@ -1,3 +1,5 @@
+//! Declarations of actions.
+
 use crate::json_schema::entity_type::AttributesOrContext;
 use cedar_below::{Loc, Value};
 use std::collections::BTreeMap;

@@ -1,3 +1,5 @@
+//! References whose names are not settled yet.
+
 ghost use Rattle.std.specs.Prelude.{◌≡◌, ◌∷◌, [], IfOk, map};
 ghost use Rattle.cedar_below.specs.InternalName.{name_of, name_loc};
 ghost use Rattle.cedar_names.specs.ConditionalName.{possibilities_of, possibility_locs, reference_type_of};

@@ -1,3 +1,5 @@
+//! Declarations of entity types.
+
 use crate::json_schema::type_of::Type;
 use cedar_below::{Eid, Loc, NonEmpty};
 

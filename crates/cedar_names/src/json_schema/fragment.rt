@@ -1,3 +1,5 @@
+//! Fragments: namespaces with their declarations.
+
 use crate::json_schema::action_type::ActionType;
 use crate::json_schema::common_type_id::CommonTypeId;
 use crate::json_schema::entity_type::EntityType;

@@ -1,3 +1,5 @@
+//! Why a reference is not settled.
+
 ghost use Rattle.std.specs.Prelude.{◌≡◌};
 ghost use Rattle.cedar_names.specs.declared.json_schema.qualify_error.QualifyError.TheVariants.{Memory as MemoryFault};
 

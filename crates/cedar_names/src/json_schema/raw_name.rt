@@ -1,3 +1,5 @@
+//! Names as they were written.
+
 ghost use Rattle.std.specs.Prelude.{◌≡◌, IfOk};
 ghost use Rattle.cedar_below.specs.InternalName.{name_of, name_loc};
 ghost use Rattle.cedar_names.specs.RawName.{raw_name, raw_loc};

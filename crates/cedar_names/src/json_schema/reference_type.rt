@@ -1,3 +1,5 @@
+//! What kinds of definition a reference may name.
+
 /// What kind of type a reference may name.
 #[derive(Clone, Copy, Debug, PartialEq, Eq, Hash)]
 pub enum ReferenceType {

@@ -1,3 +1,5 @@
+//! Types as a schema writes them.
+
 use cedar_below::{Loc, UnreservedId};
 use std::collections::BTreeMap;
 

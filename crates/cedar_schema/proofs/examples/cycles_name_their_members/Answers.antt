@@ -13,15 +13,27 @@ use Rattle.cedar_schema.proofs.examples.cycles_name_their_members.Goals as goal
 
 -- the one refers to the other
 first_to_second : (extensions : Extensions) → RefersToCommon (defined_names cycle_bag extensions) (alias_name (codes "A")) (alias_name (codes "B"))
-first_to_second extensions =
-    (cycle_first, refer_here CommonOrEntity (codes "B"), cycle_second, (0, omega arith, refl), inl refl,
-      inl (refl, inl (cycle_second, (tt, (1, omega arith, refl)))), (tt, (1, omega arith, refl)))
+first_to_second extensions = (
+  cycle_first,
+  refer_here CommonOrEntity (codes "B"),
+  cycle_second,
+  (0, omega arith, refl),
+  inl refl,
+  inl (refl, inl (cycle_second, (tt, (1, omega arith, refl)))),
+  (tt, (1, omega arith, refl)),
+)
 
 -- and the other to the one
 second_to_first : (extensions : Extensions) → RefersToCommon (defined_names cycle_bag extensions) (alias_name (codes "B")) (alias_name (codes "A"))
-second_to_first extensions =
-    (cycle_second, refer_here CommonOrEntity (codes "A"), cycle_first, (1, omega arith, refl), refl,
-      inl (refl, inl (cycle_first, (tt, (0, omega arith, refl)))), (tt, (0, omega arith, refl)))
+second_to_first extensions = (
+  cycle_second,
+  refer_here CommonOrEntity (codes "A"),
+  cycle_first,
+  (1, omega arith, refl),
+  refl,
+  inl (refl, inl (cycle_first, (tt, (0, omega arith, refl)))),
+  (tt, (0, omega arith, refl)),
+)
 
 -- a name in a cycle is declared
 in_cycle : (extensions : Extensions) (name : PlainName) → Chain (RefersToCommon (defined_names cycle_bag extensions)) name name → (definition : Expr) × Contains (declared_common cycle_bag) (name, definition)

@@ -17,9 +17,9 @@ no_alias : (extensions : Extensions) (body : Expr) → IsCommon (defined_names a
 no_alias extensions body common =
     ⊎_elim
     (λ here. ⊎_elim
-      (λ declared. omega (arith, declared.1))
-      (λ built_in. built_in_path extensions (alias_name (codes "String")) body built_in refl)
-      (Contains-append_cases (declared_common alias_bag) (built_ins extensions) (alias_name (codes "String"), body) here))
+    (λ declared. omega (arith, declared.1))
+    (λ built_in. built_in_path extensions (alias_name (codes "String")) body built_in refl)
+    (Contains-append_cases (declared_common alias_bag) (built_ins extensions) (alias_name (codes "String"), body) here))
     (λ alias. false≢true (sym (alias_of alias_bag extensions (alias_name (codes "String")) body alias).2))
     (common_cases alias_bag extensions (alias_name (codes "String"), body) common.1)
 

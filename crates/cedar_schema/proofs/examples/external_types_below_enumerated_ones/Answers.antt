@@ -7,9 +7,13 @@ use Rattle.cedar_schema.specs.Samples.{refer_here}
 use Rattle.cedar_schema.proofs.examples.external_types_below_enumerated_ones.Goals as goal
 
 pub returns : goal.returns
-returns c extensions =
-    (refer_here Entity (codes "Shade") ∷ [], codes "red" ∷ [], (2, omega arith, refl), (0, omega arith, refl),
-      more
+returns c extensions = (
+  refer_here Entity (codes "Shade") ∷ [],
+  codes "red" ∷ [],
+  (2, omega arith, refl),
+  (0, omega arith, refl),
+  more
       (external (refer_here Entity (codes "Shade") ∷ []), refer_here Entity (codes "Shade"), (2, omega arith, refl), (0, omega arith, refl), inl (refl, inr (tt, (1, omega arith, refl))))
       (one
-        (standard (refer_here Entity (codes "Color") ∷ []) (record_expr no_member false) None, refer_here Entity (codes "Color"), (1, omega arith, refl), (0, omega arith, refl), inl (refl, inr (tt, (0, omega arith, refl))))))
+      (standard (refer_here Entity (codes "Color") ∷ []) (record_expr no_member false) None, refer_here Entity (codes "Color"), (1, omega arith, refl), (0, omega arith, refl), inl (refl, inr (tt, (0, omega arith, refl))))),
+)

@@ -16,9 +16,12 @@ IsNamed extensions name =
 
 -- the type of the action is
 action_named : (extensions : Extensions) → IsNamed extensions (alias_name action_word)
-action_named extensions =
-    (refl, refer_here Entity action_word, (action_here (codes "view") (refer_here Entity action_word ∷ []), (0, omega arith, refl), inl (0, omega arith, refl)),
-      inl (refl, inr (tt, (0, omega arith, refl))))
+action_named extensions = (
+  refl,
+  refer_here Entity action_word,
+  (action_here (codes "view") (refer_here Entity action_word ∷ []), (0, omega arith, refl), inl (0, omega arith, refl)),
+  inl (refl, inr (tt, (0, omega arith, refl))),
+)
 
 -- the type of the action is the only one
 only_action : (name : PlainName) → Contains (alias_name action_word ∷ []) name → alias_name action_word ≡ name
@@ -26,6 +29,7 @@ only_action name (zero, below, is) = is
 only_action name (suc k, below, is) = absurd (omega (arith, below))
 
 pub returns : goal.returns
-returns c extensions =
-    (λ none. cc,
-      λ name among. let P : PlainName → Type 0 = IsNamed extensions in subst P (only_action name among) (action_named extensions))
+returns c extensions = (
+  λ none. cc,
+  λ name among. let P : PlainName → Type 0 = IsNamed extensions in subst P (only_action name among) (action_named extensions),
+)

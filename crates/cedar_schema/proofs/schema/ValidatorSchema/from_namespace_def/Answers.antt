@@ -29,9 +29,9 @@ returns-clause-declared c =
 pub returns-clause-only : goal.returns-clause-only
 returns-clause-only c = λ other declared.
     (let bag = raw_declarations None c.args.definition in
-     let built = part_declared c.args.definition c.args.extensions.now (built_schema c.in_ok-entity_types.field-0) c.requires.part c.requires.names_fit c.in_ok-entity_types.ensures.fits c.in_ok-entity_types.ensures.in_order in
-     let well = part_well_formed c.args.definition c.args.extensions.now (built_schema c.in_ok-entity_types.field-0) c.requires.part c.requires.names_fit c.in_ok-entity_types.ensures.fits c.in_ok-entity_types.ensures.in_order c.in_ok-entity_types.ensures.sound in
-     one_schema bag c.args.extensions.now c.requires.names_fit well other (schema_of (built_schema c.in_ok-entity_types.field-0)) declared built)
+    let built = part_declared c.args.definition c.args.extensions.now (built_schema c.in_ok-entity_types.field-0) c.requires.part c.requires.names_fit c.in_ok-entity_types.ensures.fits c.in_ok-entity_types.ensures.in_order in
+    let well = part_well_formed c.args.definition c.args.extensions.now (built_schema c.in_ok-entity_types.field-0) c.requires.part c.requires.names_fit c.in_ok-entity_types.ensures.fits c.in_ok-entity_types.ensures.in_order c.in_ok-entity_types.ensures.sound in
+    one_schema bag c.args.extensions.now c.requires.names_fit well other (schema_of (built_schema c.in_ok-entity_types.field-0)) declared built)
 
 pub returns-clause-admits : goal.returns-clause-admits
 returns-clause-admits c =
