@@ -1,7 +1,8 @@
 use Rattle.std.proofs.Common.{◌≡◌, ◌⊎◌, inl, inr, ⊎_elim, refl, ap, Option, Some, None}
 use Rattle.std.specs.Option.{option_map, option_zip}
 use Rattle.cedar_below.specs.CoreTy.{core_set, core_record, core_entity, core_field}
-use Rattle.cedar_types.specs.CoreOf.{core_of, core_fields, tag_is_open, LacksCore, CoreIsLackedExactly}
+use Rattle.cedar_types.specs.OpenTag.{is_open}
+use Rattle.cedar_types.specs.CoreOf.{core_of, core_fields, LacksCore, CoreIsLackedExactly}
 use Rattle.cedar_types.specs.EntityLUB.{only_name}
 use Rattle.cedar_types.specs.StandsIn.{StandsIn, StandsInFields}
 use Rattle.cedar_types.specs.Ty.{Ty, never, any_entity, union_of, set_of, record_of, Fields, end, field}
@@ -36,7 +37,7 @@ mutual
   lacked (union_of names) e = unmapped core_entity (only_name names) e
   lacked (set_of ty) e = inr (lacked ty (unmapped core_set (core_of ty) e))
   lacked (record_of fields tag) e =
-      inr (lacked_fields fields (unmapped (λ core. core_record core (tag_is_open tag)) (core_fields fields) e))
+      inr (lacked_fields fields (unmapped (λ core. core_record core (is_open tag)) (core_fields fields) e))
   lacked ty e = absurd cc
 
   -- where the attributes have no core types, one that lacks it stands in them
@@ -56,7 +57,7 @@ mutual
   lacking (set_of ty) (inr stands) = ap (option_map core_set) (lacking ty stands)
   lacking (record_of fields tag) (inl none) = elim none [ ]
   lacking (record_of fields tag) (inr stands) =
-      ap (option_map (λ core. core_record core (tag_is_open tag))) (lacking_fields fields stands)
+      ap (option_map (λ core. core_record core (is_open tag))) (lacking_fields fields stands)
   lacking ty stands = elim stands [ ]
 
   -- where one stands in attributes, they have none

@@ -7,7 +7,8 @@ use Rattle.cedar_below.specs.declared.validation_mode.ValidationMode.{Validation
 use Rattle.cedar_below.specs.declared.validation_mode.ValidationMode.TheVariants.{Strict, Permissive}
 use Rattle.cedar_types.specs.Attributes.{field_names}
 use Rattle.cedar_types.specs.Below.{HasField, FlagsBelow, TagsBelow, NamesBelow, Below, FieldsBelow}
-use Rattle.cedar_types.specs.Has.{HasBy, HasFieldsBy, HasTruth, is_open}
+use Rattle.cedar_types.specs.Has.{HasBy, HasFieldsBy, HasTruth}
+use Rattle.cedar_types.specs.OpenTag.{is_open}
 use Rattle.cedar_types.specs.Ty.{Ty, truth, long, text, any_entity, union_of, any_set, set_of, record_of, extension_of, Fields, end, field}
 use Rattle.cedar_types.specs.declared.bool_type.BoolType.{BoolType}
 use Rattle.cedar_types.specs.declared.bool_type.BoolType.TheVariants as known

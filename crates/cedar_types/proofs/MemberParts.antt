@@ -17,7 +17,8 @@ use Rattle.cedar_types.proofs.AnswerLemmas.{IsBoth, IsRightSoFar, IsRightSoFar-m
 use Rattle.cedar_types.specs.Answers.{Answer, IsRight}
 use Rattle.cedar_types.specs.Attributes.{field_names}
 use Rattle.cedar_types.specs.EntityKind.{kind_ty}
-use Rattle.cedar_types.specs.Has.{Has, HasUp, Meets, HasFieldsBy, FieldsMeet, MayGive, SomeEntry, HasUid, is_open}
+use Rattle.cedar_types.specs.Has.{Has, HasUp, Meets, HasFieldsBy, FieldsMeet, MayGive, SomeEntry, HasUid}
+use Rattle.cedar_types.specs.OpenTag.{is_open}
 use Rattle.cedar_types.specs.Meaning.{ty_of, fields_of, attribute_of, type_step, attribute_step, attributes_step}
 use Rattle.cedar_types.specs.Ty.{Ty, set_of, record_of, extension_of, Fields, field}
 use Rattle.cedar_types.specs.declared.attributes.AttributeType.{AttributeType, out-AttributeType, fold_out-AttributeType}

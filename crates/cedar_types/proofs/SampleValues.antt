@@ -16,7 +16,8 @@ use Rattle.cedar_types.proofs.SubtypeLaws.{HasField-name}
 use Rattle.cedar_types.proofs.SubtypeLemmas.{chosen_first, unchosen}
 use Rattle.cedar_types.specs.Attributes.{IsAscending, field_names}
 use Rattle.cedar_types.specs.Below.{HasField}
-use Rattle.cedar_types.specs.Has.{Has, HasBy, HasFieldsBy, HasTruth, is_open}
+use Rattle.cedar_types.specs.Has.{Has, HasBy, HasFieldsBy, HasTruth}
+use Rattle.cedar_types.specs.OpenTag.{is_open}
 use Rattle.cedar_types.specs.Stated.{IsInhabited, AreInhabited}
 use Rattle.cedar_types.specs.Ty.{Ty, never, truth, long, text, any_entity, union_of, any_set, set_of, record_of, extension_of, Fields, end, field}
 use Rattle.cedar_types.specs.WellFormed.{IsWellFormed, AreWellFormed}

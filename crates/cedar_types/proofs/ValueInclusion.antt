@@ -19,7 +19,8 @@ use Rattle.cedar_types.proofs.SampleValues.{HasFields-from, fits_some, some_fits
 use Rattle.cedar_types.proofs.SubtypeLaws.{FieldsWithin, HasField-name, HasField-named, FieldsBelow-names}
 use Rattle.cedar_types.specs.Attributes.{IsAscending, field_names}
 use Rattle.cedar_types.specs.Below.{HasField, TagsBelow, NamesBelow, Below, FieldsBelow}
-use Rattle.cedar_types.specs.Has.{Has, is_open}
+use Rattle.cedar_types.specs.Has.{Has}
+use Rattle.cedar_types.specs.OpenTag.{is_open}
 use Rattle.cedar_types.specs.InclusionLaws.{ValuesIncluded, ListsNames, FieldsListNames, SubtypingIsInclusion, SubtypingIsInclusionAndNames}
 use Rattle.cedar_types.specs.Stated.{IsInhabited, AreInhabited, RequiresAll, FieldsRequireAll}
 use Rattle.cedar_types.specs.Ty.{Ty, never, truth, long, text, any_entity, union_of, any_set, set_of, record_of, extension_of, Fields, end, field}

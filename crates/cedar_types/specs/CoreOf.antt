@@ -1,16 +1,10 @@
-use Rattle.std.specs.Prelude.{◌≡◌, ◌↔◌, Bool, true, false, Option, Some, None}
+use Rattle.std.specs.Prelude.{◌≡◌, ◌↔◌, Option, Some, None}
 use Rattle.std.specs.Option.{option_map, option_zip}
 use Rattle.cedar_below.specs.CoreTy.{CoreTy, CoreFields, core_truth, core_long, core_text, core_set, core_empty_set, core_record, core_entity, core_extension, core_end, core_field}
 use Rattle.cedar_types.specs.EntityLUB.{only_name}
 use Rattle.cedar_types.specs.StandsIn.{StandsIn}
+use Rattle.cedar_types.specs.OpenTag.{is_open}
 use Rattle.cedar_types.specs.Ty.{Ty, never, truth, long, text, any_entity, union_of, any_set, set_of, record_of, extension_of, Fields, end, field}
-use Rattle.cedar_types.specs.declared.open_tag.OpenTag.{OpenTag}
-use Rattle.cedar_types.specs.declared.open_tag.OpenTag.TheVariants.{OpenAttributes, ClosedAttributes}
-
--- whether a record with this tag is open
-abbrev pub tag_is_open : OpenTag → Bool
-tag_is_open OpenAttributes = true
-tag_is_open ClosedAttributes = false
 
 abbrev mutual
   -- the core type of a type, case by case; some types have none
@@ -23,7 +17,7 @@ abbrev mutual
   core_of (union_of names) = option_map core_entity (only_name names)
   core_of any_set = Some core_empty_set
   core_of (set_of ty) = option_map core_set (core_of ty)
-  core_of (record_of fields tag) = option_map (λ core. core_record core (tag_is_open tag)) (core_fields fields)
+  core_of (record_of fields tag) = option_map (λ core. core_record core (is_open tag)) (core_fields fields)
   core_of (extension_of name) = Some (core_extension name)
 
   -- the attributes with the core types of their types, if each has one

@@ -4,12 +4,11 @@ use Rattle.cedar_below.specs.PlainName.{PlainName}
 use Rattle.cedar_below.specs.PlainUid.{PlainUid}
 use Rattle.cedar_below.specs.Tree.{Tree, truth_value, number_value, text_value, uid_value, set_value, map_value, call_value, Trees, Entries, entry_at, entry_names, EachTree, SomeTree}
 use Rattle.cedar_below.specs.declared.extension.Extensions.{Extensions}
+use Rattle.cedar_types.specs.OpenTag.{is_open}
 use Rattle.cedar_types.specs.Attributes.{field_names}
 use Rattle.cedar_types.specs.Ty.{Ty, truth, long, text, any_entity, union_of, any_set, set_of, record_of, extension_of, Fields, end, field}
 use Rattle.cedar_types.specs.declared.bool_type.BoolType.{BoolType}
 use Rattle.cedar_types.specs.declared.bool_type.BoolType.TheVariants as known
-use Rattle.cedar_types.specs.declared.open_tag.OpenTag.{OpenTag}
-use Rattle.cedar_types.specs.declared.open_tag.OpenTag.TheVariants.{OpenAttributes, ClosedAttributes}
 
 -- a truth value is as is known
 abbrev pub HasTruth : Bool → BoolType → Type 0
@@ -22,11 +21,6 @@ abbrev pub HasUid : PlainUid → Ty → Type 0
 HasUid uid any_entity = Unit {0}
 HasUid uid (union_of names) = Contains names uid.ty
 HasUid _ _ = ⊥
-
--- whether a record with that tag may have attributes that aren't listed
-abbrev pub is_open : OpenTag → Bool
-is_open OpenAttributes = true
-is_open ClosedAttributes = false
 
 abbrev mutual
   -- a value has a type, where it is given which calls have which extension types

@@ -20,6 +20,7 @@ pub mod JoinAnswer
 pub mod JoinLaws
 pub mod LubHelp
 pub mod Meaning
+pub mod OpenTag
 pub mod OwnBound
 pub mod Primitive
 pub mod ReduceLaws

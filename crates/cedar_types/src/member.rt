@@ -11,7 +11,8 @@ ghost use Rattle.cedar_below.specs.Value.{value_expr};
 ghost use Rattle.cedar_types.specs.Answers.{IsRight};
 ghost use Rattle.cedar_types.specs.Attributes.{field_names};
 ghost use Rattle.cedar_types.specs.EntityKind.{kind_ty};
-ghost use Rattle.cedar_types.specs.Has.{Has, HasUp, Meets, HasFieldsBy, FieldsMeet, MayGive, HasTruth, HasUid, is_open};
+ghost use Rattle.cedar_types.specs.Has.{Has, HasUp, Meets, HasFieldsBy, FieldsMeet, MayGive, HasTruth, HasUid};
+ghost use Rattle.cedar_types.specs.OpenTag.{is_open};
 ghost use Rattle.cedar_types.specs.Meaning.{ty_of, fields_of};
 
 use crate::attributes::Attributes;
