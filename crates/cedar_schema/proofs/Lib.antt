@@ -1,10 +1,15 @@
 pub mod AdmitsLemmas
+pub mod AlikeDefined
+pub mod AlikeFaults
+pub mod AlikeLemmas
 pub mod BuildingLemmas
 pub mod BuiltInLemmas
 pub mod BuiltLemmas
 pub mod ChainLemmas
+pub mod CountLemmas
 pub mod DeclarationLemmas
 pub mod DeclaredLemmas
+pub mod DefinedLemmas
 pub mod FaultLemmas
 pub mod MentionLemmas
 pub mod PartBag
@@ -16,6 +21,7 @@ pub mod PlacedLemmas
 pub mod PlacesLemmas
 pub mod RecordLemmas
 pub mod ResolutionLemmas
+pub mod SameBagLaws
 pub mod SchemaEquality
 pub mod SchemaLaws
 pub mod TypeCases

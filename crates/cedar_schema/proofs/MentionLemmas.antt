@@ -88,7 +88,7 @@ is_type_name : PlainName → Name → Bool
 is_type_name name ty = is_eq (name_cmp (plain_name ty) name)
 
 -- a test for a tie decides whether there is one
-ties : (o : Ordering) → Decides (is_eq o) (o ≡ Equal)
+pub ties : (o : Ordering) → Decides (is_eq o) (o ≡ Equal)
 ties Less = (λ e. cc, λ e. cc)
 ties Equal = (λ e. refl, λ e. refl)
 ties Greater = (λ e. cc, λ e. cc)

@@ -73,7 +73,7 @@ BagsDeclareASchema = (bag : Bag) (extensions : Extensions) → TypeNamesFit (ext
     → (IsIllFormed bag extensions → ⊥)
     → (schema : PlainSchema) × IsDeclaredSchema bag extensions schema
 
--- a law to be proved: bags that are the same are ill-formed both or neither, and declare the same schemas
+-- a law: bags that are the same are ill-formed both or neither, and declare the same schemas
 abbrev pub SameBagsDeclareTheSame : Type 0
 SameBagsDeclareTheSame = (bag other : Bag) (extensions : Extensions) → SameBag bag other
     → (IsIllFormed bag extensions ↔ IsIllFormed other extensions)

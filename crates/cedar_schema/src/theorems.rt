@@ -16,6 +16,7 @@ ghost use Rattle.cedar_schema.specs.EndToEnd.{
   DeclaredSchemasAreClosed,
   DeclaredSchemasAreValid,
   DeclaredTypesHaveTheDeclaredValues,
+  SameBagsDeclareTheSame,
 };
 ghost use Rattle.cedar_schema.specs.IllFormed.{IsIllFormed};
 ghost use Rattle.cedar_schema.specs.PlainSchema.{schema_of};
@@ -58,6 +59,12 @@ pub fn declared_types_have_the_declared_values()
 pub fn schemas_compare_by_what_they_declare()
     ensures { (a b : ValidatorSchema) → IsTrue (⟦<ValidatorSchema as PartialEq>⟧.eq a b)
         ↔ SameSchema (schema_of a) (schema_of b) }
+{}
+
+/// Bags that are the same, whatever the order of their declarations and of parents, principals and
+/// resources, are ill-formed both or neither, and declare the same schemas.
+pub fn same_bags_declare_the_same()
+    ensures { SameBagsDeclareTheSame }
 {}
 
 /// The schema that a bag declares which isn't ill-formed is valid, where the references of the bag fit
