@@ -6,6 +6,7 @@ use Rattle.std.proofs.lemmas.List.Quantifiers.{all_pairs_push}
 use Rattle.std.specs.Bool.{Decides}
 use Rattle.std.specs.List.{list_any}
 use Rattle.std.proofs.Math.ListN.{length-map, length-take}
+use Rattle.std.proofs.lemmas.List.Elements.{Contains-get_or}
 
 -- what is first or is among the rest is an element
 pub Contains-cons : {B : Type 0} (b : B) (bs : List B) (x : B) → (b ≡ x) ⊎ Contains bs x → Contains (b ∷ bs) x
@@ -49,3 +50,12 @@ pub distinct_more : {X B : Type 0} (f : X → B) (ys : List X) (i : ℕ) (y : X)
 distinct_more f ys i y lt is new distinct =
     let more : map f (take (i + 1) ys) ≡ map f (take i ys) ++ f y ∷ [] = map_more f ys i y lt ∙ ap (λ z. map f (take i ys) ++ f z ∷ []) (sym is) in
     subst (AllPairs (λ a b. a ≢ b)) (sym more) (distinct_push (map f (take i ys)) (f y) distinct new)
+
+-- what stands in a mapped list is the image of what stands in the list
+pub Contains-preimage : {X Y : Type 0} (f : X → Y) (xs : List X) (y : Y) → Contains (map f xs) y → (x : X) × Contains xs x × (f x ≡ y)
+Contains-preimage f [] y among = absurd (omega (arith, among.1))
+Contains-preimage {X} f (first ∷ rest) y among =
+    let all : List X = first ∷ rest in
+    let below : among.0 < length all = rw (sym (length-map all f)) among.1 in
+    let found : X = get_or all among.0 first in
+    (found, Contains-get_or all among.0 first below, sym (get_or-map f all among.0 first y below) ∙ among.2)

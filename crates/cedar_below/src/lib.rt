@@ -32,8 +32,6 @@ mod loc;
 mod memory;
 mod name;
 mod non_empty;
-#[cfg(test)]
-mod tests;
 pub mod theorems;
 mod type_names;
 mod unreserved_id;

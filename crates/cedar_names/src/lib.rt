@@ -4,6 +4,4 @@
 pub use cedar_below as below;
 
 pub mod json_schema;
-#[cfg(test)]
-mod tests;
 pub mod theorems;

@@ -1,10 +1,10 @@
 use Rattle.std.proofs.Common.{◌≡◌, sym, subst}
 use Rattle.cedar_names.specs.Expr.{Expr, set_expr}
 use Rattle.cedar_schema.specs.Building.{IsExprFault}
-use Rattle.cedar_schema.specs.Defined.{Defined}
-use Rattle.cedar_schema.specs.Fault.{Fault}
-use Rattle.cedar_schema.specs.WrittenOut.{WrittenOut}
-use Rattle.cedar_types.specs.Ty.{Ty}
+use Rattle.cedar_declared.specs.Defined.{Defined}
+use Rattle.cedar_declared.specs.Fault.{Fault}
+use Rattle.cedar_declared.specs.WrittenOut.{WrittenOut}
+use Rattle.cedar_rules.specs.Ty.{Ty}
 
 -- an expression that is another is written out as what the other is
 pub WrittenOut-as : (defined : Defined) {expr other : Expr} {ty ty' : Ty} → expr ≡ other → ty ≡ ty' → WrittenOut defined other ty' → WrittenOut defined expr ty

@@ -27,16 +27,16 @@ use Rattle.cedar_names.specs.declared.json_schema.entity_type.EntityType.{Entity
 use Rattle.cedar_names.specs.declared.json_schema.raw_name.RawName.{RawName}
 use Rattle.cedar_schema.proofs.DeclaredLemmas.{Entries}
 use Rattle.cedar_schema.specs.Building.{IsSound}
-use Rattle.cedar_schema.specs.Defined.{Defined}
+use Rattle.cedar_declared.specs.Defined.{Defined}
 use Rattle.cedar_schema.specs.EntityFaults.{Declared, declared_by_entries, defined_by, name_here}
 use Rattle.cedar_schema.specs.Fits.{Fits, FitEach}
-use Rattle.cedar_types.specs.ValidatorEntityType.{SameMembers}
-use Rattle.cedar_types.specs.declared.entity_type.ValidatorEntityType.{ValidatorEntityType}
+use Rattle.cedar_below.specs.Included.{SameItems}
+use Rattle.cedar_entities.specs.declared.entity_type.ValidatorEntityType.{ValidatorEntityType}
 
 -- names that are the same as none are none
-pub SameMembers-none : (names : List PlainName) → SameMembers names [] → names ≡ []
-SameMembers-none [] same = refl
-SameMembers-none (name ∷ names) same =
+pub SameItems-none : (names : List PlainName) → SameItems names [] → names ≡ []
+SameItems-none [] same = refl
+SameItems-none (name ∷ names) same =
     absurd (omega (arith, ((same name).0 (0, omega arith, refl)).1))
 
 -- after an answer nothing changes it by a tie

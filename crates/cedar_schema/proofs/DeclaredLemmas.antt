@@ -20,15 +20,7 @@ use Rattle.cedar_below.specs.declared.unreserved_id.UnreservedId.{UnreservedId}
 use Rattle.cedar_names.specs.declared.json_schema.entity_type.EntityType.{EntityType}
 use Rattle.cedar_names.specs.declared.json_schema.raw_name.RawName.{RawName}
 use Rattle.cedar_schema.specs.EntityFaults.{declared_by_entries, defined_by, name_here}
-
--- what stands in a mapped list is the image of what stands in the list
-pub Contains-preimage : {X Y : Type 0} (f : X → Y) (xs : List X) (y : Y) → Contains (map f xs) y → (x : X) × Contains xs x × (f x ≡ y)
-Contains-preimage f [] y among = absurd (omega (arith, among.1))
-Contains-preimage {X} f (first ∷ rest) y among =
-    let all : List X = first ∷ rest in
-    let below : among.0 < length all = rw (sym (length-map all f)) among.1 in
-    let found : X = get_or all among.0 first in
-    (found, Contains-get_or all among.0 first below, sym (get_or-map f all among.0 first y below) ∙ among.2)
+use Rattle.cedar_below.proofs.Lists.{Contains-preimage}
 
 -- the entries of the entity types that are declared in the empty namespace
 abbrev pub Entries : Type 0

@@ -7,28 +7,21 @@ use Rattle.cedar_names.specs.Reference.{Reference}
 use Rattle.cedar_names.specs.declared.json_schema.reference_type.ReferenceType.{ReferenceType}
 use Rattle.cedar_schema.proofs.BuiltLemmas.{Types}
 use Rattle.cedar_schema.specs.Building.{IsSound, IsBodyFault}
-use Rattle.cedar_schema.specs.Counted.{CountsInEntity}
-use Rattle.cedar_schema.specs.Defined.{Defined, IsDefined, IsFirstDefined, IsUnresolved, ResolvesTo}
+use Rattle.cedar_declared.specs.Counted.{CountsInEntity}
+use Rattle.cedar_declared.specs.Defined.{Defined, IsDefined, IsFirstDefined, IsUnresolved, ResolvesTo}
 use Rattle.cedar_schema.specs.EntityFaults.{Declared, defined_by, IsEntityFault}
-use Rattle.cedar_schema.specs.Fault.{Fault, open_record, type_not_defined, shape_not_record, action_entity_type, want_of_memory}
-use Rattle.cedar_schema.specs.Fits.{Fits, FitEach, KindFits, TagsFit}
-use Rattle.cedar_schema.specs.Parts.{Refers, MembersRefer}
-use Rattle.cedar_schema.specs.WrittenOut.{WrittenOut, MembersWrittenOut, IsRecordType, as_text, as_long, as_truth, as_set, as_record, as_entity, as_common, as_extension, as_no_member, as_member}
-use Rattle.cedar_types.specs.EntityTypeKind.{Kind, standard as standard_kind, enumerated as enumerated_kind, external as external_kind}
-use Rattle.cedar_types.specs.Ty.{Ty, record_of}
-use Rattle.cedar_types.specs.ValidatorEntityType.{entity_type_of}
-use Rattle.cedar_types.specs.declared.open_tag.OpenTag.TheVariants.{ClosedAttributes}
-use Rattle.cedar_types.specs.declared.entity_type.ValidatorEntityType.{ValidatorEntityType}
+use Rattle.cedar_declared.specs.Fault.{Fault, open_record, type_not_defined, shape_not_record, action_entity_type, want_of_memory}
+use Rattle.cedar_schema.specs.Fits.{Fits, FitEach}
+use Rattle.cedar_declared.specs.DeclaredSchema.{KindFits, TagsFit}
+use Rattle.cedar_declared.specs.Parts.{Refers, MembersRefer}
+use Rattle.cedar_declared.specs.WrittenOut.{WrittenOut, MembersWrittenOut, IsRecordType, as_text, as_long, as_truth, as_set, as_record, as_entity, as_common, as_extension, as_no_member, as_member}
+use Rattle.cedar_declared.specs.EntityTypeKind.{Kind, standard as standard_kind, enumerated as enumerated_kind, external as external_kind}
+use Rattle.cedar_rules.specs.Ty.{Ty, record_of}
+use Rattle.cedar_entities.specs.ValidatorEntityType.{entity_type_of}
+use Rattle.cedar_rules.specs.declared.open_tag.OpenTag.TheVariants.{ClosedAttributes}
+use Rattle.cedar_entities.specs.declared.entity_type.ValidatorEntityType.{ValidatorEntityType}
 use Rattle.cedar_below.specs.declared.entity_type.EntityType.{EntityType}
-
--- the name that a list of possibilities resolves to is one of them, and is defined
-pub first_defined : (defined : Defined) (kind : ReferenceType) (names : List PlainName) (name : PlainName) → IsFirstDefined defined kind names name → Contains names name × IsDefined defined kind name
-first_defined defined kind [] name none = absurd none
-first_defined defined kind (first ∷ rest) name found =
-    ⊎_elim
-    (λ here. let P : PlainName → Type 0 = IsDefined defined kind in ((0, omega arith, here.0), subst P here.0 here.1))
-    (λ later. let tail = first_defined defined kind rest name later.1 in ((suc tail.0.0, omega (arith, tail.0.1), tail.0.2), tail.1))
-    found
+use Rattle.cedar_declared.proofs.ResolutionLemmas.{first_defined}
 
 -- a reference that resolves isn't unresolved
 resolved : (defined : Defined) (reference other : Reference) (name : PlainName) → ResolvesTo defined reference name → reference ≡ other → IsUnresolved defined other → ⊥

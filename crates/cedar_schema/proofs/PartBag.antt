@@ -14,8 +14,8 @@ use Rattle.cedar_names.specs.Reference.{Reference}
 use Rattle.cedar_names.specs.declared.json_schema.fragment.NamespaceDefinition.{NamespaceDefinition}
 use Rattle.cedar_names.specs.declared.json_schema.raw_name.RawName.{RawName}
 use Rattle.cedar_schema.proofs.DeclaredLemmas.{Entries}
-use Rattle.cedar_schema.specs.Bag.{Bag, declared_common, declared_entities, declared_actions, defined_names}
-use Rattle.cedar_schema.specs.Counted.{CountsIn, CountsInEntity, entity_parents, IsCounted}
+use Rattle.cedar_declared.specs.Bag.{Bag, declared_common, declared_entities, declared_actions, defined_names}
+use Rattle.cedar_declared.specs.Counted.{CountsIn, CountsInEntity, entity_parents, IsCounted}
 use Rattle.cedar_schema.specs.EntityFaults.{declared_by_entries, defined_by, name_here, IsCounted as IsCountedEntity}
 
 -- the declarations of entity types in the empty namespace

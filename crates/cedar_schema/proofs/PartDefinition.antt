@@ -14,15 +14,14 @@ use Rattle.cedar_schema.proofs.FaultLemmas.{nothing_at_fault}
 use Rattle.cedar_schema.proofs.PartBag.{part_bag}
 use Rattle.cedar_schema.proofs.PartFaults.{fault_of_bag, entity_fault_of}
 use Rattle.cedar_schema.proofs.PartSchema.{schema_of_part}
-use Rattle.cedar_schema.specs.Bag.{Bag}
+use Rattle.cedar_declared.specs.Bag.{Bag}
 use Rattle.cedar_schema.specs.Building.{IsSound}
-use Rattle.cedar_schema.specs.DeclaredSchema.{IsDeclaredSchema}
+use Rattle.cedar_declared.specs.DeclaredSchema.{IsDeclaredSchema}
 use Rattle.cedar_schema.specs.EntityFaults.{declared_by, defined_by, IsEntityFault}
-use Rattle.cedar_schema.specs.Fault.{Fault, want_of_memory}
+use Rattle.cedar_declared.specs.Fault.{Fault, want_of_memory}
 use Rattle.cedar_schema.specs.Fits.{FitEach}
-use Rattle.cedar_schema.specs.IllFormed.{IsFault, IsIllFormed}
-use Rattle.cedar_schema.specs.PlainSchema.{schema_of}
-use Rattle.cedar_schema.specs.ValidatorSchema.{schema_entries}
+use Rattle.cedar_declared.specs.IllFormed.{IsFault, IsIllFormed}
+use Rattle.cedar_schema.specs.ValidatorSchema.{schema_of, schema_entries}
 use Rattle.cedar_schema.specs.declared.schema.ValidatorSchema.{ValidatorSchema}
 
 -- a fault of the entity types is one of the bag

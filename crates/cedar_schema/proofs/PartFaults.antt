@@ -16,20 +16,21 @@ use Rattle.cedar_names.specs.EntityBody.{EntityBody, standard, enumerated, exter
 use Rattle.cedar_names.specs.Expr.{Expr}
 use Rattle.cedar_names.specs.Part.{NamesEntitiesAlone, IsPlainStandard}
 use Rattle.cedar_names.specs.Reference.{Reference}
-use Rattle.cedar_schema.proofs.ChainLemmas.{first_step}
-use Rattle.cedar_schema.proofs.BuiltInLemmas.{built_ins_once, refers_declared}
-use Rattle.cedar_schema.proofs.DeclaredLemmas.{Entries, Contains-preimage}
+use Rattle.cedar_declared.proofs.ChainLemmas.{first_step}
+use Rattle.cedar_declared.proofs.BuiltInLemmas.{built_ins_once, refers_declared}
+use Rattle.cedar_schema.proofs.DeclaredLemmas.{Entries}
+use Rattle.cedar_below.proofs.Lists.{Contains-preimage}
 use Rattle.cedar_schema.proofs.PartBag.{declarations_here, no_common, no_actions, just_entities, same_entities, is_entity_declaration, no_action_declared, counted_in_entity, counted_of_entity, no_parents}
 use Rattle.cedar_schema.proofs.PartWritten.{unresolved_like, written_like, refers_to_entity, no_extension}
-use Rattle.cedar_schema.proofs.PlacesLemmas.{Twice-ascending}
-use Rattle.cedar_schema.specs.Bag.{declared_entities, declared_actions, declared_types, action_uids, built_ins, defined_names}
-use Rattle.cedar_schema.specs.Counted.{CountsInEntity, IsEntityPlace, IsPlaced}
-use Rattle.cedar_schema.specs.Descent.{HasParentAction}
+use Rattle.cedar_declared.proofs.PlacesLemmas.{Twice-ascending}
+use Rattle.cedar_declared.specs.Bag.{declared_entities, declared_actions, declared_types, action_uids, built_ins, defined_names}
+use Rattle.cedar_declared.specs.Counted.{CountsInEntity, IsEntityPlace, IsPlaced}
+use Rattle.cedar_declared.specs.Descent.{HasParentAction}
 use Rattle.cedar_schema.specs.EntityFaults.{Declared, declared_by_entries, defined_by, IsEntityFault, IsCounted as IsCountedEntity}
-use Rattle.cedar_schema.specs.Fault.{Fault, action_attributes, open_record, undeclared_entity_types, type_not_defined, action_not_defined, type_shadowing, action_shadowing, duplicate_entity_type, duplicate_common_type, duplicate_action, action_cycle, common_type_cycle, action_entity_type, shape_not_record, context_not_record, unknown_extension_type, reserved_name, external_below_enumerated}
-use Rattle.cedar_schema.specs.IllFormed.{IsFault, RefersToCommon}
-use Rattle.cedar_schema.specs.Places.{Twice}
-use Rattle.cedar_schema.specs.WrittenOut.{IsNoRecord}
+use Rattle.cedar_declared.specs.Fault.{Fault, action_attributes, open_record, undeclared_entity_types, type_not_defined, action_not_defined, type_shadowing, action_shadowing, duplicate_entity_type, duplicate_common_type, duplicate_action, action_cycle, common_type_cycle, action_entity_type, shape_not_record, context_not_record, unknown_extension_type, reserved_name, external_below_enumerated}
+use Rattle.cedar_declared.specs.IllFormed.{IsFault, RefersToCommon}
+use Rattle.cedar_declared.specs.Places.{Twice}
+use Rattle.cedar_declared.specs.WrittenOut.{IsNoRecord}
 
 -- what is declared is plain
 abbrev pub ArePlain : Entries → Type 0

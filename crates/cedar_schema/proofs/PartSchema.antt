@@ -3,7 +3,7 @@ use Rattle.std.proofs.Common.{◌≡◌, ◌↔◌, inr, zero, suc, List, [], �
 use Rattle.std.proofs.lemmas.Simd.{map-map}
 use Rattle.std.specs.List.Sorted.{IsStrictlySortedBy}
 use Rattle.std.specs.Map.{keys_of}
-use Rattle.cedar_below.proofs.Lists.{Contains-cons}
+use Rattle.cedar_below.proofs.Lists.{Contains-cons, Contains-preimage}
 use Rattle.cedar_below.specs.EntityType.{type_name}
 use Rattle.cedar_below.specs.PlainName.{PlainName, name_cmp}
 use Rattle.cedar_below.specs.PlainUid.{PlainUid}
@@ -13,25 +13,25 @@ use Rattle.cedar_names.specs.ActionBody.{ActionBody}
 use Rattle.cedar_names.specs.EntityBody.{EntityBody, standard, enumerated, external}
 use Rattle.cedar_names.specs.Expr.{Expr}
 use Rattle.cedar_names.specs.Part.{IsPlainStandard}
-use Rattle.cedar_schema.proofs.ChainLemmas.{first_step}
+use Rattle.cedar_declared.proofs.ChainLemmas.{first_step}
 use Rattle.cedar_schema.proofs.BuiltLemmas.{Types, FitEach-keys}
-use Rattle.cedar_schema.proofs.DeclaredLemmas.{Entries, Contains-preimage}
+use Rattle.cedar_schema.proofs.DeclaredLemmas.{Entries}
 use Rattle.cedar_schema.proofs.PartBag.{declarations_here, just_entities, same_entities, no_parents}
 use Rattle.cedar_schema.proofs.PartFaults.{ArePlain, AreAscending, plain_of, declared_from, no_action_in}
 use Rattle.cedar_schema.proofs.PartWritten.{written_like}
-use Rattle.cedar_schema.specs.Bag.{declared_entities, declared_actions, defined_names}
-use Rattle.cedar_schema.specs.DeclaredSchema.{IsDeclaredEntityType, IsDeclaredSchema}
-use Rattle.cedar_schema.specs.Defined.{Defined}
-use Rattle.cedar_schema.specs.Descent.{HasParent, IsDescendant}
+use Rattle.cedar_declared.specs.Bag.{declared_entities, declared_actions, defined_names}
+use Rattle.cedar_declared.specs.DeclaredSchema.{IsDeclaredEntityType, IsDeclaredSchema, KindFits, TagsFit}
+use Rattle.cedar_declared.specs.Defined.{Defined}
+use Rattle.cedar_declared.specs.Descent.{HasParent, IsDescendant}
 use Rattle.cedar_schema.specs.EntityFaults.{Declared, declared_by_entries, defined_by}
-use Rattle.cedar_schema.specs.Fits.{Fits, FitEach, KindFits, TagsFit}
-use Rattle.cedar_schema.specs.PlainSchema.{SchemaEntityType, schema_entity_types, schema_of}
-use Rattle.cedar_schema.specs.ValidatorSchema.{schema_entries}
+use Rattle.cedar_schema.specs.Fits.{Fits, FitEach}
+use Rattle.cedar_declared.specs.PlainSchema.{SchemaEntityType}
+use Rattle.cedar_schema.specs.ValidatorSchema.{schema_entity_types, schema_of, schema_entries}
 use Rattle.cedar_schema.specs.declared.schema.ValidatorSchema.{ValidatorSchema}
-use Rattle.cedar_types.specs.EntityTypeKind.{Kind, standard as standard_kind, enumerated as enumerated_kind, external as external_kind}
-use Rattle.cedar_types.specs.Ty.{Ty}
-use Rattle.cedar_types.specs.ValidatorEntityType.{entity_type_of, descendant_names}
-use Rattle.cedar_types.specs.declared.entity_type.ValidatorEntityType.{ValidatorEntityType}
+use Rattle.cedar_declared.specs.EntityTypeKind.{Kind, standard as standard_kind, enumerated as enumerated_kind, external as external_kind}
+use Rattle.cedar_rules.specs.Ty.{Ty}
+use Rattle.cedar_entities.specs.ValidatorEntityType.{entity_type_of, descendant_names}
+use Rattle.cedar_entities.specs.declared.entity_type.ValidatorEntityType.{ValidatorEntityType}
 
 -- an entity type of the map, as plain data under its name
 abbrev pub plain_entry : EntityType × ValidatorEntityType → PlainName × SchemaEntityType

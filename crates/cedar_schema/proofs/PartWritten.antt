@@ -7,17 +7,12 @@ use Rattle.cedar_names.specs.Part.{NamesEntitiesAlone, MembersNameEntitiesAlone}
 use Rattle.cedar_names.specs.Reference.{Reference}
 use Rattle.cedar_names.specs.declared.json_schema.reference_type.ReferenceType.{ReferenceType}
 use Rattle.cedar_names.specs.declared.json_schema.reference_type.ReferenceType.TheVariants.{Common, Entity, CommonOrEntity}
-use Rattle.cedar_schema.proofs.ResolutionLemmas.{IsFirst-like}
-use Rattle.cedar_schema.specs.Defined.{Defined, IsDefined, IsCommon, IsEntity, ResolvesTo, IsUnresolved}
-use Rattle.cedar_schema.specs.Parts.{Refers, MembersRefer, MentionsExtension, MembersMentionExtension}
-use Rattle.cedar_schema.specs.WrittenOut.{WrittenOut, MembersWrittenOut, as_text, as_long, as_truth, as_set, as_record, as_entity, as_common, as_extension, as_no_member, as_member}
-use Rattle.cedar_types.specs.Ty.{Ty, Fields}
-
--- a reference to an entity type names no common type
-pub names_no_common : (defined : Defined) (kind : ReferenceType) (name : PlainName) (body : Expr) → kind ≡ Entity → IsCommon defined kind name body → ⊥
-names_no_common defined Common name body is common = cc
-names_no_common defined Entity name body is common = common.0
-names_no_common defined CommonOrEntity name body is common = cc
+use Rattle.cedar_declared.proofs.ResolutionLemmas.{IsFirst-like}
+use Rattle.cedar_declared.specs.Defined.{Defined, IsDefined, IsCommon, IsEntity, ResolvesTo, IsUnresolved}
+use Rattle.cedar_declared.specs.Parts.{Refers, MembersRefer, MentionsExtension, MembersMentionExtension}
+use Rattle.cedar_declared.specs.WrittenOut.{WrittenOut, MembersWrittenOut, as_text, as_long, as_truth, as_set, as_record, as_entity, as_common, as_extension, as_no_member, as_member}
+use Rattle.cedar_rules.specs.Ty.{Ty, Fields}
+use Rattle.cedar_declared.proofs.ResolutionLemmas.{names_no_common}
 
 -- where the entity types are the same, a reference to one names the same
 entity_like : (defined other : Defined) → defined.entities ≡ other.entities → (kind : ReferenceType) (name : PlainName) → IsEntity defined kind name → IsEntity other kind name

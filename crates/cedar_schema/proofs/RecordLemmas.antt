@@ -20,17 +20,18 @@ use Rattle.cedar_names.specs.declared.json_schema.raw_name.RawName.{RawName}
 use Rattle.cedar_names.specs.declared.json_schema.type_of.RecordType.{RecordType, out-RecordType}
 use Rattle.cedar_names.specs.declared.json_schema.type_of.TypeOfAttribute.{TypeOfAttribute, out-TypeOfAttribute}
 use Rattle.cedar_schema.specs.Building.{IsExprFault}
-use Rattle.cedar_schema.specs.Defined.{Defined}
-use Rattle.cedar_schema.specs.Fault.{Fault, open_record, type_not_defined, want_of_memory}
-use Rattle.cedar_schema.specs.Parts.{HasOpenRecord, MembersHaveOpenRecord, MembersRefer}
-use Rattle.cedar_schema.specs.WrittenOut.{WrittenOut, MembersWrittenOut, as_record, as_no_member, as_member}
+use Rattle.cedar_declared.specs.Defined.{Defined}
+use Rattle.cedar_declared.specs.Fault.{Fault, open_record, type_not_defined, want_of_memory}
+use Rattle.cedar_declared.specs.Parts.{HasOpenRecord, MembersHaveOpenRecord, MembersRefer}
+use Rattle.cedar_declared.specs.WrittenOut.{WrittenOut, MembersWrittenOut, as_record, as_no_member, as_member}
 use Rattle.cedar_schema.proofs.BuildingLemmas.{WrittenOut-as}
-use Rattle.cedar_types.proofs.Extensional.{fields_from-HoldsLast}
+use Rattle.cedar_rules.proofs.Extensional.{fields_from-HoldsLast}
 use Rattle.cedar_below.proofs.Ordered.{IsStrictlySortedBy-map}
-use Rattle.cedar_types.specs.Attributes.{field_names, IsAscending, HoldsLast, plain_attributes}
+use Rattle.cedar_rules.specs.Fields.{field_names, IsAscending, HoldsLast}
+use Rattle.cedar_types.specs.Attributes.{plain_attributes}
 use Rattle.cedar_types.specs.Meaning.{attribute_of}
-use Rattle.cedar_types.specs.Ty.{Ty, record_of, Fields, end, field, fields_from}
-use Rattle.cedar_types.specs.declared.open_tag.OpenTag.TheVariants.{ClosedAttributes}
+use Rattle.cedar_rules.specs.Ty.{Ty, record_of, Fields, end, field, fields_from}
+use Rattle.cedar_rules.specs.declared.open_tag.OpenTag.TheVariants.{ClosedAttributes}
 use Rattle.cedar_types.specs.declared.attributes.AttributeType.{AttributeType}
 
 -- the attributes of one record after those of another

@@ -8,15 +8,16 @@ use Rattle.cedar_below.specs.contracts.entity_type.EntityTypePartialEq.TheImpl a
 use Rattle.cedar_below.specs.declared.entity_type.EntityType.{EntityType}
 use Rattle.cedar_schema.proofs.BuiltLemmas.{Types}
 use Rattle.cedar_schema.proofs.PartSchema.{plain_entry}
-use Rattle.cedar_schema.specs.PlainSchema.{schema_of}
-use Rattle.cedar_schema.specs.SameSchema.{AreSame, SameEntityType, SameSchema}
+use Rattle.cedar_schema.specs.ValidatorSchema.{schema_of}
+use Rattle.cedar_below.specs.Included.{AreSame}
+use Rattle.cedar_declared.specs.SameSchema.{SameEntityType, SameSchema}
 use Rattle.cedar_schema.specs.contracts.schema.ValidatorSchemaPartialEq.TheImpl as schema_eq
 use Rattle.cedar_schema.specs.declared.schema.ValidatorSchema.{ValidatorSchema}
-use Rattle.cedar_types.proofs.EntityTypeEquality.{entity_types-Same}
+use Rattle.cedar_entities.proofs.EntityTypeEquality.{entity_types-Same}
 use Rattle.cedar_types.proofs.EqualityLaws.{none}
-use Rattle.cedar_types.specs.ValidatorEntityType.{PlainEntityType}
-use Rattle.cedar_types.specs.contracts.entity_type.ValidatorEntityTypePartialEq.TheImpl as entity_type_eq
-use Rattle.cedar_types.specs.declared.entity_type.ValidatorEntityType.{ValidatorEntityType}
+use Rattle.cedar_entities.specs.ValidatorEntityType.{PlainEntityType}
+use Rattle.cedar_entities.specs.contracts.entity_type.ValidatorEntityTypePartialEq.TheImpl as entity_type_eq
+use Rattle.cedar_entities.specs.declared.entity_type.ValidatorEntityType.{ValidatorEntityType}
 
 -- the test of two entries of the map
 abbrev same_entry : EntityType × ValidatorEntityType → EntityType × ValidatorEntityType → Bool

@@ -1,11 +1,11 @@
 use Rattle.std.proofs.Common.{◌≡◌, Bool, Some, None, refl, ap, sym, subst, ◌∙◌}
-use Rattle.cedar_schema.specs.WrittenOut.{IsRecordType}
+use Rattle.cedar_declared.specs.WrittenOut.{IsRecordType}
 use Rattle.cedar_types.specs.Meaning.{ty_of, type_step, attribute_step, attributes_step, fields_of, attribute_of}
-use Rattle.cedar_types.specs.Ty.{Ty, Fields}
+use Rattle.cedar_rules.specs.Ty.{Ty, Fields}
 use Rattle.cedar_types.specs.declared.attributes.AttributeType.{AttributeType}
 use Rattle.cedar_types.specs.declared.attributes.Attributes.{Attributes}
 use Rattle.cedar_types.specs.declared.entity_kind.EntityKind.TheVariants as kind
-use Rattle.cedar_types.specs.declared.open_tag.OpenTag.{OpenTag}
+use Rattle.cedar_rules.specs.declared.open_tag.OpenTag.{OpenTag}
 use Rattle.cedar_types.specs.declared.types.Type.{«Type», Record, out-Type, roll-Type, roll-out-Type, fold_out-Type, map-Type}
 use Rattle.cedar_types.specs.declared.types.Type.TheOpen as layer
 use Rattle.cedar_types.specs.declared.types.Type.TheVariants.{rolls-Record}

@@ -7,12 +7,12 @@ use Rattle.cedar_names.specs.Expr.{Expr}
 use Rattle.cedar_names.specs.Reference.{Reference}
 use Rattle.cedar_names.specs.declared.json_schema.entity_type.EntityType.{EntityType}
 use Rattle.cedar_names.specs.declared.json_schema.raw_name.RawName.{RawName}
-use Rattle.cedar_schema.specs.Counted.{CountsInEntity}
-use Rattle.cedar_schema.specs.Defined.{Defined, IsUnresolved}
+use Rattle.cedar_declared.specs.Counted.{CountsInEntity}
+use Rattle.cedar_declared.specs.Defined.{Defined, IsUnresolved}
 use Rattle.cedar_schema.specs.EntityFaults.{declared_by_entries, defined_by}
-use Rattle.cedar_schema.specs.Fault.{Fault, open_record, type_not_defined, want_of_memory, shape_not_record}
-use Rattle.cedar_schema.specs.Parts.{HasOpenRecord, Refers}
-use Rattle.cedar_schema.specs.WrittenOut.{IsNoRecord}
+use Rattle.cedar_declared.specs.Fault.{Fault, open_record, type_not_defined, want_of_memory, shape_not_record}
+use Rattle.cedar_declared.specs.Parts.{HasOpenRecord, Refers}
+use Rattle.cedar_declared.specs.WrittenOut.{IsNoRecord}
 
 -- what references can name where the entity types of a map are declared
 abbrev pub defined_in : BTreeMap UnreservedId (EntityType RawName) → Defined

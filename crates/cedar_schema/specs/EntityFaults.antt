@@ -8,11 +8,11 @@ use Rattle.cedar_names.specs.Reference.{Reference}
 use Rattle.cedar_names.specs.declared.json_schema.entity_type.EntityType.{EntityType}
 use Rattle.cedar_names.specs.declared.json_schema.fragment.NamespaceDefinition.{NamespaceDefinition}
 use Rattle.cedar_names.specs.declared.json_schema.raw_name.RawName.{RawName}
-use Rattle.cedar_schema.specs.Counted.{CountsInEntity}
-use Rattle.cedar_schema.specs.Defined.{Defined, IsUnresolved}
-use Rattle.cedar_schema.specs.Fault.{Fault, open_record, type_not_defined, action_entity_type, shape_not_record}
-use Rattle.cedar_schema.specs.Parts.{HasOpenRecord, Refers}
-use Rattle.cedar_schema.specs.WrittenOut.{IsNoRecord}
+use Rattle.cedar_declared.specs.Counted.{CountsInEntity}
+use Rattle.cedar_declared.specs.Defined.{Defined, IsUnresolved}
+use Rattle.cedar_declared.specs.Fault.{Fault, open_record, type_not_defined, action_entity_type, shape_not_record}
+use Rattle.cedar_declared.specs.Parts.{HasOpenRecord, Refers}
+use Rattle.cedar_declared.specs.WrittenOut.{IsNoRecord}
 
 -- the name of an id in the empty namespace
 abbrev pub name_here : UnreservedId → PlainName

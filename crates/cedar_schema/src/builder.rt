@@ -11,27 +11,30 @@ ghost use Rattle.cedar_names.specs.RawName.{raw_name};
 ghost use Rattle.cedar_names.specs.Reference.{reference_to};
 ghost use Rattle.cedar_names.specs.declared.json_schema.reference_type.ReferenceType.TheVariants.{Entity};
 ghost use Rattle.cedar_schema.specs.Building.{defined_in, IsExprFault, IsShapeFault, IsBodyFault, IsSound};
-ghost use Rattle.cedar_schema.specs.Counted.{CountsInEntity};
+ghost use Rattle.cedar_declared.specs.Counted.{CountsInEntity};
 ghost use Rattle.cedar_schema.specs.EntityFaults.{declared_by, name_here, IsEntityFault, defined_by};
-ghost use Rattle.cedar_schema.specs.Fault.{Fault, fault_of, want_of_memory, type_not_defined, action_entity_type};
-ghost use Rattle.cedar_schema.specs.Fits.{KindFits, FitEach};
-ghost use Rattle.cedar_schema.specs.Parts.{HasOpenRecord};
-ghost use Rattle.cedar_schema.specs.WrittenOut.{WrittenOut};
+ghost use Rattle.cedar_declared.specs.Fault.{Fault, want_of_memory, type_not_defined, action_entity_type};
+ghost use Rattle.cedar_declared.specs.SchemaError.{fault_of};
+ghost use Rattle.cedar_declared.specs.DeclaredSchema.{KindFits};
+ghost use Rattle.cedar_schema.specs.Fits.{FitEach};
+ghost use Rattle.cedar_declared.specs.Parts.{HasOpenRecord};
+ghost use Rattle.cedar_declared.specs.WrittenOut.{WrittenOut};
 ghost use Rattle.cedar_types.specs.Meaning.{ty_of, fields_of};
-ghost use Rattle.cedar_types.specs.Ty.{record_of};
-ghost use Rattle.cedar_types.specs.ValidatorEntityType.{entity_type_of, descendant_names};
+ghost use Rattle.cedar_rules.specs.Ty.{record_of};
+ghost use Rattle.cedar_entities.specs.ValidatorEntityType.{entity_type_of, descendant_names};
 ghost use Rattle.std.specs.List.Sorted.{IsStrictlySortedBy};
 ghost use Rattle.std.specs.List.{AllByRecursion};
 ghost use Rattle.std.specs.Prelude.{◌≡◌, ◌⊎◌, ◌↔◌, IsTrue, IsSome, IfSome, IfOk, IfErr, OnOk, Contains, [], ◌∷◌, None, map};
 
-use crate::schema_error::{ContextOrShape, SchemaError, UnsupportedFeature};
 use cedar_below::{EntityType, InternalName, Loc, M, Name, NonEmpty, UnreservedId};
+use cedar_declared::{ContextOrShape, SchemaError, UnsupportedFeature};
+use cedar_entities::ValidatorEntityType;
 use cedar_names::json_schema;
 use cedar_names::json_schema::{
     ConditionalName, EntityTypeKind, NamespaceDefinition, RawName, RecordType, ReferenceType,
     TypeNotDefinedError, TypeVariant,
 };
-use cedar_types::{AttributeType, Attributes, OpenTag, Type, ValidatorEntityType};
+use cedar_types::{AttributeType, Attributes, OpenTag, Type};
 use std::alloc::Global;
 use std::collections::BTreeMap;
 use std::rc::Rc;

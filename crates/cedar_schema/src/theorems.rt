@@ -1,80 +1,15 @@
-//! Laws of declarations: what a bag of declarations that isn't ill-formed declares.
+//! Laws of schemas: comparisons.
 
-ghost use Rattle.std.specs.Prelude.{◌≡◌, ◌↔◌, IsTrue, List};
-ghost use Rattle.cedar_below.specs.Extensions.{extension_types};
-ghost use Rattle.cedar_below.specs.TypeNames.{TypeNamesFit};
-ghost use Rattle.cedar_below.specs.declared.extension.Extensions.{Extensions};
-ghost use Rattle.cedar_names.specs.Declaration.{raw_bag};
-ghost use Rattle.cedar_names.specs.Expr.{Expr};
-ghost use Rattle.cedar_names.specs.declared.json_schema.fragment.Fragment.{Fragment};
-ghost use Rattle.cedar_names.specs.declared.json_schema.raw_name.RawName.{RawName};
-ghost use Rattle.cedar_schema.specs.Bag.{Bag, defined_names};
-ghost use Rattle.cedar_schema.specs.Counted.{PlacesFit};
-ghost use Rattle.cedar_schema.specs.EndToEnd.{
-  AdmitsTheSame,
-  BagsDeclareAtMostOneSchema,
-  DeclaredSchemasAreClosed,
-  DeclaredSchemasAreValid,
-  DeclaredTypesHaveTheDeclaredValues,
-  SameBagsDeclareTheSame,
-};
-ghost use Rattle.cedar_schema.specs.IllFormed.{IsIllFormed};
-ghost use Rattle.cedar_schema.specs.PlainSchema.{schema_of};
-ghost use Rattle.cedar_schema.specs.SameSchema.{SameSchema};
-ghost use Rattle.cedar_schema.specs.WrittenOut.{WrittenOut};
+ghost use Rattle.std.specs.Prelude.{◌↔◌, IsTrue};
+ghost use Rattle.cedar_schema.specs.ValidatorSchema.{schema_of};
+ghost use Rattle.cedar_declared.specs.SameSchema.{SameSchema};
 ghost use Rattle.cedar_schema.specs.declared.schema.ValidatorSchema.{ValidatorSchema};
-ghost use Rattle.cedar_types.specs.Ty.{Ty};
 
 use crate::schema::ValidatorSchema;
-
-/// In a bag that isn't ill-formed an expression is written out as one type at most.
-pub fn expressions_are_written_out_as_one_type()
-    ensures { (bag : Bag) (extensions : Extensions) (expr : Expr) (ty other : Ty)
-        → TypeNamesFit (extension_types extensions) → (IsIllFormed bag extensions → ⊥)
-        → WrittenOut (defined_names bag extensions) expr ty
-        → WrittenOut (defined_names bag extensions) expr other → ty ≡ other }
-{}
-
-/// In a bag that isn't ill-formed the type that an expression is written out as has just the values
-/// that the expression admits.
-pub fn types_have_the_admitted_values()
-    ensures { (bag : Bag) (extensions : Extensions) (expr : Expr) (ty : Ty)
-        → TypeNamesFit (extension_types extensions) → (IsIllFormed bag extensions → ⊥)
-        → WrittenOut (defined_names bag extensions) expr ty → AdmitsTheSame bag extensions expr ty }
-{}
-
-/// A bag that isn't ill-formed declares at most one schema.
-pub fn bags_declare_at_most_one_schema()
-    ensures { BagsDeclareAtMostOneSchema }
-{}
-
-/// The attributes, tags and contexts of the schema that a bag declares which isn't ill-formed have
-/// just the values that what is declared of them admits.
-pub fn declared_types_have_the_declared_values()
-    ensures { DeclaredTypesHaveTheDeclaredValues }
-{}
 
 /// Schemas are equal exactly where their entity types, their actions and the entities of their
 /// actions are the same, whatever their locations.
 pub fn schemas_compare_by_what_they_declare()
     ensures { (a b : ValidatorSchema) → IsTrue (⟦<ValidatorSchema as PartialEq>⟧.eq a b)
         ↔ SameSchema (schema_of a) (schema_of b) }
-{}
-
-/// Bags that are the same, whatever the order of their declarations and of parents, principals and
-/// resources, are ill-formed both or neither, and declare the same schemas.
-pub fn same_bags_declare_the_same()
-    ensures { SameBagsDeclareTheSame }
-{}
-
-/// The schema that a bag declares which isn't ill-formed is valid, where the references of the bag fit
-/// their places; and its descendants are closed, so that validation gives it back unchanged.
-pub fn declared_schemas_are_valid()
-    ensures valid { DeclaredSchemasAreValid }
-    ensures closed { DeclaredSchemasAreClosed }
-{}
-
-/// The references of fragments whose names are as they were written fit their places.
-pub fn raw_references_fit_their_places()
-    ensures { (fragments : List (Fragment RawName)) → PlacesFit (raw_bag fragments) }
 {}

@@ -5,22 +5,22 @@ use Rattle.std.specs.declared.cmp.Ordering.{Ordering}
 use Rattle.std.specs.declared.cmp.Ordering.TheVariants.{Less, Equal, Greater}
 use Rattle.cedar_below.proofs.Names.{entity_type_eq-same}
 use Rattle.cedar_below.specs.EntityType.{type_name}
-use Rattle.cedar_types.proofs.SubtypeLemmas.{pointwise-map_Decides}
-use Rattle.cedar_types.specs.CompareLaws.{ComparesBy}
+use Rattle.cedar_rules.proofs.SubtypeLemmas.{pointwise-map_Decides}
+use Rattle.cedar_rules.specs.CompareLaws.{ComparesBy}
 use Rattle.cedar_types.specs.EntityKind.{kind_ty}
 use Rattle.cedar_types.specs.EntityLUB.{lub_names}
-use Rattle.cedar_types.specs.Ty.{union_of}
-use Rattle.cedar_types.specs.contracts.bool_type.BoolTypeHash.TheImpl as bool_hash
-use Rattle.cedar_types.specs.contracts.bool_type.BoolTypeOrd.TheImpl as bool_ord
-use Rattle.cedar_types.specs.contracts.bool_type.BoolTypePartialEq.TheImpl as bool_eq
+use Rattle.cedar_rules.specs.Ty.{union_of}
+use Rattle.cedar_rules.specs.contracts.bool_type.BoolTypeHash.TheImpl as bool_hash
+use Rattle.cedar_rules.specs.contracts.bool_type.BoolTypeOrd.TheImpl as bool_ord
+use Rattle.cedar_rules.specs.contracts.bool_type.BoolTypePartialEq.TheImpl as bool_eq
 use Rattle.cedar_types.specs.contracts.entity_kind.EntityKindHash.TheImpl as kind_hash
 use Rattle.cedar_types.specs.contracts.entity_kind.EntityKindOrd.TheImpl as kind_ord
 use Rattle.cedar_types.specs.contracts.entity_kind.EntityKindPartialEq.TheImpl as kind_eq
 use Rattle.cedar_types.specs.contracts.entity_lub.EntityLUBHash.TheImpl as lub_hash
 use Rattle.cedar_types.specs.contracts.entity_lub.EntityLUBOrd.TheImpl as lub_ord
 use Rattle.cedar_types.specs.contracts.entity_lub.EntityLUBPartialEq.TheImpl as lub_eq
-use Rattle.cedar_types.specs.declared.bool_type.BoolType.{BoolType}
-use Rattle.cedar_types.specs.declared.bool_type.BoolType.TheVariants.{AnyBool, True, False}
+use Rattle.cedar_rules.specs.declared.bool_type.BoolType.{BoolType}
+use Rattle.cedar_rules.specs.declared.bool_type.BoolType.TheVariants.{AnyBool, True, False}
 use Rattle.cedar_types.specs.declared.entity_kind.EntityKind.{EntityKind}
 use Rattle.cedar_types.specs.declared.entity_kind.EntityKind.TheVariants as kind
 use Rattle.cedar_types.specs.declared.entity_lub.EntityLUB.{EntityLUB}

@@ -9,13 +9,12 @@ use Rattle.std.specs.String.{string_cmp}
 use Rattle.std.specs.declared.alloc.Global.{Global}
 use Rattle.std.specs.declared.cmp.Ordering.TheVariants.{Greater}
 use Rattle.std.specs.declared.string.String.{String}
-use Rattle.cedar_below.proofs.Ordered.{above_front, insert_entry-end}
+use Rattle.cedar_below.proofs.Ordered.{above_front, insert_entry-end, IsStrictlySortedBy-map}
 use Rattle.cedar_below.proofs.Texts.{text_cmp-total}
 use Rattle.cedar_below.specs.Text.{Text, text_cmp}
-use Rattle.cedar_below.proofs.Ordered.{IsStrictlySortedBy-map}
 use Rattle.cedar_types.specs.Attributes.{plain_attributes}
 use Rattle.cedar_types.specs.Meaning.{attribute_of}
-use Rattle.cedar_types.specs.Ty.{Ty}
+use Rattle.cedar_rules.specs.Ty.{Ty}
 use Rattle.cedar_types.specs.declared.attributes.AttributeType.{AttributeType}
 
 -- the names of pairs are the bytes of their keys

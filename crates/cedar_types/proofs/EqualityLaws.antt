@@ -10,12 +10,12 @@ use Rattle.cedar_below.proofs.Names.{name_eq-same}
 use Rattle.cedar_below.proofs.Texts.{text_eq-Decides}
 use Rattle.cedar_below.specs.Text.{Text}
 use Rattle.cedar_types.proofs.CompareLemmas.{ties_from, bool_eq-same, kind_eq-same}
-use Rattle.cedar_types.specs.CompareLaws.{ComparesBy}
+use Rattle.cedar_rules.specs.CompareLaws.{ComparesBy}
 use Rattle.cedar_types.specs.Meaning.{ty_of, attribute_of, fields_of, type_step, attribute_step, attributes_step}
-use Rattle.cedar_types.specs.Ty.{Ty, never, truth, long, text, any_entity, union_of, any_set, set_of, record_of, extension_of, Fields, end, field, fields_from}
+use Rattle.cedar_rules.specs.Ty.{Ty, never, truth, long, text, any_entity, union_of, any_set, set_of, record_of, extension_of, Fields, end, field, fields_from}
 use Rattle.cedar_types.specs.contracts.attributes.AttributeTypePartialEq.TheImpl as attribute_type_eq
 use Rattle.cedar_types.specs.contracts.attributes.AttributesPartialEq.TheImpl as attributes_eq
-use Rattle.cedar_types.specs.contracts.open_tag.OpenTagPartialEq.TheImpl as open_tag_eq
+use Rattle.cedar_rules.specs.contracts.open_tag.OpenTagPartialEq.TheImpl as open_tag_eq
 use Rattle.cedar_types.specs.contracts.types.TypeHash.TheImpl as type_hash
 use Rattle.cedar_types.specs.contracts.types.TypeOrd.TheImpl as type_ord
 use Rattle.cedar_types.specs.contracts.types.TypePartialEq.TheImpl as type_eq
@@ -26,8 +26,8 @@ use Rattle.cedar_types.specs.contracts.attributes.AttributeTypeOrd.TheImpl as at
 use Rattle.cedar_types.specs.declared.attributes.AttributeType.{AttributeType, ind-AttributeType, roll-AttributeType, out-AttributeType, map-AttributeType, fold_out-AttributeType}
 use Rattle.cedar_types.specs.declared.attributes.Attributes.{Attributes, ind-Attributes, roll-Attributes, out-Attributes, roll-out-Attributes, out-roll-Attributes, map-Attributes, fold-roll-Attributes}
 use Rattle.cedar_types.specs.declared.entity_kind.EntityKind.TheVariants as kind
-use Rattle.cedar_types.specs.declared.open_tag.OpenTag.{OpenTag}
-use Rattle.cedar_types.specs.declared.open_tag.OpenTag.TheVariants.{OpenAttributes, ClosedAttributes}
+use Rattle.cedar_rules.specs.declared.open_tag.OpenTag.{OpenTag}
+use Rattle.cedar_rules.specs.declared.open_tag.OpenTag.TheVariants.{OpenAttributes, ClosedAttributes}
 use Rattle.cedar_types.specs.declared.types.Type.{«Type», roll-Type, out-Type, roll-out-Type, ind-Type, map-Type, fold-roll-Type}
 use Rattle.cedar_types.specs.declared.types.Type.TheOpen as layer
 

@@ -14,9 +14,10 @@ use Rattle.std.specs.declared.rc.Rc.{Rc}
 use Rattle.std.specs.declared.string.String.{String}
 use Rattle.cedar_below.specs.Text.{Text, text_cmp}
 use Rattle.cedar_below.proofs.Ordered.{IsStrictlySortedBy-map}
-use Rattle.cedar_types.specs.Attributes.{plain_attributes, plain_required, field_names, last_named, HoldsLast, IsAscending}
+use Rattle.cedar_types.specs.Attributes.{plain_attributes, plain_required}
+use Rattle.cedar_rules.specs.Fields.{field_names, last_named, HoldsLast, IsAscending}
 use Rattle.cedar_types.specs.Meaning.{fields_of, ty_of, attribute_of, type_step, attribute_step, attributes_step}
-use Rattle.cedar_types.specs.Ty.{Ty, Fields, fields_from, field_at}
+use Rattle.cedar_rules.specs.Ty.{Ty, Fields, fields_from, field_at}
 use Rattle.cedar_types.specs.declared.attributes.AttributeType.{AttributeType}
 use Rattle.cedar_types.specs.declared.types.Type.{«Type»}
 use Rattle.cedar_types.specs.declared.attributes.Attributes.{Attributes, out-Attributes, roll-Attributes, out-roll-Attributes, fold_out-Attributes}

@@ -15,7 +15,7 @@ use Rattle.cedar_below.specs.contracts.entity_type.EntityTypePartialEq.TheImpl a
 use Rattle.cedar_below.specs.declared.entity_type.EntityType.{EntityType}
 use Rattle.cedar_below.proofs.Names.{entity_type_eq-same, entity_type_ord-name_cmp}
 use Rattle.cedar_below.proofs.Ordered.{IsStrictlySortedBy-map}
-use Rattle.cedar_types.specs.EntityLUB.{IsUnionOf}
+use Rattle.cedar_rules.specs.EntityUnion.{IsUnionOf}
 use Rattle.cedar_types.proofs.MemberLemmas.{Contains-named}
 use Rattle.cedar_types.proofs.UnionLemmas.{Contains-names}
 

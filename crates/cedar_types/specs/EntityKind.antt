@@ -1,7 +1,7 @@
 use Rattle.std.specs.Prelude.{List, Option, Some, None}
 use Rattle.cedar_below.specs.PlainName.{PlainName}
 use Rattle.cedar_types.specs.EntityLUB.{lub_names}
-use Rattle.cedar_types.specs.Ty.{Ty, any_entity, union_of}
+use Rattle.cedar_rules.specs.Ty.{Ty, any_entity, union_of}
 use Rattle.cedar_types.specs.declared.entity_kind.EntityKind.{EntityKind}
 use Rattle.cedar_types.specs.declared.entity_kind.EntityKind.TheVariants as kind
 
@@ -9,8 +9,3 @@ use Rattle.cedar_types.specs.declared.entity_kind.EntityKind.TheVariants as kind
 abbrev pub kind_ty : EntityKind → Ty
 kind_ty kind.AnyEntity = any_entity
 kind_ty (kind.Entity lub) = union_of (lub_names lub)
-
--- the names of the entity types of a union
-abbrev pub kind_names : Ty → Option (List PlainName)
-kind_names (union_of names) = Some names
-kind_names _ = None

@@ -8,9 +8,10 @@ ghost use Rattle.std.specs.declared.alloc.Global.{Global};
 ghost use Rattle.std.specs.declared.rc.Rc.{Rc};
 ghost use Rattle.std.specs.declared.string.String.{String};
 ghost use Rattle.cedar_below.specs.declared.loc.Loc.{Loc};
-ghost use Rattle.cedar_types.specs.Attributes.{HoldsLast, IsAscending, field_names, plain_attributes, plain_required};
+ghost use Rattle.cedar_rules.specs.Fields.{HoldsLast, IsAscending, field_names};
+ghost use Rattle.cedar_types.specs.Attributes.{plain_attributes, plain_required};
 ghost use Rattle.cedar_types.specs.Meaning.{ty_of, attribute_of, fields_of, attribute_loc};
-ghost use Rattle.cedar_types.specs.Ty.{end, field_at, fields_from};
+ghost use Rattle.cedar_rules.specs.Ty.{end, field_at, fields_from};
 ghost use Rattle.cedar_types.specs.declared.attributes.AttributeType.{AttributeType};
 ghost use Rattle.cedar_types.specs.declared.types.Type.{«Type»};
 
@@ -110,8 +111,8 @@ impl AttributeType {
 }
 
 impl Attributes {
-    /// No attributes.
-    pub(crate) fn empty(alloc: Global) -> Self
+    /// No attributes. It takes no memory.
+    pub fn empty(alloc: Global) -> Self
         ensures { fields_of result ≡ end }
     {
         Attributes {
@@ -120,8 +121,8 @@ impl Attributes {
         }
     }
 
-    /// The allocator of the map.
-    pub(crate) fn allocator(&self) -> Global {
+    /// The allocator that the attributes are held in.
+    pub fn allocator(&self) -> Global {
         self.alloc
     }
 

@@ -16,7 +16,8 @@ impl EntityKind {
     ghost use Rattle.std.specs.Prelude.{◌≡◌, IfOk};
     ghost use Rattle.std.specs.Option.{option_copied, option_map};
     ghost use Rattle.cedar_types.specs.EntityLUB.{lub_names};
-    ghost use Rattle.cedar_types.specs.EntityKind.{kind_ty, kind_names};
+    ghost use Rattle.cedar_types.specs.EntityKind.{kind_ty};
+    ghost use Rattle.cedar_rules.specs.EntityTypes.{kind_names};
 
     /// The union that the entity's type is one of, if one is known.
     pub fn as_entity_lub(&self) -> Option<&EntityLUB>

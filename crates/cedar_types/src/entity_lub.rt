@@ -45,7 +45,8 @@ impl EntityLUB {
     ghost use Rattle.std.specs.Slice.Iter.{iter_rest};
     ghost use Rattle.cedar_below.specs.EntityType.{type_name};
     ghost use Rattle.cedar_below.specs.PlainName.{name_cmp};
-    ghost use Rattle.cedar_types.specs.EntityLUB.{lub_names, only_name, AreDisjoint, IsUnionOf};
+    ghost use Rattle.cedar_types.specs.EntityLUB.{lub_names};
+    ghost use Rattle.cedar_rules.specs.EntityUnion.{only_name, AreDisjoint, IsUnionOf};
 
     /// The union of a single entity type, or want of memory.
     pub fn single_entity(alloc: Global, ty: EntityType) -> M<Self>

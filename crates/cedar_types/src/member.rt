@@ -9,20 +9,19 @@ ghost use Rattle.cedar_below.specs.RestrictedExpr.{tree_of, trees_of, entries_of
 ghost use Rattle.cedar_below.specs.Tree.{EachTree, SomeTree, entry_names};
 ghost use Rattle.cedar_below.specs.Value.{value_expr};
 ghost use Rattle.cedar_types.specs.Answers.{IsRight};
-ghost use Rattle.cedar_types.specs.Attributes.{field_names};
+ghost use Rattle.cedar_rules.specs.Fields.{field_names};
 ghost use Rattle.cedar_types.specs.EntityKind.{kind_ty};
-ghost use Rattle.cedar_types.specs.Has.{Has, HasUp, Meets, HasFieldsBy, FieldsMeet, MayGive, HasTruth, HasUid};
-ghost use Rattle.cedar_types.specs.OpenTag.{is_open};
+ghost use Rattle.cedar_rules.specs.Has.{Has, HasUp, Meets, HasFieldsBy, FieldsMeet, MayGive, HasTruth, HasUid};
+ghost use Rattle.cedar_rules.specs.OpenTag.{is_open};
 ghost use Rattle.cedar_types.specs.Meaning.{ty_of, fields_of};
 
 use crate::attributes::Attributes;
-use crate::bool_type::BoolType;
 use crate::entity_kind::EntityKind;
-use crate::open_tag::OpenTag;
 use crate::types::Type;
 use cedar_below::{
     EntityUID, ExtensionFunctionLookupError, Extensions, Name, RestrictedExpr, Value,
 };
+use cedar_rules::{BoolType, OpenTag};
 use std::collections::BTreeMap;
 
 /// Whether a value has a type, or the lookup fault of a function that it calls.

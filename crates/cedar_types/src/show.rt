@@ -1,27 +1,11 @@
 //! How types are printed.
 
-use crate::bool_type::BoolType;
 use crate::entity_kind::EntityKind;
 use crate::entity_lub::EntityLUB;
-use crate::open_tag::OpenTag;
 use crate::types::Type;
+use cedar_rules::OpenTag;
 use std::fmt;
 use std::fmt::Display;
-
-impl fmt::Display for BoolType {
-    ghost use Rattle.std.specs.Prelude.{Some};
-    ghost use Rattle.cedar_types.specs.BoolType.{bool_text};
-
-    ghost output = { λ known. Some (bool_text known) };
-
-    fn fmt<W: fmt::Write>(&self, f: &mut fmt::Formatter<W>) -> fmt::Result {
-        f.write_str(match self {
-            BoolType::AnyBool => "Bool",
-            BoolType::True => "__cedar::internal::True",
-            BoolType::False => "__cedar::internal::False",
-        })
-    }
-}
 
 /// Writes the members of a union with `, ` between them.
 fn write_members<W: fmt::Write>(lub: &EntityLUB, f: &mut fmt::Formatter<W>) -> fmt::Result {

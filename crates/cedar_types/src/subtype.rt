@@ -2,19 +2,18 @@
 
 ghost use Rattle.std.specs.Prelude.{◌≡◌, ◌↔◌, IsTrue, map, string_bytes};
 ghost use Rattle.cedar_below.specs.Included.{Included};
-ghost use Rattle.cedar_types.specs.Below.{Below, FieldsBelow, AttributeBelow, FlagsBelow, TagsBelow, NamesBelow};
-ghost use Rattle.cedar_types.specs.Attributes.{IsAscending, field_names};
+ghost use Rattle.cedar_rules.specs.Below.{Below, FieldsBelow, AttributeBelow, FlagsBelow, TagsBelow, NamesBelow};
+ghost use Rattle.cedar_rules.specs.Fields.{IsAscending, field_names};
 ghost use Rattle.cedar_types.specs.EntityKind.{kind_ty};
 ghost use Rattle.cedar_types.specs.EntityLUB.{lub_names};
 ghost use Rattle.cedar_types.specs.Meaning.{ty_of, fields_of, attribute_of};
 
 use crate::attributes::{AttributeType, Attributes};
-use crate::bool_type::BoolType;
 use crate::entity_kind::EntityKind;
 use crate::entity_lub::EntityLUB;
-use crate::open_tag::OpenTag;
 use crate::types::Type;
 use cedar_below::ValidationMode;
+use cedar_rules::{BoolType, OpenTag};
 use std::collections::btree_map;
 
 /// Whether an attribute's flag fits below another's.

@@ -7,20 +7,20 @@ ghost use Rattle.std.specs.declared.rc.Rc.{Rc};
 ghost use Rattle.std.specs.declared.string.String.{String};
 ghost use Rattle.cedar_below.specs.EntityType.{type_name};
 ghost use Rattle.cedar_below.specs.Name.{plain_name};
-ghost use Rattle.cedar_types.specs.Attributes.{IsRecordOf, plain_attributes, plain_required};
+ghost use Rattle.cedar_rules.specs.Fields.{IsRecordOf};
+ghost use Rattle.cedar_types.specs.Attributes.{plain_attributes, plain_required};
 ghost use Rattle.cedar_types.specs.Meaning.{ty_of};
 ghost use Rattle.cedar_types.specs.Primitive.{primitive_words};
-ghost use Rattle.cedar_types.specs.Ty.{truth, long, text, any_entity, union_of, any_set, set_of, record_of, extension_of, end};
+ghost use Rattle.cedar_rules.specs.Ty.{truth, long, text, any_entity, union_of, any_set, set_of, record_of, extension_of, end};
 ghost use Rattle.cedar_types.specs.declared.attributes.AttributeType.{AttributeType};
 ghost use Rattle.cedar_types.specs.declared.types.Type.{«Type»};
-ghost use Rattle.cedar_types.specs.declared.bool_type.BoolType.TheVariants as known;
+ghost use Rattle.cedar_rules.specs.declared.bool_type.BoolType.TheVariants as known;
 
 use crate::attributes::{AttributeType, Attributes};
-use crate::bool_type::BoolType;
 use crate::entity_kind::EntityKind;
 use crate::entity_lub::EntityLUB;
-use crate::open_tag::OpenTag;
 use cedar_below::{EntityType, M, Name};
+use cedar_rules::{BoolType, OpenTag};
 use std::alloc::Global;
 use std::rc::Rc;
 

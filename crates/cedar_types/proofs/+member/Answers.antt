@@ -11,7 +11,7 @@ use Rattle.cedar_below.specs.declared.value.RestrictedExpr.{RestrictedExpr}
 use Rattle.cedar_types.specs.Answers.{Answer}
 use Rattle.cedar_types.specs.Attributes.{plain_attributes}
 use Rattle.cedar_types.specs.Meaning.{ty_of, fields_of, attribute_of}
-use Rattle.cedar_types.specs.Ty.{Ty, extension_of, Fields, fields_from}
+use Rattle.cedar_rules.specs.Ty.{Ty, extension_of, Fields, fields_from}
 use Rattle.cedar_types.specs.declared.attributes.AttributeType.{AttributeType}
 use Rattle.cedar_types.specs.declared.types.Type.TheVariants as type
 use Rattle.cedar_types.proofs.AnswerLemmas.{IsRightSoFar-none, IsRightSoFar-all}

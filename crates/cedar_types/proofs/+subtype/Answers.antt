@@ -4,12 +4,12 @@ use Rattle.std.specs.declared.alloc.Global.{Global}
 use Rattle.std.specs.declared.string.String.{String}
 use Rattle.cedar_below.specs.Text.{Text}
 use Rattle.cedar_types.specs.Attributes.{plain_attributes}
-use Rattle.cedar_types.specs.Below.{FieldsBelow}
+use Rattle.cedar_rules.specs.Below.{FieldsBelow}
 use Rattle.cedar_types.specs.Meaning.{fields_of, attribute_of}
-use Rattle.cedar_types.specs.Ty.{Fields, fields_from, field_at}
+use Rattle.cedar_rules.specs.Ty.{Fields, fields_from, field_at}
 use Rattle.cedar_types.specs.declared.attributes.AttributeType.{AttributeType}
 use Rattle.cedar_types.proofs.FieldLemmas.{fields_of-entries}
-use Rattle.cedar_types.proofs.SubtypeLemmas.{HasBelow-Decides, HasBelow-none}
+use Rattle.cedar_rules.proofs.SubtypeLemmas.{HasBelow-Decides, HasBelow-none}
 use Rattle.cedar_below.proofs.Inclusion.{rest_alone, part_fails}
 use Rattle.cedar_types.proofs.+subtype.Goals as goal
 

@@ -1,8 +1,8 @@
 use Rattle.std.proofs.Common.{◌↔◌}
 use Rattle.cedar_types.specs.Attributes.{plain_attributes}
-use Rattle.cedar_types.specs.Below.{FieldsBelow}
+use Rattle.cedar_rules.specs.Below.{FieldsBelow}
 use Rattle.cedar_types.specs.Meaning.{fields_of}
-use Rattle.cedar_types.specs.Ty.{fields_from}
+use Rattle.cedar_rules.specs.Ty.{fields_from}
 use Rattle.cedar_types.specs.declared.attributes.Attributes.{size-Attributes}
 use Rattle.cedar_types.specs.declared.attributes.AttributeType.{size-AttributeType}
 use Rattle.cedar_types.specs.declared.types.Type.{size-Type}

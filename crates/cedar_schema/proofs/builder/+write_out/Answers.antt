@@ -3,7 +3,7 @@ use Rattle.cedar_names.proofs.VariantLemmas.{raw_variant-String, raw_variant-Lon
 use Rattle.cedar_names.specs.Expr.{set_expr}
 use Rattle.cedar_names.specs.RawExpr.{raw_expr, raw_variant}
 use Rattle.cedar_schema.specs.Building.{defined_in}
-use Rattle.cedar_schema.specs.WrittenOut.{as_text, as_long, as_truth, as_set}
+use Rattle.cedar_declared.specs.WrittenOut.{as_text, as_long, as_truth, as_set}
 use Rattle.cedar_schema.proofs.BuildingLemmas.{WrittenOut-as, fault_passed-set}
 use Rattle.std.proofs.IntoIterSteps.{All-taken}
 use Rattle.cedar_names.proofs.PartLemmas.{DecidedBy-all}
@@ -11,9 +11,10 @@ use Rattle.cedar_names.specs.declared.json_schema.raw_name.RawName.{RawName}
 use Rattle.cedar_names.specs.declared.json_schema.type_of.RecordType.{out-RecordType}
 use Rattle.cedar_names.specs.declared.json_schema.type_of.TypeOfAttribute.{out-TypeOfAttribute}
 use Rattle.cedar_schema.proofs.RecordLemmas.{WrittenSoFar, WrittenSoFar-none, WrittenSoFar-more, fault_of_next, written_record, closed_record, Items}
-use Rattle.cedar_types.specs.Attributes.{HoldsLast, plain_attributes}
+use Rattle.cedar_rules.specs.Fields.{HoldsLast}
+use Rattle.cedar_types.specs.Attributes.{plain_attributes}
 use Rattle.cedar_types.specs.Meaning.{ty_of, fields_of}
-use Rattle.cedar_types.specs.Ty.{set_of}
+use Rattle.cedar_rules.specs.Ty.{set_of}
 use Rattle.cedar_schema.proofs.builder.+write_out.Goals as goal
 
 pub variant_of-returns-in-String-clause-written_out : goal.variant_of-returns-in-String-clause-written_out

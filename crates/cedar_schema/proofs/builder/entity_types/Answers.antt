@@ -5,7 +5,7 @@ use Rattle.cedar_names.specs.EntityBody.{raw_entity_body}
 use Rattle.cedar_schema.specs.EntityFaults.{declared_by_entries, defined_by, name_here}
 use Rattle.cedar_schema.specs.Fits.{Fits}
 use Rattle.cedar_schema.specs.Building.{IsBodyFault, IsSound}
-use Rattle.cedar_schema.specs.Fault.{fault_of}
+use Rattle.cedar_declared.specs.SchemaError.{fault_of}
 use Rattle.cedar_schema.proofs.BuiltLemmas.{BuiltSoFar, BuiltSoFar-more, declared_in_order, inserted_at_end, plain_next, declared_next, Types}
 use Rattle.cedar_schema.proofs.FaultLemmas.{fault_of_name, fault_of_declaration}
 use Rattle.cedar_schema.proofs.builder.entity_types.Goals as goal

@@ -6,9 +6,9 @@ use Rattle.cedar_below.specs.Included.{Included}
 use Rattle.cedar_below.specs.RestrictedExpr.{entries_of}
 use Rattle.cedar_below.specs.Text.{Text}
 use Rattle.cedar_below.specs.Tree.{entry_names}
-use Rattle.cedar_types.specs.Attributes.{field_names}
+use Rattle.cedar_rules.specs.Fields.{field_names}
 use Rattle.cedar_types.specs.Meaning.{fields_of, attribute_of}
-use Rattle.cedar_types.proofs.InclusionLemmas.{found-Decides}
+use Rattle.cedar_rules.proofs.InclusionLemmas.{found-Decides}
 use Rattle.cedar_types.proofs.member.all_listed.Goals as goal
 
 pub loop-name-init : goal.loop-name-init

@@ -3,8 +3,8 @@ use Rattle.std.specs.declared.alloc.Global.{Global}
 use Rattle.std.specs.declared.string.String.{String}
 use Rattle.cedar_types.specs.Attributes.{plain_attributes}
 use Rattle.cedar_types.specs.Meaning.{fields_of, ty_of, attribute_of}
-use Rattle.cedar_types.specs.Ty.{Ty, fields_from}
-use Rattle.cedar_types.specs.WellFormed.{IsWellFormed, AreWellFormed}
+use Rattle.cedar_rules.specs.Ty.{Ty, fields_from}
+use Rattle.cedar_rules.specs.WellFormed.{IsWellFormed, AreWellFormed}
 use Rattle.cedar_types.specs.declared.attributes.AttributeType.{AttributeType}
 use Rattle.cedar_types.proofs.FieldLemmas.{fields_of-entries, IsAscending-map}
 use Rattle.cedar_types.proofs.MemberParts.{attribute_of-parts}

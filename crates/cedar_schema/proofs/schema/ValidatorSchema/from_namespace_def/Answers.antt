@@ -3,10 +3,10 @@ use Rattle.std.specs.BTreeMap.{BTreeMap}
 use Rattle.cedar_below.specs.declared.entity_type.EntityType.{EntityType}
 use Rattle.cedar_names.specs.Declaration.{raw_declarations}
 use Rattle.cedar_schema.proofs.PartDefinition.{part_fault, part_well_formed, part_declared}
-use Rattle.cedar_schema.proofs.SchemaLaws.{one_schema, types_admit}
-use Rattle.cedar_schema.specs.PlainSchema.{schema_of}
+use Rattle.cedar_declared.proofs.SchemaLaws.{one_schema, types_admit}
+use Rattle.cedar_schema.specs.ValidatorSchema.{schema_of}
 use Rattle.cedar_schema.specs.declared.schema.ValidatorSchema.{ValidatorSchema}
-use Rattle.cedar_types.specs.declared.entity_type.ValidatorEntityType.{ValidatorEntityType}
+use Rattle.cedar_entities.specs.declared.entity_type.ValidatorEntityType.{ValidatorEntityType}
 use Rattle.cedar_schema.proofs.schema.ValidatorSchema.from_namespace_def.Goals as goal
 
 -- the schema of a map of entity types

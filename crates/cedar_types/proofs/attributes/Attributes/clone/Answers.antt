@@ -1,5 +1,5 @@
 use Rattle.std.proofs.Common.{ap, sym, ◌∙◌, ◌++◌, append-nil}
-use Rattle.cedar_types.specs.Ty.{fields_from}
+use Rattle.cedar_rules.specs.Ty.{fields_from}
 use Rattle.cedar_types.specs.Attributes.{plain_attributes}
 use Rattle.cedar_types.specs.declared.attributes.Attributes.{out-Attributes}
 use Rattle.cedar_types.proofs.CopyLemmas.{plain_attributes-insert_next, sorted_names}

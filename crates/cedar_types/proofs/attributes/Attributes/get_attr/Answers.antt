@@ -1,7 +1,7 @@
 use Rattle.std.proofs.Common.{ap, sym, ◌∙◌}
 use Rattle.std.specs.Option.{option_map}
 use Rattle.cedar_types.specs.Meaning.{attribute_of}
-use Rattle.cedar_types.specs.Ty.{field_at}
+use Rattle.cedar_rules.specs.Ty.{field_at}
 use Rattle.cedar_types.proofs.FieldLemmas.{fields_of-entries, field_at-entries}
 use Rattle.cedar_types.proofs.attributes.Attributes.get_attr.Goals as goal
 

@@ -1,6 +1,6 @@
 use Rattle.std.proofs.Common.{ap, sym, ◌∙◌}
 use Rattle.cedar_types.specs.Attributes.{plain_attributes}
-use Rattle.cedar_types.specs.Ty.{fields_from}
+use Rattle.cedar_rules.specs.Ty.{fields_from}
 use Rattle.cedar_types.proofs.FieldLemmas.{fields_of-entries, IsAscending-map}
 use Rattle.cedar_types.proofs.attributes.Attributes.iter.Goals as goal
 

@@ -1,6 +1,6 @@
 use Rattle.std.proofs.Common.{ap, sym, ◌∙◌, map, string_bytes}
 use Rattle.std.proofs.lemmas.Simd.{map-map}
-use Rattle.cedar_types.specs.Attributes.{field_names}
+use Rattle.cedar_rules.specs.Fields.{field_names}
 use Rattle.cedar_types.proofs.FieldLemmas.{fields_of-entries, field_names-entries, IsAscending-map}
 use Rattle.cedar_types.proofs.attributes.Attributes.keys.Goals as goal
 

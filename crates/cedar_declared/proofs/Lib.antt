@@ -1,0 +1,16 @@
+pub mod AdmitsLemmas
+pub mod AlikeDefined
+pub mod AlikeFaults
+pub mod AlikeLemmas
+pub mod BuiltInLemmas
+pub mod ChainLemmas
+pub mod CountLemmas
+pub mod DeclarationLemmas
+pub mod DefinedLemmas
+pub mod MentionLemmas
+pub mod PlacedLemmas
+pub mod PlacesLemmas
+pub mod ResolutionLemmas
+pub mod SameBagLaws
+pub mod SchemaLaws
+pub mod ValidLaws

@@ -1,0 +1,73 @@
+-- The references of raw fragments fit their places.
+use Rattle.std.proofs.Common.{◌≡◌, Bool, true, false, List, [], ◌∷◌, ◌++◌, Option, None, Some, map, ap, sym, subst, refl, inl, inr, ⊎_elim, arith, Contains}
+use Rattle.std.proofs.lemmas.List.Elements.{Contains-append_cases}
+use Rattle.std.specs.List.{flat_map}
+use Rattle.std.specs.Option.{option_map}
+use Rattle.cedar_below.proofs.Lists.{Contains-cons, Contains-preimage}
+use Rattle.cedar_below.specs.Name.{plain_name}
+use Rattle.cedar_below.specs.PlainName.{PlainName}
+use Rattle.cedar_names.specs.ActionBody.{requests_by}
+use Rattle.cedar_names.specs.Declaration.{Declaration, common_declarations, entity_declarations, action_declarations, raw_declarations, raw_fragment, raw_bag}
+use Rattle.cedar_names.specs.EntityBody.{kind_body}
+use Rattle.cedar_names.specs.RawExpr.{raw_reference}
+use Rattle.cedar_names.specs.Reference.{Reference}
+use Rattle.cedar_names.specs.declared.json_schema.action_type.ApplySpec.{ApplySpec}
+use Rattle.cedar_names.specs.declared.json_schema.entity_type.EntityTypeKind.{EntityTypeKind}
+use Rattle.cedar_names.specs.declared.json_schema.entity_type.EntityTypeKind.TheVariants as of
+use Rattle.cedar_names.specs.declared.json_schema.fragment.Fragment.{Fragment}
+use Rattle.cedar_names.specs.declared.json_schema.fragment.NamespaceDefinition.{NamespaceDefinition}
+use Rattle.cedar_names.specs.declared.json_schema.raw_name.RawName.{RawName}
+use Rattle.cedar_names.specs.declared.json_schema.reference_type.ReferenceType.TheVariants.{Entity}
+use Rattle.cedar_declared.specs.Counted.{IsEntityPlace, entity_parents, IsPrincipalOrResource, PlacesFit}
+
+-- what stands in the lists that some items give stands in one of them
+Contains-flat_map : {A B : Type 0} (f : A → List B) (xs : List A) (y : B) → Contains (flat_map f xs) y → (x : A) × Contains xs x × Contains (f x) y
+Contains-flat_map f [] y among = absurd (omega (arith, among.1))
+Contains-flat_map f (first ∷ rest) y among =
+    ⊎_elim
+    (λ here. (first, Contains-cons first rest first (inl refl), here))
+    (λ later. let found = Contains-flat_map f rest y later in (found.0, Contains-cons first rest found.0 (inr found.1), found.2))
+    (Contains-append_cases (f first) (flat_map f rest) y among)
+
+module _ (namespace : Option PlainName) where
+  -- each of some names at places of entity types refers to one
+  named_fit : (names : List RawName) (reference : Reference) → Contains (map (raw_reference namespace Entity) names) reference → reference.kind ≡ Entity
+  named_fit names reference among =
+      let found = Contains-preimage (raw_reference namespace Entity) names reference among in
+      ap (λ (each : Reference). each.kind) (sym found.2)
+
+  -- the parents of an entity type do
+  parents_fit : (kind : EntityTypeKind RawName) (is_external : Bool) (reference : Reference) → Contains (entity_parents (kind_body RawName (raw_reference namespace) kind is_external)) reference → reference.kind ≡ Entity
+  parents_fit (of.Standard it) false reference among = named_fit it.member_of_types.items reference among
+  parents_fit (of.Standard it) true reference among = named_fit it.member_of_types.items reference among
+  parents_fit (of.Enum choices) false reference among = absurd (omega (arith, among.1))
+  parents_fit (of.Enum choices) true reference among = absurd (omega (arith, among.1))
+
+  -- the principals and resources of an action do
+  requests_fit : (is_external : Bool) (it : Option (ApplySpec RawName)) (reference : Reference) → IsPrincipalOrResource (requests_by RawName (raw_reference namespace) namespace is_external it) reference → reference.kind ≡ Entity
+  requests_fit true it reference place = absurd place
+  requests_fit false None reference place = ⊎_elim (λ none. absurd (omega (arith, none.1))) (λ none. absurd (omega (arith, none.1))) place
+  requests_fit false (Some it) reference place =
+      ⊎_elim (named_fit it.principal_types.items reference) (named_fit it.resource_types.items reference) place
+
+  -- the references of a definition do
+  definition_fits : (definition : NamespaceDefinition RawName) (it : Declaration) (reference : Reference) → Contains (raw_declarations namespace definition) it → IsEntityPlace it.body reference → reference.kind ≡ Entity
+  definition_fits definition it reference among place =
+      let P : Declaration → Type 0 = λ each. IsEntityPlace each.body reference in
+      let common = common_declarations RawName (raw_reference namespace) namespace definition.common_types.entries in
+      let entities = entity_declarations RawName (raw_reference namespace) namespace definition.entity_types.entries in
+      let actions = action_declarations RawName (raw_reference namespace) namespace definition.actions.entries in
+      ⊎_elim
+      (λ types. ⊎_elim
+      (λ here. let found = Contains-preimage _ definition.common_types.entries it here in absurd (subst P (sym found.2) place))
+      (λ here. let found = Contains-preimage _ definition.entity_types.entries it here in parents_fit found.0.1.kind found.0.1.external reference (subst P (sym found.2) place))
+      (Contains-append_cases common entities it types))
+      (λ here. let found = Contains-preimage _ definition.actions.entries it here in requests_fit found.0.1.external found.0.1.applies_to reference (subst P (sym found.2) place))
+      (Contains-append_cases (common ++ entities) actions it among)
+
+-- the references of raw fragments fit their places
+pub raw_bag_fits : (fragments : List (Fragment RawName)) → PlacesFit (raw_bag fragments)
+raw_bag_fits fragments reference placed =
+    let fragment = Contains-flat_map raw_fragment fragments placed.0 placed.1 in
+    let entry = Contains-flat_map _ fragment.0.0.entries placed.0 fragment.2 in
+    definition_fits (option_map plain_name entry.0.0) entry.0.1 placed.0 reference entry.2 placed.2

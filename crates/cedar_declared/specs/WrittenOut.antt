@@ -1,0 +1,44 @@
+use Rattle.std.specs.Prelude.{Bool, [], ◌∷◌}
+use Rattle.cedar_below.specs.PlainName.{PlainName}
+use Rattle.cedar_below.specs.Text.{Text}
+use Rattle.cedar_names.specs.Expr.{Expr, text_expr, long_expr, truth_expr, set_expr, record_expr, named, extension_expr, Members, no_member, member}
+use Rattle.cedar_names.specs.Reference.{Reference}
+use Rattle.cedar_declared.specs.Defined.{Defined, ResolvesTo, IsCommon, IsEntity}
+use Rattle.cedar_rules.specs.Ty.{Ty, long, text, truth, set_of, union_of, record_of, extension_of, Fields, end, field}
+use Rattle.cedar_rules.specs.declared.bool_type.BoolType.TheVariants.{AnyBool}
+use Rattle.cedar_rules.specs.declared.open_tag.OpenTag.TheVariants.{ClosedAttributes}
+
+mutual
+  -- the expression is written out as the type: a record as the closed record of the same names and flags, an entity
+  -- type as the union of it alone, and a common type as whatever its definition is written out as; a name that is both
+  -- is taken as the common type
+  pub data WrittenOut (defined : Defined) : Expr → Ty → Type 0 where
+    as_text : WrittenOut defined text_expr text
+    as_long : WrittenOut defined long_expr long
+    as_truth : WrittenOut defined truth_expr (truth AnyBool)
+    as_set : {element : Expr} {ty : Ty} → WrittenOut defined element ty → WrittenOut defined (set_expr element) (set_of ty)
+    as_record : {members : Members} {fields : Fields} {additional : Bool} → MembersWrittenOut defined members fields
+        → WrittenOut defined (record_expr members additional) (record_of fields ClosedAttributes)
+    as_entity : (reference : Reference) (name : PlainName) → ResolvesTo defined reference name
+        → IsEntity defined reference.kind name → ((body : Expr) → IsCommon defined reference.kind name body → ⊥)
+        → WrittenOut defined (named reference) (union_of (name ∷ []))
+    as_common : (reference : Reference) (name : PlainName) (body : Expr) {ty : Ty} → ResolvesTo defined reference name
+        → IsCommon defined reference.kind name body → WrittenOut defined body ty → WrittenOut defined (named reference) ty
+    as_extension : (name : Text)
+        → WrittenOut defined (extension_expr name) (extension_of (record { base = name; path = [] }))
+
+  -- the same of the attributes of a record, each under its name and with its flag
+  pub data MembersWrittenOut (defined : Defined) : Members → Fields → Type 0 where
+    as_no_member : MembersWrittenOut defined no_member end
+    as_member : {name : Text} {required : Bool} {expr : Expr} {ty : Ty} {rest : Members} {fields : Fields}
+        → WrittenOut defined expr ty → MembersWrittenOut defined rest fields
+        → MembersWrittenOut defined (member name required expr rest) (field name required ty fields)
+
+-- the type is that of records
+abbrev pub IsRecordType : Ty → Type 0
+IsRecordType (record_of fields tag) = Unit {0}
+IsRecordType _ = ⊥
+
+-- the expression is written out as a type that is no record type
+abbrev pub IsNoRecord : Defined → Expr → Type 0
+IsNoRecord defined expr = (ty : Ty) × WrittenOut defined expr ty × (IsRecordType ty → ⊥)

@@ -1,0 +1,3 @@
+pub mod EntityTypeEquality
+pub mod MemberLemmas
+pub mod SetLemmas

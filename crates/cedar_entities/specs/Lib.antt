@@ -1,0 +1,2 @@
+pub mod EntityTypeKind
+pub mod ValidatorEntityType

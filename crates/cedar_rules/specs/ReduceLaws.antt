@@ -1,0 +1,34 @@
+use Rattle.std.specs.Prelude.{◌≡◌, List, [], Ok, IfOk}
+use Rattle.std.specs.List.{AllByRecursion}
+use Rattle.cedar_below.specs.Included.{Included}
+use Rattle.cedar_below.specs.declared.validation_mode.ValidationMode.{ValidationMode}
+use Rattle.cedar_rules.specs.Bound.{IsCleanBound}
+use Rattle.cedar_rules.specs.Clean.{IsClean}
+use Rattle.cedar_rules.specs.JoinAnswer.{JoinAnswer, IsLeastAnswer, IsReduceAnswer}
+use Rattle.cedar_rules.specs.Ty.{Ty, never}
+use Rattle.cedar_rules.specs.WellFormed.{IsWellFormed}
+
+-- well-formed types are reduced to some answer, which is well formed too
+abbrev pub ReductionsAreAnswered : Type 0
+ReductionsAreAnswered =
+    (mode : ValidationMode) (tys : List Ty) → AllByRecursion IsWellFormed tys
+    → (answer : JoinAnswer) × IsReduceAnswer mode never tys answer × IfOk answer IsWellFormed
+
+-- no types at all are reduced to `Never`
+abbrev pub EmptyIsReducedToNever : Type 0
+EmptyIsReducedToNever =
+    (mode : ValidationMode) (answer : JoinAnswer) → IsReduceAnswer mode never [] answer → answer ≡ Ok never
+
+-- clean types are reduced to their least clean bound, and are refused only where they have none
+abbrev pub CleanAreReducedToLeastClean : Type 0
+CleanAreReducedToLeastClean =
+    (mode : ValidationMode) (tys : List Ty) (answer : JoinAnswer) → AllByRecursion IsClean tys
+    → IsReduceAnswer mode never tys answer → IsLeastAnswer mode (IsCleanBound mode tys) answer
+
+-- what clean types are reduced to doesn't depend on their order and repeats
+abbrev pub CleanAreReducedInAnyOrder : Type 0
+CleanAreReducedInAnyOrder =
+    (mode : ValidationMode) (tys others : List Ty) (join : Ty) (answer : JoinAnswer)
+    → AllByRecursion IsClean tys → Included tys others → Included others tys
+    → IsReduceAnswer mode never tys (Ok join) → IsReduceAnswer mode never others answer
+    → IsWellFormed join → IfOk answer IsWellFormed → answer ≡ Ok join

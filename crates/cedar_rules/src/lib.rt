@@ -1,0 +1,11 @@
+//! The rules of the types of the Cedar validator, over plain types, and their laws.
+#![tactic(auto)]
+
+pub use bool_type::BoolType;
+pub use join_error::{JoinError, LubHelp};
+pub use open_tag::OpenTag;
+
+mod bool_type;
+mod join_error;
+mod open_tag;
+pub mod theorems;

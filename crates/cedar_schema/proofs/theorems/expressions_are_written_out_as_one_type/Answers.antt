@@ -1,8 +1,0 @@
-use Rattle.cedar_schema.proofs.ResolutionLemmas.{written_once}
-use Rattle.cedar_schema.proofs.SchemaLaws.{one_of_well_formed}
-use Rattle.cedar_schema.specs.Bag.{defined_names}
-use Rattle.cedar_schema.proofs.theorems.expressions_are_written_out_as_one_type.Goals as goal
-
-pub returns : goal.returns
-returns c bag extensions expr ty other fit well written again =
-    written_once (defined_names bag extensions) (one_of_well_formed bag extensions fit well) written again

@@ -1,8 +1,0 @@
-use Rattle.cedar_types.proofs.TypeExamples.{inclusion-included, inclusion-unlisted}
-use Rattle.cedar_types.proofs.examples.inclusion_asks_for_names.Goals as goal
-
-pub returns-clause-included : goal.returns-clause-included
-returns-clause-included c = inclusion-included
-
-pub returns-clause-unlisted : goal.returns-clause-unlisted
-returns-clause-unlisted c = inclusion-unlisted

@@ -1,8 +1,0 @@
-use Rattle.cedar_types.proofs.JoinExamples.{sets_join-apart, sets_join-with_any}
-use Rattle.cedar_types.proofs.examples.sets_join.Goals as goal
-
-pub returns-clause-apart : goal.returns-clause-apart
-returns-clause-apart c = sets_join-apart
-
-pub returns-clause-with_any : goal.returns-clause-with_any
-returns-clause-with_any c = sets_join-with_any

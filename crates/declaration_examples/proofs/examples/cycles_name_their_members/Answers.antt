@@ -1,0 +1,70 @@
+use Rattle.std.proofs.Common.{◌≡◌, zero, suc, ap, refl, inl, arith, Contains, codes}
+use Rattle.cedar_below.specs.PlainName.{PlainName}
+use Rattle.cedar_below.specs.declared.extension.Extensions.{Extensions}
+use Rattle.cedar_names.specs.Expr.{Expr}
+use Rattle.cedar_names.specs.declared.json_schema.reference_type.ReferenceType.TheVariants.{CommonOrEntity}
+use Rattle.cedar_declared.proofs.BuiltInLemmas.{refers_declared, unlike_texts}
+use Rattle.cedar_declared.proofs.ChainLemmas.{first_step}
+use Rattle.cedar_declared.specs.Bag.{alias_name, built_in_name, declared_common, defined_names}
+use Rattle.cedar_declared.specs.Chain.{Chain, one, more}
+use Rattle.cedar_declared.specs.IllFormed.{RefersToCommon}
+use Rattle.declaration_examples.specs.Samples.{refer_here, cycle_first, cycle_second, cycle_bag}
+use Rattle.declaration_examples.proofs.examples.cycles_name_their_members.Goals as goal
+
+-- the one refers to the other
+first_to_second : (extensions : Extensions) → RefersToCommon (defined_names cycle_bag extensions) (alias_name (codes "A")) (alias_name (codes "B"))
+first_to_second extensions = (
+  cycle_first,
+  refer_here CommonOrEntity (codes "B"),
+  cycle_second,
+  (0, omega arith, refl),
+  inl refl,
+  inl (refl, inl (cycle_second, (tt, (1, omega arith, refl)))),
+  (tt, (1, omega arith, refl)),
+)
+
+-- and the other to the one
+second_to_first : (extensions : Extensions) → RefersToCommon (defined_names cycle_bag extensions) (alias_name (codes "B")) (alias_name (codes "A"))
+second_to_first extensions = (
+  cycle_second,
+  refer_here CommonOrEntity (codes "A"),
+  cycle_first,
+  (1, omega arith, refl),
+  refl,
+  inl (refl, inl (cycle_first, (tt, (0, omega arith, refl)))),
+  (tt, (0, omega arith, refl)),
+)
+
+-- a name in a cycle is declared
+in_cycle : (extensions : Extensions) (name : PlainName) → Chain (RefersToCommon (defined_names cycle_bag extensions)) name name → (definition : Expr) × Contains (declared_common cycle_bag) (name, definition)
+in_cycle extensions name chain =
+    let step = (first_step (RefersToCommon (defined_names cycle_bag extensions)) name name chain).1 in
+    (step.0, refers_declared cycle_bag extensions name step.0 step.1 step.3 step.4)
+
+-- only the two members are declared
+not_declared : (name : PlainName) (definition : Expr) → (alias_name (codes "A") ≡ name → ⊥) → (alias_name (codes "B") ≡ name → ⊥) → Contains (declared_common cycle_bag) (name, definition) → ⊥
+not_declared name definition first second (zero, below, is) = first (ap (λ entry. entry.0) is)
+not_declared name definition first second (suc zero, below, is) = second (ap (λ entry. entry.0) is)
+not_declared name definition first second (suc (suc k), below, is) = omega (arith, below)
+
+pub returns-clause-first : goal.returns-clause-first
+returns-clause-first c extensions = more (first_to_second extensions) (one (second_to_first extensions))
+
+pub returns-clause-second : goal.returns-clause-second
+returns-clause-second c extensions = more (second_to_first extensions) (one (first_to_second extensions))
+
+pub returns-clause-built_in : goal.returns-clause-built_in
+returns-clause-built_in c extensions chain =
+    let found = in_cycle extensions (built_in_name (codes "Long")) chain in
+    not_declared (built_in_name (codes "Long")) found.0
+    (λ same. unlike_texts (codes "A") (codes "Long") refl (ap (λ name. name.base) same))
+    (λ same. unlike_texts (codes "B") (codes "Long") refl (ap (λ name. name.base) same))
+    found.1
+
+pub returns-clause-alias : goal.returns-clause-alias
+returns-clause-alias c extensions chain =
+    let found = in_cycle extensions (alias_name (codes "Long")) chain in
+    not_declared (alias_name (codes "Long")) found.0
+    (λ same. unlike_texts (codes "A") (codes "Long") refl (ap (λ name. name.base) same))
+    (λ same. unlike_texts (codes "B") (codes "Long") refl (ap (λ name. name.base) same))
+    found.1

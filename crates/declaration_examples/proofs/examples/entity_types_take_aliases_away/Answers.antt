@@ -1,0 +1,39 @@
+use Rattle.std.proofs.Common.{◌++◌, sym, None, refl, inl, inr, ⊎_elim, arith, codes}
+use Rattle.std.proofs.lemmas.Bool.{false≢true}
+use Rattle.std.proofs.lemmas.List.Elements.{Contains-append_right, Contains-append_cases}
+use Rattle.cedar_below.specs.declared.extension.Extensions.{Extensions}
+use Rattle.cedar_names.specs.Expr.{Expr, text_expr, long_expr}
+use Rattle.cedar_names.specs.Reference.{reference_to}
+use Rattle.cedar_names.specs.declared.json_schema.reference_type.ReferenceType.TheVariants.{CommonOrEntity}
+use Rattle.cedar_declared.proofs.BuiltInLemmas.{alias_of, built_in_path, common_cases}
+use Rattle.cedar_declared.specs.Bag.{alias_name, built_in_name, declared_common, built_ins, aliases, defined_names}
+use Rattle.cedar_declared.specs.Defined.{IsCommon}
+use Rattle.declaration_examples.specs.Samples.{refer_here, alias_bag}
+use Rattle.cedar_declared.specs.WrittenOut.{as_text, as_long, as_entity, as_common}
+use Rattle.declaration_examples.proofs.examples.entity_types_take_aliases_away.Goals as goal
+
+-- no common type has the name of the entity type
+no_alias : (extensions : Extensions) (body : Expr) → IsCommon (defined_names alias_bag extensions) CommonOrEntity (alias_name (codes "String")) body → ⊥
+no_alias extensions body common =
+    ⊎_elim
+    (λ here. ⊎_elim
+    (λ declared. omega (arith, declared.1))
+    (λ built_in. built_in_path extensions (alias_name (codes "String")) body built_in refl)
+    (Contains-append_cases (declared_common alias_bag) (built_ins extensions) (alias_name (codes "String"), body) here))
+    (λ alias. false≢true (sym (alias_of alias_bag extensions (alias_name (codes "String")) body alias).2))
+    (common_cases alias_bag extensions (alias_name (codes "String"), body) common.1)
+
+pub returns-clause-entity : goal.returns-clause-entity
+returns-clause-entity c extensions =
+    as_entity (refer_here CommonOrEntity (codes "String")) (alias_name (codes "String"))
+    (inl (refl, inr (tt, (0, omega arith, refl)))) (tt, (0, omega arith, refl)) (no_alias extensions)
+
+pub returns-clause-built_in : goal.returns-clause-built_in
+returns-clause-built_in c extensions =
+    as_common (reference_to None CommonOrEntity (built_in_name (codes "String"))) (built_in_name (codes "String")) text_expr
+    (inl (refl, inl (text_expr, (tt, (2, omega arith, refl))))) (tt, (2, omega arith, refl)) as_text
+
+pub returns-clause-alias : goal.returns-clause-alias
+returns-clause-alias c extensions =
+    let there = Contains-append_right (declared_common alias_bag ++ built_ins extensions) (aliases alias_bag extensions) (alias_name (codes "Long"), long_expr) (1, omega arith, refl) in
+    as_common (refer_here CommonOrEntity (codes "Long")) (alias_name (codes "Long")) long_expr (inl (refl, inl (long_expr, (tt, there)))) (tt, there) as_long

@@ -1,0 +1,35 @@
+use Rattle.std.proofs.Common.{◌≡◌, zero, suc, [], ◌∷◌, refl, subst, inl, inr, arith, Contains, codes}
+use Rattle.cedar_below.specs.PlainName.{PlainName, IsActionType, action_word}
+use Rattle.cedar_below.specs.declared.extension.Extensions.{Extensions}
+use Rattle.cedar_names.specs.Reference.{Reference}
+use Rattle.cedar_names.specs.declared.json_schema.reference_type.ReferenceType.TheVariants.{Entity}
+use Rattle.cedar_declared.specs.Bag.{alias_name, defined_names}
+use Rattle.cedar_declared.specs.Counted.{IsPlaced}
+use Rattle.cedar_declared.specs.Defined.{ResolvesTo}
+use Rattle.declaration_examples.specs.Samples.{refer_here, action_here, principal_bag}
+use Rattle.declaration_examples.proofs.examples.principals_are_no_actions.Goals as goal
+
+-- the name is that of an action's type, and stands for a principal
+abbrev IsNamed : Extensions → PlainName → Type 0
+IsNamed extensions name =
+    IsActionType name × (reference : Reference) × IsPlaced principal_bag reference × ResolvesTo (defined_names principal_bag extensions) reference name
+
+-- the type of the action is
+action_named : (extensions : Extensions) → IsNamed extensions (alias_name action_word)
+action_named extensions = (
+  refl,
+  refer_here Entity action_word,
+  (action_here (codes "view") (refer_here Entity action_word ∷ []), (0, omega arith, refl), inl (0, omega arith, refl)),
+  inl (refl, inr (tt, (0, omega arith, refl))),
+)
+
+-- the type of the action is the only one
+only_action : (name : PlainName) → Contains (alias_name action_word ∷ []) name → alias_name action_word ≡ name
+only_action name (zero, below, is) = is
+only_action name (suc k, below, is) = absurd (omega (arith, below))
+
+pub returns : goal.returns
+returns c extensions = (
+  λ none. cc,
+  λ name among. let P : PlainName → Type 0 = IsNamed extensions in subst P (only_action name among) (action_named extensions),
+)

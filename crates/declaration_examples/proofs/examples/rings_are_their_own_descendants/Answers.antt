@@ -1,0 +1,26 @@
+use Rattle.std.proofs.Common.{None, false, [], ◌∷◌, refl, inl, inr, arith, codes}
+use Rattle.cedar_below.specs.declared.extension.Extensions.{Extensions}
+use Rattle.cedar_names.specs.EntityBody.{standard}
+use Rattle.cedar_names.specs.Expr.{record_expr, no_member}
+use Rattle.cedar_names.specs.declared.json_schema.reference_type.ReferenceType.TheVariants.{Entity}
+use Rattle.cedar_declared.specs.Bag.{alias_name}
+use Rattle.cedar_declared.specs.Chain.{one, more}
+use Rattle.cedar_declared.specs.Descent.{HasParent}
+use Rattle.declaration_examples.specs.Samples.{refer_here, ring_bag}
+use Rattle.declaration_examples.proofs.examples.rings_are_their_own_descendants.Goals as goal
+
+-- the one is below the other
+first_below : (extensions : Extensions) → HasParent ring_bag extensions (alias_name (codes "A")) (alias_name (codes "B"))
+first_below extensions =
+    (standard (refer_here Entity (codes "B") ∷ []) (record_expr no_member false) None, refer_here Entity (codes "B"), (0, omega arith, refl), (0, omega arith, refl), inl (refl, inr (tt, (1, omega arith, refl))))
+
+-- and the other below the one
+second_below : (extensions : Extensions) → HasParent ring_bag extensions (alias_name (codes "B")) (alias_name (codes "A"))
+second_below extensions =
+    (standard (refer_here Entity (codes "A") ∷ []) (record_expr no_member false) None, refer_here Entity (codes "A"), (1, omega arith, refl), (0, omega arith, refl), inl (refl, inr (tt, (0, omega arith, refl))))
+
+pub returns-clause-first : goal.returns-clause-first
+returns-clause-first c extensions = more (first_below extensions) (one (second_below extensions))
+
+pub returns-clause-second : goal.returns-clause-second
+returns-clause-second c extensions = more (second_below extensions) (one (first_below extensions))

@@ -1,0 +1,107 @@
+use Rattle.std.specs.Prelude.{true, false, List, [], ◌∷◌, Some, None, codes}
+use Rattle.cedar_below.specs.PlainName.{PlainName, action_word}
+use Rattle.cedar_below.specs.Text.{Text}
+use Rattle.cedar_names.specs.ActionBody.{requests}
+use Rattle.cedar_names.specs.Declaration.{Declaration, common_type, entity_type, action}
+use Rattle.cedar_names.specs.EntityBody.{standard, enumerated, external}
+use Rattle.cedar_names.specs.Expr.{Expr, record_expr, set_expr, long_expr, named, Members, no_member, member}
+use Rattle.cedar_names.specs.Reference.{Reference, reference_to}
+use Rattle.cedar_names.specs.declared.json_schema.reference_type.ReferenceType.{ReferenceType}
+use Rattle.cedar_names.specs.declared.json_schema.reference_type.ReferenceType.TheVariants.{Entity, CommonOrEntity}
+use Rattle.cedar_declared.specs.Bag.{Bag, alias_name}
+
+-- the namespace `N`
+abbrev pub sample_namespace : PlainName
+sample_namespace = alias_name (codes "N")
+
+-- a name within `N`
+abbrev pub within_sample : Text → PlainName
+within_sample word = record { base = word; path = codes "N" ∷ [] }
+
+-- a reference that is written in the empty namespace, to a name without a path
+abbrev pub refer_here : ReferenceType → Text → Reference
+refer_here kind word = reference_to None kind (alias_name word)
+
+-- a reference that is written in `N`, to a name without a path
+abbrev pub refer_within : ReferenceType → Text → Reference
+refer_within kind word = reference_to (Some sample_namespace) kind (alias_name word)
+
+-- a common type in the empty namespace
+abbrev pub common_here : Text → Expr → Declaration
+common_here word definition = record { namespace = None; id = word; body = common_type definition }
+
+-- a standard entity type in the empty namespace, without tags
+abbrev pub entity_here : Text → List Reference → Members → Declaration
+entity_here word parents members = record { namespace = None; id = word; body = entity_type (standard parents (record_expr members false) None) }
+
+-- an action in the empty namespace, without parents, for some principals and no resources
+abbrev pub action_here : Text → List Reference → Declaration
+action_here id principals =
+    record { namespace = None; id = id; body = action (record { has_attributes = false; parents = []; applies_to = requests principals [] (record_expr no_member false) }) }
+
+-- the definition of `A` in a cycle: it refers to `B`, and to the alias of a built-in type
+abbrev pub cycle_first : Expr
+cycle_first =
+    record_expr (member (codes "b") true (named (refer_here CommonOrEntity (codes "B"))) (member (codes "n") true (named (refer_here CommonOrEntity (codes "Long"))) no_member)) false
+
+-- the definition of `B` in a cycle: it refers to `A`
+abbrev pub cycle_second : Expr
+cycle_second = set_expr (named (refer_here CommonOrEntity (codes "A")))
+
+-- two common types that refer to each other
+abbrev pub cycle_bag : Bag
+cycle_bag = common_here (codes "A") cycle_first ∷ common_here (codes "B") cycle_second ∷ []
+
+-- in `N` a common type `T` and an entity type `T`
+abbrev pub both_bag : Bag
+both_bag =
+    record { namespace = Some sample_namespace; id = codes "T"; body = common_type long_expr }
+    ∷ record { namespace = Some sample_namespace; id = codes "T"; body = entity_type (standard [] (record_expr no_member false) None) }
+    ∷ []
+
+-- an entity type with the name of a built-in type
+abbrev pub alias_bag : Bag
+alias_bag = entity_here (codes "String") [] no_member ∷ []
+
+-- an entity type in the empty namespace, and a common type of its base name in `N`
+abbrev pub shadow_bag : Bag
+shadow_bag = entity_here (codes "User") [] no_member ∷ record { namespace = Some sample_namespace; id = codes "User"; body = common_type long_expr } ∷ []
+
+-- two actions, of the types `Action` and `N::Action`
+abbrev pub actions_bag : Bag
+actions_bag =
+    action_here (codes "read") []
+    ∷ record { namespace = Some sample_namespace; id = codes "view"; body = action (record { has_attributes = false; parents = []; applies_to = requests [] [] (record_expr no_member false) }) }
+    ∷ []
+
+-- an enumerated entity type, one below it, and an external one below that
+abbrev pub tint_bag : Bag
+tint_bag =
+    record { namespace = None; id = codes "Color"; body = entity_type (enumerated (codes "red" ∷ [])) }
+    ∷ entity_here (codes "Shade") (refer_here Entity (codes "Color") ∷ []) no_member
+    ∷ record { namespace = None; id = codes "Tint"; body = entity_type (external (refer_here Entity (codes "Shade") ∷ [])) }
+    ∷ []
+
+-- two entity types, each below the other
+abbrev pub ring_bag : Bag
+ring_bag = entity_here (codes "A") (refer_here Entity (codes "B") ∷ []) no_member ∷ entity_here (codes "B") (refer_here Entity (codes "A") ∷ []) no_member ∷ []
+
+-- an action whose principal is of the action's own type
+abbrev pub principal_bag : Bag
+principal_bag = action_here (codes "view") (refer_here Entity action_word ∷ []) ∷ []
+
+-- the entity types `T` and `N::T`
+abbrev pub nested_bag : Bag
+nested_bag = entity_here (codes "T") [] no_member ∷ record { namespace = Some sample_namespace; id = codes "T"; body = entity_type (standard [] (record_expr no_member false) None) } ∷ []
+
+-- a common type that nothing refers to, an open record
+abbrev pub open_bag : Bag
+open_bag = common_here (codes "X") (record_expr no_member true) ∷ []
+
+-- an external entity type
+abbrev pub external_bag : Bag
+external_bag = record { namespace = None; id = codes "U"; body = entity_type (external []) } ∷ []
+
+-- a record type with an attribute that isn't required
+abbrev pub optional_record : Expr
+optional_record = record_expr (member (codes "a") false long_expr no_member) false

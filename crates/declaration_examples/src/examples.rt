@@ -1,0 +1,134 @@
+//! Worked examples of the definitions: small bags of declarations, and what is right or wrong with
+//! them.
+
+ghost use Rattle.std.specs.Prelude.{◌≡◌, ℤ, List, [], ◌∷◌, None, true, codes};
+ghost use Rattle.cedar_below.specs.PlainName.{PlainName, action_word};
+ghost use Rattle.cedar_below.specs.Tree.{map_value, number_value, entry, no_entry};
+ghost use Rattle.cedar_below.specs.declared.extension.Extensions.{Extensions};
+ghost use Rattle.cedar_names.specs.EntityBody.{external, kind_body};
+ghost use Rattle.cedar_names.specs.Expr.{named, no_member};
+ghost use Rattle.cedar_names.specs.Reference.{Reference, reference_to};
+ghost use Rattle.cedar_names.specs.declared.json_schema.entity_type.EntityTypeKind.{EntityTypeKind};
+ghost use Rattle.cedar_names.specs.declared.json_schema.raw_name.RawName.{RawName};
+ghost use Rattle.cedar_names.specs.RawExpr.{raw_reference};
+ghost use Rattle.cedar_names.specs.declared.json_schema.reference_type.ReferenceType.TheVariants as to;
+ghost use Rattle.cedar_declared.specs.Admits.{Admits};
+ghost use Rattle.cedar_declared.specs.Bag.{alias_name, built_in_name, defined_names};
+ghost use Rattle.cedar_declared.specs.Counted.{HasToResolve};
+ghost use Rattle.cedar_declared.specs.Defined.{ResolvesTo};
+ghost use Rattle.cedar_declared.specs.Descent.{IsDescendant};
+ghost use Rattle.cedar_declared.specs.Fault.{open_record, undeclared_entity_types, type_shadowing, duplicate_entity_type, common_type_cycle, external_below_enumerated};
+ghost use Rattle.cedar_declared.specs.IllFormed.{IsFault};
+ghost use Rattle.declaration_examples.specs.Samples.{within_sample, refer_here, refer_within, entity_here, cycle_bag, both_bag, alias_bag, shadow_bag, actions_bag, tint_bag, ring_bag, principal_bag, nested_bag, open_bag, external_bag, optional_record};
+ghost use Rattle.cedar_declared.specs.WrittenOut.{WrittenOut};
+ghost use Rattle.cedar_rules.specs.Ty.{long, text, union_of};
+
+/// Two common types that refer to each other are a cycle, and each is named; a built-in type that
+/// one of them refers to is not, nor is its alias.
+pub fn cycles_name_their_members()
+    ensures first { (extensions : Extensions)
+        → IsFault cycle_bag extensions (common_type_cycle (alias_name (codes "A"))) }
+    ensures second { (extensions : Extensions)
+        → IsFault cycle_bag extensions (common_type_cycle (alias_name (codes "B"))) }
+    ensures built_in { (extensions : Extensions)
+        → IsFault cycle_bag extensions (common_type_cycle (built_in_name (codes "Long"))) → ⊥ }
+    ensures alias { (extensions : Extensions)
+        → IsFault cycle_bag extensions (common_type_cycle (alias_name (codes "Long"))) → ⊥ }
+{}
+
+/// A name that is common and entity is the common type where either may stand, and the entity type
+/// where an entity type has to.
+pub fn common_types_are_preferred()
+    ensures either { (extensions : Extensions) → WrittenOut (defined_names both_bag extensions)
+        (named (refer_within to.CommonOrEntity (codes "T"))) long }
+    ensures entity { (extensions : Extensions) → WrittenOut (defined_names both_bag extensions)
+        (named (refer_within to.Entity (codes "T"))) (union_of (within_sample (codes "T") ∷ [])) }
+{}
+
+/// An entity type takes the alias of its name away; the built-in type keeps its full name.
+pub fn entity_types_take_aliases_away()
+    ensures entity { (extensions : Extensions) → WrittenOut (defined_names alias_bag extensions)
+        (named (refer_here to.CommonOrEntity (codes "String"))) (union_of (alias_name (codes "String") ∷ [])) }
+    ensures built_in { (extensions : Extensions) → WrittenOut (defined_names alias_bag extensions)
+        (named (reference_to None to.CommonOrEntity (built_in_name (codes "String")))) text }
+    ensures alias { (extensions : Extensions) → WrittenOut (defined_names alias_bag extensions)
+        (named (refer_here to.CommonOrEntity (codes "Long"))) long }
+{}
+
+/// Of an external declaration the parents alone count, so nothing in its attributes or tags has to
+/// resolve.
+pub fn external_attributes_do_not_count()
+    ensures body { (kind : EntityTypeKind RawName)
+        → (parents : List Reference) × (kind_body RawName (raw_reference None) kind true ≡ external parents) }
+    ensures nothing { (reference : Reference) → HasToResolve external_bag reference → ⊥ }
+{}
+
+/// A declared name without a path is shadowed by one of the same base name with a path; the types of
+/// actions, which nothing declares, shadow nothing.
+pub fn declared_names_shadow()
+    ensures types { (extensions : Extensions) → IsFault shadow_bag extensions
+        (type_shadowing (alias_name (codes "User")) (within_sample (codes "User"))) }
+    ensures actions { (extensions : Extensions) → IsFault actions_bag extensions
+        (type_shadowing (alias_name action_word) (within_sample action_word)) → ⊥ }
+{}
+
+/// A name that is declared twice is found at any two places of a bag.
+pub fn duplicates_are_found()
+    ensures together { (extensions : Extensions) → IsFault
+        (entity_here (codes "T") [] no_member ∷ entity_here (codes "T") [] no_member ∷ [])
+        extensions (duplicate_entity_type (alias_name (codes "T"))) }
+    ensures apart { (extensions : Extensions) → IsFault
+        (entity_here (codes "T") [] no_member ∷ entity_here (codes "U") [] no_member
+        ∷ entity_here (codes "T") [] no_member ∷ [])
+        extensions (duplicate_entity_type (alias_name (codes "T"))) }
+    ensures once { (extensions : Extensions) → IsFault
+        (entity_here (codes "T") [] no_member ∷ entity_here (codes "U") [] no_member ∷ [])
+        extensions (duplicate_entity_type (alias_name (codes "T"))) → ⊥ }
+{}
+
+/// An external entity type that is below an enumerated one in two steps is at fault.
+pub fn external_types_below_enumerated_ones()
+    ensures { (extensions : Extensions) → IsFault tint_bag extensions
+        (external_below_enumerated (alias_name (codes "Tint")) (alias_name (codes "Color"))) }
+{}
+
+/// Where two entity types are each below the other, each is its own descendant.
+pub fn rings_are_their_own_descendants()
+    ensures first { (extensions : Extensions)
+        → IsDescendant ring_bag extensions (alias_name (codes "A")) (alias_name (codes "A")) }
+    ensures second { (extensions : Extensions)
+        → IsDescendant ring_bag extensions (alias_name (codes "B")) (alias_name (codes "B")) }
+{}
+
+/// A principal may not be of an action's type.
+pub fn principals_are_no_actions()
+    ensures { (extensions : Extensions) → IsFault principal_bag extensions
+        (undeclared_entity_types (alias_name action_word ∷ [])) }
+{}
+
+/// A name without a path is looked for in its namespace first, and then without one.
+pub fn names_resolve_in_their_namespace_first()
+    ensures within { (extensions : Extensions) → ResolvesTo (defined_names nested_bag extensions)
+        (refer_within to.Entity (codes "T")) (within_sample (codes "T")) }
+    ensures without { (extensions : Extensions) → ResolvesTo (defined_names tint_bag extensions)
+        (refer_within to.Entity (codes "Shade")) (alias_name (codes "Shade")) }
+    ensures elsewhere { (extensions : Extensions) → ResolvesTo (defined_names nested_bag extensions)
+        (refer_within to.Entity (codes "T")) (alias_name (codes "T")) → ⊥ }
+{}
+
+/// The definition of a common type counts, though nothing refers to it.
+pub fn unused_common_types_count()
+    ensures { (extensions : Extensions) → IsFault open_bag extensions open_record }
+{}
+
+/// A record admits values without an attribute that isn't required, and none with a further one.
+pub fn optional_attributes_may_be_missing()
+    ensures missing { (extensions : Extensions) → Admits (defined_names [] extensions) extensions
+        (map_value no_entry) optional_record }
+    ensures there { (extensions : Extensions) (number : ℤ)
+        → Admits (defined_names [] extensions) extensions
+        (map_value (entry (codes "a") (number_value number) no_entry)) optional_record }
+    ensures further { (extensions : Extensions) (number : ℤ)
+        → Admits (defined_names [] extensions) extensions
+        (map_value (entry (codes "b") (number_value number) no_entry)) optional_record → ⊥ }
+{}

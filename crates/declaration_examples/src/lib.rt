@@ -1,0 +1,4 @@
+//! Worked examples of what bags of declarations say.
+#![tactic(auto)]
+
+pub mod examples;

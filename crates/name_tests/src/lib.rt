@@ -1,0 +1,7 @@
+//! Tests of names, values and the plain data of fragments.
+#![tactic(auto)]
+
+#[cfg(test)]
+mod below;
+#[cfg(test)]
+mod names;

@@ -1,0 +1,4 @@
+pub mod CallLemmas
+pub mod HelpExamples
+pub mod JoinExamples
+pub mod TypeExamples

@@ -1,0 +1,34 @@
+use Rattle.std.proofs.Common.{inl, inr, ⊎_elim, true, false, refl, [], ◌∷◌, codes, arith}
+use Rattle.cedar_below.proofs.Inclusion.{Included-none}
+use Rattle.cedar_below.proofs.Lists.{Contains-cons}
+use Rattle.cedar_below.specs.CoreTy.{core_record, core_end}
+use Rattle.cedar_below.specs.Tree.{map_value, no_entry, entry}
+use Rattle.cedar_below.specs.declared.extension.Extensions.{Extensions}
+use Rattle.cedar_rules.specs.Consistent.{IsConsistent}
+use Rattle.cedar_rules.specs.Disjoint.{AreDisjointTypes}
+use Rattle.cedar_rules.specs.InclusionLaws.{ValuesIncluded, ListsNames}
+use Rattle.rule_examples.specs.Samples.{foo_name, bar_name, foo_entity, foo_or_bar, required_y, optional_y, unit_record}
+use Rattle.cedar_rules.specs.Ty.{long}
+
+-- a record without attributes has the one with an optional attribute
+pub inclusion-included : (extensions : Extensions) → ValuesIncluded extensions unit_record optional_y
+inclusion-included extensions (map_value no_entry) has = (Included-none (codes "y" ∷ []), (refl, tt))
+inclusion-included extensions (map_value (entry name value rest)) has =
+    absurd (omega (arith, (has.0 name (Contains-cons name _ name (inl refl))).1))
+inclusion-included extensions value has = elim has [ ]
+
+-- but it doesn't list its name
+pub inclusion-unlisted : ¬ ListsNames unit_record optional_y
+inclusion-unlisted lists = omega (arith, (lists.0 (codes "y") (Contains-cons (codes "y") [] (codes "y") (inl refl))).1)
+
+-- a required attribute isn't lacking in a closed core type
+pub consistent-required : ¬ IsConsistent required_y (core_record core_end false)
+consistent-required consistent =
+    ⊎_elim (λ e. absurd cc) (λ e. absurd cc)
+    (consistent.1 (codes "y") true long (inl (refl, refl, refl)) (λ among. omega (arith, among.1)))
+
+-- a type is no union without the entity types that it has
+pub disjoint-common : ¬ AreDisjointTypes foo_entity foo_or_bar
+disjoint-common apart =
+    apart foo_name (Contains-cons foo_name [] foo_name (inl refl))
+    (Contains-cons bar_name (foo_name ∷ []) foo_name (inr (Contains-cons foo_name [] foo_name (inl refl))))

@@ -1,0 +1,128 @@
+//! Worked examples of what is said of types.
+
+ghost use Rattle.std.specs.Prelude.{◌≡◌, true, false, [], ◌∷◌, Some, None, Ok, Err, codes};
+ghost use Rattle.cedar_below.specs.CoreTy.{core_truth, core_long, core_set, core_empty_set, core_record, core_entity, core_end, core_field};
+ghost use Rattle.cedar_below.specs.Fits.{IsUnknown};
+ghost use Rattle.cedar_below.specs.PlainName.{PlainName};
+ghost use Rattle.cedar_below.specs.declared.extension.Extensions.{Extensions};
+ghost use Rattle.cedar_below.specs.declared.validation_mode.ValidationMode.{ValidationMode};
+ghost use Rattle.cedar_below.specs.declared.validation_mode.ValidationMode.TheVariants as mode;
+ghost use Rattle.cedar_rules.specs.Below.{Below};
+ghost use Rattle.cedar_rules.specs.Bound.{IsBound};
+ghost use Rattle.cedar_rules.specs.Clean.{IsClean};
+ghost use Rattle.cedar_rules.specs.Consistent.{IsConsistent};
+ghost use Rattle.cedar_rules.specs.CoreOf.{core_of};
+ghost use Rattle.cedar_rules.specs.Disjoint.{AreDisjointTypes};
+ghost use Rattle.cedar_rules.specs.InclusionLaws.{ValuesIncluded, ListsNames};
+ghost use Rattle.cedar_rules.specs.JoinAnswer.{IsJoinAnswer, IsReduceAnswer};
+ghost use Rattle.cedar_rules.specs.OwnBound.{HaveOwnBound, IsLeastOwnBound};
+ghost use Rattle.rule_examples.specs.Samples.{foo_name, ip_type, set_of_truths, set_of_longs, foo_entity, bar_entity, foo_or_bar};
+ghost use Rattle.rule_examples.specs.Samples.{bar_and_false, bar_and_text, open_bar, any_set_and_long, long_and_long, open_t};
+ghost use Rattle.rule_examples.specs.Samples.{required_y, optional_y, unit_record};
+ghost use Rattle.cedar_rules.specs.Stated.{IsStated};
+ghost use Rattle.cedar_rules.specs.Ty.{never, truth, long, any_set, set_of};
+ghost use Rattle.cedar_rules.specs.TypeText.{ty_text};
+ghost use Rattle.cedar_rules.specs.declared.bool_type.BoolType.TheVariants as known;
+ghost use Rattle.cedar_rules.specs.declared.join_error.LubHelp.{LubHelp};
+ghost use Rattle.cedar_rules.specs.declared.join_error.LubHelp.TheVariants as help;
+
+/// Joins of records: in permissive mode a name whose types don't join is dropped, and the join is
+/// open; in strict mode there is none.
+pub fn records_join()
+    ensures permissive { IsLeastOwnBound mode.Permissive bar_and_false bar_and_text open_bar }
+    ensures strict { ¬ HaveOwnBound mode.Strict bar_and_false bar_and_text }
+    ensures dropped { IsLeastOwnBound mode.Permissive any_set_and_long long_and_long open_t }
+{}
+
+/// Joins of sets: sets whose elements don't join have none, though the any-set is above both; the
+/// any-set and another set have the any-set.
+pub fn sets_join()
+    ensures apart { (mode : ValidationMode) → ¬ HaveOwnBound mode set_of_truths set_of_longs }
+    ensures bounded { (mode : ValidationMode) → IsBound mode (set_of_truths ∷ set_of_longs ∷ []) any_set }
+    ensures with_any { (mode : ValidationMode) → IsLeastOwnBound mode any_set set_of_longs any_set }
+{}
+
+/// Joins of entity types: their union in permissive mode, and none in strict mode.
+pub fn entities_join()
+    ensures permissive { IsLeastOwnBound mode.Permissive foo_entity bar_entity foo_or_bar }
+    ensures strict { ¬ HaveOwnBound mode.Strict foo_entity bar_entity }
+{}
+
+/// Helps of joins that are refused.
+pub fn refused_joins_have_helps()
+    ensures entity_and_record { (mode : ValidationMode) → IsJoinAnswer mode foo_entity unit_record (Err help.EntityRecord) }
+    ensures entities { IsJoinAnswer mode.Strict foo_entity bar_entity (Err help.EntityType) }
+    ensures sets { IsJoinAnswer mode.Strict (set_of foo_entity) (set_of bar_entity) (Err help.EntityType) }
+    ensures widths { IsJoinAnswer mode.Strict unit_record required_y (Err help.RecordWidth) }
+    ensures flags { IsJoinAnswer mode.Strict required_y optional_y (Err help.AttributeQualifier) }
+    ensures flags_alone { (given : LubHelp) → IsJoinAnswer mode.Strict required_y optional_y (Err given)
+        → given ≡ help.AttributeQualifier }
+    ensures types { IsJoinAnswer mode.Strict bar_and_false bar_and_text (Err help.None) }
+{}
+
+/// With the any-set, what types are reduced to depends on their order.
+pub fn order_matters_with_the_any_set()
+    ensures first { (mode : ValidationMode)
+        → IsReduceAnswer mode never (any_set ∷ set_of_truths ∷ set_of_longs ∷ []) (Ok any_set) }
+    ensures last { (mode : ValidationMode)
+        → IsReduceAnswer mode never (set_of_truths ∷ set_of_longs ∷ any_set ∷ []) (Err help.None) }
+{}
+
+/// A type is clean where the any-set stands nowhere in it.
+pub fn clean_types()
+    ensures clean { IsClean bar_and_text }
+    ensures element { ¬ IsClean (set_of any_set) }
+    ensures attribute { ¬ IsClean any_set_and_long }
+{}
+
+/// Stated types have no `Never` in them, no optional attribute, and no extension type without a value.
+pub fn stated_types()
+    ensures stated { (extensions : Extensions) → IsStated extensions bar_and_text }
+    ensures optional { (extensions : Extensions) → ¬ IsStated extensions optional_y }
+    ensures of_never { (extensions : Extensions) → ¬ IsStated extensions (set_of never) }
+    ensures without_functions { (extensions : Extensions)
+        → ((function : PlainName) → IsUnknown extensions function) → ¬ IsStated extensions ip_type }
+{}
+
+/// With an optional attribute, inclusion of values alone isn't subtyping: the names are asked for.
+pub fn inclusion_asks_for_names()
+    ensures included { (extensions : Extensions) → ValuesIncluded extensions unit_record optional_y }
+    ensures unlisted { ¬ ListsNames unit_record optional_y }
+    ensures not_below { ¬ Below mode.Permissive unit_record optional_y }
+{}
+
+/// Types as they are printed.
+pub fn texts_of_types()
+    ensures closed { ty_text bar_and_text ≡ codes "{bar: Long,foo: String,}" }
+    ensures open_one { ty_text open_bar ≡ codes "__cedar::internal::OpenRecord{bar: Long,}" }
+    ensures optional { ty_text optional_y ≡ codes "{y?: Long,}" }
+    ensures single { ty_text (set_of foo_entity) ≡ codes "Set<Foo>" }
+    ensures union { ty_text foo_or_bar ≡ codes "__cedar::internal::Union<Bar, Foo>" }
+    ensures every_set { ty_text any_set ≡ codes "Set<__cedar::internal::Any>" }
+{}
+
+/// Core types of types, and types that have none.
+pub fn core_types()
+    ensures known { core_of (truth known.False) ≡ Some core_truth }
+    ensures record_type { core_of open_bar ≡ Some (core_record (core_field (codes "bar") true core_long core_end) true) }
+    ensures every_set { core_of any_set ≡ Some core_empty_set }
+    ensures single { core_of (set_of foo_entity) ≡ Some (core_set (core_entity foo_name)) }
+    ensures union { core_of (set_of foo_or_bar) ≡ None }
+    ensures nothing { core_of (set_of never) ≡ None }
+{}
+
+/// Types that are consistent with core types, and types that aren't.
+pub fn consistent_types()
+    ensures member { IsConsistent foo_or_bar (core_entity foo_name) }
+    ensures empty_set { IsConsistent set_of_longs core_empty_set }
+    ensures every_set { ¬ IsConsistent any_set (core_set core_long) }
+    ensures optional { IsConsistent optional_y (core_record core_end false) }
+    ensures required { ¬ IsConsistent required_y (core_record core_end false) }
+    ensures open_core { IsConsistent required_y (core_record core_end true) }
+{}
+
+/// Entity types without a name in common are disjoint.
+pub fn disjoint_types()
+    ensures apart { AreDisjointTypes foo_entity bar_entity }
+    ensures common { ¬ AreDisjointTypes foo_entity foo_or_bar }
+{}

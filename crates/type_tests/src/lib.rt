@@ -1,0 +1,9 @@
+//! Tests of types and of entity types.
+#![tactic(auto)]
+
+#[cfg(test)]
+mod subtyping;
+#[cfg(test)]
+mod test_values;
+#[cfg(test)]
+mod types;
