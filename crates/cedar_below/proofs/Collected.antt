@@ -71,7 +71,7 @@ cond_twice false true x y z same = cc
 cond_twice false false x y z same = refl
 
 -- two tests in turn that don't both pass may be asked in either order
-cond_swap : {X : Type 0} (b c : Bool) (x y z : X) → (b ≡ true → c ≡ true → ⊥) → cond b x (cond c y z) ≡ cond c y (cond b x z)
+cond_swap : {X : Type 0} (b c : Bool) (x y z : X) → (b ≡ true → ¬ (c ≡ true)) → cond b x (cond c y z) ≡ cond c y (cond b x z)
 cond_swap true true x y z apart = absurd (apart refl refl)
 cond_swap true false x y z apart = refl
 cond_swap false c x y z apart = refl
@@ -95,7 +95,7 @@ module _ (key : EntityUID) (entity : Entity) (own : uid_of key ≡ entity_uid en
       keyed_step e es (insert_entry by_uid es key entity) keyed (keyed-insert_entry es (All-tail IsAtItself e es keyed)) (by_uid key e.0) refl
 
   -- an entity that comes before the inserted one has another uid
-  apart : (e : EntityUID × Entity) → IsAtItself e → by_uid key e.0 ≡ Greater → (uid : PlainUid) → has_uid uid e.1 ≡ true → has_uid uid entity ≡ true → ⊥
+  apart : (e : EntityUID × Entity) → IsAtItself e → by_uid key e.0 ≡ Greater → (uid : PlainUid) → has_uid uid e.1 ≡ true → ¬ (has_uid uid entity ≡ true)
   apart e at_itself p uid there here =
       let same : uid_of key ≡ uid_of e.0 = own ∙ sym ((has_uid-Decides uid entity).0 here) ∙ (has_uid-Decides uid e.1).0 there ∙ sym at_itself in
       let tie : by_uid key e.0 ≡ Equal = (entity_uid_ord-Equal key e.0).1 same in

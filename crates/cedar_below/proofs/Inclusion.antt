@@ -2,7 +2,7 @@ use Rattle.std.proofs.Common.{◌↔◌, ◌⊎◌, inl, inr, ⊎_elim, Bool, tr
 use Rattle.std.specs.Bool.{Decides}
 use Rattle.std.specs.Option.{is_some}
 use Rattle.cedar_below.proofs.Lists.{Contains-cons, Contains-cons_cases}
-use Rattle.cedar_below.specs.Included.{Included}
+use Rattle.cedar_below.specs.Lists.{Included}
 
 -- no list has a member that the empty list has
 pub Included-none : {A : Type 0} (upper : List A) → Included [] upper
@@ -37,5 +37,5 @@ pub rest_alone : {H R W : Type 0} → (H × R) ↔ W → H → R ↔ W
 rest_alone so_far first = (λ rest. so_far.0 (first, rest), λ whole. (so_far.1 whole).1)
 
 -- a part doesn't hold, so that the whole doesn't
-pub part_fails : {H R W : Type 0} → (H × R) ↔ W → (H → ⊥) → Decides false W
+pub part_fails : {H R W : Type 0} → (H × R) ↔ W → ¬ H → Decides false W
 part_fails so_far fails = (λ e. absurd cc, λ whole. absurd (fails (so_far.1 whole).0))

@@ -61,10 +61,10 @@ core_ty_of-set element =
     e)
 
 -- a record type stands for what its attributes stand for
-pub core_ty_of-record : (attrs : BTreeMap (String Global) CoreAttributeType) (is_open : Bool) → core_ty_of (core.Record attrs is_open) ≡ core_record (core_fields_of attrs) is_open
-core_ty_of-record attrs is_open =
-    ap core_ty_of (sym (core.rolls-Record attrs is_open))
-    ∙ (let e : core_ty_of (roll-CoreSchemaType (core_layer.Record attrs is_open)) ≡ core_record (core_fields_of attrs) is_open = fold-roll-CoreSchemaType CoreTy (Bool × CoreTy) core_step core_attribute_step (core_layer.Record attrs is_open) ∙ ap (λ entries. core_record (core_fields_from entries) is_open) (map-map _ _ attrs.entries) in
+pub core_ty_of-record : (attrs : BTreeMap (String Global) CoreAttributeType) (open_attrs : Bool) → core_ty_of (core.Record attrs open_attrs) ≡ core_record (core_fields_of attrs) open_attrs
+core_ty_of-record attrs open_attrs =
+    ap core_ty_of (sym (core.rolls-Record attrs open_attrs))
+    ∙ (let e : core_ty_of (roll-CoreSchemaType (core_layer.Record attrs open_attrs)) ≡ core_record (core_fields_of attrs) open_attrs = fold-roll-CoreSchemaType CoreTy (Bool × CoreTy) core_step core_attribute_step (core_layer.Record attrs open_attrs) ∙ ap (λ entries. core_record (core_fields_from entries) open_attrs) (map-map _ _ attrs.entries) in
     e)
 
 -- an attribute of a core type stands for its flag and what its type stands for

@@ -2,7 +2,7 @@ use Rattle.std.specs.Prelude.{◌≡◌, Bool, true, false, List, ◌∷◌, Opt
 use Rattle.cedar_below.specs.CoreSchemaType.{argument_types, result_type}
 use Rattle.cedar_below.specs.CoreTy.{CoreTy, core_truth, core_long, core_text, core_set, core_empty_set, core_record, core_entity, core_extension, CoreFields, core_end, core_field, core_names}
 use Rattle.cedar_below.specs.Extensions.{function_named}
-use Rattle.cedar_below.specs.Included.{Included}
+use Rattle.cedar_below.specs.Lists.{Included}
 use Rattle.cedar_below.specs.PlainName.{PlainName}
 use Rattle.cedar_below.specs.Text.{Text}
 use Rattle.cedar_below.specs.Tree.{Tree, truth_value, number_value, text_value, uid_value, set_value, map_value, call_value, Trees, no_tree, tree, Entries, entry_at, entry_names, EachTree}
@@ -40,8 +40,8 @@ abbrev mutual
   Fits extensions (text_value value) core_text = Unit {0}
   Fits extensions (set_value values) core_empty_set = values ≡ no_tree
   Fits extensions (set_value values) (core_set ty) = EachTree (λ value. Fits extensions value ty) values
-  Fits extensions (map_value values) (core_record fields is_open) =
-      NamesListed is_open (entry_names values) (core_names fields) × FieldsFit extensions values fields
+  Fits extensions (map_value values) (core_record fields open_attrs) =
+      NamesListed open_attrs (entry_names values) (core_names fields) × FieldsFit extensions values fields
   Fits extensions (uid_value uid) (core_entity ty) = uid.ty ≡ ty
   Fits extensions (call_value function args) (core_extension ty) = Returns extensions function ty
   Fits _ _ _ = ⊥

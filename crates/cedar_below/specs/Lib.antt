@@ -9,9 +9,9 @@ pub mod Extensions
 pub mod Fits
 pub mod Id
 pub mod Identifier
-pub mod Included
 pub mod InternalName
 pub mod KeyedEntities
+pub mod Lists
 pub mod Name
 pub mod NonEmpty
 pub mod PlainName

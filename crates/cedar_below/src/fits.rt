@@ -51,11 +51,11 @@ impl Extensions {
 fn names_listed(
     values: &BTreeMap<String, RestrictedExpr>,
     attrs: &BTreeMap<String, CoreAttributeType>,
-    is_open: bool,
+    open_attrs: bool,
 ) -> bool
-    ensures { IsTrue result ↔ NamesListed is_open (entry_names (entries_of values.now)) (core_names (core_fields_of attrs.now)) }
+    ensures { IsTrue result ↔ NamesListed open_attrs (entry_names (entries_of values.now)) (core_names (core_fields_of attrs.now)) }
 {
-    if is_open {
+    if open_attrs {
         return true;
     }
     for name in values.keys() {

@@ -3,7 +3,7 @@
 ghost use Rattle.std.specs.Prelude.{◌≡◌, ◌≢◌, ◌↔◌, IsTrue, All, AllPairs, Contains, map};
 ghost use Rattle.cedar_below.specs.Name.{plain_name};
 ghost use Rattle.cedar_below.specs.PlainName.{IsUnqualified};
-ghost use Rattle.cedar_below.specs.TypeNames.{TypeNamesFit, core_type_words};
+ghost use Rattle.cedar_below.specs.TypeNames.{TypeNamesFit, primitive_words};
 
 use crate::name::Name;
 
@@ -16,14 +16,14 @@ pub(crate) fn has_name(names: &[Name], name: &Name) -> bool
 
 /// Whether a text is the name of a core type.
 fn is_core_type_word(text: &str) -> bool
-    ensures { IsTrue result ↔ Contains core_type_words text.now }
+    ensures { IsTrue result ↔ Contains primitive_words text.now }
 {
     text == "Bool" || text == "Long" || text == "String"
 }
 
 /// Whether a name can be that of an extension type.
 fn is_fit(name: &Name) -> bool
-    ensures { IsTrue result ↔ (IsUnqualified (plain_name name.now) × ¬ Contains core_type_words (plain_name name.now).base) }
+    ensures { IsTrue result ↔ (IsUnqualified (plain_name name.now) × ¬ Contains primitive_words (plain_name name.now).base) }
 {
     name.is_unqualified() && !is_core_type_word(name.basename().as_str())
 }
@@ -31,7 +31,7 @@ fn is_fit(name: &Name) -> bool
 /// Whether each name of the list can be that of an extension type.
 fn are_fit(names: &[Name]) -> bool
     ensures { IsTrue result
-        ↔ All (λ name. IsUnqualified (plain_name name) × ¬ Contains core_type_words (plain_name name).base) names.now }
+        ↔ All (λ name. IsUnqualified (plain_name name) × ¬ Contains primitive_words (plain_name name).base) names.now }
 {
     names.iter().all(|name| is_fit(name))
 }

@@ -18,7 +18,7 @@ use Rattle.cedar_names.specs.Reference.{name_within}
 use Rattle.cedar_declared.proofs.AlikeLemmas.{Alike, Alike-sym}
 use Rattle.cedar_declared.proofs.DeclarationLemmas.{entity_declaration, action_declaration, common_declaration, declares_entity, declares_action, declares_common}
 use Rattle.cedar_declared.proofs.DefinedLemmas.{SameDefined}
-use Rattle.cedar_declared.proofs.PlacesLemmas.{Contains-image}
+use Rattle.cedar_declared.proofs.OccurrenceLemmas.{Contains-image}
 use Rattle.cedar_declared.specs.Bag.{Bag, declared_name, declared_uid, declared_common, declared_entities, declared_actions, action_uids, is_type, is_declared_here, built_in_types, built_ins, alias_name, aliases, defined_names}
 use Rattle.cedar_declared.specs.SameBag.{SameEntityBody, SameActionBody, SameBody, SameDeclaration}
 

@@ -23,7 +23,7 @@ use Rattle.cedar_declared.proofs.CountLemmas.{hits, hits_of_twice, twice_of_hits
 use Rattle.cedar_below.proofs.Lists.{Contains-preimage}
 use Rattle.cedar_declared.proofs.DefinedLemmas.{resolves_there, unresolved_there, no_record_there}
 use Rattle.cedar_declared.proofs.MentionLemmas.{ties}
-use Rattle.cedar_declared.proofs.PlacesLemmas.{Contains-image}
+use Rattle.cedar_declared.proofs.OccurrenceLemmas.{Contains-image}
 use Rattle.cedar_declared.proofs.ResolutionLemmas.{IsFirst-like}
 use Rattle.cedar_declared.specs.Bag.{Bag, common_in, entity_in, action_in, declared_name, declared_uid, declared_common, declared_entities, declared_actions, declared_types, action_uids, built_ins, defined_names}
 use Rattle.cedar_declared.specs.Chain.{Chain, one}
@@ -31,7 +31,7 @@ use Rattle.cedar_declared.specs.Counted.{CountsInEntity, CountsInRequests, Count
 use Rattle.cedar_declared.specs.Descent.{NamesAction, NamesNoAction, HasParent, HasParentAction, IsDescendant, IsDescendantAction}
 use Rattle.cedar_declared.specs.Fault.{Fault, action_attributes, open_record, undeclared_entity_types, type_not_defined, action_not_defined, type_shadowing, action_shadowing, duplicate_entity_type, duplicate_common_type, duplicate_action, action_cycle, common_type_cycle, action_entity_type, shape_not_record, context_not_record, unknown_extension_type, reserved_name, external_below_enumerated}
 use Rattle.cedar_declared.specs.IllFormed.{HasAttributes, HasUnknownParent, RefersToCommon, IsFault}
-use Rattle.cedar_declared.specs.Places.{Twice}
+use Rattle.cedar_declared.specs.Occurrences.{Twice}
 use Rattle.cedar_declared.specs.SameBag.{SameEntityBody, SameRequests, SameActionBody, SameBody, SameDeclaration}
 
 -- what counts in what is declared of an entity type counts in the same

@@ -10,7 +10,7 @@ use Rattle.cedar_names.specs.Declaration.{Declaration, Body, common_type, entity
 use Rattle.cedar_names.specs.EntityBody.{EntityBody, standard, enumerated, external}
 use Rattle.cedar_declared.specs.Bag.{Bag}
 use Rattle.cedar_declared.specs.SameBag.{SameEntityBody, SameRequests, SameActionBody, SameBody, SameDeclaration, SameBag}
-use Rattle.cedar_below.specs.Included.{SameItems, AreSame}
+use Rattle.cedar_below.specs.Lists.{SameItems, HoldsInTurn}
 
 -- sameness of items is symmetric
 SameItems-sym : {A : Type 0} (xs ys : List A) → SameItems xs ys → SameItems ys xs
@@ -67,7 +67,7 @@ Alike-sym bag other alike = record {
 }
 
 -- declarations that are the same in turn are found
-turn_forth : (bag other : Bag) → AreSame SameDeclaration bag other → (it : Declaration) → Contains bag it → (found : Declaration) × Contains other found × SameDeclaration it found
+turn_forth : (bag other : Bag) → HoldsInTurn SameDeclaration bag other → (it : Declaration) → Contains bag it → (found : Declaration) × Contains other found × SameDeclaration it found
 turn_forth [] [] same it among = absurd (omega (arith, among.1))
 turn_forth [] (y ∷ ys) same it among = absurd same
 turn_forth (x ∷ xs) [] same it among = absurd same
@@ -78,7 +78,7 @@ turn_forth (x ∷ xs) (y ∷ ys) same it among =
     (Contains-cons_cases x xs it among)
 
 -- and the other way round
-turn_back : (bag other : Bag) → AreSame SameDeclaration bag other → (it : Declaration) → Contains other it → (found : Declaration) × Contains bag found × SameDeclaration it found
+turn_back : (bag other : Bag) → HoldsInTurn SameDeclaration bag other → (it : Declaration) → Contains other it → (found : Declaration) × Contains bag found × SameDeclaration it found
 turn_back [] [] same it among = absurd (omega (arith, among.1))
 turn_back [] (y ∷ ys) same it among = absurd same
 turn_back (x ∷ xs) [] same it among = absurd same
@@ -89,7 +89,7 @@ turn_back (x ∷ xs) (y ∷ ys) same it among =
     (Contains-cons_cases y ys it among)
 
 -- declarations that are the same in turn count alike
-turn_counts : (bag other : Bag) → AreSame SameDeclaration bag other → (f : Declaration → ℕ) → ((it found : Declaration) → SameDeclaration it found → f it ≡ f found) → sum_by f bag ≡ sum_by f other
+turn_counts : (bag other : Bag) → HoldsInTurn SameDeclaration bag other → (f : Declaration → ℕ) → ((it found : Declaration) → SameDeclaration it found → f it ≡ f found) → sum_by f bag ≡ sum_by f other
 turn_counts [] [] same f alike = refl
 turn_counts [] (y ∷ ys) same f alike = absurd same
 turn_counts (x ∷ xs) [] same f alike = absurd same

@@ -11,23 +11,23 @@ use Rattle.cedar_below.specs.Extensions.{extension_types}
 use Rattle.cedar_below.specs.Identifier.{reserved_word}
 use Rattle.cedar_below.specs.PlainName.{PlainName, IsUnqualified}
 use Rattle.cedar_below.specs.Text.{Text}
-use Rattle.cedar_below.specs.TypeNames.{TypeNamesFit, core_type_words}
+use Rattle.cedar_below.specs.TypeNames.{TypeNamesFit, primitive_words}
 use Rattle.cedar_below.specs.declared.extension.Extensions.{Extensions}
 use Rattle.cedar_names.specs.Declaration.{Declaration, Body, common_type, entity_type, action}
 use Rattle.cedar_names.specs.Expr.{Expr, extension_expr}
 use Rattle.cedar_names.specs.Reference.{Reference, path_within}
-use Rattle.cedar_declared.proofs.PlacesLemmas.{Twice-distinct, Twice-append, value_once, Contains-filter}
+use Rattle.cedar_declared.proofs.OccurrenceLemmas.{Twice-distinct, Twice-append, value_once, Contains-filter}
 use Rattle.cedar_declared.proofs.ResolutionLemmas.{HasOneDefinition}
 use Rattle.cedar_declared.specs.Bag.{Bag, common_in, declared_name, declared_common, is_type, is_declared_here, built_in_types, built_in_name, alias_name, built_ins, aliases, defined_names}
-use Rattle.cedar_declared.specs.Parts.{Refers}
-use Rattle.cedar_declared.specs.Places.{Twice}
+use Rattle.cedar_declared.specs.Mentions.{Refers}
+use Rattle.cedar_declared.specs.Occurrences.{Twice}
 
 -- texts that are compared as unequal aren't the same
-pub unlike_texts : (a b : Text) → bytes_eq a b ≡ false → a ≡ b → ⊥
+pub unlike_texts : (a b : Text) → bytes_eq a b ≡ false → ¬ (a ≡ b)
 unlike_texts a b differ same = false≢true (sym differ ∙ (bytes_eq-Decides a b).1 same)
 
 -- the words of the primitive types are distinct
-words_once : (word : Text) → Twice core_type_words word → ⊥
+words_once : (word : Text) → ¬ Twice primitive_words word
 words_once word (inl (same, (zero, below, is))) = unlike_texts (codes "Bool") (codes "Long") refl (same ∙ sym is)
 words_once word (inl (same, (suc zero, below, is))) = unlike_texts (codes "Bool") (codes "String") refl (same ∙ sym is)
 words_once word (inl (same, (suc (suc k), below, is))) = omega (arith, below)
@@ -52,7 +52,7 @@ entry_name names word among =
     (found.0, found.1, ap (λ each. each.0) found.2 ∙ entry.2)
 
 -- distinct unqualified names have distinct base names
-extensions_once : (names : List PlainName) → All IsUnqualified names → AllPairs (λ a b. a ≢ b) names → (word : Text) → Twice (map (λ entry. entry.0) (extension_entries names)) word → ⊥
+extensions_once : (names : List PlainName) → All IsUnqualified names → AllPairs (λ a b. a ≢ b) names → (word : Text) → ¬ Twice (map (λ entry. entry.0) (extension_entries names)) word
 extensions_once [] plain distinct word twice = twice
 extensions_once (first ∷ rest) plain distinct word twice =
     ⊎_elim
@@ -67,7 +67,7 @@ extensions_once (first ∷ rest) plain distinct word twice =
     twice
 
 -- no built-in base name stands for two types
-pub built_in_once : (extensions : Extensions) → TypeNamesFit (extension_types extensions) → (word : Text) → Twice (map (λ entry. entry.0) (built_in_types extensions)) word → ⊥
+pub built_in_once : (extensions : Extensions) → TypeNamesFit (extension_types extensions) → (word : Text) → ¬ Twice (map (λ entry. entry.0) (built_in_types extensions)) word
 built_in_once extensions fit word twice =
     let names = extension_types extensions in
     ⊎_elim (words_once word)
@@ -75,10 +75,10 @@ built_in_once extensions fit word twice =
     (extensions_once names fit.unqualified fit.distinct word)
     (λ both.
     let found = entry_name names word both.1 in
-    let P : Text → Type 0 = Contains core_type_words in
-    All-contains (λ name. ¬ Contains core_type_words name.base) names found.0 fit.free found.1 (subst P (sym found.2) both.0))
+    let P : Text → Type 0 = Contains primitive_words in
+    All-contains (λ name. ¬ Contains primitive_words name.base) names found.0 fit.free found.1 (subst P (sym found.2) both.0))
     others)
-    (Twice-append core_type_words (map (λ entry. entry.0) (extension_entries names)) word twice)
+    (Twice-append primitive_words (map (λ entry. entry.0) (extension_entries names)) word twice)
 
 -- what stands twice among images stands twice among the items, where the images tell them apart
 Twice-image : {X Y : Type 0} (f : X → Y) → ((x y : X) → f x ≡ f y → x ≡ y) → (xs : List X) (y : Y) → Twice (map f xs) y → (x : X) × Twice xs x
@@ -95,7 +95,7 @@ built_in_names [] = refl
 built_in_names (first ∷ rest) = ap (λ others. built_in_name first.0 ∷ others) (built_in_names rest)
 
 -- no built-in type has two definitions
-pub built_ins_once : (extensions : Extensions) → TypeNamesFit (extension_types extensions) → (name : PlainName) → Twice (map (λ it. it.0) (built_ins extensions)) name → ⊥
+pub built_ins_once : (extensions : Extensions) → TypeNamesFit (extension_types extensions) → (name : PlainName) → ¬ Twice (map (λ it. it.0) (built_ins extensions)) name
 built_ins_once extensions fit name twice =
     let P : List PlainName → Type 0 = λ names. Twice names name in
     let found = Twice-image built_in_name (λ a b same. ap (λ each. each.base) same) (map (λ it. it.0) (built_in_types extensions)) name (subst P (built_in_names (built_in_types extensions)) twice) in
@@ -105,7 +105,7 @@ built_ins_once extensions fit name twice =
 no_path : (namespace : _) → path_within namespace ≡ [] → namespace ≡ None
 no_path None none = refl
 no_path (Some name) none = absurd (ends name.path name.base none) where
-  ends : (path : List Text) (base : Text) → path ++ base ∷ [] ≡ [] → ⊥
+  ends : (path : List Text) (base : Text) → ¬ (path ++ base ∷ [] ≡ [])
   ends [] base wrong = cc
   ends (part ∷ path) base wrong = cc
 
@@ -153,16 +153,16 @@ alias_of bag extensions name body among =
     not_true false is = refl
 
 -- a built-in type has the reserved word before its base name
-pub built_in_path : (extensions : Extensions) (name : PlainName) (body : Expr) → Contains (built_ins extensions) (name, body) → IsUnqualified name → ⊥
+pub built_in_path : (extensions : Extensions) (name : PlainName) (body : Expr) → Contains (built_ins extensions) (name, body) → ¬ IsUnqualified name
 built_in_path extensions name body among plain =
     let found = Contains-preimage (λ it. (built_in_name it.0, it.1)) (built_in_types extensions) (name, body) among in
     qualified (ap (λ each. each.0.path) found.2 ∙ plain)
   where
-    qualified : reserved_word ∷ [] ≡ [] → ⊥
+    qualified : ¬ (reserved_word ∷ [] ≡ [])
     qualified wrong = cc
 
 -- an alias and what is declared or built in have different names
-alias_apart : (bag : Bag) (extensions : Extensions) (name : PlainName) (body other : Expr) → Contains (aliases bag extensions) (name, body) → Contains (declared_common bag ++ built_ins extensions) (name, other) → ⊥
+alias_apart : (bag : Bag) (extensions : Extensions) (name : PlainName) (body other : Expr) → Contains (aliases bag extensions) (name, body) → ¬ Contains (declared_common bag ++ built_ins extensions) (name, other)
 alias_apart bag extensions name body other alias among =
     let found = alias_of bag extensions name body alias in
     ⊎_elim
@@ -175,7 +175,7 @@ pub common_cases : (bag : Bag) (extensions : Extensions) (it : PlainName × Expr
 common_cases bag extensions it among = Contains-append_cases (declared_common bag ++ built_ins extensions) (aliases bag extensions) it among
 
 -- where no common type is declared twice, each common name has one definition
-pub one_definition : (bag : Bag) (extensions : Extensions) → TypeNamesFit (extension_types extensions) → ((name : PlainName) → Twice (map (λ it. it.0) (declared_common bag ++ built_ins extensions)) name → ⊥) → HasOneDefinition (defined_names bag extensions)
+pub one_definition : (bag : Bag) (extensions : Extensions) → TypeNamesFit (extension_types extensions) → ((name : PlainName) → ¬ Twice (map (λ it. it.0) (declared_common bag ++ built_ins extensions)) name) → HasOneDefinition (defined_names bag extensions)
 one_definition bag extensions fit once name body other among among' =
     ⊎_elim
     (λ here. ⊎_elim
@@ -189,7 +189,7 @@ one_definition bag extensions fit once name body other among among' =
     (common_cases bag extensions (name, body) among)
 
 -- what a built-in base name stands for refers to nothing
-built_in_refers : (extensions : Extensions) (word : Text) (body : Expr) (reference : Reference) → Contains (built_in_types extensions) (word, body) → Refers body reference → ⊥
+built_in_refers : (extensions : Extensions) (word : Text) (body : Expr) (reference : Reference) → Contains (built_in_types extensions) (word, body) → ¬ Refers body reference
 built_in_refers extensions word body reference (zero, below, is) refers =
     let P : Text × Expr → Type 0 = λ each. Refers each.1 reference in subst P (sym is) refers
 built_in_refers extensions word body reference (suc zero, below, is) refers =

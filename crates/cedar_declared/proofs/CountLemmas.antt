@@ -6,7 +6,7 @@ use Rattle.std.proofs.lemmas.List.Sums.{sum_by-cons}
 use Rattle.std.specs.Bool.{Decides}
 use Rattle.std.specs.List.{flat_map, sum_by}
 use Rattle.cedar_below.proofs.Lists.{Contains-cons, Contains-cons_cases}
-use Rattle.cedar_declared.specs.Places.{Twice}
+use Rattle.cedar_declared.specs.Occurrences.{Twice}
 
 -- a truth value as a number
 abbrev pub bit : Bool → ℕ
@@ -20,9 +20,9 @@ module _ {A : Type 0} (test : A → A → Bool) (decides : (y x : A) → Decides
   hits x (y ∷ ys) = bit (test y x) + hits x ys
 
   -- an item is the one that is counted, or it isn't
-  hit_cases : (y x : A) → ((y ≡ x) × (bit (test y x) ≡ 1)) ⊎ ((y ≡ x → ⊥) × (bit (test y x) ≡ 0))
+  hit_cases : (y x : A) → ((y ≡ x) × (bit (test y x) ≡ 1)) ⊎ ((¬ (y ≡ x)) × (bit (test y x) ≡ 0))
   hit_cases y x = by (test y x) (decides y x) where
-    by : (answer : Bool) → Decides answer (y ≡ x) → ((y ≡ x) × (bit answer ≡ 1)) ⊎ ((y ≡ x → ⊥) × (bit answer ≡ 0))
+    by : (answer : Bool) → Decides answer (y ≡ x) → ((y ≡ x) × (bit answer ≡ 1)) ⊎ ((¬ (y ≡ x)) × (bit answer ≡ 0))
     by true found = inl (found.0 refl, refl)
     by false found = inr (λ same. false≢true (found.1 same), refl)
 

@@ -8,8 +8,8 @@ pub mod CountLemmas
 pub mod DeclarationLemmas
 pub mod DefinedLemmas
 pub mod MentionLemmas
+pub mod OccurrenceLemmas
 pub mod PlacedLemmas
-pub mod PlacesLemmas
 pub mod ResolutionLemmas
 pub mod SameBagLaws
 pub mod SchemaLaws

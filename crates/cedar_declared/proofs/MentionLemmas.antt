@@ -26,8 +26,8 @@ use Rattle.cedar_declared.specs.Counted.{CountsIn, IsCounted}
 use Rattle.cedar_declared.specs.Defined.{Defined}
 use Rattle.cedar_declared.specs.Fault.{unknown_extension_type}
 use Rattle.cedar_declared.specs.IllFormed.{IsIllFormed}
-use Rattle.cedar_declared.specs.Parts.{MentionsExtension, MembersMentionExtension}
-use Rattle.cedar_declared.specs.TypeParts.{MentionsEntity, FieldsMentionEntity, MentionsExtensionType, FieldsMentionExtensionType}
+use Rattle.cedar_declared.specs.Mentions.{MentionsExtension, MembersMentionExtension}
+use Rattle.cedar_declared.specs.TypeMentions.{MentionsEntity, FieldsMentionEntity, MentionsExtensionType, FieldsMentionExtensionType}
 use Rattle.cedar_declared.specs.WrittenOut.{WrittenOut, MembersWrittenOut, as_text, as_long, as_truth, as_set, as_record, as_entity, as_common, as_extension, as_no_member, as_member}
 use Rattle.cedar_rules.specs.Ty.{Ty, Fields}
 
@@ -52,8 +52,8 @@ mutual
       ⊎_elim (λ here. mentions_entity defined first name here) (λ later. members_mention_entity defined rest name later) mentions
 
 -- each extension type that the expression mentions is known
-abbrev pub IsKnown : Extensions → Expr → Type 0
-IsKnown extensions expr = (word : Text) → MentionsExtension expr word → Contains (extension_types extensions) (alias_name word)
+abbrev pub HasKnownExtensions : Extensions → Expr → Type 0
+HasKnownExtensions extensions expr = (word : Text) → MentionsExtension expr word → Contains (extension_types extensions) (alias_name word)
 
 -- the same of the attributes of a record
 abbrev AreKnown : Extensions → Members → Type 0
@@ -61,7 +61,7 @@ AreKnown extensions members = (word : Text) → MembersMentionExtension members 
 
 mutual
   -- where each definition and the expression mention known extension types alone, so does what is written out
-  pub known_written : (defined : Defined) (extensions : Extensions) → ((name : PlainName) (body : Expr) → Contains defined.common (name, body) → IsKnown extensions body) → {expr : Expr} {ty : Ty} → WrittenOut defined expr ty → IsKnown extensions expr → (name : PlainName) → MentionsExtensionType ty name → Contains (extension_types extensions) name
+  pub known_written : (defined : Defined) (extensions : Extensions) → ((name : PlainName) (body : Expr) → Contains defined.common (name, body) → HasKnownExtensions extensions body) → {expr : Expr} {ty : Ty} → WrittenOut defined expr ty → HasKnownExtensions extensions expr → (name : PlainName) → MentionsExtensionType ty name → Contains (extension_types extensions) name
   known_written defined extensions each as_text known name mentions = absurd mentions
   known_written defined extensions each as_long known name mentions = absurd mentions
   known_written defined extensions each as_truth known name mentions = absurd mentions
@@ -74,7 +74,7 @@ mutual
       let P : PlainName → Type 0 = Contains (extension_types extensions) in subst P mentions (known word refl)
 
   -- the same of the attributes of a record
-  members_known_written : (defined : Defined) (extensions : Extensions) → ((name : PlainName) (body : Expr) → Contains defined.common (name, body) → IsKnown extensions body) → {members : Members} {fields : Fields} → MembersWrittenOut defined members fields → AreKnown extensions members → (name : PlainName) → FieldsMentionExtensionType fields name → Contains (extension_types extensions) name
+  members_known_written : (defined : Defined) (extensions : Extensions) → ((name : PlainName) (body : Expr) → Contains defined.common (name, body) → HasKnownExtensions extensions body) → {members : Members} {fields : Fields} → MembersWrittenOut defined members fields → AreKnown extensions members → (name : PlainName) → FieldsMentionExtensionType fields name → Contains (extension_types extensions) name
   members_known_written defined extensions each as_no_member known name mentions = absurd mentions
   members_known_written defined extensions each (as_member first rest) known name mentions =
       ⊎_elim
@@ -99,20 +99,20 @@ is_type_name-Decides name ty =
     Decides-like _ (name_cmp-Equal (plain_name ty) name).0 (name_cmp-Equal (plain_name ty) name).1 (ties (name_cmp (plain_name ty) name))
 
 -- an extension type is known or it isn't
-known_or_not : (extensions : Extensions) (name : PlainName) → Contains (extension_types extensions) name ⊎ (Contains (extension_types extensions) name → ⊥)
+known_or_not : (extensions : Extensions) (name : PlainName) → Contains (extension_types extensions) name ⊎ ¬ Contains (extension_types extensions) name
 known_or_not extensions name =
     by (list_any (is_type_name name) extensions.types.items) (list_any-Contains plain_name name (is_type_name name) (is_type_name-Decides name) extensions.types.items) where
-      by : (answer : Bool) → Decides answer (Contains (extension_types extensions) name) → Contains (extension_types extensions) name ⊎ (Contains (extension_types extensions) name → ⊥)
+      by : (answer : Bool) → Decides answer (Contains (extension_types extensions) name) → Contains (extension_types extensions) name ⊎ ¬ Contains (extension_types extensions) name
       by true decides = inl (decides.0 refl)
       by false decides = inr (λ among. false≢true (decides.1 among))
 
 -- where the bag isn't ill-formed, what counts mentions known extension types alone
-pub known_counted : (bag : Bag) (extensions : Extensions) → (IsIllFormed bag extensions → ⊥) → (expr : Expr) → IsCounted bag expr → IsKnown extensions expr
+pub known_counted : (bag : Bag) (extensions : Extensions) → ¬ IsIllFormed bag extensions → (expr : Expr) → IsCounted bag expr → HasKnownExtensions extensions expr
 known_counted bag extensions well expr counted word mentions =
     ⊎_elim (λ known. known) (λ unknown. absurd (well (unknown_extension_type (alias_name word), (expr, counted, mentions, refl, unknown)))) (known_or_not extensions (alias_name word))
 
 -- what a built-in base name stands for mentions known extension types alone
-known_built_in : (extensions : Extensions) → TypeNamesFit (extension_types extensions) → (word : Text) (body : Expr) → Contains (built_in_types extensions) (word, body) → IsKnown extensions body
+known_built_in : (extensions : Extensions) → TypeNamesFit (extension_types extensions) → (word : Text) (body : Expr) → Contains (built_in_types extensions) (word, body) → HasKnownExtensions extensions body
 known_built_in extensions fit word body (zero, below, is) other mentions =
     let P : Text × Expr → Type 0 = λ each. MentionsExtension each.1 other in absurd (subst P (sym is) mentions)
 known_built_in extensions fit word body (suc zero, below, is) other mentions =
@@ -128,7 +128,7 @@ known_built_in extensions fit word body (suc (suc (suc k)), below, is) other men
     subst Q (λ i. record { base = same i; path = plain i }) found.1
 
 -- where the bag isn't ill-formed, each definition mentions known extension types alone
-pub known_common : (bag : Bag) (extensions : Extensions) → TypeNamesFit (extension_types extensions) → (IsIllFormed bag extensions → ⊥) → (name : PlainName) (body : Expr) → Contains (defined_names bag extensions).common (name, body) → IsKnown extensions body
+pub known_common : (bag : Bag) (extensions : Extensions) → TypeNamesFit (extension_types extensions) → ¬ IsIllFormed bag extensions → (name : PlainName) (body : Expr) → Contains (defined_names bag extensions).common (name, body) → HasKnownExtensions extensions body
 known_common bag extensions fit well name body among =
     ⊎_elim
     (λ here. ⊎_elim
@@ -138,7 +138,7 @@ known_common bag extensions fit well name body among =
     known_counted bag extensions well body (found.0, found.1, subst P (sym found.2) refl)))
     (λ built_in.
     (let found = Contains-preimage (λ it. (built_in_name it.0, it.1)) (built_in_types extensions) (name, body) built_in in
-    let P : Expr → Type 0 = IsKnown extensions in
+    let P : Expr → Type 0 = HasKnownExtensions extensions in
     subst P (ap (λ each. each.1) found.2) (known_built_in extensions fit found.0.0 found.0.1 found.1)))
     (Contains-append_cases (declared_common bag) (built_ins extensions) (name, body) here))
     (λ alias. known_built_in extensions fit name.base body (alias_of bag extensions name body alias).0)

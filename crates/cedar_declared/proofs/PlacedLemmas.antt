@@ -13,7 +13,7 @@ use Rattle.cedar_names.specs.RawExpr.{raw_reference}
 use Rattle.cedar_names.specs.Reference.{Reference}
 use Rattle.cedar_names.specs.declared.json_schema.action_type.ApplySpec.{ApplySpec}
 use Rattle.cedar_names.specs.declared.json_schema.entity_type.EntityTypeKind.{EntityTypeKind}
-use Rattle.cedar_names.specs.declared.json_schema.entity_type.EntityTypeKind.TheVariants as of
+use Rattle.cedar_names.specs.declared.json_schema.entity_type.EntityTypeKind.TheVariants as variant
 use Rattle.cedar_names.specs.declared.json_schema.fragment.Fragment.{Fragment}
 use Rattle.cedar_names.specs.declared.json_schema.fragment.NamespaceDefinition.{NamespaceDefinition}
 use Rattle.cedar_names.specs.declared.json_schema.raw_name.RawName.{RawName}
@@ -38,10 +38,10 @@ module _ (namespace : Option PlainName) where
 
   -- the parents of an entity type do
   parents_fit : (kind : EntityTypeKind RawName) (is_external : Bool) (reference : Reference) → Contains (entity_parents (kind_body RawName (raw_reference namespace) kind is_external)) reference → reference.kind ≡ Entity
-  parents_fit (of.Standard it) false reference among = named_fit it.member_of_types.items reference among
-  parents_fit (of.Standard it) true reference among = named_fit it.member_of_types.items reference among
-  parents_fit (of.Enum choices) false reference among = absurd (omega (arith, among.1))
-  parents_fit (of.Enum choices) true reference among = absurd (omega (arith, among.1))
+  parents_fit (variant.Standard it) false reference among = named_fit it.member_of_types.items reference among
+  parents_fit (variant.Standard it) true reference among = named_fit it.member_of_types.items reference among
+  parents_fit (variant.Enum choices) false reference among = absurd (omega (arith, among.1))
+  parents_fit (variant.Enum choices) true reference among = absurd (omega (arith, among.1))
 
   -- the principals and resources of an action do
   requests_fit : (is_external : Bool) (it : Option (ApplySpec RawName)) (reference : Reference) → IsPrincipalOrResource (requests_by RawName (raw_reference namespace) namespace is_external it) reference → reference.kind ≡ Entity

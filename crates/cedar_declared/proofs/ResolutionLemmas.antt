@@ -3,8 +3,8 @@ use Rattle.std.proofs.Common.{◌≡◌, List, [], ◌∷◌, ap, sym, subst, �
 use Rattle.cedar_below.specs.PlainName.{PlainName}
 use Rattle.cedar_names.specs.Expr.{Expr}
 use Rattle.cedar_names.specs.Reference.{Reference}
-use Rattle.cedar_declared.specs.Defined.{Defined, IsDefined, IsCommon, ResolvesTo, IsFirstDefined}
-use Rattle.cedar_declared.specs.Places.{IsFirst}
+use Rattle.cedar_declared.specs.Defined.{Defined, IsDefined, IsCommon, ResolvesTo}
+use Rattle.cedar_declared.specs.Occurrences.{IsFirst}
 use Rattle.cedar_declared.specs.WrittenOut.{WrittenOut, MembersWrittenOut, as_text, as_long, as_truth, as_set, as_record, as_entity, as_common, as_extension, as_no_member, as_member}
 use Rattle.cedar_rules.specs.Ty.{Ty, Fields, set_of, record_of, union_of, field}
 use Rattle.cedar_rules.specs.declared.open_tag.OpenTag.TheVariants.{ClosedAttributes}
@@ -70,7 +70,7 @@ mutual
       ∙ ap (λ each. field name required each others) (written_once defined one first first')
 
 -- the name that a list of possibilities resolves to is one of them, and is defined
-pub first_defined : (defined : Defined) (kind : ReferenceType) (names : List PlainName) (name : PlainName) → IsFirstDefined defined kind names name → Contains names name × IsDefined defined kind name
+pub first_defined : (defined : Defined) (kind : ReferenceType) (names : List PlainName) (name : PlainName) → IsFirst (IsDefined defined kind) names name → Contains names name × IsDefined defined kind name
 first_defined defined kind [] name none = absurd none
 first_defined defined kind (first ∷ rest) name found =
     ⊎_elim
@@ -79,7 +79,7 @@ first_defined defined kind (first ∷ rest) name found =
     found
 
 -- a reference to an entity type names no common type
-pub names_no_common : (defined : Defined) (kind : ReferenceType) (name : PlainName) (body : Expr) → kind ≡ Entity → IsCommon defined kind name body → ⊥
+pub names_no_common : (defined : Defined) (kind : ReferenceType) (name : PlainName) (body : Expr) → kind ≡ Entity → ¬ IsCommon defined kind name body
 names_no_common defined Common name body is common = cc
 names_no_common defined Entity name body is common = common.0
 names_no_common defined CommonOrEntity name body is common = cc

@@ -12,33 +12,33 @@ use Rattle.cedar_declared.proofs.AlikeFaults.{descendant_there, descendant_actio
 use Rattle.cedar_declared.proofs.AlikeLemmas.{Alike, Alike-sym, SameBag-Alike}
 use Rattle.cedar_below.proofs.Lists.{Contains-preimage}
 use Rattle.cedar_declared.proofs.DefinedLemmas.{SameDefined, resolves_there, written_there}
-use Rattle.cedar_declared.proofs.PlacesLemmas.{Contains-image}
+use Rattle.cedar_declared.proofs.OccurrenceLemmas.{Contains-image}
 use Rattle.cedar_declared.specs.Bag.{Bag, declared_entities, declared_actions, defined_names}
-use Rattle.cedar_declared.specs.DeclaredSchema.{IsDeclaredEntityType, IsNamedBy, ActionKindFits, IsDeclaredAction, IsDefinedAction, IsEntityOfAction, IsDeclaredSchema, KindFits, TagsFit}
+use Rattle.cedar_declared.specs.DeclaredSchema.{IsDeclaredEntityType, IsNamedBy, IsDeclaredActionKind, IsDeclaredAction, IsDefinedAction, IsEntityOfAction, IsDeclaredSchema, IsDeclaredKind, AreDeclaredTags}
 use Rattle.cedar_declared.specs.Defined.{Defined}
 use Rattle.cedar_declared.specs.EndToEnd.{SameBagsDeclareTheSame}
 use Rattle.cedar_declared.specs.IllFormed.{IsIllFormed}
 use Rattle.cedar_declared.specs.PlainSchema.{SchemaEntityType, ActionKind, defined_action, external_action, SchemaAction, ActionEntity, PlainSchema}
 use Rattle.cedar_declared.specs.SameBag.{SameEntityBody, SameRequests, SameBag}
-use Rattle.cedar_below.specs.Included.{SameItems}
+use Rattle.cedar_below.specs.Lists.{SameItems}
 use Rattle.cedar_declared.specs.WrittenOut.{WrittenOut}
-use Rattle.cedar_declared.specs.EntityTypeKind.{Kind, standard as standard_kind, enumerated as enumerated_kind, external as external_kind}
+use Rattle.cedar_declared.specs.EntityTypeKind.{EntityTypeKind, standard_kind, enumerated_kind, external_kind}
 use Rattle.cedar_rules.specs.Ty.{Ty, record_of}
 use Rattle.cedar_rules.specs.declared.open_tag.OpenTag.TheVariants.{ClosedAttributes}
 
 module _ (defined other : Defined) (same : SameDefined defined other) where
   -- tags fit alike
-  tags_there : (tags : Option Expr) (ty : Option Ty) → TagsFit defined tags ty → TagsFit other tags ty
+  tags_there : (tags : Option Expr) (ty : Option Ty) → AreDeclaredTags defined tags ty → AreDeclaredTags other tags ty
   tags_there None None fits = tt
   tags_there (Some expr) (Some ty) fits = written_there defined other same fits
   tags_there None (Some ty) fits = absurd fits
   tags_there (Some expr) None fits = absurd fits
 
   -- a kind fits what is the same
-  kind_there : (body found : EntityBody) (kind : Kind) → SameEntityBody body found → KindFits defined body kind → KindFits other found kind
-  kind_there (standard ps shape tags) (standard ps' shape' tags') (standard_kind fields tag ty) alike fits =
+  kind_there : (body found : EntityBody) (kind : EntityTypeKind) → SameEntityBody body found → IsDeclaredKind defined body kind → IsDeclaredKind other found kind
+  kind_there (standard ps shape tags) (standard ps' shape' tags') (standard_kind fields openness ty) alike fits =
       let P : Expr → Type 0 = λ each. WrittenOut other each (record_of fields ClosedAttributes) in
-      let Q : Option Expr → Type 0 = λ each. TagsFit other each ty in
+      let Q : Option Expr → Type 0 = λ each. AreDeclaredTags other each ty in
       (subst P alike.1 (written_there defined other same fits.0), fits.1, subst Q alike.2 (tags_there tags ty fits.2))
   kind_there (enumerated choices) (enumerated others) (enumerated_kind ids) alike fits = sym alike ∙ fits
   kind_there (external ps) (external ps') external_kind alike fits = tt
@@ -46,11 +46,11 @@ module _ (defined other : Defined) (same : SameDefined defined other) where
   kind_there (standard ps shape tags) found external_kind alike fits = absurd fits
   kind_there (standard ps shape tags) (enumerated choices) kind alike fits = absurd alike
   kind_there (standard ps shape tags) (external ps') kind alike fits = absurd alike
-  kind_there (enumerated choices) found (standard_kind fields tag ty) alike fits = absurd fits
+  kind_there (enumerated choices) found (standard_kind fields openness ty) alike fits = absurd fits
   kind_there (enumerated choices) found external_kind alike fits = absurd fits
   kind_there (enumerated choices) (standard ps shape tags) kind alike fits = absurd alike
   kind_there (enumerated choices) (external ps) kind alike fits = absurd alike
-  kind_there (external ps) found (standard_kind fields tag ty) alike fits = absurd fits
+  kind_there (external ps) found (standard_kind fields openness ty) alike fits = absurd fits
   kind_there (external ps) found (enumerated_kind ids) alike fits = absurd fits
   kind_there (external ps) (standard ps' shape tags) kind alike fits = absurd alike
   kind_there (external ps) (enumerated choices) kind alike fits = absurd alike
@@ -68,7 +68,7 @@ named_both defined other same back references others names alike each name = (
 )
 
 -- the kind of an action fits what is the same
-action_kind_there : (defined other : Defined) → SameDefined defined other → SameDefined other defined → (body found : Requests) (kind : ActionKind) → SameRequests body found → ActionKindFits defined body kind → ActionKindFits other found kind
+action_kind_there : (defined other : Defined) → SameDefined defined other → SameDefined other defined → (body found : Requests) (kind : ActionKind) → SameRequests body found → IsDeclaredActionKind defined body kind → IsDeclaredActionKind other found kind
 action_kind_there defined other same back (requests ps rs context) (requests ps' rs' context') (defined_action principals resources ty) alike fits =
     let P : Expr → Type 0 = λ each. WrittenOut other each ty in (
       named_both defined other same back ps ps' principals alike.0 fits.0,

@@ -12,37 +12,37 @@ use Rattle.cedar_names.specs.EntityBody.{EntityBody, standard, enumerated, exter
 use Rattle.cedar_names.specs.Expr.{Expr}
 use Rattle.cedar_declared.proofs.AdmitsLemmas.{has_admitted, admitted_of}
 use Rattle.cedar_declared.proofs.BuiltInLemmas.{one_definition}
-use Rattle.cedar_declared.proofs.PlacesLemmas.{Contains-image, value_once}
+use Rattle.cedar_declared.proofs.OccurrenceLemmas.{Contains-image, value_once}
 use Rattle.cedar_declared.proofs.ResolutionLemmas.{HasOneDefinition, written_once}
 use Rattle.cedar_declared.specs.Bag.{Bag, declared_entities, declared_actions, defined_names}
-use Rattle.cedar_declared.specs.DeclaredSchema.{IsDeclaredEntityType, IsNamedBy, ActionKindFits, IsDeclaredAction, IsDefinedAction, IsEntityOfAction, IsDeclaredSchema, KindFits, TagsFit}
+use Rattle.cedar_declared.specs.DeclaredSchema.{IsDeclaredEntityType, IsNamedBy, IsDeclaredActionKind, IsDeclaredAction, IsDefinedAction, IsEntityOfAction, IsDeclaredSchema, IsDeclaredKind, AreDeclaredTags}
 use Rattle.cedar_declared.specs.Defined.{Defined}
 use Rattle.cedar_declared.specs.Descent.{IsDescendant, IsDescendantAction}
 use Rattle.cedar_declared.specs.EndToEnd.{AdmitsTheSame, TypesAdmitTheDeclared}
 use Rattle.cedar_declared.specs.Fault.{duplicate_entity_type, duplicate_common_type, duplicate_action}
 use Rattle.cedar_declared.specs.IllFormed.{IsIllFormed}
 use Rattle.cedar_declared.specs.PlainSchema.{SchemaEntityType, ActionKind, defined_action, external_action, SchemaAction, ActionEntity, PlainSchema}
-use Rattle.cedar_below.specs.Included.{SameItems, AreSame}
+use Rattle.cedar_below.specs.Lists.{SameItems, HoldsInTurn}
 use Rattle.cedar_declared.specs.SameSchema.{SameEntityType, SameActionKind, SameAction, SameActionEntity, SameSchema}
 use Rattle.cedar_declared.specs.WrittenOut.{WrittenOut}
 use Rattle.cedar_rules.proofs.AntisymmetryLaws.{Included-same}
-use Rattle.cedar_declared.specs.EntityTypeKind.{Kind, standard as standard_kind, enumerated as enumerated_kind, external as external_kind}
+use Rattle.cedar_declared.specs.EntityTypeKind.{EntityTypeKind, standard_kind, enumerated_kind, external_kind}
 use Rattle.cedar_rules.specs.Ty.{Ty, Fields, end, record_of}
 use Rattle.cedar_rules.specs.declared.open_tag.OpenTag.{OpenTag}
 use Rattle.cedar_rules.specs.declared.open_tag.OpenTag.TheVariants.{ClosedAttributes}
 
 -- in a bag that isn't ill-formed each common name has one definition
-pub one_of_well_formed : (bag : Bag) (extensions : Extensions) → TypeNamesFit (extension_types extensions) → (IsIllFormed bag extensions → ⊥) → HasOneDefinition (defined_names bag extensions)
+pub one_of_well_formed : (bag : Bag) (extensions : Extensions) → TypeNamesFit (extension_types extensions) → ¬ IsIllFormed bag extensions → HasOneDefinition (defined_names bag extensions)
 one_of_well_formed bag extensions fit well =
     one_definition bag extensions fit (λ name twice. well (duplicate_common_type name, twice))
 
 -- the attributes of a record type
 abbrev fields_in : Ty → Fields
-fields_in (record_of fields tag) = fields
+fields_in (record_of fields openness) = fields
 fields_in _ = end
 
 -- the type of tags is one
-tags_once : (defined : Defined) → HasOneDefinition defined → (tags : Option Expr) (ty ty' : Option Ty) → TagsFit defined tags ty → TagsFit defined tags ty' → ty ≡ ty'
+tags_once : (defined : Defined) → HasOneDefinition defined → (tags : Option Expr) (ty ty' : Option Ty) → AreDeclaredTags defined tags ty → AreDeclaredTags defined tags ty' → ty ≡ ty'
 tags_once defined one None None None fits fits' = refl
 tags_once defined one (Some expr) (Some ty) (Some ty') fits fits' = ap Some (written_once defined one fits fits')
 tags_once defined one None (Some ty) ty' fits fits' = absurd fits
@@ -51,25 +51,25 @@ tags_once defined one (Some expr) None ty' fits fits' = absurd fits
 tags_once defined one (Some expr) (Some ty) None fits fits' = absurd fits'
 
 -- what is declared of an entity type gives one kind
-kind_once : (defined : Defined) → HasOneDefinition defined → (body : EntityBody) (kind kind' : Kind) → KindFits defined body kind → KindFits defined body kind' → kind ≡ kind'
-kind_once defined one (standard parents shape tags) (standard_kind fields tag ty) (standard_kind fields' tag' ty') fits fits' =
+kind_once : (defined : Defined) → HasOneDefinition defined → (body : EntityBody) (kind kind' : EntityTypeKind) → IsDeclaredKind defined body kind → IsDeclaredKind defined body kind' → kind ≡ kind'
+kind_once defined one (standard parents shape tags) (standard_kind fields openness ty) (standard_kind fields' openness' ty') fits fits' =
     let same_fields : fields ≡ fields' = ap fields_in (written_once defined one fits.0 fits'.0) in
-    let same_tag : tag ≡ tag' = fits.1 ∙ sym fits'.1 in
+    let same_tag : openness ≡ openness' = fits.1 ∙ sym fits'.1 in
     let same_tags : ty ≡ ty' = tags_once defined one tags ty ty' fits.2 fits'.2 in
     λ i. standard_kind (same_fields i) (same_tag i) (same_tags i)
-kind_once defined one (standard parents shape tags) (standard_kind fields tag ty) (enumerated_kind choices) fits fits' = absurd fits'
-kind_once defined one (standard parents shape tags) (standard_kind fields tag ty) external_kind fits fits' = absurd fits'
+kind_once defined one (standard parents shape tags) (standard_kind fields openness ty) (enumerated_kind choices) fits fits' = absurd fits'
+kind_once defined one (standard parents shape tags) (standard_kind fields openness ty) external_kind fits fits' = absurd fits'
 kind_once defined one (standard parents shape tags) (enumerated_kind choices) kind' fits fits' = absurd fits
 kind_once defined one (standard parents shape tags) external_kind kind' fits fits' = absurd fits
 kind_once defined one (enumerated ids) (enumerated_kind choices) (enumerated_kind choices') fits fits' = ap enumerated_kind (sym fits ∙ fits')
-kind_once defined one (enumerated ids) (enumerated_kind choices) (standard_kind fields tag ty) fits fits' = absurd fits'
+kind_once defined one (enumerated ids) (enumerated_kind choices) (standard_kind fields openness ty) fits fits' = absurd fits'
 kind_once defined one (enumerated ids) (enumerated_kind choices) external_kind fits fits' = absurd fits'
-kind_once defined one (enumerated ids) (standard_kind fields tag ty) kind' fits fits' = absurd fits
+kind_once defined one (enumerated ids) (standard_kind fields openness ty) kind' fits fits' = absurd fits
 kind_once defined one (enumerated ids) external_kind kind' fits fits' = absurd fits
 kind_once defined one (external parents) external_kind external_kind fits fits' = refl
-kind_once defined one (external parents) external_kind (standard_kind fields tag ty) fits fits' = absurd fits'
+kind_once defined one (external parents) external_kind (standard_kind fields openness ty) fits fits' = absurd fits'
 kind_once defined one (external parents) external_kind (enumerated_kind choices) fits fits' = absurd fits'
-kind_once defined one (external parents) (standard_kind fields tag ty) kind' fits fits' = absurd fits
+kind_once defined one (external parents) (standard_kind fields openness ty) kind' fits fits' = absurd fits
 kind_once defined one (external parents) (enumerated_kind choices) kind' fits fits' = absurd fits
 
 -- lists of the items that one fact picks are the same up to order and repeats
@@ -78,7 +78,7 @@ same_items P items others first second item =
     (λ among. (second item).1 ((first item).0 among), λ among. (first item).1 ((second item).0 among))
 
 -- what is declared of an action gives one kind, up to the order of names
-action_kind_once : (defined : Defined) → HasOneDefinition defined → (body : Requests) (kind kind' : ActionKind) → ActionKindFits defined body kind → ActionKindFits defined body kind' → SameActionKind kind kind'
+action_kind_once : (defined : Defined) → HasOneDefinition defined → (body : Requests) (kind kind' : ActionKind) → IsDeclaredActionKind defined body kind → IsDeclaredActionKind defined body kind' → SameActionKind kind kind'
 action_kind_once defined one (requests principals resources context) (defined_action ps rs ty) (defined_action ps' rs' ty') fits fits' =
     (same_items (IsNamedBy defined principals) ps ps' fits.0 fits'.0, same_items (IsNamedBy defined resources) rs rs' fits.1 fits'.1, written_once defined one fits.2 fits'.2)
 action_kind_once defined one (requests principals resources context) (defined_action ps rs ty) external_action fits fits' = absurd fits'
@@ -87,14 +87,14 @@ action_kind_once defined one elsewhere external_action external_action fits fits
 action_kind_once defined one elsewhere external_action (defined_action ps rs ty) fits fits' = absurd fits'
 action_kind_once defined one elsewhere (defined_action ps rs ty) kind' fits fits' = absurd fits
 
-module _ (bag : Bag) (extensions : Extensions) (fit : TypeNamesFit (extension_types extensions)) (well : IsIllFormed bag extensions → ⊥) where
+module _ (bag : Bag) (extensions : Extensions) (fit : TypeNamesFit (extension_types extensions)) (well : ¬ IsIllFormed bag extensions) where
   -- two entity types of one name that are declared are the same
   same_entity_type : (it other : PlainName × SchemaEntityType) → it.0 ≡ other.0 → IsDeclaredEntityType bag extensions it → IsDeclaredEntityType bag extensions other → SameEntityType it other
   same_entity_type it other same first second =
       let defined = defined_names bag extensions in
       let P : PlainName → Type 0 = λ name. Contains (declared_entities bag) (name, second.body) in
       let bodies : first.body ≡ second.body = value_once (declared_entities bag) (λ name twice. well (duplicate_entity_type name, twice)) it.0 first.body second.body first.declared (subst P (sym same) second.declared) in
-      let Q : EntityBody → Type 0 = λ body. KindFits defined body other.1.kind in
+      let Q : EntityBody → Type 0 = λ body. IsDeclaredKind defined body other.1.kind in
       let R : PlainName → Type 0 = λ name. (lower : PlainName) → Contains other.1.descendants lower ↔ IsDescendant bag extensions lower name in
       record {
         key = same;
@@ -109,7 +109,7 @@ module _ (bag : Bag) (extensions : Extensions) (fit : TypeNamesFit (extension_ty
       let defined = defined_names bag extensions in
       let P : PlainUid → Type 0 = λ uid. Contains (declared_actions bag) (uid, second.body) in
       let bodies : first.body ≡ second.body = value_once (declared_actions bag) (λ uid twice. well (duplicate_action uid, twice)) it.0 first.body second.body first.declared (subst P (sym same) second.declared) in
-      let Q : ActionBody → Type 0 = λ body. ActionKindFits defined body.applies_to other.1.kind in
+      let Q : ActionBody → Type 0 = λ body. IsDeclaredActionKind defined body.applies_to other.1.kind in
       let R : PlainUid → Type 0 = λ uid. (lower : PlainUid) → Contains other.1.descendants lower ↔ IsDescendantAction bag lower uid in
       record {
         key = same;
@@ -140,7 +140,7 @@ rest_of [] = []
 rest_of (first ∷ rest) = rest
 
 -- lists whose keys are the same in turn are the same, where items of one key are
-same_in_turn : {A K : Type 0} (key : A → K) (P : A → Type 0) (R : A → A → Type 0) → ((it other : A) → key it ≡ key other → P it → P other → R it other) → (items others : List A) → map key items ≡ map key others → ((it : A) → Contains items it → P it) → ((it : A) → Contains others it → P it) → AreSame R items others
+same_in_turn : {A K : Type 0} (key : A → K) (P : A → Type 0) (R : A → A → Type 0) → ((it other : A) → key it ≡ key other → P it → P other → R it other) → (items others : List A) → map key items ≡ map key others → ((it : A) → Contains items it → P it) → ((it : A) → Contains others it → P it) → HoldsInTurn R items others
 same_in_turn key P R same [] [] keys each each' = tt
 same_in_turn key P R same [] (other ∷ others) keys each each' = absurd cc
 same_in_turn key P R same (it ∷ items) [] keys each each' = absurd cc
@@ -156,7 +156,7 @@ keys_included key Q items others each there k among =
     there k (subst Q found.2 (each found.0 found.1))
 
 -- a bag that isn't ill-formed declares one schema
-pub one_schema : (bag : Bag) (extensions : Extensions) → TypeNamesFit (extension_types extensions) → (IsIllFormed bag extensions → ⊥) → (schema other : PlainSchema) → IsDeclaredSchema bag extensions schema → IsDeclaredSchema bag extensions other → SameSchema schema other
+pub one_schema : (bag : Bag) (extensions : Extensions) → TypeNamesFit (extension_types extensions) → ¬ IsIllFormed bag extensions → (schema other : PlainSchema) → IsDeclaredSchema bag extensions schema → IsDeclaredSchema bag extensions other → SameSchema schema other
 one_schema bag extensions fit well schema other first second =
     let Types : PlainName → Type 0 = Contains (map (λ it. it.0) (declared_entities bag)) in
     let Actions : PlainUid → Type 0 = Contains (map (λ it. it.0) (declared_actions bag)) in
@@ -188,30 +188,30 @@ admits_the_same bag extensions one expr ty written value =
     (λ has. admitted_of defined extensions written value has, λ admitted. has_admitted defined extensions one admitted written)
 
 -- the types of the declared schema have just the declared values
-pub types_admit : (bag : Bag) (extensions : Extensions) → TypeNamesFit (extension_types extensions) → (IsIllFormed bag extensions → ⊥) → (schema : PlainSchema) → IsDeclaredSchema bag extensions schema → TypesAdmitTheDeclared bag extensions schema
+pub types_admit : (bag : Bag) (extensions : Extensions) → TypeNamesFit (extension_types extensions) → ¬ IsIllFormed bag extensions → (schema : PlainSchema) → IsDeclaredSchema bag extensions schema → TypesAdmitTheDeclared bag extensions schema
 types_admit bag extensions fit well schema declared =
     let defined = defined_names bag extensions in
     let one = one_of_well_formed bag extensions fit well in
     let fits = λ (name : PlainName) (body : EntityBody) (it : SchemaEntityType) (among : Contains (declared_entities bag) (name, body)) (there : Contains schema.entity_types (name, it)).
     (let found = declared.entity_types (name, it) there in
-    let P : EntityBody → Type 0 = λ each. KindFits defined each it.kind in
+    let P : EntityBody → Type 0 = λ each. IsDeclaredKind defined each it.kind in
     subst P (value_once (declared_entities bag) (λ each twice. well (duplicate_entity_type each, twice)) name found.body body found.declared among) found.kind) in
     record {
-      attributes = λ name parents shape tags it fields tag tag_ty among there is.
-          (let P : Kind → Type 0 = KindFits defined (standard parents shape tags) in
+      attributes = λ name parents shape tags it fields openness tag_type among there is.
+          (let P : EntityTypeKind → Type 0 = IsDeclaredKind defined (standard parents shape tags) in
           let kind_fits = subst P is (fits name (standard parents shape tags) it among there) in
           let Q : OpenTag → Type 0 = λ each. AdmitsTheSame bag extensions shape (record_of fields each) in
           subst Q (sym kind_fits.1) (admits_the_same bag extensions one shape (record_of fields ClosedAttributes) kind_fits.0));
-      tags = λ name parents shape tags it fields tag tag_ty among there is.
-          (let P : Kind → Type 0 = KindFits defined (standard parents shape (Some tags)) in
+      tags = λ name parents shape tags it fields openness tag_type among there is.
+          (let P : EntityTypeKind → Type 0 = IsDeclaredKind defined (standard parents shape (Some tags)) in
           let kind_fits = subst P is (fits name (standard parents shape (Some tags)) it among there) in
-          admits_the_same bag extensions one tags tag_ty kind_fits.2);
+          admits_the_same bag extensions one tags tag_type kind_fits.2);
       contexts = λ uid body principals resources context it principal_types resource_types ty among applies there is.
           (let found = declared.actions (uid, it) there in
           let same = value_once (declared_actions bag) (λ each twice. well (duplicate_action each, twice)) uid found.body body found.declared among in
-          let P : ActionBody → Type 0 = λ each. ActionKindFits defined each.applies_to it.kind in
-          let Q : Requests → Type 0 = λ each. ActionKindFits defined each it.kind in
-          let R : ActionKind → Type 0 = ActionKindFits defined (requests principals resources context) in
+          let P : ActionBody → Type 0 = λ each. IsDeclaredActionKind defined each.applies_to it.kind in
+          let Q : Requests → Type 0 = λ each. IsDeclaredActionKind defined each it.kind in
+          let R : ActionKind → Type 0 = IsDeclaredActionKind defined (requests principals resources context) in
           let kind_fits = subst R is (subst Q applies (subst P same found.kind)) in
           admits_the_same bag extensions one context ty kind_fits.2);
     }

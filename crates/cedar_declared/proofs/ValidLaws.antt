@@ -17,11 +17,11 @@ use Rattle.cedar_declared.proofs.ChainLemmas.{first_step, last_step, chain_of_ch
 use Rattle.cedar_declared.proofs.DeclarationLemmas.{entity_declaration, action_declaration}
 use Rattle.cedar_declared.proofs.MentionLemmas.{mentions_entity, known_written, known_counted, known_common}
 use Rattle.cedar_declared.proofs.ResolutionLemmas.{first_defined, names_no_common}
-use Rattle.cedar_declared.proofs.PlacesLemmas.{Contains-image, value_once}
+use Rattle.cedar_declared.proofs.OccurrenceLemmas.{Contains-image, value_once}
 use Rattle.cedar_declared.specs.Bag.{Bag, declared_common, declared_entities, declared_actions, declared_types, action_uids, defined_names}
 use Rattle.cedar_declared.specs.Chain.{Chain}
 use Rattle.cedar_declared.specs.Counted.{CountsIn, IsCounted, IsPlaced, PlacesFit, CountsInEntity, CountsInRequests, entity_parents, IsPrincipalOrResource, IsEntityPlace}
-use Rattle.cedar_declared.specs.DeclaredSchema.{IsDeclaredSchema, ActionKindFits, KindFits, TagsFit}
+use Rattle.cedar_declared.specs.DeclaredSchema.{IsDeclaredSchema, IsDeclaredActionKind, IsDeclaredKind, AreDeclaredTags}
 use Rattle.cedar_declared.specs.Defined.{ResolvesTo}
 use Rattle.cedar_declared.specs.Descent.{HasParent, HasParentAction, IsDescendant, IsDescendantAction}
 use Rattle.cedar_declared.specs.Fault.{undeclared_entity_types, type_shadowing, action_shadowing, duplicate_entity_type, action_cycle, action_entity_type, external_below_enumerated}
@@ -29,7 +29,7 @@ use Rattle.cedar_declared.specs.IllFormed.{IsIllFormed}
 use Rattle.cedar_declared.specs.PlainSchema.{ActionKind, defined_action, external_action, SchemaAction, PlainSchema}
 use Rattle.cedar_declared.specs.ValidSchema.{IsTypeOfKind, IsContextOf, IsPrincipalOrResourceOf, IsTypeIn, HasEntityType, HasAction, ListsDescendant, ListsDescendantAction, IsOfKind, IsEnumerated, IsExternal, IsValidSchema, IsClosedSchema}
 use Rattle.cedar_declared.specs.WrittenOut.{WrittenOut}
-use Rattle.cedar_declared.specs.EntityTypeKind.{Kind, standard as standard_kind, enumerated as enumerated_kind, external as external_kind}
+use Rattle.cedar_declared.specs.EntityTypeKind.{EntityTypeKind, standard_kind, enumerated_kind, external_kind}
 use Rattle.cedar_rules.specs.Ty.{Ty, record_of}
 
 module _ (bag : Bag) (extensions : Extensions) (schema : PlainSchema) (declared : IsDeclaredSchema bag extensions schema) where
@@ -60,7 +60,7 @@ module _ (bag : Bag) (extensions : Extensions) (schema : PlainSchema) (declared 
         (last.1.0, last.1.1, ((declared.actions (upper, last.1.0) last.1.1).descendants lower).1 (reached_action lower upper chain)));
   }
 
-module _ (bag : Bag) (extensions : Extensions) (schema : PlainSchema) (fit : TypeNamesFit (extension_types extensions)) (places : PlacesFit bag) (well : IsIllFormed bag extensions → ⊥) (declared : IsDeclaredSchema bag extensions schema) where
+module _ (bag : Bag) (extensions : Extensions) (schema : PlainSchema) (fit : TypeNamesFit (extension_types extensions)) (places : PlacesFit bag) (well : ¬ IsIllFormed bag extensions) (declared : IsDeclaredSchema bag extensions schema) where
   -- what references can name as an entity type is declared, or the type of a declared action
   entity_known : (name : PlainName) → Contains (defined_names bag extensions).entities name → HasEntityType schema name ⊎ ((uid : PlainUid) × HasAction schema uid × (uid.ty ≡ name))
   entity_known name among =
@@ -80,31 +80,31 @@ module _ (bag : Bag) (extensions : Extensions) (schema : PlainSchema) (fit : Typ
       ap (λ (each : PlainUid). each.ty.base) (sym (declaration.3 ∙ found.2))
 
   -- a type of an entity type is what a counted expression is written out as
-  kind_written : (body : EntityBody) (kind : Kind) (ty : Ty) → KindFits (defined_names bag extensions) body kind → IsTypeOfKind kind ty → (expr : Expr) × CountsInEntity body expr × WrittenOut (defined_names bag extensions) expr ty
-  kind_written (standard parents shape tags) (standard_kind fields tag tag_ty) ty fits of_kind =
+  kind_written : (body : EntityBody) (kind : EntityTypeKind) (ty : Ty) → IsDeclaredKind (defined_names bag extensions) body kind → IsTypeOfKind kind ty → (expr : Expr) × CountsInEntity body expr × WrittenOut (defined_names bag extensions) expr ty
+  kind_written (standard parents shape tags) (standard_kind fields openness tag_type) ty fits of_kind =
       let P : Ty → Type 0 = WrittenOut (defined_names bag extensions) shape in
       ⊎_elim
       (λ same. (shape, inl refl, subst P (sym (same ∙ ap (record_of fields) fits.1)) fits.0))
-      (λ same. tags_written tags tag_ty fits.2 same)
+      (λ same. tags_written tags tag_type fits.2 same)
       of_kind
     where
-      tags_written : (tags : Option Expr) (tag_ty : Option Ty) → TagsFit (defined_names bag extensions) tags tag_ty → tag_ty ≡ Some ty → (expr : Expr) × ((shape ≡ expr) ⊎ (tags ≡ Some expr)) × WrittenOut (defined_names bag extensions) expr ty
+      tags_written : (tags : Option Expr) (tag_type : Option Ty) → AreDeclaredTags (defined_names bag extensions) tags tag_type → tag_type ≡ Some ty → (expr : Expr) × ((shape ≡ expr) ⊎ (tags ≡ Some expr)) × WrittenOut (defined_names bag extensions) expr ty
       tags_written (Some expr) (Some other) written same =
-          let P : Option Ty → Type 0 = TagsFit (defined_names bag extensions) (Some expr) in (expr, inr refl, subst P same written)
+          let P : Option Ty → Type 0 = AreDeclaredTags (defined_names bag extensions) (Some expr) in (expr, inr refl, subst P same written)
       tags_written (Some expr) None written same = absurd written
       tags_written None (Some other) written same = absurd written
       tags_written None None written same = absurd cc
   kind_written (standard parents shape tags) (enumerated_kind choices) ty fits of_kind = absurd fits
   kind_written (standard parents shape tags) external_kind ty fits of_kind = absurd fits
-  kind_written (enumerated choices) (standard_kind fields tag tag_ty) ty fits of_kind = absurd fits
+  kind_written (enumerated choices) (standard_kind fields openness tag_type) ty fits of_kind = absurd fits
   kind_written (enumerated choices) (enumerated_kind ids) ty fits of_kind = absurd of_kind
   kind_written (enumerated choices) external_kind ty fits of_kind = absurd of_kind
-  kind_written (external parents) (standard_kind fields tag tag_ty) ty fits of_kind = absurd fits
+  kind_written (external parents) (standard_kind fields openness tag_type) ty fits of_kind = absurd fits
   kind_written (external parents) (enumerated_kind ids) ty fits of_kind = absurd of_kind
   kind_written (external parents) external_kind ty fits of_kind = absurd of_kind
 
   -- a context of an action is what a counted expression is written out as
-  context_written : (body : Requests) (kind : ActionKind) (ty : Ty) → ActionKindFits (defined_names bag extensions) body kind → IsContextOf kind ty → (expr : Expr) × CountsInRequests body expr × WrittenOut (defined_names bag extensions) expr ty
+  context_written : (body : Requests) (kind : ActionKind) (ty : Ty) → IsDeclaredActionKind (defined_names bag extensions) body kind → IsContextOf kind ty → (expr : Expr) × CountsInRequests body expr × WrittenOut (defined_names bag extensions) expr ty
   context_written (requests principals resources context) (defined_action ps rs other) ty fits same =
       let P : Ty → Type 0 = WrittenOut (defined_names bag extensions) context in (context, refl, subst P same fits.2)
   context_written (requests principals resources context) external_action ty fits same = absurd same
@@ -149,12 +149,12 @@ module _ (bag : Bag) (extensions : Extensions) (schema : PlainSchema) (fit : Typ
   declared_external : (name : PlainName) → IsOfKind schema name IsExternal → (parents : List Reference) × Contains (declared_entities bag) (name, external parents)
   declared_external name (it, there, is_external) =
       let found = declared.entity_types (name, it) there in by found.body it.kind found.kind is_external found.declared where
-        by : (body : EntityBody) (kind : Kind) → KindFits (defined_names bag extensions) body kind → IsExternal kind → Contains (declared_entities bag) (name, body) → (parents : List Reference) × Contains (declared_entities bag) (name, external parents)
+        by : (body : EntityBody) (kind : EntityTypeKind) → IsDeclaredKind (defined_names bag extensions) body kind → IsExternal kind → Contains (declared_entities bag) (name, body) → (parents : List Reference) × Contains (declared_entities bag) (name, external parents)
         by (external parents) kind fits is_external among = (parents, among)
-        by (standard parents shape tags) (standard_kind fields tag tag_ty) fits is_external among = absurd is_external
+        by (standard parents shape tags) (standard_kind fields openness tag_type) fits is_external among = absurd is_external
         by (standard parents shape tags) (enumerated_kind ids) fits is_external among = absurd fits
         by (standard parents shape tags) external_kind fits is_external among = absurd fits
-        by (enumerated choices) (standard_kind fields tag tag_ty) fits is_external among = absurd fits
+        by (enumerated choices) (standard_kind fields openness tag_type) fits is_external among = absurd fits
         by (enumerated choices) (enumerated_kind ids) fits is_external among = absurd is_external
         by (enumerated choices) external_kind fits is_external among = absurd fits
 
@@ -162,12 +162,12 @@ module _ (bag : Bag) (extensions : Extensions) (schema : PlainSchema) (fit : Typ
   declared_enumerated : (name : PlainName) → IsOfKind schema name IsEnumerated → (choices : List Text) × Contains (declared_entities bag) (name, enumerated choices)
   declared_enumerated name (it, there, is_enumerated) =
       let found = declared.entity_types (name, it) there in by found.body it.kind found.kind is_enumerated found.declared where
-        by : (body : EntityBody) (kind : Kind) → KindFits (defined_names bag extensions) body kind → IsEnumerated kind → Contains (declared_entities bag) (name, body) → (choices : List Text) × Contains (declared_entities bag) (name, enumerated choices)
+        by : (body : EntityBody) (kind : EntityTypeKind) → IsDeclaredKind (defined_names bag extensions) body kind → IsEnumerated kind → Contains (declared_entities bag) (name, body) → (choices : List Text) × Contains (declared_entities bag) (name, enumerated choices)
         by (enumerated choices) kind fits is_enumerated among = (choices, among)
-        by (standard parents shape tags) (standard_kind fields tag tag_ty) fits is_enumerated among = absurd is_enumerated
+        by (standard parents shape tags) (standard_kind fields openness tag_type) fits is_enumerated among = absurd is_enumerated
         by (standard parents shape tags) (enumerated_kind ids) fits is_enumerated among = absurd fits
         by (standard parents shape tags) external_kind fits is_enumerated among = absurd fits
-        by (external parents) (standard_kind fields tag tag_ty) fits is_enumerated among = absurd fits
+        by (external parents) (standard_kind fields openness tag_type) fits is_enumerated among = absurd fits
         by (external parents) (enumerated_kind ids) fits is_enumerated among = absurd fits
         by (external parents) external_kind fits is_enumerated among = absurd is_enumerated
 
@@ -180,7 +180,7 @@ module _ (bag : Bag) (extensions : Extensions) (schema : PlainSchema) (fit : Typ
       let P : Body → Type 0 = λ body. IsEntityPlace body place.0 in
       (place.0, (declaration.0, declaration.1, subst P (sym declaration.2) place.1), place.2)
     where
-      by : (body : Requests) (kind : ActionKind) → ActionKindFits (defined_names bag extensions) body kind → IsPrincipalOrResourceOf kind name → (reference : Reference) × IsPrincipalOrResource body reference × ResolvesTo (defined_names bag extensions) reference name
+      by : (body : Requests) (kind : ActionKind) → IsDeclaredActionKind (defined_names bag extensions) body kind → IsPrincipalOrResourceOf kind name → (reference : Reference) × IsPrincipalOrResource body reference × ResolvesTo (defined_names bag extensions) reference name
       by (requests principals resources context) (defined_action ps rs ty) fits names =
           ⊎_elim
           (λ principal. let found = (fits.0 name).0 principal in (found.0, inl found.1, found.2))
@@ -230,7 +230,7 @@ module _ (bag : Bag) (extensions : Extensions) (schema : PlainSchema) (fit : Typ
       declared.each_action lower (Contains-image (λ (each : PlainUid × ActionBody). each.0) (declared_actions bag) (lower, step.0) step.2)
 
   -- an enumerated entity type of the schema is below none
-  enumerated_below_none : (lower upper : PlainName) → IsOfKind schema lower IsEnumerated → Chain (ListsDescendant schema) lower upper → ⊥
+  enumerated_below_none : (lower upper : PlainName) → IsOfKind schema lower IsEnumerated → ¬ Chain (ListsDescendant schema) lower upper
   enumerated_below_none lower upper enumerated_type chain =
       let step = (first_step (HasParent bag extensions) lower upper (reached_descendant bag extensions schema declared lower upper chain)).1 in
       let found = declared_enumerated lower enumerated_type in

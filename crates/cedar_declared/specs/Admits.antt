@@ -1,6 +1,6 @@
 use Rattle.std.specs.Prelude.{◌≡◌, ℤ, Bool, false, List, [], ◌∷◌, Some, None}
 use Rattle.cedar_below.specs.Fits.{Gives}
-use Rattle.cedar_below.specs.Included.{Included}
+use Rattle.cedar_below.specs.Lists.{Included}
 use Rattle.cedar_below.specs.PlainName.{PlainName}
 use Rattle.cedar_below.specs.PlainUid.{PlainUid}
 use Rattle.cedar_below.specs.Text.{Text}
@@ -29,7 +29,7 @@ mutual
         → Included (entry_names values) (member_names members) → AdmitsMembers defined extensions values members
         → Admits defined extensions (map_value values) (record_expr members additional)
     admits_entity : (uid : PlainUid) (reference : Reference) → ResolvesTo defined reference uid.ty
-        → IsEntity defined reference.kind uid.ty → ((body : Expr) → IsCommon defined reference.kind uid.ty body → ⊥)
+        → IsEntity defined reference.kind uid.ty → ((body : Expr) → ¬ IsCommon defined reference.kind uid.ty body)
         → Admits defined extensions (uid_value uid) (named reference)
     admits_common : {value : Tree} (reference : Reference) (name : PlainName) (body : Expr)
         → ResolvesTo defined reference name → IsCommon defined reference.kind name body

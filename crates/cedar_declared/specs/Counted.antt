@@ -6,7 +6,7 @@ use Rattle.cedar_names.specs.Expr.{Expr}
 use Rattle.cedar_names.specs.Reference.{Reference}
 use Rattle.cedar_names.specs.declared.json_schema.reference_type.ReferenceType.TheVariants.{Entity}
 use Rattle.cedar_declared.specs.Bag.{Bag}
-use Rattle.cedar_declared.specs.Parts.{Refers}
+use Rattle.cedar_declared.specs.Mentions.{Refers}
 
 -- the expression counts in what is declared of an entity type: it is the shape, or the type of the tags
 abbrev pub CountsInEntity : EntityBody → Expr → Type 0

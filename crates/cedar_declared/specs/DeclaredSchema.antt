@@ -13,30 +13,30 @@ use Rattle.cedar_declared.specs.Defined.{Defined, ResolvesTo}
 use Rattle.cedar_declared.specs.Descent.{IsDescendant, IsDescendantAction}
 use Rattle.cedar_declared.specs.PlainSchema.{SchemaEntityType, ActionKind, defined_action, external_action, SchemaAction, ActionEntity, PlainSchema}
 use Rattle.cedar_declared.specs.WrittenOut.{WrittenOut}
-use Rattle.cedar_declared.specs.EntityTypeKind.{Kind, standard as standard_kind, enumerated as enumerated_kind, external as external_kind}
+use Rattle.cedar_declared.specs.EntityTypeKind.{EntityTypeKind, standard_kind, enumerated_kind, external_kind}
 use Rattle.cedar_rules.specs.Ty.{Ty, record_of}
 use Rattle.cedar_rules.specs.declared.open_tag.OpenTag.TheVariants.{ClosedAttributes}
 
 -- the type of tags is the one that is declared, written out, or there is none
-abbrev pub TagsFit : Defined → Option Expr → Option Ty → Type 0
-TagsFit defined (Some expr) (Some ty) = WrittenOut defined expr ty
-TagsFit defined None None = Unit {0}
-TagsFit defined _ _ = ⊥
+abbrev pub AreDeclaredTags : Defined → Option Expr → Option Ty → Type 0
+AreDeclaredTags defined (Some expr) (Some ty) = WrittenOut defined expr ty
+AreDeclaredTags defined None None = Unit {0}
+AreDeclaredTags defined _ _ = ⊥
 
 -- the kind is the one that is declared: closed attributes that are the shape written out, with its tags; the same
 -- choices; or external
-abbrev pub KindFits : Defined → EntityBody → Kind → Type 0
-KindFits defined (standard parents shape tags) (standard_kind fields tag ty) = WrittenOut defined shape (record_of fields ClosedAttributes) × (tag ≡ ClosedAttributes) × TagsFit defined tags ty
-KindFits defined (enumerated ids) (enumerated_kind choices) = ids ≡ choices
-KindFits defined (external parents) external_kind = Unit {0}
-KindFits defined _ _ = ⊥
+abbrev pub IsDeclaredKind : Defined → EntityBody → EntityTypeKind → Type 0
+IsDeclaredKind defined (standard parents shape tags) (standard_kind fields openness ty) = WrittenOut defined shape (record_of fields ClosedAttributes) × (openness ≡ ClosedAttributes) × AreDeclaredTags defined tags ty
+IsDeclaredKind defined (enumerated ids) (enumerated_kind choices) = ids ≡ choices
+IsDeclaredKind defined (external parents) external_kind = Unit {0}
+IsDeclaredKind defined _ _ = ⊥
 
 -- the entity type stands under its name, is declared, is of the declared kind, and has just the declared descendants
 pub record IsDeclaredEntityType (bag : Bag) (extensions : Extensions) (it : PlainName × SchemaEntityType) : Type 0 where
   pub body : EntityBody
   pub declared : Contains (declared_entities bag) (it.0, body)
   pub name : it.1.name ≡ it.0
-  pub kind : KindFits (defined_names bag extensions) body it.1.kind
+  pub kind : IsDeclaredKind (defined_names bag extensions) body it.1.kind
   pub descendants : (lower : PlainName) → Contains it.1.descendants lower ↔ IsDescendant bag extensions lower it.0
 
 -- the name is that which some of the references resolves to
@@ -46,20 +46,20 @@ IsNamedBy defined references name = (reference : Reference) × Contains referenc
 
 -- the kind of an action is the declared one: the names of the principals and of the resources, and the context written
 -- out; or external
-abbrev pub ActionKindFits : Defined → Requests → ActionKind → Type 0
-ActionKindFits defined (requests principals resources context) (defined_action principal_types resource_types ty) =
+abbrev pub IsDeclaredActionKind : Defined → Requests → ActionKind → Type 0
+IsDeclaredActionKind defined (requests principals resources context) (defined_action principal_types resource_types ty) =
     ((name : PlainName) → Contains principal_types name ↔ IsNamedBy defined principals name)
     × ((name : PlainName) → Contains resource_types name ↔ IsNamedBy defined resources name)
     × WrittenOut defined context ty
-ActionKindFits defined elsewhere external_action = Unit {0}
-ActionKindFits defined _ _ = ⊥
+IsDeclaredActionKind defined elsewhere external_action = Unit {0}
+IsDeclaredActionKind defined _ _ = ⊥
 
 -- the action stands under its uid, is declared, is of the declared kind, and has just the declared descendants
 pub record IsDeclaredAction (bag : Bag) (extensions : Extensions) (it : PlainUid × SchemaAction) : Type 0 where
   pub body : ActionBody
   pub declared : Contains (declared_actions bag) (it.0, body)
   pub uid : it.1.uid ≡ it.0
-  pub kind : ActionKindFits (defined_names bag extensions) body.applies_to it.1.kind
+  pub kind : IsDeclaredActionKind (defined_names bag extensions) body.applies_to it.1.kind
   pub descendants : (lower : PlainUid) → Contains it.1.descendants lower ↔ IsDescendantAction bag lower it.0
 
 -- an action that isn't external is declared under the uid

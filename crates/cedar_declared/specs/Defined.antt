@@ -4,7 +4,7 @@ use Rattle.cedar_names.specs.Expr.{Expr}
 use Rattle.cedar_names.specs.Reference.{Reference}
 use Rattle.cedar_names.specs.declared.json_schema.reference_type.ReferenceType.{ReferenceType}
 use Rattle.cedar_names.specs.declared.json_schema.reference_type.ReferenceType.TheVariants.{Common, Entity, CommonOrEntity}
-use Rattle.cedar_declared.specs.Places.{IsFirst}
+use Rattle.cedar_declared.specs.Occurrences.{IsFirst}
 
 -- what a reference to a type can name: the common types with their definitions, and the entity types
 pub record Defined : Type 0 where
@@ -35,15 +35,11 @@ IsEntity defined kind name = MayNameEntity kind × Contains defined.entities nam
 abbrev pub IsDefined : Defined → ReferenceType → PlainName → Type 0
 IsDefined defined kind name = ((body : Expr) × IsCommon defined kind name body) ⊎ IsEntity defined kind name
 
--- the name is the first of some for which there is a definition that a reference of the kind may name
-abbrev pub IsFirstDefined : Defined → ReferenceType → List PlainName → PlainName → Type 0
-IsFirstDefined defined kind names name = IsFirst (IsDefined defined kind) names name
-
 -- the reference resolves to the name: the first of its possibilities that is defined in a kind that it permits
 abbrev pub ResolvesTo : Defined → Reference → PlainName → Type 0
-ResolvesTo defined reference name = IsFirstDefined defined reference.kind reference.possibilities name
+ResolvesTo defined reference name = IsFirst (IsDefined defined reference.kind) reference.possibilities name
 
 -- no possibility of the reference is defined in a kind that it permits
 abbrev pub IsUnresolved : Defined → Reference → Type 0
 IsUnresolved defined reference = (name : PlainName) → Contains reference.possibilities name
-    → IsDefined defined reference.kind name → ⊥
+    → ¬ IsDefined defined reference.kind name

@@ -9,7 +9,7 @@ use Rattle.cedar_declared.specs.Bag.{Bag, declared_entities, declared_actions, a
 use Rattle.cedar_declared.specs.Chain.{Chain}
 use Rattle.cedar_declared.specs.Counted.{entity_parents}
 use Rattle.cedar_declared.specs.Defined.{ResolvesTo}
-use Rattle.cedar_declared.specs.Places.{IsFirst}
+use Rattle.cedar_declared.specs.Occurrences.{IsFirst}
 
 -- the reference to an action names the uid: of the names that its type may stand for the first under which its id is
 -- that of a declared action

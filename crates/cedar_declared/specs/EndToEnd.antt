@@ -19,7 +19,7 @@ use Rattle.cedar_declared.specs.PlainSchema.{SchemaEntityType, SchemaAction, def
 use Rattle.cedar_declared.specs.SameBag.{SameBag}
 use Rattle.cedar_declared.specs.SameSchema.{SameSchema}
 use Rattle.cedar_declared.specs.ValidSchema.{IsValidSchema, IsClosedSchema}
-use Rattle.cedar_declared.specs.EntityTypeKind.{standard as standard_kind}
+use Rattle.cedar_declared.specs.EntityTypeKind.{standard_kind}
 use Rattle.cedar_rules.specs.Has.{Has}
 use Rattle.cedar_rules.specs.Ty.{Ty, Fields, record_of}
 use Rattle.cedar_rules.specs.declared.open_tag.OpenTag.{OpenTag}
@@ -32,14 +32,14 @@ AdmitsTheSame bag extensions expr ty = (value : Tree) → Has extensions value t
 -- the attributes of each standard entity type, its tags, and the context of each action have just the values that what
 -- is declared of them admits
 pub record TypesAdmitTheDeclared (bag : Bag) (extensions : Extensions) (schema : PlainSchema) : Type 0 where
-  pub attributes : (name : PlainName) (parents : List Reference) (shape : Expr) (tags : Option Expr) (it : SchemaEntityType) (fields : Fields) (tag : OpenTag) (tag_ty : Option Ty)
+  pub attributes : (name : PlainName) (parents : List Reference) (shape : Expr) (tags : Option Expr) (it : SchemaEntityType) (fields : Fields) (openness : OpenTag) (tag_type : Option Ty)
       → Contains (declared_entities bag) (name, standard parents shape tags) → Contains schema.entity_types (name, it)
-      → it.kind ≡ standard_kind fields tag tag_ty
-      → AdmitsTheSame bag extensions shape (record_of fields tag)
-  pub tags : (name : PlainName) (parents : List Reference) (shape tags : Expr) (it : SchemaEntityType) (fields : Fields) (tag : OpenTag) (tag_ty : Ty)
+      → it.kind ≡ standard_kind fields openness tag_type
+      → AdmitsTheSame bag extensions shape (record_of fields openness)
+  pub tags : (name : PlainName) (parents : List Reference) (shape tags : Expr) (it : SchemaEntityType) (fields : Fields) (openness : OpenTag) (tag_type : Ty)
       → Contains (declared_entities bag) (name, standard parents shape (Some tags))
-      → Contains schema.entity_types (name, it) → it.kind ≡ standard_kind fields tag (Some tag_ty)
-      → AdmitsTheSame bag extensions tags tag_ty
+      → Contains schema.entity_types (name, it) → it.kind ≡ standard_kind fields openness (Some tag_type)
+      → AdmitsTheSame bag extensions tags tag_type
   pub contexts : (uid : PlainUid) (body : ActionBody) (principals resources : List Reference) (context : Expr) (it : SchemaAction) (principal_types resource_types : List PlainName) (ty : Ty)
       → Contains (declared_actions bag) (uid, body) → body.applies_to ≡ requests principals resources context
       → Contains schema.actions (uid, it) → it.kind ≡ defined_action principal_types resource_types ty
@@ -49,7 +49,7 @@ pub record TypesAdmitTheDeclared (bag : Bag) (extensions : Extensions) (schema :
 -- nothing is at fault, the schema is the declared one and the only one, and its types have just the declared values
 pub record IsBuiltFrom (bag : Bag) (extensions : Extensions) (answer : Result PlainSchema Fault) : Type 0 where
   pub fault : IfErr answer (λ fault. (fault ≡ want_of_memory) ⊎ IsFault bag extensions fault)
-  pub well_formed : OnOk answer (IsIllFormed bag extensions → ⊥)
+  pub well_formed : OnOk answer (¬ IsIllFormed bag extensions)
   pub declared : IfOk answer (IsDeclaredSchema bag extensions)
   pub only : IfOk answer (λ schema. (other : PlainSchema) → IsDeclaredSchema bag extensions other → SameSchema other schema)
   pub admits : IfOk answer (TypesAdmitTheDeclared bag extensions)
@@ -57,20 +57,20 @@ pub record IsBuiltFrom (bag : Bag) (extensions : Extensions) (answer : Result Pl
 -- a law: a bag that isn't ill-formed declares at most one schema
 abbrev pub BagsDeclareAtMostOneSchema : Type 0
 BagsDeclareAtMostOneSchema = (bag : Bag) (extensions : Extensions) → TypeNamesFit (extension_types extensions)
-    → (IsIllFormed bag extensions → ⊥)
+    → ¬ IsIllFormed bag extensions
     → (schema other : PlainSchema) → IsDeclaredSchema bag extensions schema → IsDeclaredSchema bag extensions other
     → SameSchema schema other
 
 -- a law: the types of the schema that a bag declares which isn't ill-formed have just the declared values
 abbrev pub DeclaredTypesHaveTheDeclaredValues : Type 0
 DeclaredTypesHaveTheDeclaredValues = (bag : Bag) (extensions : Extensions) → TypeNamesFit (extension_types extensions)
-    → (IsIllFormed bag extensions → ⊥)
+    → ¬ IsIllFormed bag extensions
     → (schema : PlainSchema) → IsDeclaredSchema bag extensions schema → TypesAdmitTheDeclared bag extensions schema
 
 -- a law to be proved: a bag that isn't ill-formed declares a schema
 abbrev pub BagsDeclareASchema : Type 0
 BagsDeclareASchema = (bag : Bag) (extensions : Extensions) → TypeNamesFit (extension_types extensions)
-    → (IsIllFormed bag extensions → ⊥)
+    → ¬ IsIllFormed bag extensions
     → (schema : PlainSchema) × IsDeclaredSchema bag extensions schema
 
 -- a law: bags that are the same are ill-formed both or neither, and declare the same schemas
@@ -83,7 +83,7 @@ SameBagsDeclareTheSame = (bag other : Bag) (extensions : Extensions) → SameBag
 abbrev pub DeclaredSchemasAreValid : Type 0
 DeclaredSchemasAreValid = (bag : Bag) (extensions : Extensions) (schema : PlainSchema)
     → TypeNamesFit (extension_types extensions) → PlacesFit bag
-    → (IsIllFormed bag extensions → ⊥) → IsDeclaredSchema bag extensions schema → IsValidSchema extensions schema
+    → ¬ IsIllFormed bag extensions → IsDeclaredSchema bag extensions schema → IsValidSchema extensions schema
 
 -- a law: the descendants of the schema that a bag declares are closed, so that validation gives it back unchanged
 abbrev pub DeclaredSchemasAreClosed : Type 0

@@ -5,22 +5,22 @@ use Rattle.cedar_rules.specs.declared.open_tag.OpenTag.{OpenTag}
 use Rattle.cedar_rules.specs.declared.open_tag.OpenTag.TheVariants.{ClosedAttributes}
 
 -- how an entity type is declared: by its attributes and the type of its tags, by its choices, or elsewhere
-pub data Kind : Type 0 where
-  standard : Fields → OpenTag → Option Ty → Kind
-  enumerated : List Text → Kind
-  external : Kind
+pub data EntityTypeKind : Type 0 where
+  standard_kind : Fields → OpenTag → Option Ty → EntityTypeKind
+  enumerated_kind : List Text → EntityTypeKind
+  external_kind : EntityTypeKind
 
 -- the attributes of a kind; only standard entity types have some
-abbrev pub kind_fields : Kind → Fields
-kind_fields (standard fields tag tags) = fields
+abbrev pub kind_fields : EntityTypeKind → Fields
+kind_fields (standard_kind fields openness tags) = fields
 kind_fields _ = end
 
 -- whether entities may have attributes that aren't declared
-abbrev pub kind_tag : Kind → OpenTag
-kind_tag (standard fields tag tags) = tag
-kind_tag _ = ClosedAttributes
+abbrev pub kind_openness : EntityTypeKind → OpenTag
+kind_openness (standard_kind fields openness tags) = openness
+kind_openness _ = ClosedAttributes
 
 -- the type of the tags of a kind
-abbrev pub kind_tags : Kind → Option Ty
-kind_tags (standard fields tag tags) = tags
+abbrev pub kind_tags : EntityTypeKind → Option Ty
+kind_tags (standard_kind fields openness tags) = tags
 kind_tags _ = None

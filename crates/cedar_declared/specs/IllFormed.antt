@@ -17,8 +17,8 @@ use Rattle.cedar_declared.specs.Counted.{IsCounted, IsPlaced, HasToResolve}
 use Rattle.cedar_declared.specs.Defined.{Defined, IsCommon, ResolvesTo, IsUnresolved}
 use Rattle.cedar_declared.specs.Descent.{NamesNoAction, IsDescendant, IsDescendantAction}
 use Rattle.cedar_declared.specs.Fault.{Fault, action_attributes, open_record, undeclared_entity_types, type_not_defined, action_not_defined, type_shadowing, action_shadowing, duplicate_entity_type, duplicate_common_type, duplicate_action, action_cycle, common_type_cycle, action_entity_type, shape_not_record, context_not_record, unknown_extension_type, reserved_name, external_below_enumerated}
-use Rattle.cedar_declared.specs.Parts.{HasOpenRecord, MentionsExtension, Refers}
-use Rattle.cedar_declared.specs.Places.{Twice}
+use Rattle.cedar_declared.specs.Mentions.{HasOpenRecord, MentionsExtension, Refers}
+use Rattle.cedar_declared.specs.Occurrences.{Twice}
 use Rattle.cedar_declared.specs.WrittenOut.{IsNoRecord}
 
 -- an action of this id is declared with attributes in the namespace
@@ -65,11 +65,11 @@ IsFault bag extensions (action_not_defined actions) =
 -- a type is declared in the empty namespace, and one of the same base name in another that isn't reserved
 IsFault bag extensions (type_shadowing plain qualified) =
     Contains (declared_types bag) plain × Contains (declared_types bag) qualified
-    × IsUnqualified plain × (IsUnqualified qualified → ⊥) × (IsReserved qualified → ⊥) × (plain.base ≡ qualified.base)
+    × IsUnqualified plain × ¬ IsUnqualified qualified × ¬ IsReserved qualified × (plain.base ≡ qualified.base)
 -- an action is declared in the empty namespace, and one of the same id in another
 IsFault bag extensions (action_shadowing plain qualified) =
     Contains (action_uids bag) plain × Contains (action_uids bag) qualified
-    × IsUnqualified plain.ty × (IsUnqualified qualified.ty → ⊥) × (plain.eid ≡ qualified.eid)
+    × IsUnqualified plain.ty × ¬ IsUnqualified qualified.ty × (plain.eid ≡ qualified.eid)
 -- these are declared twice; a common type also if it is built in
 IsFault bag extensions (duplicate_entity_type name) = Twice (map (λ it. it.0) (declared_entities bag)) name
 IsFault bag extensions (duplicate_common_type name) = Twice (map (λ it. it.0) (declared_common bag ++ built_ins extensions)) name
@@ -91,7 +91,7 @@ IsFault bag extensions (context_not_record uid) =
 -- an extension type counts that wasn't handed in
 IsFault bag extensions (unknown_extension_type name) =
     (expr : Expr) × IsCounted bag expr × MentionsExtension expr name.base × IsUnqualified name
-    × (Contains (extension_types extensions) name → ⊥)
+    × ¬ Contains (extension_types extensions) name
 -- an entity type or an action is declared in a reserved namespace; of an action the name is that of its type
 IsFault bag extensions (reserved_name name) =
     (Contains (map (λ it. it.0) (declared_entities bag)) name ⊎ Contains (map (λ uid. uid.ty) (action_uids bag)) name)

@@ -10,12 +10,12 @@ pub mod EntityTypeKind
 pub mod Environments
 pub mod Fault
 pub mod IllFormed
-pub mod Parts
-pub mod Places
+pub mod Mentions
+pub mod Occurrences
 pub mod PlainSchema
 pub mod SameBag
 pub mod SameSchema
 pub mod SchemaError
-pub mod TypeParts
+pub mod TypeMentions
 pub mod ValidSchema
 pub mod WrittenOut

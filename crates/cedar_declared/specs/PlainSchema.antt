@@ -3,13 +3,13 @@ use Rattle.cedar_below.specs.EntityType.{type_name}
 use Rattle.cedar_below.specs.PlainName.{PlainName}
 use Rattle.cedar_below.specs.PlainUid.{PlainUid}
 use Rattle.cedar_below.specs.Tree.{Entries}
-use Rattle.cedar_declared.specs.EntityTypeKind.{Kind}
+use Rattle.cedar_declared.specs.EntityTypeKind.{EntityTypeKind}
 use Rattle.cedar_rules.specs.Ty.{Ty}
 
 -- an entity type of a schema: its name, its kind, and the names of its descendants in some order
 pub record SchemaEntityType : Type 0 where
   pub name : PlainName
-  pub kind : Kind
+  pub kind : EntityTypeKind
   pub descendants : List PlainName
 
 -- the requests that an action of a schema is for: their principals and resources, in some order, and their context; an

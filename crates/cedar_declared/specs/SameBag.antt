@@ -4,7 +4,7 @@ use Rattle.cedar_names.specs.ActionBody.{ActionBody, Requests, requests, elsewhe
 use Rattle.cedar_names.specs.Declaration.{Declaration, Body, common_type, entity_type, action}
 use Rattle.cedar_names.specs.EntityBody.{EntityBody, standard, enumerated, external}
 use Rattle.cedar_declared.specs.Bag.{Bag}
-use Rattle.cedar_below.specs.Included.{SameItems, AreSame}
+use Rattle.cedar_below.specs.Lists.{SameItems, HoldsInTurn}
 
 -- the same is declared of an entity type; its parents are a set
 abbrev pub SameEntityBody : EntityBody → EntityBody → Type 0
@@ -42,4 +42,4 @@ pub record SameDeclaration (it other : Declaration) : Type 0 where
 
 -- two bags are the same: in some order of the one their declarations are the same in turn
 abbrev pub SameBag : Bag → Bag → Type 0
-SameBag bag other = (ordered : Bag) × IsPermutation bag ordered × AreSame SameDeclaration ordered other
+SameBag bag other = (ordered : Bag) × IsPermutation bag ordered × HoldsInTurn SameDeclaration ordered other

@@ -1,5 +1,5 @@
 use Rattle.std.specs.Prelude.{◌≡◌, ◌↔◌, List, [], ◌∷◌, Contains}
-use Rattle.cedar_below.specs.Included.{SameItems, AreSame}
+use Rattle.cedar_below.specs.Lists.{SameItems, HoldsInTurn}
 use Rattle.cedar_below.specs.PlainName.{PlainName}
 use Rattle.cedar_below.specs.PlainUid.{PlainUid}
 use Rattle.cedar_declared.specs.PlainSchema.{SchemaEntityType, ActionKind, defined_action, external_action, SchemaAction, ActionEntity, PlainSchema}
@@ -34,6 +34,6 @@ pub record SameActionEntity (it other : ActionEntity) : Type 0 where
 
 -- two schemas are the same: their entity types, their actions and the entities of their actions
 pub record SameSchema (schema other : PlainSchema) : Type 0 where
-  pub entity_types : AreSame SameEntityType schema.entity_types other.entity_types
-  pub actions : AreSame SameAction schema.actions other.actions
-  pub action_entities : AreSame SameActionEntity schema.action_entities other.action_entities
+  pub entity_types : HoldsInTurn SameEntityType schema.entity_types other.entity_types
+  pub actions : HoldsInTurn SameAction schema.actions other.actions
+  pub action_entities : HoldsInTurn SameActionEntity schema.action_entities other.action_entities

@@ -7,22 +7,18 @@ use Rattle.cedar_below.specs.Name.{plain_name}
 use Rattle.cedar_below.specs.PlainName.{PlainName}
 use Rattle.cedar_below.specs.PlainUid.{PlainUid}
 use Rattle.cedar_below.specs.Text.{Text}
-use Rattle.cedar_below.specs.declared.non_empty.NonEmpty.{NonEmpty}
+use Rattle.cedar_below.specs.NonEmpty.{items_of}
 use Rattle.cedar_names.specs.ConditionalName.{conditional_reference}
 use Rattle.cedar_names.specs.Reference.{Reference}
 use Rattle.cedar_names.specs.declared.json_schema.action_type.ActionEntityUID.{ActionEntityUID}
 use Rattle.cedar_names.specs.declared.json_schema.conditional_name.ConditionalName.{ConditionalName}
 use Rattle.cedar_declared.specs.declared.schema_error.ContextOrShape.{ContextOrShape}
-use Rattle.cedar_declared.specs.declared.schema_error.ContextOrShape.TheVariants as place
+use Rattle.cedar_declared.specs.declared.schema_error.ContextOrShape.TheVariants as context_or_shape
 use Rattle.cedar_declared.specs.declared.schema_error.SchemaError.{SchemaError}
 use Rattle.cedar_declared.specs.declared.schema_error.SchemaError.TheVariants as error
 use Rattle.cedar_declared.specs.declared.schema_error.UnsupportedFeature.{UnsupportedFeature}
 use Rattle.cedar_declared.specs.declared.schema_error.UnsupportedFeature.TheVariants as feature
 use Rattle.cedar_declared.specs.Fault.{Fault, action_attributes, open_record, undeclared_entity_types, type_not_defined, action_not_defined, type_shadowing, action_shadowing, duplicate_entity_type, duplicate_common_type, duplicate_action, action_cycle, common_type_cycle, action_entity_type, shape_not_record, context_not_record, unknown_extension_type, reserved_name, external_below_enumerated, enumerated_below, undeclared_action_descendant, invalid_action_type, common_type_left, action_left, want_of_memory}
-
--- the items of a nonempty list
-abbrev pub items_of : {X : Type 0} → NonEmpty X → List X
-items_of items = items.head ∷ items.tail.items
 
 -- a parent of an action as plain data: its id, and what its type may stand for if one is given
 abbrev pub carried_action : ActionEntityUID ConditionalName → Text × Option Reference
@@ -34,9 +30,9 @@ feature_fault (feature.ActionAttributes ids) = action_attributes (map string_byt
 feature_fault feature.OpenRecordsAndEntities = open_record
 
 -- a shape or a context that is no record type, as plain data
-abbrev pub place_fault : ContextOrShape → Fault
-place_fault (place.EntityTypeShape ty) = shape_not_record (type_name ty)
-place_fault (place.ActionContext uid) = context_not_record (uid_of uid)
+abbrev pub context_or_shape_fault : ContextOrShape → Fault
+context_or_shape_fault (context_or_shape.EntityTypeShape ty) = shape_not_record (type_name ty)
+context_or_shape_fault (context_or_shape.ActionContext uid) = context_not_record (uid_of uid)
 
 -- a refusal as plain data
 abbrev pub fault_of : SchemaError → Fault
@@ -52,7 +48,7 @@ fault_of (error.DuplicateAction uid) = duplicate_action (uid_of uid)
 fault_of (error.CycleInActionHierarchy uid) = action_cycle (uid_of uid)
 fault_of (error.CycleInCommonTypeReferences name) = common_type_cycle (name_of name)
 fault_of (error.ActionEntityTypeDeclared name) = action_entity_type (name_of name)
-fault_of (error.ContextOrShapeNotRecord it) = place_fault it
+fault_of (error.ContextOrShapeNotRecord it) = context_or_shape_fault it
 fault_of (error.UnknownExtensionType name) = unknown_extension_type (plain_name name)
 fault_of (error.ReservedName name) = reserved_name (name_of name)
 fault_of (error.ExternalWithEnumAncestor lower upper) = external_below_enumerated (type_name lower) (type_name upper)

@@ -5,13 +5,13 @@ use Rattle.cedar_below.specs.PlainUid.{PlainUid}
 use Rattle.cedar_below.specs.declared.extension.Extensions.{Extensions}
 use Rattle.cedar_declared.specs.Chain.{Chain}
 use Rattle.cedar_declared.specs.PlainSchema.{SchemaEntityType, ActionKind, defined_action, external_action, SchemaAction, PlainSchema}
-use Rattle.cedar_declared.specs.TypeParts.{MentionsEntity, MentionsExtensionType}
-use Rattle.cedar_declared.specs.EntityTypeKind.{Kind, standard, enumerated, external}
+use Rattle.cedar_declared.specs.TypeMentions.{MentionsEntity, MentionsExtensionType}
+use Rattle.cedar_declared.specs.EntityTypeKind.{EntityTypeKind, standard_kind, enumerated_kind, external_kind}
 use Rattle.cedar_rules.specs.Ty.{Ty, record_of}
 
 -- the type is one that a kind of entity type gives: that of the attributes as a record, or that of the tags
-abbrev pub IsTypeOfKind : Kind → Ty → Type 0
-IsTypeOfKind (standard fields tag tags) ty = (ty ≡ record_of fields tag) ⊎ (tags ≡ Some ty)
+abbrev pub IsTypeOfKind : EntityTypeKind → Ty → Type 0
+IsTypeOfKind (standard_kind fields openness tags) ty = (ty ≡ record_of fields openness) ⊎ (tags ≡ Some ty)
 IsTypeOfKind _ ty = ⊥
 
 -- the type is the context of a kind of action
@@ -50,17 +50,17 @@ ListsDescendantAction schema lower upper = (it : SchemaAction) × Contains schem
     × Contains it.descendants lower
 
 -- the entity type of the name is of the kind
-abbrev pub IsOfKind : PlainSchema → PlainName → (Kind → Type 0) → Type 0
+abbrev pub IsOfKind : PlainSchema → PlainName → (EntityTypeKind → Type 0) → Type 0
 IsOfKind schema name P = (it : SchemaEntityType) × Contains schema.entity_types (name, it) × P it.kind
 
 -- the kind is that of enumerated entity types
-abbrev pub IsEnumerated : Kind → Type 0
-IsEnumerated (enumerated choices) = Unit {0}
+abbrev pub IsEnumerated : EntityTypeKind → Type 0
+IsEnumerated (enumerated_kind choices) = Unit {0}
 IsEnumerated _ = ⊥
 
 -- the kind is that of external entity types
-abbrev pub IsExternal : Kind → Type 0
-IsExternal external = Unit {0}
+abbrev pub IsExternal : EntityTypeKind → Type 0
+IsExternal external_kind = Unit {0}
 IsExternal _ = ⊥
 
 -- the schema is valid, where a descendant is what one or more steps of the listed ones reach: what it names it has, its
@@ -71,21 +71,21 @@ pub record IsValidSchema (extensions : Extensions) (schema : PlainSchema) : Type
       → HasEntityType schema name ⊎ ((uid : PlainUid) × HasAction schema uid × (uid.ty ≡ name))
   pub extensions_known : (ty : Ty) (name : PlainName) → IsTypeIn schema ty → MentionsExtensionType ty name
       → Contains (extension_types extensions) name
-  pub no_action_type : (name : PlainName) → HasEntityType schema name → IsActionType name → ⊥
+  pub no_action_type : (name : PlainName) → HasEntityType schema name → ¬ IsActionType name
   pub action_uids : (uid : PlainUid) → HasAction schema uid → IsActionType uid.ty
-  pub no_action_cycle : (uid : PlainUid) → Chain (ListsDescendantAction schema) uid uid → ⊥
+  pub no_action_cycle : (uid : PlainUid) → ¬ Chain (ListsDescendantAction schema) uid uid
   pub no_external_below_enumerated : (lower upper : PlainName) → IsOfKind schema lower IsExternal
-      → IsOfKind schema upper IsEnumerated → Chain (ListsDescendant schema) lower upper → ⊥
+      → IsOfKind schema upper IsEnumerated → ¬ Chain (ListsDescendant schema) lower upper
   pub no_enumerated_below : (lower upper : PlainName) → IsOfKind schema lower IsEnumerated
-      → Chain (ListsDescendant schema) lower upper → ⊥
+      → ¬ Chain (ListsDescendant schema) lower upper
   pub descendants_known : (lower upper : PlainName) → ListsDescendant schema lower upper → HasEntityType schema lower
   pub requests_known : (it : PlainUid × SchemaAction) (name : PlainName) → Contains schema.actions it
       → IsPrincipalOrResourceOf it.1.kind name → HasEntityType schema name
   pub action_descendants_known : (lower upper : PlainUid) → ListsDescendantAction schema lower upper → HasAction schema lower
   pub no_shadowed_type : (plain qualified : PlainName) → HasEntityType schema plain → HasEntityType schema qualified
-      → IsUnqualified plain → (IsUnqualified qualified → ⊥) → (IsReserved qualified → ⊥) → plain.base ≡ qualified.base → ⊥
+      → IsUnqualified plain → ¬ IsUnqualified qualified → ¬ IsReserved qualified → ¬ (plain.base ≡ qualified.base)
   pub no_shadowed_action : (plain qualified : PlainUid) → HasAction schema plain → HasAction schema qualified
-      → IsUnqualified plain.ty → (IsUnqualified qualified.ty → ⊥) → plain.eid ≡ qualified.eid → ⊥
+      → IsUnqualified plain.ty → ¬ IsUnqualified qualified.ty → ¬ (plain.eid ≡ qualified.eid)
 
 -- the descendants are closed: what one or more steps of the listed ones reach is listed, so that to close them changes
 -- nothing

@@ -20,7 +20,7 @@ mutual
     as_record : {members : Members} {fields : Fields} {additional : Bool} → MembersWrittenOut defined members fields
         → WrittenOut defined (record_expr members additional) (record_of fields ClosedAttributes)
     as_entity : (reference : Reference) (name : PlainName) → ResolvesTo defined reference name
-        → IsEntity defined reference.kind name → ((body : Expr) → IsCommon defined reference.kind name body → ⊥)
+        → IsEntity defined reference.kind name → ((body : Expr) → ¬ IsCommon defined reference.kind name body)
         → WrittenOut defined (named reference) (union_of (name ∷ []))
     as_common : (reference : Reference) (name : PlainName) (body : Expr) {ty : Ty} → ResolvesTo defined reference name
         → IsCommon defined reference.kind name body → WrittenOut defined body ty → WrittenOut defined (named reference) ty
@@ -36,9 +36,9 @@ mutual
 
 -- the type is that of records
 abbrev pub IsRecordType : Ty → Type 0
-IsRecordType (record_of fields tag) = Unit {0}
+IsRecordType (record_of fields openness) = Unit {0}
 IsRecordType _ = ⊥
 
 -- the expression is written out as a type that is no record type
 abbrev pub IsNoRecord : Defined → Expr → Type 0
-IsNoRecord defined expr = (ty : Ty) × WrittenOut defined expr ty × (IsRecordType ty → ⊥)
+IsNoRecord defined expr = (ty : Ty) × WrittenOut defined expr ty × ¬ IsRecordType ty

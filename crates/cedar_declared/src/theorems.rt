@@ -18,7 +18,7 @@ ghost use Rattle.cedar_rules.specs.Ty.{Ty};
 /// In a bag that isn't ill-formed an expression is written out as one type at most.
 pub fn expressions_are_written_out_as_one_type()
     ensures { (bag : Bag) (extensions : Extensions) (expr : Expr) (ty other : Ty)
-        → TypeNamesFit (extension_types extensions) → (IsIllFormed bag extensions → ⊥)
+        → TypeNamesFit (extension_types extensions) → ¬ IsIllFormed bag extensions
         → WrittenOut (defined_names bag extensions) expr ty
         → WrittenOut (defined_names bag extensions) expr other → ty ≡ other }
 {}
@@ -27,7 +27,7 @@ pub fn expressions_are_written_out_as_one_type()
 /// that the expression admits.
 pub fn types_have_the_admitted_values()
     ensures { (bag : Bag) (extensions : Extensions) (expr : Expr) (ty : Ty)
-        → TypeNamesFit (extension_types extensions) → (IsIllFormed bag extensions → ⊥)
+        → TypeNamesFit (extension_types extensions) → ¬ IsIllFormed bag extensions
         → WrittenOut (defined_names bag extensions) expr ty → AdmitsTheSame bag extensions expr ty }
 {}
 

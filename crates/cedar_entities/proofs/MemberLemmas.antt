@@ -12,7 +12,7 @@ use Rattle.cedar_below.proofs.Lists.{list_any-Contains}
 use Rattle.cedar_below.proofs.Names.{entity_type_eq-same}
 use Rattle.cedar_rules.specs.Fields.{field_names}
 use Rattle.cedar_rules.specs.Ty.{Fields, end, field}
-use Rattle.cedar_below.specs.Included.{SameItems}
+use Rattle.cedar_below.specs.Lists.{SameItems}
 use Rattle.cedar_types.proofs.MemberLemmas.{Contains-named, list_any-names}
 
 -- where two lists answer each search by equality alike, the names of the one are among those of the other

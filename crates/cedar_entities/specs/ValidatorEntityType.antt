@@ -1,18 +1,18 @@
 use Rattle.std.specs.Prelude.{List, map, Contains}
 use Rattle.cedar_below.specs.EntityType.{type_name}
 use Rattle.cedar_below.specs.PlainName.{PlainName}
-use Rattle.cedar_declared.specs.EntityTypeKind.{Kind}
-use Rattle.cedar_entities.specs.EntityTypeKind.{kind_of}
+use Rattle.cedar_declared.specs.EntityTypeKind.{EntityTypeKind}
+use Rattle.cedar_entities.specs.EntityTypeKind.{plain_kind}
 use Rattle.cedar_entities.specs.declared.entity_type.ValidatorEntityType.{ValidatorEntityType}
 
 -- what an entity type of a schema is, but for its descendants and its location
 pub record PlainEntityType : Type 0 where
   pub name : PlainName
-  pub kind : Kind
+  pub kind : EntityTypeKind
 
 -- an entity type as plain data
 abbrev pub entity_type_of : ValidatorEntityType → PlainEntityType
-entity_type_of it = record { name = type_name it.name; kind = kind_of it.kind }
+entity_type_of it = record { name = type_name it.name; kind = plain_kind it.kind }
 
 -- the names of the descendants, in some order
 abbrev pub descendant_names : ValidatorEntityType → List PlainName

@@ -37,12 +37,12 @@ impl ValidatorEntityType {
     ghost use Rattle.cedar_below.specs.Eid.{eid_text};
     ghost use Rattle.cedar_below.specs.EntityType.{type_name};
     ghost use Rattle.cedar_below.specs.declared.entity_type.EntityType.{EntityType};
-    ghost use Rattle.cedar_entities.specs.EntityTypeKind.{kind_of};
-    ghost use Rattle.cedar_declared.specs.EntityTypeKind.{standard, enumerated, external, kind_fields, kind_tag, kind_tags};
+    ghost use Rattle.cedar_entities.specs.EntityTypeKind.{plain_kind};
+    ghost use Rattle.cedar_declared.specs.EntityTypeKind.{standard_kind, enumerated_kind, external_kind, kind_fields, kind_openness, kind_tags};
     ghost use Rattle.cedar_types.specs.Meaning.{ty_of, attribute_of, fields_of};
     ghost use Rattle.cedar_rules.specs.Ty.{field_at};
     ghost use Rattle.cedar_entities.specs.ValidatorEntityType.{entity_type_of, descendant_names};
-    ghost use Rattle.cedar_below.specs.Included.{SameItems};
+    ghost use Rattle.cedar_below.specs.Lists.{SameItems};
 
     /// An entity type of some kind, or want of memory. The descendants have to come to an end.
     fn with_kind<I: IntoIterator<Item = EntityType>>(
@@ -54,7 +54,7 @@ impl ValidatorEntityType {
     ) -> M<Self>
         requires { (it : I.IntoIter) → I.into_iter_gives descendants it → I.IntoIter.can_next it × IsFinite (I.IntoIter.remaining it) }
         ensures name { IfOk result (λ ty. (entity_type_of ty).name ≡ type_name name) }
-        ensures kind { IfOk result (λ ty. (entity_type_of ty).kind ≡ kind_of kind) }
+        ensures kind { IfOk result (λ ty. (entity_type_of ty).kind ≡ plain_kind kind) }
         ensures descendants { IfOk result (λ ty. (it : I.IntoIter) × (xs : List EntityType)
             × I.into_iter_gives descendants it × Drains I.IntoIter.next_gives it xs × SameItems (descendant_names ty) (map type_name xs)) }
         ensures loc { IfOk result (λ ty. ty.loc ≡ loc) }
@@ -81,7 +81,7 @@ impl ValidatorEntityType {
     ) -> M<Self>
         requires { (it : I.IntoIter) → I.into_iter_gives descendants it → I.IntoIter.can_next it × IsFinite (I.IntoIter.remaining it) }
         ensures name { IfOk result (λ ty. (entity_type_of ty).name ≡ type_name name) }
-        ensures kind { IfOk result (λ ty. (entity_type_of ty).kind ≡ standard (fields_of attributes) open_attributes (option_map ty_of tags)) }
+        ensures kind { IfOk result (λ ty. (entity_type_of ty).kind ≡ standard_kind (fields_of attributes) open_attributes (option_map ty_of tags)) }
         ensures descendants { IfOk result (λ ty. (it : I.IntoIter) × (xs : List EntityType)
             × I.into_iter_gives descendants it × Drains I.IntoIter.next_gives it xs × SameItems (descendant_names ty) (map type_name xs)) }
         ensures loc { IfOk result (λ ty. ty.loc ≡ loc) }
@@ -102,7 +102,7 @@ impl ValidatorEntityType {
     ) -> M<Self>
         requires { (it : I.IntoIter) → I.into_iter_gives descendants it → I.IntoIter.can_next it × IsFinite (I.IntoIter.remaining it) }
         ensures name { IfOk result (λ ty. (entity_type_of ty).name ≡ type_name name) }
-        ensures kind { IfOk result (λ ty. (entity_type_of ty).kind ≡ enumerated (map eid_text (choices.head ∷ choices.tail.items))) }
+        ensures kind { IfOk result (λ ty. (entity_type_of ty).kind ≡ enumerated_kind (map eid_text (choices.head ∷ choices.tail.items))) }
         ensures descendants { IfOk result (λ ty. (it : I.IntoIter) × (xs : List EntityType)
             × I.into_iter_gives descendants it × Drains I.IntoIter.next_gives it xs × SameItems (descendant_names ty) (map type_name xs)) }
         ensures loc { IfOk result (λ ty. ty.loc ≡ loc) }
@@ -121,7 +121,7 @@ impl ValidatorEntityType {
     ) -> M<Self>
         requires { (it : I.IntoIter) → I.into_iter_gives descendants it → I.IntoIter.can_next it × IsFinite (I.IntoIter.remaining it) }
         ensures name { IfOk result (λ ty. (entity_type_of ty).name ≡ type_name name) }
-        ensures kind { IfOk result (λ ty. (entity_type_of ty).kind ≡ external) }
+        ensures kind { IfOk result (λ ty. (entity_type_of ty).kind ≡ external_kind) }
         ensures descendants { IfOk result (λ ty. (it : I.IntoIter) × (xs : List EntityType)
             × I.into_iter_gives descendants it × Drains I.IntoIter.next_gives it xs × SameItems (descendant_names ty) (map type_name xs)) }
         ensures loc { IfOk result (λ ty. ty.loc ≡ loc) }
@@ -169,7 +169,7 @@ impl ValidatorEntityType {
 
     /// Whether the entity type is declared elsewhere.
     pub fn is_external(&self) -> bool
-        ensures { IsTrue result ↔ ((entity_type_of self.now).kind ≡ external) }
+        ensures { IsTrue result ↔ ((entity_type_of self.now).kind ≡ external_kind) }
     {
         matches!(self.kind, ValidatorEntityTypeKind::External)
     }
@@ -177,7 +177,7 @@ impl ValidatorEntityType {
     /// Whether entities of this type may have attributes that aren't declared. Enumerated and
     /// external entity types are closed.
     pub fn open_attributes(&self) -> OpenTag
-        ensures { result ≡ kind_tag (entity_type_of self.now).kind }
+        ensures { result ≡ kind_openness (entity_type_of self.now).kind }
     {
         match &self.kind {
             ValidatorEntityTypeKind::Standard(standard) => standard.open_attributes(),

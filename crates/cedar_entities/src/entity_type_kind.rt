@@ -2,8 +2,8 @@
 
 ghost use Rattle.std.specs.Prelude.{◌≡◌, IfOk};
 ghost use Rattle.std.specs.Option.{option_copied, option_map};
-ghost use Rattle.cedar_entities.specs.EntityTypeKind.{standard_kind, kind_of};
-ghost use Rattle.cedar_declared.specs.EntityTypeKind.{standard, kind_fields, kind_tag, kind_tags};
+ghost use Rattle.cedar_entities.specs.EntityTypeKind.{plain_standard, plain_kind};
+ghost use Rattle.cedar_declared.specs.EntityTypeKind.{standard_kind, kind_fields, kind_openness, kind_tags};
 ghost use Rattle.cedar_types.specs.Meaning.{ty_of, fields_of};
 
 use cedar_below::{Eid, M, NonEmpty};
@@ -31,7 +31,7 @@ pub struct StandardValidatorEntityType {
 impl ValidatorEntityTypeKind {
     /// An equal kind, or want of memory.
     pub fn clone(&self) -> M<Self>
-        ensures { IfOk result (λ copy. kind_of copy ≡ kind_of self.now) }
+        ensures { IfOk result (λ copy. plain_kind copy ≡ plain_kind self.now) }
     {
         Ok(match self {
             ValidatorEntityTypeKind::Standard(standard) => {
@@ -48,7 +48,7 @@ impl ValidatorEntityTypeKind {
 impl StandardValidatorEntityType {
     /// An entity type with these attributes, and with tags of this type.
     pub(crate) fn new(attributes: Attributes, open_attributes: OpenTag, tags: Option<Type>) -> Self
-        ensures { standard_kind result ≡ standard (fields_of attributes) open_attributes (option_map ty_of tags) }
+        ensures { plain_standard result ≡ standard_kind (fields_of attributes) open_attributes (option_map ty_of tags) }
     {
         StandardValidatorEntityType {
             attributes,
@@ -59,28 +59,28 @@ impl StandardValidatorEntityType {
 
     /// The attributes.
     pub(crate) fn attributes(&self) -> &Attributes
-        ensures { fields_of result.now ≡ kind_fields (standard_kind self.now) }
+        ensures { fields_of result.now ≡ kind_fields (plain_standard self.now) }
     {
         &self.attributes
     }
 
     /// Whether entities may have attributes that aren't declared.
     pub(crate) fn open_attributes(&self) -> OpenTag
-        ensures { result ≡ kind_tag (standard_kind self.now) }
+        ensures { result ≡ kind_openness (plain_standard self.now) }
     {
         self.open_attributes
     }
 
     /// The type of the tags, where entities of this type may have tags.
     pub fn tag_type(&self) -> Option<&Type>
-        ensures { option_map ty_of (option_copied result) ≡ kind_tags (standard_kind self.now) }
+        ensures { option_map ty_of (option_copied result) ≡ kind_tags (plain_standard self.now) }
     {
         self.tags.as_ref()
     }
 
     /// An equal entity type, or want of memory.
     pub fn clone(&self) -> M<Self>
-        ensures { IfOk result (λ copy. standard_kind copy ≡ standard_kind self.now) }
+        ensures { IfOk result (λ copy. plain_standard copy ≡ plain_standard self.now) }
     {
         let tags = match &self.tags {
             Some(ty) => Some(ty.clone()?),

@@ -2,7 +2,7 @@
 
 ghost use Rattle.std.specs.Prelude.{◌≡◌, ◌↔◌, IsTrue};
 ghost use Rattle.cedar_entities.specs.ValidatorEntityType.{entity_type_of, descendant_names};
-ghost use Rattle.cedar_below.specs.Included.{SameItems};
+ghost use Rattle.cedar_below.specs.Lists.{SameItems};
 ghost use Rattle.cedar_entities.specs.declared.entity_type.ValidatorEntityType.{ValidatorEntityType};
 
 use crate::entity_type::ValidatorEntityType;

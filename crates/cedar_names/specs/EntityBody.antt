@@ -9,7 +9,7 @@ use Rattle.cedar_names.specs.Reference.{Reference}
 use Rattle.cedar_names.specs.WrittenExpr.{written_type}
 use Rattle.cedar_names.specs.declared.json_schema.entity_type.EntityType.{EntityType}
 use Rattle.cedar_names.specs.declared.json_schema.entity_type.EntityTypeKind.{EntityTypeKind}
-use Rattle.cedar_names.specs.declared.json_schema.entity_type.EntityTypeKind.TheVariants as of
+use Rattle.cedar_names.specs.declared.json_schema.entity_type.EntityTypeKind.TheVariants as variant
 use Rattle.cedar_names.specs.declared.json_schema.raw_name.RawName.{RawName}
 use Rattle.cedar_names.specs.declared.json_schema.reference_type.ReferenceType.{ReferenceType}
 use Rattle.cedar_names.specs.declared.json_schema.reference_type.ReferenceType.TheVariants.{Entity}
@@ -25,10 +25,10 @@ pub data EntityBody : Type 0 where
 module _ (N : Type 0) (refer : ReferenceType → N → Reference) where
   -- what a declaration says by its kind and by whether it is external; external choices are ignored
   abbrev pub kind_body : EntityTypeKind N → Bool → EntityBody
-  kind_body (of.Standard it) false = standard (map (refer Entity) it.member_of_types.items) (written_type N refer it.shape.0) (option_map (written_type N refer) it.tags)
-  kind_body (of.Standard it) true = external (map (refer Entity) it.member_of_types.items)
-  kind_body (of.Enum choices) false = enumerated (map eid_text (choices.head ∷ choices.tail.items))
-  kind_body (of.Enum choices) true = external []
+  kind_body (variant.Standard it) false = standard (map (refer Entity) it.member_of_types.items) (written_type N refer it.shape.0) (option_map (written_type N refer) it.tags)
+  kind_body (variant.Standard it) true = external (map (refer Entity) it.member_of_types.items)
+  kind_body (variant.Enum choices) false = enumerated (map eid_text (choices.head ∷ choices.tail.items))
+  kind_body (variant.Enum choices) true = external []
 
   -- what a declaration of an entity type says
   abbrev pub entity_body : EntityType N → EntityBody

@@ -12,7 +12,7 @@ use Rattle.cedar_rules.specs.declared.open_tag.OpenTag.{OpenTag}
 use Rattle.cedar_rules.specs.declared.open_tag.OpenTag.TheVariants.{OpenAttributes, ClosedAttributes}
 
 -- names that fit strictly fit permissively
-NamesBelow-permissive : (tag : OpenTag) (a b : Fields) → NamesBelow Strict tag a b → NamesBelow Permissive tag a b
+NamesBelow-permissive : (openness : OpenTag) (a b : Fields) → NamesBelow Strict openness a b → NamesBelow Permissive openness a b
 NamesBelow-permissive OpenAttributes a b names = tt
 NamesBelow-permissive ClosedAttributes a b names = names
 
@@ -28,8 +28,8 @@ mutual
   Below-permissive any_set any_set h = tt
   Below-permissive (set_of a) any_set h = tt
   Below-permissive (set_of a) (set_of b) h = Below-permissive a b h
-  Below-permissive (record_of a tag) (record_of b upper_tag) h =
-      (h.0, NamesBelow-permissive upper_tag a b h.1, FieldsBelow-permissive a b h.2)
+  Below-permissive (record_of a openness) (record_of b upper_openness) h =
+      (h.0, NamesBelow-permissive upper_openness a b h.1, FieldsBelow-permissive a b h.2)
   Below-permissive (extension_of a) (extension_of b) h = h
   Below-permissive a b h = elim h [ ]
 
@@ -63,7 +63,7 @@ mutual
   Agree-strict (union_of a) any_entity formed h = elim h [ ]
   Agree-strict (union_of a) (union_of b) formed h = h
   Agree-strict (set_of a) (set_of b) formed h = Agree-strict a b formed h
-  Agree-strict (record_of a tag) (record_of b upper_tag) formed h =
+  Agree-strict (record_of a openness) (record_of b upper_openness) formed h =
       (h.1, FieldsBelow-names Strict a b h.2, FieldsAgree-strict a b formed.0 formed.1 h.2)
   Agree-strict a b formed h = tt
 
@@ -91,7 +91,7 @@ mutual
   Below-strict any_set any_set h g = tt
   Below-strict (set_of a) any_set h g = tt
   Below-strict (set_of a) (set_of b) h g = Below-strict a b h g
-  Below-strict (record_of a tag) (record_of b upper_tag) h g = (h.0, g.0, FieldsBelow-strict a b h.2 g.2)
+  Below-strict (record_of a openness) (record_of b upper_openness) h g = (h.0, g.0, FieldsBelow-strict a b h.2 g.2)
   Below-strict (extension_of a) (extension_of b) h g = h
   Below-strict a b h g = elim h [ ]
 

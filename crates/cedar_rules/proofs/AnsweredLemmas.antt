@@ -2,14 +2,14 @@
 use Rattle.std.proofs.Common.{◌≡◌, ◌≢◌, ◌⊎◌, inl, inr, ⊎_elim, refl, sym, subst, ◌∙◌, [], ◌∷◌, List, Ok, Err, IfOk, arith}
 use Rattle.cedar_below.proofs.Lists.{Contains-cons}
 use Rattle.cedar_below.proofs.PlainNames.{name_cmp-total, name_cmp-Equal}
-use Rattle.cedar_below.specs.Included.{Included}
+use Rattle.cedar_below.specs.Lists.{Included}
 use Rattle.cedar_below.specs.PlainName.{PlainName, name_cmp}
 use Rattle.cedar_below.specs.declared.validation_mode.ValidationMode.{ValidationMode}
 use Rattle.cedar_below.specs.declared.validation_mode.ValidationMode.TheVariants.{Strict, Permissive}
 use Rattle.cedar_rules.proofs.AntisymmetryLaws.{Included-same}
 use Rattle.cedar_rules.proofs.Decisions.{IsDecided, decide_both, decide_same, decide_included, Merged, merge}
 use Rattle.cedar_rules.proofs.JoinLemmas.{upper_is_join}
-use Rattle.cedar_rules.proofs.PartLemmas.{within_elements, within_sets}
+use Rattle.cedar_rules.proofs.WithinLemmas.{within_elements, within_sets}
 use Rattle.cedar_rules.specs.Below.{Below}
 use Rattle.cedar_rules.specs.Help.{IsHelp}
 use Rattle.cedar_rules.specs.JoinAnswer.{JoinAnswer, IsJoinAnswer}
@@ -77,7 +77,7 @@ shape any_entity = entities
 shape (union_of names) = entities
 shape any_set = sets
 shape (set_of ty) = sets
-shape (record_of fields tag) = records
+shape (record_of fields openness) = records
 shape (extension_of name) = extensions
 
 -- what is above a type has its shape, but for `Never`
@@ -94,7 +94,7 @@ same_shape mode any_set any_set h = inr refl
 same_shape mode any_set (set_of b) h = inr refl
 same_shape mode (set_of a) any_set h = inr refl
 same_shape mode (set_of a) (set_of b) h = inr refl
-same_shape mode (record_of a tag) (record_of b other) h = inr refl
+same_shape mode (record_of a openness) (record_of b other) h = inr refl
 same_shape mode (extension_of a) (extension_of b) h = inr refl
 same_shape Strict (union_of a) b h = elim h [ ]
 same_shape Permissive (union_of a) b h = elim h [ ]

@@ -8,7 +8,7 @@ use Rattle.std.specs.declared.cmp.Ordering.TheVariants.{Less, Greater}
 use Rattle.cedar_below.proofs.Lists.{Contains-cons, Contains-cons_cases}
 use Rattle.cedar_below.proofs.PlainNames.{name_cmp-total}
 use Rattle.cedar_below.proofs.Texts.{text_cmp-total}
-use Rattle.cedar_below.specs.Included.{Included}
+use Rattle.cedar_below.specs.Lists.{Included}
 use Rattle.cedar_below.specs.PlainName.{name_cmp}
 use Rattle.cedar_below.specs.Text.{Text, text_cmp}
 use Rattle.cedar_below.specs.declared.validation_mode.ValidationMode.{ValidationMode}
@@ -17,20 +17,20 @@ use Rattle.cedar_rules.proofs.AgreeLaws.{AreWellFormed-of, HasField-once}
 use Rattle.cedar_rules.proofs.SubtypeLaws.{FieldsWithin, HasBelow-of, HasField-name, HasField-named, FieldsBelow-names}
 use Rattle.cedar_rules.proofs.SubtypeLemmas.{HasField-all}
 use Rattle.cedar_rules.specs.Fields.{IsAscending, field_names}
-use Rattle.cedar_rules.specs.Below.{HasField, FlagsBelow, TagsBelow, Below, FieldsBelow}
+use Rattle.cedar_rules.specs.Below.{HasField, FlagsBelow, OpennessBelow, Below, FieldsBelow}
 use Rattle.cedar_rules.specs.Ty.{Ty, never, truth, long, text, any_entity, union_of, any_set, set_of, record_of, extension_of, Fields, end, field}
 use Rattle.cedar_rules.specs.WellFormed.{IsWellFormed, AreWellFormed}
 use Rattle.cedar_rules.specs.declared.open_tag.OpenTag.{OpenTag}
 use Rattle.cedar_rules.specs.declared.open_tag.OpenTag.TheVariants.{OpenAttributes, ClosedAttributes}
 
 -- of two values not each is below the other
-apart : {B : Type 0} (R : B → B → Ordering) → IsTotalOrder R → (x y : B) → R x y ≡ Less → R y x ≡ Less → ⊥
+apart : {B : Type 0} (R : B → B → Ordering) → IsTotalOrder R → (x y : B) → R x y ≡ Less → ¬ (R y x ≡ Less)
 apart R total x y less also =
     let greater : R x y ≡ Greater = total.antisymm x y ∙ ap ordering_reverse also in
     cc
 
 -- no value is below itself
-pub not_itself : {B : Type 0} (R : B → B → Ordering) → IsTotalOrder R → (x y : B) → x ≡ y → R x y ≡ Less → ⊥
+pub not_itself : {B : Type 0} (R : B → B → Ordering) → IsTotalOrder R → (x y : B) → x ≡ y → ¬ (R x y ≡ Less)
 not_itself R total x y same less =
     let again : R x x ≡ Less = subst (λ z. R x z ≡ Less) (sym same) less in
     apart R total x x again again
@@ -80,11 +80,11 @@ FlagsBelow-same Permissive false true h k = h refl
 FlagsBelow-same Permissive false false h k = refl
 
 -- tags that fit below each other are the same
-TagsBelow-same : (a b : OpenTag) → TagsBelow a b → TagsBelow b a → a ≡ b
-TagsBelow-same OpenAttributes OpenAttributes h k = refl
-TagsBelow-same OpenAttributes ClosedAttributes h k = elim h [ ]
-TagsBelow-same ClosedAttributes OpenAttributes h k = elim k [ ]
-TagsBelow-same ClosedAttributes ClosedAttributes h k = refl
+OpennessBelow-same : (a b : OpenTag) → OpennessBelow a b → OpennessBelow b a → a ≡ b
+OpennessBelow-same OpenAttributes OpenAttributes h k = refl
+OpennessBelow-same OpenAttributes ClosedAttributes h k = elim h [ ]
+OpennessBelow-same ClosedAttributes OpenAttributes h k = elim k [ ]
+OpennessBelow-same ClosedAttributes ClosedAttributes h k = refl
 
 -- where one record has the other's attributes, and its names are among the other's, the other has its attributes
 FieldsWithin-back : (a b : Fields) → IsAscending a → FieldsWithin b a → Included (field_names a) (field_names b) → FieldsWithin a b
@@ -112,10 +112,10 @@ mutual
   Below-same mode any_set any_set first second h k = refl
   Below-same mode (set_of a) any_set first second h k = elim k [ ]
   Below-same mode (set_of a) (set_of b) first second h k = ap set_of (Below-same mode a b first second h k)
-  Below-same mode (record_of a tag) (record_of b upper_tag) first second h k =
+  Below-same mode (record_of a openness) (record_of b upper_openness) first second h k =
       let within = FieldsWithin-below mode a b b first.0 second.0 first.1 second.1 (λ name required ty has. has) h.2 k.2 in
       let fields = Fields-same a b first.0 second.0 (FieldsWithin-back a b first.0 within (FieldsBelow-names mode b a k.2)) within in
-      let tags = TagsBelow-same tag upper_tag h.0 k.0 in
+      let tags = OpennessBelow-same openness upper_openness h.0 k.0 in
       λ i. record_of (fields i) (tags i)
   Below-same mode (extension_of a) (extension_of b) first second h k = ap extension_of h
   Below-same mode a b first second h k = elim h [ ]

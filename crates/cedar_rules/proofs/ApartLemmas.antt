@@ -18,7 +18,7 @@ texts_differ a b unequal e =
 
 -- nothing is above both types, in a mode
 abbrev pub AreApart : ValidationMode → Ty → Ty → Type 0
-AreApart mode a b = (bound : Ty) → Below mode a bound → Below mode b bound → ⊥
+AreApart mode a b = (bound : Ty) → Below mode a bound → ¬ Below mode b bound
 
 -- a truth value and a text are apart
 pub AreApart-truth_text : (mode : ValidationMode) (known : BoolType) → AreApart mode (truth known) text
@@ -40,7 +40,7 @@ abbrev pub HasOnly : Fields → Text → Ty → Type 0
 HasOnly fields name ty = (required : Bool) (of : Ty) → HasField fields name required of → of ≡ ty
 
 -- no attribute of a record above two others has a name at which their types are apart
-pub unnamed : (mode : ValidationMode) (a b fields : Fields) (name : Text) (first second : Ty) → HasOnly a name first → HasOnly b name second → AreApart mode first second → FieldsBelow mode a fields → FieldsBelow mode b fields → (required : Bool) (ty : Ty) → HasField fields name required ty → ⊥
+pub unnamed : (mode : ValidationMode) (a b fields : Fields) (name : Text) (first second : Ty) → HasOnly a name first → HasOnly b name second → AreApart mode first second → FieldsBelow mode a fields → FieldsBelow mode b fields → (required : Bool) (ty : Ty) → ¬ HasField fields name required ty
 unnamed mode a b fields name first second one other apart h k required ty has =
     let own = HasBelow-of mode a fields name required ty h has in
     let also = HasBelow-of mode b fields name required ty k has in
@@ -61,7 +61,7 @@ IsPair-other fields kept dropped ty other differ pair required of has =
 -- attributes above a pair that don't have its second name are above its first attribute alone
 pub kept_below : (a all fields : Fields) (kept dropped : Text) (ty other : Ty) → IsPair a kept dropped ty other
     → ((name : Text) (required : Bool) (of : Ty) → HasField fields name required of → HasField all name required of)
-    → ((required : Bool) (of : Ty) → HasField all dropped required of → ⊥)
+    → ((required : Bool) (of : Ty) → ¬ HasField all dropped required of)
     → FieldsBelow Permissive a all → FieldsBelow Permissive (field kept true ty end) fields
 kept_below a all end kept dropped ty other pair within none h = tt
 kept_below a all (field name required of rest) kept dropped ty other pair within none h =

@@ -8,8 +8,8 @@ mutual
   clean_without : (ty : Ty) → IsClean ty → ¬ StandsIn IsAnySet ty
   clean_without (set_of ty) clean (inl here) = absurd cc
   clean_without (set_of ty) clean (inr there) = clean_without ty clean there
-  clean_without (record_of fields tag) clean (inl here) = absurd cc
-  clean_without (record_of fields tag) clean (inr there) = clean_fields_without fields clean there
+  clean_without (record_of fields openness) clean (inl here) = absurd cc
+  clean_without (record_of fields openness) clean (inr there) = clean_fields_without fields clean there
   clean_without any_set clean stands = clean
   clean_without ty clean stands = absurd cc
 
@@ -24,7 +24,7 @@ mutual
   without_clean : (ty : Ty) → ¬ StandsIn IsAnySet ty → IsClean ty
   without_clean any_set none = none refl
   without_clean (set_of ty) none = without_clean ty (λ stands. none (inr stands))
-  without_clean (record_of fields tag) none = without_clean_fields fields (λ stands. none (inr stands))
+  without_clean (record_of fields openness) none = without_clean_fields fields (λ stands. none (inr stands))
   without_clean ty none = tt
 
   -- attributes in which the any-set stands nowhere are clean

@@ -36,8 +36,8 @@ mutual
   lacked any_entity e = tt
   lacked (union_of names) e = unmapped core_entity (only_name names) e
   lacked (set_of ty) e = inr (lacked ty (unmapped core_set (core_of ty) e))
-  lacked (record_of fields tag) e =
-      inr (lacked_fields fields (unmapped (λ core. core_record core (is_open tag)) (core_fields fields) e))
+  lacked (record_of fields openness) e =
+      inr (lacked_fields fields (unmapped (λ core. core_record core (is_open openness)) (core_fields fields) e))
   lacked ty e = absurd cc
 
   -- where the attributes have no core types, one that lacks it stands in them
@@ -55,9 +55,9 @@ mutual
   lacking (union_of names) stands = ap (option_map core_entity) stands
   lacking (set_of ty) (inl none) = elim none [ ]
   lacking (set_of ty) (inr stands) = ap (option_map core_set) (lacking ty stands)
-  lacking (record_of fields tag) (inl none) = elim none [ ]
-  lacking (record_of fields tag) (inr stands) =
-      ap (option_map (λ core. core_record core (is_open tag))) (lacking_fields fields stands)
+  lacking (record_of fields openness) (inl none) = elim none [ ]
+  lacking (record_of fields openness) (inr stands) =
+      ap (option_map (λ core. core_record core (is_open openness))) (lacking_fields fields stands)
   lacking ty stands = elim stands [ ]
 
   -- where one stands in attributes, they have none

@@ -9,7 +9,7 @@ use Rattle.std.specs.declared.cmp.Ordering.{Ordering}
 use Rattle.std.specs.declared.cmp.Ordering.TheVariants.{Less, Equal, Greater}
 use Rattle.cedar_below.proofs.Inclusion.{Included-none, Included-cons, Included-head, Included-tail}
 use Rattle.cedar_below.proofs.Lists.{Contains-cons, Contains-cons_cases}
-use Rattle.cedar_below.specs.Included.{Included}
+use Rattle.cedar_below.specs.Lists.{Included}
 
 -- a fact holds or doesn't
 abbrev pub IsDecided : Type 0 → Type 0
@@ -160,7 +160,7 @@ all_among {B = B} R total ties (x ∷ xs) (y ∷ ys) first second within =
     (omega (arith, rest.0), λ e. absurd (omega (arith, rest.0, e)))))
     (Contains-cons_cases y ys x (Included-head x xs (y ∷ ys) within))
   where
-    irreflexive : (z w : B) → z ≡ w → R z w ≡ Less → ⊥
+    irreflexive : (z w : B) → z ≡ w → ¬ (R z w ≡ Less)
     irreflexive z w same less = let tied : R z w ≡ Equal = (ties z w).1 same in cc
 
     later : y ≡ x → Included xs ys

@@ -57,7 +57,7 @@ abbrev pub HoldSame : Fields → Fields → Type 0
 HoldSame fields others = (name : Text) → field_at name fields ≡ field_at name others
 
 -- an attribute isn't none
-found_attribute : (attribute : Bool × Ty) → Some attribute ≡ None → ⊥
+found_attribute : (attribute : Bool × Ty) → ¬ (Some attribute ≡ None)
 found_attribute attribute wrong = cc
 
 -- one attribute is found where another is
@@ -65,7 +65,7 @@ same_attribute : (attribute other : Bool × Ty) → Some attribute ≡ Some othe
 same_attribute attribute other same = cc
 
 -- where the first name is below the other's first, the two don't hold the same
-below_differs : (name other : Text) (required required' : Bool) (ty ty' : Ty) (rest rest' : Fields) → IsAscending (field other required' ty' rest') → text_cmp name other ≡ Less → HoldSame (field name required ty rest) (field other required' ty' rest') → ⊥
+below_differs : (name other : Text) (required required' : Bool) (ty ty' : Ty) (rest rest' : Fields) → IsAscending (field other required' ty' rest') → text_cmp name other ≡ Less → ¬ HoldSame (field name required ty rest) (field other required' ty' rest')
 below_differs name other required required' ty ty' rest rest' ascending below same =
     let absent : field_at name (field other required' ty' rest') ≡ None = field_at-below name (field other required' ty' rest') (below, below_each-trans name other rest' below (first_below other required' ty' rest' ascending)) in
     let here : field_at name (field name required ty rest) ≡ Some (required, ty) = field_at-here name required ty rest in

@@ -5,7 +5,7 @@ use Rattle.std.specs.Option.{is_some, option_map, option_copied}
 use Rattle.std.specs.Str.{bytes_eq}
 use Rattle.cedar_below.proofs.Inclusion.{chosen, Included-head}
 use Rattle.cedar_below.proofs.Lists.{Contains-cons, Contains-cons_cases}
-use Rattle.cedar_below.specs.Included.{Included}
+use Rattle.cedar_below.specs.Lists.{Included}
 use Rattle.cedar_below.specs.Text.{Text}
 use Rattle.cedar_rules.specs.Fields.{field_names}
 use Rattle.cedar_rules.specs.Ty.{Ty, Fields, end, field, field_at}
@@ -32,7 +32,7 @@ found-Decides f found name fields e =
     subst P (sym (ap is_some e) ∙ is_some-read f found) (field_at-Decides name fields)
 
 -- what has a member isn't included in nothing
-pub Included-in_none : {A : Type 0} (x : A) (lower : List A) → Included (x ∷ lower) [] → ⊥
+pub Included-in_none : {A : Type 0} (x : A) (lower : List A) → ¬ Included (x ∷ lower) []
 Included-in_none x lower all = absurd (omega (arith, (Included-head x lower [] all).1))
 
 -- the only member of a list is the member

@@ -12,7 +12,6 @@ pub mod JoinAnswers
 pub mod JoinLemmas
 pub mod MemberLaws
 pub mod OwnBoundLemmas
-pub mod PartLemmas
 pub mod RecordAnswers
 pub mod ReduceLemmas
 pub mod SampleValues
@@ -21,3 +20,4 @@ pub mod StrictRecordAnswers
 pub mod SubtypeLaws
 pub mod SubtypeLemmas
 pub mod ValueInclusion
+pub mod WithinLemmas

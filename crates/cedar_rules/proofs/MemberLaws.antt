@@ -6,12 +6,12 @@ use Rattle.cedar_below.specs.Tree.{Tree, truth_value, number_value, text_value, 
 use Rattle.cedar_below.specs.declared.validation_mode.ValidationMode.{ValidationMode}
 use Rattle.cedar_below.specs.declared.validation_mode.ValidationMode.TheVariants.{Strict, Permissive}
 use Rattle.cedar_rules.specs.Fields.{field_names}
-use Rattle.cedar_rules.specs.Below.{HasField, FlagsBelow, TagsBelow, NamesBelow, Below, FieldsBelow}
+use Rattle.cedar_rules.specs.Below.{HasField, FlagsBelow, OpennessBelow, NamesBelow, Below, FieldsBelow}
 use Rattle.cedar_rules.specs.Has.{HasBy, HasFieldsBy, HasTruth}
 use Rattle.cedar_rules.specs.OpenTag.{is_open}
 use Rattle.cedar_rules.specs.Ty.{Ty, truth, long, text, any_entity, union_of, any_set, set_of, record_of, extension_of, Fields, end, field}
 use Rattle.cedar_rules.specs.declared.bool_type.BoolType.{BoolType}
-use Rattle.cedar_rules.specs.declared.bool_type.BoolType.TheVariants as known
+use Rattle.cedar_rules.specs.declared.bool_type.BoolType.TheVariants as bool_type
 use Rattle.cedar_rules.specs.declared.open_tag.OpenTag.{OpenTag}
 use Rattle.cedar_rules.specs.declared.open_tag.OpenTag.TheVariants.{OpenAttributes, ClosedAttributes}
 
@@ -33,13 +33,13 @@ FlagsBelow-missing Permissive own true fits missing = absurd (let e = fits refl 
 FlagsBelow-missing Permissive own false fits missing = refl
 
 -- a truth value as known is so as less is known
-HasTruth-above : (value : Bool) (a b : BoolType) → HasTruth value a → (b ≡ known.AnyBool) ⊎ (a ≡ b) → HasTruth value b
+HasTruth-above : (value : Bool) (a b : BoolType) → HasTruth value a → (b ≡ bool_type.AnyBool) ⊎ (a ≡ b) → HasTruth value b
 HasTruth-above value a b has below =
     ⊎_elim (λ any. subst (HasTruth value) (sym any) tt) (λ same. subst (HasTruth value) same has) below
 
 -- a record whose attributes are listed lists them in a record type above
-NamesListed-above : (mode : ValidationMode) (tag upper_tag : OpenTag) (values : Entries) (lower upper : Fields) → NamesListed (is_open tag) (entry_names values) (field_names lower) → TagsBelow tag upper_tag → NamesBelow mode upper_tag lower upper → NamesListed (is_open upper_tag) (entry_names values) (field_names upper)
-NamesListed-above mode tag OpenAttributes values lower upper listed tags names = tt
+NamesListed-above : (mode : ValidationMode) (openness upper_openness : OpenTag) (values : Entries) (lower upper : Fields) → NamesListed (is_open openness) (entry_names values) (field_names lower) → OpennessBelow openness upper_openness → NamesBelow mode upper_openness lower upper → NamesListed (is_open upper_openness) (entry_names values) (field_names upper)
+NamesListed-above mode openness OpenAttributes values lower upper listed tags names = tt
 NamesListed-above mode OpenAttributes ClosedAttributes values lower upper listed tags names = elim tags [ ]
 NamesListed-above Strict ClosedAttributes ClosedAttributes values lower upper listed tags names =
     λ name among. names name (listed name among)
@@ -78,9 +78,9 @@ mutual
   HasBy-above calls (set_value values) mode (set_of a) (set_of b) h k =
       EachTree-weaker (λ value. HasBy calls value a) (λ value. HasBy calls value b) values (λ value has. HasBy-above calls value mode a b has k) h
   HasBy-above calls (set_value values) mode (set_of a) b h k = elim k [ ]
-  HasBy-above calls (map_value values) mode (record_of a tag) (record_of b upper_tag) h k =
-      (NamesListed-above mode tag upper_tag values a b h.0 k.0 k.1, HasFieldsBy-above calls values mode a b h.1 k.2)
-  HasBy-above calls (map_value values) mode (record_of a tag) b h k = elim k [ ]
+  HasBy-above calls (map_value values) mode (record_of a openness) (record_of b upper_openness) h k =
+      (NamesListed-above mode openness upper_openness values a b h.0 k.0 k.1, HasFieldsBy-above calls values mode a b h.1 k.2)
+  HasBy-above calls (map_value values) mode (record_of a openness) b h k = elim k [ ]
   HasBy-above calls (call_value function args) mode (extension_of a) (extension_of b) h k = subst (calls function args) k h
   HasBy-above calls (call_value function args) mode (extension_of a) b h k = elim k [ ]
   HasBy-above calls value mode a b h k = elim h [ ]

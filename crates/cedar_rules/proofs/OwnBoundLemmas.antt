@@ -10,7 +10,7 @@ mutual
   pub LiesWithin-clean : (Among : Ty → Type 0) (ty : Ty) → IsClean ty → LiesWithin Among ty
   LiesWithin-clean Among any_set clean = elim clean [ ]
   LiesWithin-clean Among (set_of ty) clean = LiesWithin-clean (IsElementOf Among) ty clean
-  LiesWithin-clean Among (record_of fields tag) clean = FieldsLieWithin-clean Among fields clean
+  LiesWithin-clean Among (record_of fields openness) clean = FieldsLieWithin-clean Among fields clean
   LiesWithin-clean Among ty clean = tt
 
   -- the types of clean attributes lie within whatever types
@@ -32,7 +32,7 @@ mutual
   IsClean-within Among any_set clean within = clean any_set within
   IsClean-within Among (set_of ty) clean within =
       IsClean-within (IsElementOf Among) ty (λ of among. clean (set_of of) among) within
-  IsClean-within Among (record_of fields tag) clean within = AreClean-within Among fields clean within
+  IsClean-within Among (record_of fields openness) clean within = AreClean-within Among fields clean within
   IsClean-within Among ty clean within = tt
 
   -- attributes whose types lie within clean types are clean
@@ -51,7 +51,7 @@ mutual
   LiesWithin-more Among More any_set more within = more any_set within
   LiesWithin-more Among More (set_of ty) more within =
       LiesWithin-more (IsElementOf Among) (IsElementOf More) ty (λ of among. more (set_of of) among) within
-  LiesWithin-more Among More (record_of fields tag) more within = FieldsLieWithin-more Among More fields more within
+  LiesWithin-more Among More (record_of fields openness) more within = FieldsLieWithin-more Among More fields more within
   LiesWithin-more Among More ty more within = tt
 
   -- attributes whose types lie within some types lie within more
@@ -69,8 +69,8 @@ mutual
   pub LiesWithin-among : (Among : Ty → Type 0) (ty : Ty) → Among ty → LiesWithin Among ty
   LiesWithin-among Among any_set among = among
   LiesWithin-among Among (set_of ty) among = LiesWithin-among (IsElementOf Among) ty among
-  LiesWithin-among Among (record_of fields tag) among =
-      FieldsLieWithin-among Among fields (λ name required ty has. (fields, tag, required, among, has))
+  LiesWithin-among Among (record_of fields openness) among =
+      FieldsLieWithin-among Among fields (λ name required ty has. (fields, openness, required, among, has))
   LiesWithin-among Among ty among = tt
 
   -- the attributes of a record lie within types that have it

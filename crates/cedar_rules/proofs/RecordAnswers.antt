@@ -4,18 +4,19 @@ use Rattle.std.specs.List.{AllByRecursion}
 use Rattle.std.specs.List.Sorted.{IsStrictlySortedBy}
 use Rattle.std.specs.declared.cmp.Ordering.TheVariants.{Less}
 use Rattle.cedar_below.proofs.Texts.{text_cmp-Equal}
-use Rattle.cedar_below.specs.Included.{Included}
+use Rattle.cedar_below.specs.Lists.{Included}
 use Rattle.cedar_below.specs.Text.{Text, text_cmp}
 use Rattle.cedar_below.specs.declared.validation_mode.ValidationMode.{ValidationMode}
 use Rattle.cedar_below.specs.declared.validation_mode.ValidationMode.TheVariants.{Permissive}
+use Rattle.cedar_rules.proofs.Extensional.{rest_ascending}
 use Rattle.cedar_rules.proofs.AgreeLaws.{HasField-once}
 use Rattle.cedar_rules.proofs.AnsweredLemmas.{IsAnswered, given}
 use Rattle.cedar_rules.proofs.Decisions.{IsDecided, decide_both, decide_same, decide_among, decide_included, of_each}
-use Rattle.cedar_rules.proofs.PartLemmas.{FieldsBelow-from, FieldsLieWithin-from, FieldsLieWithin-of, within_both, within_named}
+use Rattle.cedar_rules.proofs.WithinLemmas.{FieldsBelow-from, FieldsLieWithin-from, FieldsLieWithin-of, within_both, within_named}
 use Rattle.cedar_rules.proofs.StrictJoinLemmas.{tag_below, names_below}
 use Rattle.cedar_rules.proofs.SubtypeLaws.{HasBelow-of, HasField-name, HasField-named, FieldsBelow-names}
 use Rattle.cedar_rules.specs.Fields.{IsAscending, field_names}
-use Rattle.cedar_rules.specs.Below.{HasField, TagsBelow, NamesBelow, Below, FieldsBelow}
+use Rattle.cedar_rules.specs.Below.{HasField, OpennessBelow, NamesBelow, Below, FieldsBelow}
 use Rattle.cedar_rules.specs.OwnBound.{IsEither, IsOwnBound, HaveOwnBound, IsLeastOwnBound}
 use Rattle.cedar_rules.specs.Ty.{Ty, record_of, Fields, end, field}
 use Rattle.cedar_rules.specs.WellFormed.{IsWellFormed, AreWellFormed}
@@ -71,11 +72,6 @@ joined_ascending mode flags name required flag ty of rest fb fj ascending own ea
       of_each (λ n. text_cmp name n ≡ Less) (field_names rest) ascending.0 n (HasField-name rest n it.first_flag it.first it.in_first))),
   own,
 )
-
--- the rest of a record ascends
-pub rest_ascending : (name : Text) (required : Bool) (ty : Ty) (rest : Fields) → IsAscending (field name required ty rest) → IsAscending rest
-unfolding IsStrictlySortedBy
-rest_ascending name required ty rest ascending = ascending.1
 
 -- no attributes ascend
 pub end_ascending : IsAscending end
@@ -163,13 +159,13 @@ permissive_join (field name required ty rest) fb ascending second answers =
         drop_one name required ty rest fb before
         (λ rb b also own. none.0 (subst (HaveOwnBound Permissive ty) (HasField-once fb name rb flag b of second also has).1 own))
 
--- a tag that is below the closed one is closed
-closed_tag : (tag : OpenTag) → TagsBelow tag ClosedAttributes → tag ≡ ClosedAttributes
+-- a openness that is below the closed one is closed
+closed_tag : (openness : OpenTag) → OpennessBelow openness ClosedAttributes → openness ≡ ClosedAttributes
 closed_tag OpenAttributes h = elim h [ ]
 closed_tag ClosedAttributes h = refl
 
 -- tags are decided
-decide_closed : (tag : OpenTag) → IsDecided (tag ≡ ClosedAttributes)
+decide_closed : (openness : OpenTag) → IsDecided (openness ≡ ClosedAttributes)
 decide_closed OpenAttributes = inr (λ e. absurd cc)
 decide_closed ClosedAttributes = inl refl
 
@@ -178,9 +174,9 @@ abbrev NothingDropped : Fields → Fields → Fields → OpenTag → OpenTag →
 NothingDropped fa fb fj ta tb =
     ((ta ≡ ClosedAttributes) × (tb ≡ ClosedAttributes)) × (Included (field_names fa) (field_names fj) × Included (field_names fb) (field_names fj))
 
--- the permissive join with a tag that fits is an own bound
-permissive_own : (fa fb : Fields) (ta tb tag : OpenTag) (it : PermissiveJoin fa fb) → TagsBelow ta tag → TagsBelow tb tag → NamesBelow Permissive tag fa it.fields → NamesBelow Permissive tag fb it.fields → IsOwnBound Permissive (record_of fa ta) (record_of fb tb) (record_of it.fields tag)
-permissive_own fa fb ta tb tag it h k names also = (
+-- the permissive join with a openness that fits is an own bound
+permissive_own : (fa fb : Fields) (ta tb openness : OpenTag) (it : PermissiveJoin fa fb) → OpennessBelow ta openness → OpennessBelow tb openness → NamesBelow Permissive openness fa it.fields → NamesBelow Permissive openness fb it.fields → IsOwnBound Permissive (record_of fa ta) (record_of fb tb) (record_of it.fields openness)
+permissive_own fa fb ta tb openness it h k names also = (
   (
     (
       h,
@@ -234,26 +230,26 @@ permissive_names fa fb it name among =
     HasField-name fa name part.first_flag part.first part.in_first
 
 -- names that fit below a closed record are its own
-names_closed : (tag : OpenTag) (fa fc : Fields) → tag ≡ ClosedAttributes → NamesBelow Permissive tag fa fc → Included (field_names fa) (field_names fc)
-names_closed tag fa fc e names = subst (λ g. NamesBelow Permissive g fa fc) e names
+names_closed : (openness : OpenTag) (fa fc : Fields) → openness ≡ ClosedAttributes → NamesBelow Permissive openness fa fc → Included (field_names fa) (field_names fc)
+names_closed openness fa fc e names = subst (λ g. NamesBelow Permissive g fa fc) e names
 
 -- the permissive join is below each own bound
-permissive_least : (fa fb : Fields) (ta tb tag : OpenTag) (it : PermissiveJoin fa fb) → IsAscending fa → IsAscending fb → (NothingDropped fa fb it.fields ta tb → TagsBelow tag ClosedAttributes)
-    → (bound : Ty) → IsOwnBound Permissive (record_of fa ta) (record_of fb tb) bound → Below Permissive (record_of it.fields tag) bound
-permissive_least fa fb ta tb tag it first second closed (record_of fc tc) own =
+permissive_least : (fa fb : Fields) (ta tb openness : OpenTag) (it : PermissiveJoin fa fb) → IsAscending fa → IsAscending fb → (NothingDropped fa fb it.fields ta tb → OpennessBelow openness ClosedAttributes)
+    → (bound : Ty) → IsOwnBound Permissive (record_of fa ta) (record_of fb tb) bound → Below Permissive (record_of it.fields openness) bound
+permissive_least fa fb ta tb openness it first second closed (record_of fc tc) own =
     let fields = permissive_fields fa fb fc ta tb tc it first second own in
     let back = FieldsBelow-names Permissive it.fields fc fields in (
-      tag_below tag tc (λ e. closed (
-        (closed_tag ta (subst (TagsBelow ta) e own.0.0.0), closed_tag tb (subst (TagsBelow tb) e own.0.1.0.0)),
+      tag_below openness tc (λ e. closed (
+        (closed_tag ta (subst (OpennessBelow ta) e own.0.0.0), closed_tag tb (subst (OpennessBelow tb) e own.0.1.0.0)),
         ((λ n among. back n (names_closed tc fa fc e own.0.0.1 n among)), (λ n among. back n (names_closed tc fb fc e own.0.1.0.1 n among))),
       )),
       names_below tc it.fields fa fc (permissive_names fa fb it) own.0.0.1,
       fields,
     )
-permissive_least fa fb ta tb tag it first second closed bound own = elim own.0.0 [ ]
+permissive_least fa fb ta tb openness it first second closed bound own = elim own.0.0 [ ]
 
--- every tag is below the open one
-below_open : (tag : OpenTag) → TagsBelow tag OpenAttributes
+-- every openness is below the open one
+below_open : (openness : OpenTag) → OpennessBelow openness OpenAttributes
 below_open OpenAttributes = tt
 below_open ClosedAttributes = tt
 
@@ -263,7 +259,7 @@ permissive_records_answered fa fb ta tb first second answers =
     let it = permissive_join fa fb first second answers in
     ⊎_elim
     (λ all. given Permissive (record_of fa ta) (record_of fb tb) (record_of it.fields ClosedAttributes) (
-      permissive_own fa fb ta tb ClosedAttributes it (subst (λ g. TagsBelow g ClosedAttributes) (sym all.0.0) tt) (subst (λ g. TagsBelow g ClosedAttributes) (sym all.0.1) tt) all.1.0 all.1.1,
+      permissive_own fa fb ta tb ClosedAttributes it (subst (λ g. OpennessBelow g ClosedAttributes) (sym all.0.0) tt) (subst (λ g. OpennessBelow g ClosedAttributes) (sym all.0.1) tt) all.1.0 all.1.1,
       permissive_least fa fb ta tb ClosedAttributes it first second (λ _. tt),
     )
     (it.ascending, it.formed))

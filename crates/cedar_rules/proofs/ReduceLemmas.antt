@@ -2,7 +2,7 @@ use Rattle.std.proofs.Common.{◌≡◌, inl, inr, ap, sym, subst, List, [], ◌
 use Rattle.std.proofs.lemmas.List.Elements.{All-contains, All-from_recursion}
 use Rattle.std.specs.List.{AllByRecursion}
 use Rattle.cedar_below.proofs.Inclusion.{Included-head, Included-tail}
-use Rattle.cedar_below.specs.Included.{Included}
+use Rattle.cedar_below.specs.Lists.{Included}
 use Rattle.cedar_below.specs.declared.validation_mode.ValidationMode.{ValidationMode}
 use Rattle.cedar_rules.proofs.AntisymmetryLaws.{Below-same}
 use Rattle.cedar_rules.proofs.JoinLemmas.{clean_is_own, own_is_clean}

@@ -5,13 +5,14 @@ use Rattle.std.specs.Str.{bytes_eq}
 use Rattle.cedar_below.proofs.Inclusion.{Included-none, Included-cons}
 use Rattle.cedar_below.proofs.Lists.{Contains-cons, Contains-cons_cases}
 use Rattle.cedar_below.specs.Fits.{EntryFits, Gives, NamesListed}
-use Rattle.cedar_below.specs.Included.{Included}
+use Rattle.cedar_below.specs.Lists.{Included}
 use Rattle.cedar_below.specs.PlainName.{PlainName}
 use Rattle.cedar_below.specs.Text.{Text}
 use Rattle.cedar_below.specs.Tree.{Tree, truth_value, number_value, text_value, uid_value, set_value, map_value, Trees, no_tree, Entries, no_entry, entry, entry_at, entry_names}
 use Rattle.cedar_below.specs.declared.extension.Extensions.{Extensions}
 use Rattle.cedar_rules.proofs.AgreeLaws.{HasField-once}
-use Rattle.cedar_rules.proofs.RecordAnswers.{decide_texts, rest_ascending}
+use Rattle.cedar_rules.proofs.RecordAnswers.{decide_texts}
+use Rattle.cedar_rules.proofs.Extensional.{rest_ascending}
 use Rattle.cedar_rules.proofs.SubtypeLaws.{HasField-name}
 use Rattle.cedar_rules.proofs.SubtypeLemmas.{chosen_first, unchosen}
 use Rattle.cedar_rules.specs.Fields.{IsAscending, field_names}
@@ -118,7 +119,7 @@ some_name [] some = absurd (some refl)
 some_name (name ∷ rest) some = (name, Contains-cons name rest name (inl refl))
 
 -- a record whose names are listed has only listed names
-pub only_listed : (tag : OpenTag) (values : Entries) (fields : Fields) → Included (entry_names values) (field_names fields) → NamesListed (is_open tag) (entry_names values) (field_names fields)
+pub only_listed : (openness : OpenTag) (values : Entries) (fields : Fields) → Included (entry_names values) (field_names fields) → NamesListed (is_open openness) (entry_names values) (field_names fields)
 only_listed OpenAttributes values fields listed = tt
 only_listed ClosedAttributes values fields listed = listed
 
@@ -171,12 +172,12 @@ mutual
       (let it = some_name names formed.0 in (uid_value (record { ty = it.0; eid = [] }), it.1))
   inhabitant extensions any_set formed lives = (set_value no_tree, tt)
   inhabitant extensions (set_of ty) formed lives = (set_value no_tree, tt)
-  inhabitant extensions (record_of fields tag) formed lives =
+  inhabitant extensions (record_of fields openness) formed lives =
       let fresh = fresh_text (field_names fields) [] in
       let it = sample extensions fields fresh.0 formed.0 formed.1 lives in (
         map_value it.values,
         (
-          only_listed tag it.values fields it.listed,
+          only_listed openness it.values fields it.listed,
           HasFields-from (Gives extensions) it.values fields
               (λ n r t has. (let found = it.has n r t has (λ same. fresh.1 (subst (Contains (field_names fields)) same (HasField-name fields n r t has))) in
               fits_some (λ value. Has extensions value t) r (entry_at n it.values) found.0 found.1 found.2)),

@@ -1,13 +1,13 @@
 -- A strict join is below each own bound in permissive mode.
 use Rattle.std.proofs.Common.{◌≡◌, ⊎_elim, refl, sym, subst, ◌∙◌}
-use Rattle.cedar_below.specs.Included.{Included}
+use Rattle.cedar_below.specs.Lists.{Included}
 use Rattle.cedar_below.specs.declared.validation_mode.ValidationMode.TheVariants.{Strict, Permissive}
 use Rattle.cedar_rules.proofs.AgreeLaws.{Below-permissive, AreWellFormed-of, HasField-once}
 use Rattle.cedar_rules.proofs.JoinLemmas.{upper_is_join}
-use Rattle.cedar_rules.proofs.PartLemmas.{least_at_name, within_both, within_elements, within_sets}
+use Rattle.cedar_rules.proofs.WithinLemmas.{least_at_name, within_both, within_elements, within_sets}
 use Rattle.cedar_rules.proofs.SubtypeLaws.{Below-trans, HasBelow-of, HasField-name, HasField-named, FieldsBelow-names}
 use Rattle.cedar_rules.specs.Fields.{field_names}
-use Rattle.cedar_rules.specs.Below.{TagsBelow, NamesBelow, Below, FieldsBelow}
+use Rattle.cedar_rules.specs.Below.{OpennessBelow, NamesBelow, Below, FieldsBelow}
 use Rattle.cedar_rules.specs.OwnBound.{FieldsLieWithin, IsEither, IsOwnBound, IsLeastOwnBound}
 use Rattle.cedar_rules.specs.Ty.{Ty, never, truth, long, text, any_entity, union_of, any_set, set_of, record_of, extension_of, Fields, end, field}
 use Rattle.cedar_rules.specs.WellFormed.{IsWellFormed}
@@ -19,7 +19,7 @@ abbrev IsModeless : Ty → Type 0
 IsModeless any_entity = ⊥
 IsModeless (union_of names) = ⊥
 IsModeless (set_of ty) = ⊥
-IsModeless (record_of fields tag) = ⊥
+IsModeless (record_of fields openness) = ⊥
 IsModeless _ = Unit {0}
 
 -- what is below one of them permissively is so strictly
@@ -35,7 +35,7 @@ modeless_strict any_entity any_entity simple h = elim simple [ ]
 modeless_strict (union_of a) any_entity simple h = elim simple [ ]
 modeless_strict (union_of a) (union_of b) simple h = elim simple [ ]
 modeless_strict (set_of a) (set_of b) simple h = elim simple [ ]
-modeless_strict (record_of a tag) (record_of b other) simple h = elim simple [ ]
+modeless_strict (record_of a openness) (record_of b other) simple h = elim simple [ ]
 modeless_strict a b simple h = elim h [ ]
 
 -- a strict join is below such a bound
@@ -89,18 +89,18 @@ least_element a b join least = (
   λ bound own. least.1 (set_of bound) ((own.0.0, (own.0.1.0, tt)), within_sets a b bound own.1),
 )
 
--- a tag is below another if it is below the closed one where the other is closed
-pub tag_below : (tag upper : OpenTag) → (upper ≡ ClosedAttributes → TagsBelow tag ClosedAttributes) → TagsBelow tag upper
+-- a openness is below another if it is below the closed one where the other is closed
+pub tag_below : (openness upper : OpenTag) → (upper ≡ ClosedAttributes → OpennessBelow openness ClosedAttributes) → OpennessBelow openness upper
 tag_below OpenAttributes OpenAttributes closed = tt
 tag_below ClosedAttributes OpenAttributes closed = tt
-tag_below tag ClosedAttributes closed = closed refl
+tag_below openness ClosedAttributes closed = closed refl
 
 -- a join is closed where both records are below a closed one
-tags_below : (fa fb fj : Fields) (ta tb tj upper : OpenTag) → IsLeastOwnBound Strict (record_of fa ta) (record_of fb tb) (record_of fj tj) → TagsBelow ta upper → TagsBelow tb upper → TagsBelow tj upper
+tags_below : (fa fb fj : Fields) (ta tb tj upper : OpenTag) → IsLeastOwnBound Strict (record_of fa ta) (record_of fb tb) (record_of fj tj) → OpennessBelow ta upper → OpennessBelow tb upper → OpennessBelow tj upper
 tags_below fa fb fj ta tb tj upper least h k =
     tag_below tj upper
     (λ e. (least.1 (record_of fj ClosedAttributes)
-    (((subst (TagsBelow ta) e h, least.0.0.0.1, least.0.0.0.2), ((subst (TagsBelow tb) e k, least.0.0.1.0.1, least.0.0.1.0.2), tt)), least.0.1)).0)
+    (((subst (OpennessBelow ta) e h, least.0.0.0.1, least.0.0.0.2), ((subst (OpennessBelow tb) e k, least.0.0.1.0.1, least.0.0.1.0.2), tt)), least.0.1)).0)
 
 -- the names of a record with fewer fit where those of the record do
 pub names_below : (upper : OpenTag) (fj fa fc : Fields) → Included (field_names fj) (field_names fa) → NamesBelow Permissive upper fa fc → NamesBelow Permissive upper fj fc

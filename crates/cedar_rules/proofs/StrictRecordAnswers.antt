@@ -2,18 +2,19 @@
 use Rattle.std.proofs.Common.{◌≡◌, ◌⊎◌, inl, inr, ⊎_elim, Bool, refl, sym, subst, ◌∙◌, ℕ, length, Ok, Err, Contains, nat_eq, eqb-true, true, false}
 use Rattle.std.proofs.lemmas.Bool.{eqb-false}
 use Rattle.cedar_below.proofs.Texts.{text_cmp-total, text_cmp-Equal}
-use Rattle.cedar_below.specs.Included.{Included}
+use Rattle.cedar_below.specs.Lists.{Included}
 use Rattle.cedar_below.specs.Text.{Text, text_cmp}
 use Rattle.cedar_below.specs.declared.validation_mode.ValidationMode.TheVariants.{Strict}
 use Rattle.cedar_rules.proofs.AgreeLaws.{HasField-once}
 use Rattle.cedar_rules.proofs.AnsweredLemmas.{IsAnswered, given, refused}
 use Rattle.cedar_rules.proofs.AntisymmetryLaws.{Included-same}
 use Rattle.cedar_rules.proofs.Decisions.{IsDecided, decide_flags, decide_among, all_among}
-use Rattle.cedar_rules.proofs.PartLemmas.{FieldsBelow-from, FieldsLieWithin-from, FieldsLieWithin-of, within_both, within_named}
-use Rattle.cedar_rules.proofs.RecordAnswers.{AreAnswered, IsJoined, in_more, joined_ascending, rest_ascending, end_ascending, decide_texts}
+use Rattle.cedar_rules.proofs.WithinLemmas.{FieldsBelow-from, FieldsLieWithin-from, FieldsLieWithin-of, within_both, within_named}
+use Rattle.cedar_rules.proofs.RecordAnswers.{AreAnswered, IsJoined, in_more, joined_ascending, end_ascending, decide_texts}
+use Rattle.cedar_rules.proofs.Extensional.{rest_ascending}
 use Rattle.cedar_rules.proofs.SubtypeLaws.{FieldsWithin, HasBelow-of, HasField-name, HasField-named, FieldsBelow-names}
 use Rattle.cedar_rules.specs.Fields.{IsAscending, field_names}
-use Rattle.cedar_rules.specs.Below.{HasField, TagsBelow, Below}
+use Rattle.cedar_rules.specs.Below.{HasField, OpennessBelow, Below}
 use Rattle.cedar_rules.specs.Help.{IsHelpAtName}
 use Rattle.cedar_rules.specs.OwnBound.{IsEither, IsOwnBound, HaveOwnBound, IsLeastOwnBound}
 use Rattle.cedar_rules.specs.Ty.{Ty, record_of, Fields, end, field}
@@ -120,20 +121,20 @@ help_refuses (field name required ty rest) fa fb ta tb it first second within (i
     help_refuses rest fa fb ta tb it first second (λ n r t has. within n r t (inr has)) later own
 help_refuses (field name required ty rest) fa fb ta tb it first second within found (bound, own) = elim own.0.0 [ ]
 
--- the tag of a strict join: open if either is
+-- the openness of a strict join: open if either is
 either_tag : OpenTag → OpenTag → OpenTag
 either_tag OpenAttributes tb = OpenAttributes
 either_tag ClosedAttributes tb = tb
 
--- each tag is below it
-first_below : (ta tb : OpenTag) → TagsBelow ta (either_tag ta tb)
+-- each openness is below it
+first_below : (ta tb : OpenTag) → OpennessBelow ta (either_tag ta tb)
 unfolding either_tag
 first_below OpenAttributes tb = tt
 first_below ClosedAttributes OpenAttributes = tt
 first_below ClosedAttributes ClosedAttributes = tt
 
--- the second tag is below it
-second_below : (ta tb : OpenTag) → TagsBelow tb (either_tag ta tb)
+-- the second openness is below it
+second_below : (ta tb : OpenTag) → OpennessBelow tb (either_tag ta tb)
 unfolding either_tag
 second_below OpenAttributes OpenAttributes = tt
 second_below OpenAttributes ClosedAttributes = tt
@@ -141,7 +142,7 @@ second_below ClosedAttributes OpenAttributes = tt
 second_below ClosedAttributes ClosedAttributes = tt
 
 -- it is below what both are below
-either_below : (ta tb tc : OpenTag) → TagsBelow ta tc → TagsBelow tb tc → TagsBelow (either_tag ta tb) tc
+either_below : (ta tb tc : OpenTag) → OpennessBelow ta tc → OpennessBelow tb tc → OpennessBelow (either_tag ta tb) tc
 unfolding either_tag
 either_below OpenAttributes tb tc h k = h
 either_below ClosedAttributes tb tc h k = k

@@ -1,12 +1,12 @@
 use Rattle.std.proofs.Common.{inl, inr, ⊎_elim, Bool, refl, sym, subst, ◌∙◌, Contains, arith}
 use Rattle.cedar_below.proofs.Inclusion.{Included-none, Included-cons}
 use Rattle.cedar_below.proofs.Lists.{Contains-cons, Contains-cons_cases}
-use Rattle.cedar_below.specs.Included.{Included}
+use Rattle.cedar_below.specs.Lists.{Included}
 use Rattle.cedar_below.specs.Text.{Text}
 use Rattle.cedar_below.specs.declared.validation_mode.ValidationMode.{ValidationMode}
 use Rattle.cedar_below.specs.declared.validation_mode.ValidationMode.TheVariants.{Strict, Permissive}
 use Rattle.cedar_rules.specs.Fields.{field_names}
-use Rattle.cedar_rules.specs.Below.{HasField, FlagsBelow, TagsBelow, NamesBelow, Below, FieldsBelow}
+use Rattle.cedar_rules.specs.Below.{HasField, FlagsBelow, OpennessBelow, NamesBelow, Below, FieldsBelow}
 use Rattle.cedar_rules.specs.Ty.{Ty, never, truth, long, text, any_entity, union_of, any_set, set_of, record_of, extension_of, Fields, end, field}
 use Rattle.cedar_rules.specs.declared.open_tag.OpenTag.{OpenTag}
 use Rattle.cedar_rules.specs.declared.open_tag.OpenTag.TheVariants.{OpenAttributes, ClosedAttributes}
@@ -25,20 +25,20 @@ FlagsBelow-trans : (mode : ValidationMode) (a b c : Bool) → FlagsBelow mode a 
 FlagsBelow-trans Strict a b c h k = h ∙ k
 FlagsBelow-trans Permissive a b c h k = λ required. h (k required)
 
--- a tag fits below itself
-TagsBelow-itself : (tag : OpenTag) → TagsBelow tag tag
-TagsBelow-itself OpenAttributes = tt
-TagsBelow-itself ClosedAttributes = tt
+-- a openness fits below itself
+OpennessBelow-itself : (openness : OpenTag) → OpennessBelow openness openness
+OpennessBelow-itself OpenAttributes = tt
+OpennessBelow-itself ClosedAttributes = tt
 
 -- tags fit below one another in turn
-TagsBelow-trans : (a b c : OpenTag) → TagsBelow a b → TagsBelow b c → TagsBelow a c
-TagsBelow-trans OpenAttributes OpenAttributes c h k = k
-TagsBelow-trans OpenAttributes ClosedAttributes c h k = elim h [ ]
-TagsBelow-trans ClosedAttributes b OpenAttributes h k = tt
-TagsBelow-trans ClosedAttributes b ClosedAttributes h k = tt
+OpennessBelow-trans : (a b c : OpenTag) → OpennessBelow a b → OpennessBelow b c → OpennessBelow a c
+OpennessBelow-trans OpenAttributes OpenAttributes c h k = k
+OpennessBelow-trans OpenAttributes ClosedAttributes c h k = elim h [ ]
+OpennessBelow-trans ClosedAttributes b OpenAttributes h k = tt
+OpennessBelow-trans ClosedAttributes b ClosedAttributes h k = tt
 
 -- the names of a record are its own
-NamesBelow-itself : (mode : ValidationMode) (tag : OpenTag) (fields : Fields) → NamesBelow mode tag fields fields
+NamesBelow-itself : (mode : ValidationMode) (openness : OpenTag) (fields : Fields) → NamesBelow mode openness fields fields
 NamesBelow-itself Strict OpenAttributes fields = λ name among. among
 NamesBelow-itself Strict ClosedAttributes fields = λ name among. among
 NamesBelow-itself Permissive OpenAttributes fields = tt
@@ -56,8 +56,8 @@ mutual
   Below-itself Permissive (union_of names) = λ name among. among
   Below-itself mode any_set = tt
   Below-itself mode (set_of ty) = Below-itself mode ty
-  Below-itself mode (record_of fields tag) =
-      (TagsBelow-itself tag, NamesBelow-itself mode tag fields, FieldsBelow-within mode fields fields (λ name required ty has. has))
+  Below-itself mode (record_of fields openness) =
+      (OpennessBelow-itself openness, NamesBelow-itself mode openness fields, FieldsBelow-within mode fields fields (λ name required ty has. has))
   Below-itself mode (extension_of name) = refl
 
   -- a record is below another if it has its attributes
@@ -98,12 +98,12 @@ FieldsBelow-names mode lower (field name required ty rest) below =
     Included-cons name (field_names rest) (field_names lower) (HasField-name lower name _ _ below.0.2) (FieldsBelow-names mode lower rest below.1)
 
 -- the names of records below one another in turn
-NamesBelow-trans : (mode : ValidationMode) (tag upper_tag : OpenTag) (a b c : Fields) → TagsBelow tag upper_tag → NamesBelow mode tag a b → NamesBelow mode upper_tag b c → NamesBelow mode upper_tag a c
+NamesBelow-trans : (mode : ValidationMode) (openness upper_openness : OpenTag) (a b c : Fields) → OpennessBelow openness upper_openness → NamesBelow mode openness a b → NamesBelow mode upper_openness b c → NamesBelow mode upper_openness a c
 NamesBelow-trans Strict OpenAttributes OpenAttributes a b c tags h k = λ name among. k name (h name among)
 NamesBelow-trans Strict OpenAttributes ClosedAttributes a b c tags h k = λ name among. k name (h name among)
 NamesBelow-trans Strict ClosedAttributes OpenAttributes a b c tags h k = λ name among. k name (h name among)
 NamesBelow-trans Strict ClosedAttributes ClosedAttributes a b c tags h k = λ name among. k name (h name among)
-NamesBelow-trans Permissive tag OpenAttributes a b c tags h k = tt
+NamesBelow-trans Permissive openness OpenAttributes a b c tags h k = tt
 NamesBelow-trans Permissive OpenAttributes ClosedAttributes a b c tags h k = elim tags [ ]
 NamesBelow-trans Permissive ClosedAttributes ClosedAttributes a b c tags h k = λ name among. k name (h name among)
 
@@ -130,9 +130,9 @@ mutual
   Below-trans mode (set_of a) (set_of b) any_set h k = tt
   Below-trans mode (set_of a) (set_of b) (set_of c) h k = Below-trans mode a b c h k
   Below-trans mode (set_of a) (set_of b) c h k = elim k [ ]
-  Below-trans mode (record_of a tag) (record_of b middle_tag) (record_of c upper_tag) h k =
-      (TagsBelow-trans tag middle_tag upper_tag h.0 k.0, NamesBelow-trans mode middle_tag upper_tag a b c k.0 h.1 k.1, FieldsBelow-trans mode a b c h.2 k.2)
-  Below-trans mode (record_of a tag) (record_of b middle_tag) c h k = elim k [ ]
+  Below-trans mode (record_of a openness) (record_of b middle_tag) (record_of c upper_openness) h k =
+      (OpennessBelow-trans openness middle_tag upper_openness h.0 k.0, NamesBelow-trans mode middle_tag upper_openness a b c k.0 h.1 k.1, FieldsBelow-trans mode a b c h.2 k.2)
+  Below-trans mode (record_of a openness) (record_of b middle_tag) c h k = elim k [ ]
   Below-trans mode (extension_of a) (extension_of b) (extension_of c) h k = h ∙ k
   Below-trans mode (extension_of a) (extension_of b) c h k = elim k [ ]
   Below-trans mode a b c h k = elim h [ ]

@@ -47,7 +47,7 @@ HasField-all P name (field other flag of rest) required ty (inl same) all = subs
 HasField-all P name (field other flag of rest) required ty (inr there) all = HasField-all P name rest required ty there all.1
 
 -- a name above another is another
-above_differs : (name other : Text) → text_cmp other name ≡ Less → bytes_eq name other ≡ true → ⊥
+above_differs : (name other : Text) → text_cmp other name ≡ Less → ¬ (bytes_eq name other ≡ true)
 above_differs name other less e =
     let same : name ≡ other = (bytes_eq-Decides name other).0 e in
     let tied : text_cmp name name ≡ Equal = tied_itself text_cmp-total name in
@@ -55,7 +55,7 @@ above_differs name other less e =
     cc
 
 -- a choice that isn't made
-pub unchosen : {A : Type 0} (b : Bool) (x y : A) → (b ≡ true → ⊥) → (if b then x else y) ≡ y
+pub unchosen : {A : Type 0} (b : Bool) (x y : A) → ¬ (b ≡ true) → (if b then x else y) ≡ y
 unchosen true x y never = absurd (never refl)
 unchosen false x y never = refl
 
@@ -91,7 +91,7 @@ HasBelow-Decides mode lower name upper own b ascending found decides = (
 )
 
 -- where no attribute is found there is none below
-pub HasBelow-none : (mode : ValidationMode) (lower : Fields) (name : Text) (upper : Bool × Ty) → IsAscending lower → field_at name lower ≡ None → HasBelow mode lower name upper.0 upper.1 → ⊥
+pub HasBelow-none : (mode : ValidationMode) (lower : Fields) (name : Text) (upper : Bool × Ty) → IsAscending lower → field_at name lower ≡ None → ¬ HasBelow mode lower name upper.0 upper.1
 HasBelow-none mode lower name upper ascending none has =
     let again : field_at name lower ≡ Some (has.0, has.1) = found-HasField name lower has.0 has.1 ascending has.2 in
     cc

@@ -5,7 +5,7 @@ use Rattle.cedar_below.proofs.Lists.{Contains-cons}
 use Rattle.cedar_below.specs.CoreTy.{core_extension}
 use Rattle.cedar_below.specs.CoreSchemaType.{result_type}
 use Rattle.cedar_below.specs.Fits.{EntryFits, Gives, NamesListed}
-use Rattle.cedar_below.specs.Included.{Included}
+use Rattle.cedar_below.specs.Lists.{Included}
 use Rattle.cedar_below.specs.PlainName.{PlainName}
 use Rattle.cedar_below.specs.Text.{Text}
 use Rattle.cedar_below.specs.Tree.{Tree, truth_value, number_value, text_value, uid_value, set_value, map_value, call_value, Trees, no_tree, tree, Entries, entry, entry_at, entry_names}
@@ -18,7 +18,7 @@ use Rattle.cedar_rules.proofs.RecordAnswers.{decide_texts}
 use Rattle.cedar_rules.proofs.SampleValues.{HasFields-from, fits_some, some_fits, entry_here, entry_there, absent_entry, fresh_text, fresh_name, truth_sample, some_name, only_listed, Sample, inhabitant, sample}
 use Rattle.cedar_rules.proofs.SubtypeLaws.{FieldsWithin, HasField-name, HasField-named, FieldsBelow-names}
 use Rattle.cedar_rules.specs.Fields.{IsAscending, field_names}
-use Rattle.cedar_rules.specs.Below.{HasField, TagsBelow, NamesBelow, Below, FieldsBelow}
+use Rattle.cedar_rules.specs.Below.{HasField, OpennessBelow, NamesBelow, Below, FieldsBelow}
 use Rattle.cedar_rules.specs.Has.{Has}
 use Rattle.cedar_rules.specs.OpenTag.{is_open}
 use Rattle.cedar_rules.specs.InclusionLaws.{ValuesIncluded, ListsNames, FieldsListNames, SubtypingIsInclusion, SubtypingIsInclusionAndNames}
@@ -140,7 +140,7 @@ closed_names extensions fa fb ta known n among =
     (known.within (map_value (entry n value.0 it.values)) whole).0 n (Contains-cons n (entry_names it.values) n (inl refl))
 
 -- an open record doesn't have its values in a closed one
-open_isnt_closed : (extensions : Extensions) (fa fb : Fields) → Inclusion extensions fa fb OpenAttributes ClosedAttributes → ⊥
+open_isnt_closed : (extensions : Extensions) (fa fb : Fields) → ¬ Inclusion extensions fa fb OpenAttributes ClosedAttributes
 open_isnt_closed extensions fa fb known =
     let fresh = fresh_text (field_names fa) (field_names fb) in
     let it = sample extensions fa fresh.0 known.first known.formed known.lives in
@@ -149,7 +149,7 @@ open_isnt_closed extensions fa fb known =
     fresh.2 ((known.within (map_value (entry fresh.0 (truth_value true) it.values)) whole).0 fresh.0 (Contains-cons fresh.0 (entry_names it.values) fresh.0 (inl refl)))
 
 -- tags fit where the values are included
-tags_included : (extensions : Extensions) (fa fb : Fields) (ta tb : OpenTag) → Inclusion extensions fa fb ta tb → TagsBelow ta tb
+tags_included : (extensions : Extensions) (fa fb : Fields) (ta tb : OpenTag) → Inclusion extensions fa fb ta tb → OpennessBelow ta tb
 tags_included extensions fa fb OpenAttributes OpenAttributes known = tt
 tags_included extensions fa fb OpenAttributes ClosedAttributes known = open_isnt_closed extensions fa fb known
 tags_included extensions fa fb ClosedAttributes OpenAttributes known = tt

@@ -1,5 +1,5 @@
 use Rattle.std.specs.Prelude.{◌≡◌, Bool}
-use Rattle.cedar_below.specs.Included.{Included}
+use Rattle.cedar_below.specs.Lists.{Included}
 use Rattle.cedar_rules.specs.Fields.{field_names}
 use Rattle.cedar_rules.specs.Below.{HasField}
 use Rattle.cedar_rules.specs.Ty.{Ty, any_entity, union_of, set_of, record_of, Fields, end, field}
@@ -13,7 +13,7 @@ abbrev mutual
   Agree (union_of lower) any_entity = ⊥
   Agree (union_of lower) (union_of upper) = lower ≡ upper
   Agree (set_of lower) (set_of upper) = Agree lower upper
-  Agree (record_of lower tag) (record_of upper upper_tag) =
+  Agree (record_of lower openness) (record_of upper upper_openness) =
       Included (field_names lower) (field_names upper)
       × Included (field_names upper) (field_names lower)
       × FieldsAgree lower upper

@@ -1,5 +1,5 @@
 use Rattle.std.specs.Prelude.{◌≡◌, ◌⊎◌, Bool, IsTrue}
-use Rattle.cedar_below.specs.Included.{Included}
+use Rattle.cedar_below.specs.Lists.{Included}
 use Rattle.cedar_below.specs.Text.{Text}
 use Rattle.cedar_below.specs.declared.validation_mode.ValidationMode.{ValidationMode}
 use Rattle.cedar_below.specs.declared.validation_mode.ValidationMode.TheVariants.{Strict, Permissive}
@@ -21,9 +21,9 @@ FlagsBelow Strict lower upper = lower ≡ upper
 FlagsBelow Permissive lower upper = IsTrue upper → IsTrue lower
 
 -- an open record isn't below a closed one
-abbrev pub TagsBelow : OpenTag → OpenTag → Type 0
-TagsBelow OpenAttributes ClosedAttributes = ⊥
-TagsBelow _ _ = Unit {0}
+abbrev pub OpennessBelow : OpenTag → OpenTag → Type 0
+OpennessBelow OpenAttributes ClosedAttributes = ⊥
+OpennessBelow _ _ = Unit {0}
 
 -- the lower record has no further name, but where the upper is open and the mode permissive
 abbrev pub NamesBelow : ValidationMode → OpenTag → Fields → Fields → Type 0
@@ -45,8 +45,8 @@ abbrev mutual
   Below mode any_set any_set = Unit {0}
   Below mode (set_of lower) any_set = Unit {0}
   Below mode (set_of lower) (set_of upper) = Below mode lower upper
-  Below mode (record_of lower tag) (record_of upper upper_tag) =
-      TagsBelow tag upper_tag × NamesBelow mode upper_tag lower upper × FieldsBelow mode lower upper
+  Below mode (record_of lower openness) (record_of upper upper_openness) =
+      OpennessBelow openness upper_openness × NamesBelow mode upper_openness lower upper × FieldsBelow mode lower upper
   Below mode (extension_of lower) (extension_of upper) = lower ≡ upper
   Below _ _ _ = ⊥
 

@@ -1,10 +1,10 @@
 use Rattle.std.specs.Prelude.{codes}
 use Rattle.cedar_below.specs.Text.{Text}
 use Rattle.cedar_rules.specs.declared.bool_type.BoolType.{BoolType}
-use Rattle.cedar_rules.specs.declared.bool_type.BoolType.TheVariants as known
+use Rattle.cedar_rules.specs.declared.bool_type.BoolType.TheVariants as bool_type
 
 -- what is known of a truth value, as it is printed
 abbrev pub bool_text : BoolType → Text
-bool_text known.AnyBool = codes "Bool"
-bool_text known.True = codes "__cedar::internal::True"
-bool_text known.False = codes "__cedar::internal::False"
+bool_text bool_type.AnyBool = codes "Bool"
+bool_text bool_type.True = codes "__cedar::internal::True"
+bool_text bool_type.False = codes "__cedar::internal::False"

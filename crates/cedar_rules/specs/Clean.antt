@@ -7,7 +7,7 @@ abbrev mutual
   pub IsClean : Ty → Type 0
   IsClean any_set = ⊥
   IsClean (set_of ty) = IsClean ty
-  IsClean (record_of fields tag) = AreClean fields
+  IsClean (record_of fields openness) = AreClean fields
   IsClean _ = Unit {0}
 
   -- the type of each attribute is clean

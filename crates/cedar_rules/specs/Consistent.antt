@@ -1,4 +1,4 @@
-use Rattle.std.specs.Prelude.{◌≡◌, ◌⊎◌, Bool, true, false, Contains}
+use Rattle.std.specs.Prelude.{◌≡◌, ◌⊎◌, Bool, true, false, List, Contains}
 use Rattle.cedar_below.specs.CoreTy.{CoreTy, CoreFields, core_truth, core_long, core_text, core_set, core_empty_set, core_record, core_entity, core_extension, core_end, core_field, core_names}
 use Rattle.cedar_below.specs.Text.{Text}
 use Rattle.cedar_rules.specs.Fields.{field_names}
@@ -13,17 +13,10 @@ HasCoreField core_end name required core = ⊥
 HasCoreField (core_field other flag of rest) name required core =
     ((other ≡ name) × (flag ≡ required) × (of ≡ core)) ⊎ HasCoreField rest name required core
 
--- each attribute that only the type lists is optional, or the core type is open
-abbrev pub MayLack : Fields → CoreFields → Bool → Type 0
-MayLack fields core is_open =
-    (name : Text) (required : Bool) (ty : Ty) → HasField fields name required ty → ¬ Contains (core_names core) name
-    → (required ≡ false) ⊎ (is_open ≡ true)
-
--- each attribute that only the core type lists is optional, or the type is open
-abbrev pub MayLackCore : Fields → CoreFields → OpenTag → Type 0
-MayLackCore fields core tag =
-    (name : Text) (required : Bool) (of : CoreTy) → HasCoreField core name required of → ¬ Contains (field_names fields) name
-    → (required ≡ false) ⊎ (tag ≡ OpenAttributes)
+-- each attribute that isn't among the names is optional, or attributes beyond the names are admitted
+abbrev pub AreOptionalBeyond : (Text → Bool → Type 0) → List Text → Type 0 → Type 0
+AreOptionalBeyond HasFlag names IsOpen =
+    (name : Text) (required : Bool) → HasFlag name required → ¬ Contains names name → (required ≡ false) ⊎ IsOpen
 
 abbrev mutual
   -- a type is consistent with a core type: they are of one kind, sets and records have consistent parts, and a record
@@ -38,8 +31,10 @@ abbrev mutual
   IsConsistent any_entity (core_entity name) = Unit {0}
   IsConsistent (union_of names) (core_entity name) = Contains names name
   IsConsistent (extension_of own) (core_extension name) = own ≡ name
-  IsConsistent (record_of fields tag) (core_record core is_open) =
-      FieldsAreConsistent fields core × MayLack fields core is_open × MayLackCore fields core tag
+  IsConsistent (record_of fields openness) (core_record core open_attrs) =
+      FieldsAreConsistent fields core
+      × AreOptionalBeyond (λ name required. (ty : Ty) × HasField fields name required ty) (core_names core) (open_attrs ≡ true)
+      × AreOptionalBeyond (λ name required. (of : CoreTy) × HasCoreField core name required of) (field_names fields) (openness ≡ OpenAttributes)
   IsConsistent _ _ = ⊥
 
   -- the attributes of a name that both have are of consistent types

@@ -17,7 +17,7 @@ abbrev mutual
   core_of (union_of names) = option_map core_entity (only_name names)
   core_of any_set = Some core_empty_set
   core_of (set_of ty) = option_map core_set (core_of ty)
-  core_of (record_of fields tag) = option_map (λ core. core_record core (is_open tag)) (core_fields fields)
+  core_of (record_of fields openness) = option_map (λ core. core_record core (is_open openness)) (core_fields fields)
   core_of (extension_of name) = Some (core_extension name)
 
   -- the attributes with the core types of their types, if each has one

@@ -9,7 +9,7 @@ only_name (name ∷ other ∷ rest) = None
 
 -- no name stands in both lists
 abbrev pub AreDisjoint : List PlainName → List PlainName → Type 0
-AreDisjoint names others = (name : PlainName) → Contains names name → Contains others name → ⊥
+AreDisjoint names others = (name : PlainName) → Contains names name → ¬ Contains others name
 
 -- the names of the last list are those that stand in one of the first two
 abbrev pub IsUnionOf : List PlainName → List PlainName → List PlainName → Type 0

@@ -24,6 +24,6 @@ last_named name (item ∷ rest) = option_or (last_named name rest) (if bytes_eq 
 abbrev pub HoldsLast : List (Text × (Bool × Ty)) → Fields → Type 0
 HoldsLast items fields = (name : Text) → field_at name fields ≡ last_named name items
 
--- the record type of some pairs: its attributes are the last of each name, in order, and it has the tag
+-- the record type of some pairs: its attributes are the last of each name, in order, and it has the openness
 abbrev pub IsRecordOf : List (Text × (Bool × Ty)) → OpenTag → Ty → Type 0
-IsRecordOf items tag ty = (fields : Fields) × (ty ≡ record_of fields tag) × HoldsLast items fields × IsAscending fields
+IsRecordOf items openness ty = (fields : Fields) × (ty ≡ record_of fields openness) × HoldsLast items fields × IsAscending fields

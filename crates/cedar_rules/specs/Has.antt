@@ -8,13 +8,13 @@ use Rattle.cedar_rules.specs.OpenTag.{is_open}
 use Rattle.cedar_rules.specs.Fields.{field_names}
 use Rattle.cedar_rules.specs.Ty.{Ty, truth, long, text, any_entity, union_of, any_set, set_of, record_of, extension_of, Fields, end, field}
 use Rattle.cedar_rules.specs.declared.bool_type.BoolType.{BoolType}
-use Rattle.cedar_rules.specs.declared.bool_type.BoolType.TheVariants as known
+use Rattle.cedar_rules.specs.declared.bool_type.BoolType.TheVariants as bool_type
 
 -- a truth value is as is known
 abbrev pub HasTruth : Bool → BoolType → Type 0
-HasTruth value known.AnyBool = Unit {0}
-HasTruth value known.True = value ≡ true
-HasTruth value known.False = value ≡ false
+HasTruth value bool_type.AnyBool = Unit {0}
+HasTruth value bool_type.True = value ≡ true
+HasTruth value bool_type.False = value ≡ false
 
 -- a uid's entity is of a type: of any, or of one of a union
 abbrev pub HasUid : PlainUid → Ty → Type 0
@@ -31,8 +31,8 @@ abbrev mutual
   HasBy calls (uid_value uid) ty = HasUid uid ty
   HasBy calls (set_value values) any_set = Unit {0}
   HasBy calls (set_value values) (set_of ty) = EachTree (λ value. HasBy calls value ty) values
-  HasBy calls (map_value values) (record_of fields tag) =
-      NamesListed (is_open tag) (entry_names values) (field_names fields) × HasFieldsBy calls values fields
+  HasBy calls (map_value values) (record_of fields openness) =
+      NamesListed (is_open openness) (entry_names values) (field_names fields) × HasFieldsBy calls values fields
   HasBy calls (call_value function args) (extension_of name) = calls function args name
   HasBy _ _ _ = ⊥
 
@@ -51,8 +51,8 @@ abbrev pub MayGive : Extensions → PlainName → Trees → PlainName → Type 0
 MayGive extensions function args name = Gives extensions function args name ⊎ IsUnknown extensions function
 
 -- a value has a type, if each call of an unknown function is given every extension type
-abbrev pub HasUp : Extensions → Tree → Ty → Type 0
-HasUp extensions = HasBy (MayGive extensions)
+abbrev pub MayHave : Extensions → Tree → Ty → Type 0
+MayHave extensions = HasBy (MayGive extensions)
 
 -- a fact holds of the value, if there is one
 abbrev pub SomeEntry : (Tree → Type 0) → Option Tree → Type 0
@@ -64,7 +64,7 @@ abbrev mutual
   pub Meets : Extensions → PlainName → Tree → Ty → Type 0
   Meets extensions unknown (call_value function args) (extension_of name) = (function ≡ unknown) × IsUnknown extensions unknown
   Meets extensions unknown (set_value values) (set_of ty) = SomeTree (λ value. Meets extensions unknown value ty) values
-  Meets extensions unknown (map_value values) (record_of fields tag) = FieldsMeet extensions unknown values fields
+  Meets extensions unknown (map_value values) (record_of fields openness) = FieldsMeet extensions unknown values fields
   Meets _ _ _ _ = ⊥
 
   -- the value of a listed attribute meets an unknown function at the attribute's type

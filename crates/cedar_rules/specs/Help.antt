@@ -21,14 +21,14 @@ abbrev mutual
   -- a help may be given for two types: that for an entity and a record, in strict mode those for two entities and for
   -- two records, for two sets one for their elements, and else none
   pub IsHelp : ValidationMode → Ty → Ty → LubHelp → Type 0
-  IsHelp mode any_entity (record_of b tag) given = given ≡ help.EntityRecord
-  IsHelp mode (union_of a) (record_of b tag) given = given ≡ help.EntityRecord
-  IsHelp mode (record_of a tag) any_entity given = given ≡ help.EntityRecord
-  IsHelp mode (record_of a tag) (union_of b) given = given ≡ help.EntityRecord
+  IsHelp mode any_entity (record_of b openness) given = given ≡ help.EntityRecord
+  IsHelp mode (union_of a) (record_of b openness) given = given ≡ help.EntityRecord
+  IsHelp mode (record_of a openness) any_entity given = given ≡ help.EntityRecord
+  IsHelp mode (record_of a openness) (union_of b) given = given ≡ help.EntityRecord
   IsHelp Strict any_entity (union_of b) given = given ≡ help.EntityType
   IsHelp Strict (union_of a) any_entity given = given ≡ help.EntityType
   IsHelp Strict (union_of a) (union_of b) given = given ≡ help.EntityType
-  IsHelp Strict (record_of a tag) (record_of b other_tag) given =
+  IsHelp Strict (record_of a openness) (record_of b other_openness) given =
       ((length (field_names a) ≢ length (field_names b)) × (given ≡ help.RecordWidth))
       ⊎ ((length (field_names a) ≡ length (field_names b)) × IsHelpAtName a b given)
   IsHelp mode (set_of a) (set_of b) given = IsHelp mode a b given

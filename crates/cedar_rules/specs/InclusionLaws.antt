@@ -1,5 +1,5 @@
 use Rattle.std.specs.Prelude.{◌↔◌, Bool}
-use Rattle.cedar_below.specs.Included.{Included}
+use Rattle.cedar_below.specs.Lists.{Included}
 use Rattle.cedar_below.specs.Tree.{Tree}
 use Rattle.cedar_below.specs.declared.extension.Extensions.{Extensions}
 use Rattle.cedar_below.specs.declared.validation_mode.ValidationMode.TheVariants.{Permissive}
@@ -19,7 +19,7 @@ abbrev mutual
   -- lower record
   pub ListsNames : Ty → Ty → Type 0
   ListsNames (set_of lower) (set_of upper) = ListsNames lower upper
-  ListsNames (record_of lower tag) (record_of upper upper_tag) =
+  ListsNames (record_of lower openness) (record_of upper upper_openness) =
       Included (field_names upper) (field_names lower) × FieldsListNames lower upper
   ListsNames _ _ = Unit {0}
 

@@ -30,7 +30,7 @@ IsReduceAnswer mode start (ty ∷ rest) answer =
     ⊎ ((given : LubHelp) × IsJoinAnswer mode start ty (Err given) × (answer ≡ Err given))
 
 -- the answer of a call is right, by what its value stands for, or it is want of memory
-abbrev pub IsRightOrMemory : {A : Type 0} → (A → Ty) → (JoinAnswer → Type 0) → Result A JoinError → Type 0
-IsRightOrMemory stands_for IsRight (Ok value) = IsRight (Ok (stands_for value))
-IsRightOrMemory stands_for IsRight (Err (error.Help given)) = IsRight (Err given)
-IsRightOrMemory stands_for IsRight (Err error.Memory) = Unit {0}
+abbrev pub IsAnswerOrMemory : {A : Type 0} → (A → Ty) → (JoinAnswer → Type 0) → Result A JoinError → Type 0
+IsAnswerOrMemory stands_for IsAnswer (Ok value) = IsAnswer (Ok (stands_for value))
+IsAnswerOrMemory stands_for IsAnswer (Err (error.Help given)) = IsAnswer (Err given)
+IsAnswerOrMemory stands_for IsAnswer (Err error.Memory) = Unit {0}

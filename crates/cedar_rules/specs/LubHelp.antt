@@ -3,7 +3,7 @@ use Rattle.cedar_below.specs.Text.{Text}
 use Rattle.cedar_rules.specs.declared.join_error.LubHelp.{LubHelp}
 use Rattle.cedar_rules.specs.declared.join_error.LubHelp.TheVariants as help
 
--- a hint as it is printed
+-- a help as it is printed
 abbrev pub help_text : LubHelp → Text
 help_text help.None = codes "None"
 help_text help.RecordWidth = codes "RecordWidth"

@@ -2,7 +2,7 @@ use Rattle.std.specs.Prelude.{Bool, true, false}
 use Rattle.cedar_rules.specs.declared.open_tag.OpenTag.{OpenTag}
 use Rattle.cedar_rules.specs.declared.open_tag.OpenTag.TheVariants.{OpenAttributes, ClosedAttributes}
 
--- whether a record with this tag may have attributes that it doesn't list
+-- whether a record with this openness may have attributes that it doesn't list
 abbrev pub is_open : OpenTag → Bool
 is_open OpenAttributes = true
 is_open ClosedAttributes = false

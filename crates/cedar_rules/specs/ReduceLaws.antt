@@ -1,6 +1,6 @@
 use Rattle.std.specs.Prelude.{◌≡◌, List, [], Ok, IfOk}
 use Rattle.std.specs.List.{AllByRecursion}
-use Rattle.cedar_below.specs.Included.{Included}
+use Rattle.cedar_below.specs.Lists.{Included}
 use Rattle.cedar_below.specs.declared.validation_mode.ValidationMode.{ValidationMode}
 use Rattle.cedar_rules.specs.Bound.{IsCleanBound}
 use Rattle.cedar_rules.specs.Clean.{IsClean}

@@ -9,7 +9,7 @@ abbrev mutual
   pub IsInhabited : Extensions → Ty → Type 0
   IsInhabited extensions never = ⊥
   IsInhabited extensions (set_of ty) = IsInhabited extensions ty
-  IsInhabited extensions (record_of fields tag) = AreInhabited extensions fields
+  IsInhabited extensions (record_of fields openness) = AreInhabited extensions fields
   IsInhabited extensions (extension_of name) = (value : Tree) × Has extensions value (extension_of name)
   IsInhabited extensions _ = Unit {0}
 
@@ -22,7 +22,7 @@ abbrev mutual
   -- every attribute that stands in a type is required
   pub RequiresAll : Ty → Type 0
   RequiresAll (set_of ty) = RequiresAll ty
-  RequiresAll (record_of fields tag) = FieldsRequireAll fields
+  RequiresAll (record_of fields openness) = FieldsRequireAll fields
   RequiresAll _ = Unit {0}
 
   -- each attribute is required, and so is every one in its type

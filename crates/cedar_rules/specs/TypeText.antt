@@ -38,7 +38,7 @@ abbrev mutual
   ty_text (union_of names) = union_text names
   ty_text any_set = codes "Set<__cedar::internal::Any>"
   ty_text (set_of ty) = codes "Set<" ++ ty_text ty ++ codes ">"
-  ty_text (record_of fields tag) = tag_text tag ++ codes "{" ++ fields_text fields ++ codes "}"
+  ty_text (record_of fields openness) = tag_text openness ++ codes "{" ++ fields_text fields ++ codes "}"
   ty_text (extension_of name) = name_text name
 
   -- the attributes of a record as they are printed, each with a comma behind it

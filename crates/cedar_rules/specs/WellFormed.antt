@@ -9,7 +9,7 @@ abbrev mutual
   pub IsWellFormed : Ty → Type 0
   IsWellFormed (union_of names) = (names ≢ []) × IsStrictlySortedBy name_cmp names
   IsWellFormed (set_of ty) = IsWellFormed ty
-  IsWellFormed (record_of fields tag) = IsAscending fields × AreWellFormed fields
+  IsWellFormed (record_of fields openness) = IsAscending fields × AreWellFormed fields
   IsWellFormed _ = Unit {0}
 
   -- the type of each attribute is well formed

@@ -4,10 +4,10 @@ use cedar_below::Memory;
 use std::fmt;
 use thiserror::Error;
 
-/// Why two types have no least upper bound: a hint for whoever reads the refusal.
+/// Why two types have no least upper bound: a help for whoever reads the refusal.
 #[derive(Clone, Copy, Debug, PartialEq, Eq)]
 pub enum LubHelp {
-    /// There is no hint.
+    /// There is no help.
     None,
     /// In strict mode, the records don't have the same attributes.
     RecordWidth,

@@ -10,7 +10,7 @@ ghost use Rattle.cedar_rules.specs.Below.{Below};
 ghost use Rattle.cedar_rules.specs.Clean.{CleanIsWithoutAnySet};
 ghost use Rattle.cedar_rules.specs.CoreOf.{CoreIsLackedExactly};
 ghost use Rattle.cedar_rules.specs.Disjoint.{DisjointTypesShareNoValue};
-ghost use Rattle.cedar_rules.specs.Has.{Has, HasUp};
+ghost use Rattle.cedar_rules.specs.Has.{Has, MayHave};
 ghost use Rattle.cedar_rules.specs.InclusionLaws.{SubtypingIsInclusion, SubtypingIsInclusionAndNames};
 ghost use Rattle.cedar_rules.specs.JoinLaws.{CleanBoundsAreOwn, OwnBoundsOfCleanAreClean, JoinsAreAnswered, JoinsAreGivenExactly};
 ghost use Rattle.cedar_rules.specs.JoinLaws.{JoinsAreUnique, UpperTypesAreJoins, JoinsAreBelowCleanBounds, JoinsOfCleanAreLeastClean};
@@ -41,7 +41,7 @@ pub fn supertypes_have_the_values()
     ensures has { (extensions : Extensions) (value : Tree) (mode : ValidationMode) (a b : Ty)
         → Has extensions value a → Below mode a b → Has extensions value b }
     ensures may_have { (extensions : Extensions) (value : Tree) (mode : ValidationMode) (a b : Ty)
-        → HasUp extensions value a → Below mode a b → HasUp extensions value b }
+        → MayHave extensions value a → Below mode a b → MayHave extensions value b }
 {}
 
 /// Strict subtyping of a well-formed plain type is permissive subtyping, and agreement.

@@ -1,6 +1,6 @@
 use Rattle.std.proofs.Common.{◌≡◌, sym, subst}
 use Rattle.cedar_names.specs.Expr.{Expr, set_expr}
-use Rattle.cedar_schema.specs.Building.{IsExprFault}
+use Rattle.cedar_schema.specs.Steps.{IsExprFault}
 use Rattle.cedar_declared.specs.Defined.{Defined}
 use Rattle.cedar_declared.specs.Fault.{Fault}
 use Rattle.cedar_declared.specs.WrittenOut.{WrittenOut}

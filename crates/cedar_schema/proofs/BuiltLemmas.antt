@@ -26,11 +26,12 @@ use Rattle.cedar_names.specs.Part.{IsPlainStandard}
 use Rattle.cedar_names.specs.declared.json_schema.entity_type.EntityType.{EntityType as Declaration}
 use Rattle.cedar_names.specs.declared.json_schema.raw_name.RawName.{RawName}
 use Rattle.cedar_schema.proofs.DeclaredLemmas.{Entries}
-use Rattle.cedar_schema.specs.Building.{IsSound}
+use Rattle.cedar_schema.specs.Steps.{IsSound}
 use Rattle.cedar_declared.specs.Defined.{Defined}
-use Rattle.cedar_schema.specs.EntityFaults.{Declared, declared_by_entries, defined_by, name_here}
-use Rattle.cedar_schema.specs.Fits.{Fits, FitEach}
-use Rattle.cedar_below.specs.Included.{SameItems}
+use Rattle.cedar_schema.specs.Steps.{Declared, declared_by_entries, defined_by, name_here}
+use Rattle.cedar_schema.specs.Steps.{IsBuilt}
+use Rattle.cedar_below.specs.Lists.{HoldsInTurn}
+use Rattle.cedar_below.specs.Lists.{SameItems}
 use Rattle.cedar_entities.specs.declared.entity_type.ValidatorEntityType.{ValidatorEntityType}
 
 -- names that are the same as none are none
@@ -54,20 +55,20 @@ abbrev pub Types : Type 0
 Types = List (EntityType × ValidatorEntityType)
 
 -- one more declaration, and the entity type that it gives
-FitEach-push : (defined : Defined) (declared : Declared) (entries : Types) (entity : PlainName × EntityBody) (entry : EntityType × ValidatorEntityType) → FitEach defined declared entries → Fits defined entity entry → FitEach defined (declared ++ entity ∷ []) (entries ++ entry ∷ [])
-FitEach-push defined [] [] entity entry each one = (one, tt)
-FitEach-push defined [] (other ∷ entries) entity entry each one = absurd each
-FitEach-push defined (other ∷ declared) [] entity entry each one = absurd each
-FitEach-push defined (other ∷ declared) (first ∷ entries) entity entry each one =
-    (each.0, FitEach-push defined declared entries entity entry each.1 one)
+AreBuilt-push : (defined : Defined) (declared : Declared) (entries : Types) (entity : PlainName × EntityBody) (entry : EntityType × ValidatorEntityType) → HoldsInTurn (IsBuilt defined) declared entries → IsBuilt defined entity entry → HoldsInTurn (IsBuilt defined) (declared ++ entity ∷ []) (entries ++ entry ∷ [])
+AreBuilt-push defined [] [] entity entry each one = (one, tt)
+AreBuilt-push defined [] (other ∷ entries) entity entry each one = absurd each
+AreBuilt-push defined (other ∷ declared) [] entity entry each one = absurd each
+AreBuilt-push defined (other ∷ declared) (first ∷ entries) entity entry each one =
+    (each.0, AreBuilt-push defined declared entries entity entry each.1 one)
 
 -- the names of the keys are those that are declared
-pub FitEach-keys : (defined : Defined) (declared : Declared) (entries : Types) → FitEach defined declared entries → map type_name (keys_of entries) ≡ map (λ entity. entity.0) declared
-FitEach-keys defined [] [] each = refl
-FitEach-keys defined [] (other ∷ entries) each = absurd each
-FitEach-keys defined (other ∷ declared) [] each = absurd each
-FitEach-keys defined (entity ∷ declared) (entry ∷ entries) each =
-    (λ i. each.0.key i ∷ FitEach-keys defined declared entries each.1 i)
+pub AreBuilt-keys : (defined : Defined) (declared : Declared) (entries : Types) → HoldsInTurn (IsBuilt defined) declared entries → map type_name (keys_of entries) ≡ map (λ entity. entity.0) declared
+AreBuilt-keys defined [] [] each = refl
+AreBuilt-keys defined [] (other ∷ entries) each = absurd each
+AreBuilt-keys defined (other ∷ declared) [] each = absurd each
+AreBuilt-keys defined (entity ∷ declared) (entry ∷ entries) each =
+    (λ i. each.0.key i ∷ AreBuilt-keys defined declared entries each.1 i)
 
 -- what holds of each item, and of one more
 AllByRecursion-push : {K : Type 0} (P : K → Type 0) (xs : List K) (x : K) → AllByRecursion P xs → P x → AllByRecursion P (xs ++ x ∷ [])
@@ -83,13 +84,13 @@ of_names P (key ∷ keys) all = (all.0, of_names P keys all.1)
 pub record BuiltSoFar (all : Entries) (types : Types) (left : Entries) : Type 0 where
   pub done : Entries
   pub split : all ≡ done ++ left
-  pub fits : FitEach (defined_by (declared_by_entries all)) (declared_by_entries done) types
+  pub fits : HoldsInTurn (IsBuilt (defined_by (declared_by_entries all))) (declared_by_entries done) types
   pub sound : AllByRecursion IsSound (declared_by_entries done)
 
 -- at first none has
 pub BuiltSoFar-none : (all left : Entries) (types : Types) → all ≡ left → types ≡ [] → BuiltSoFar all types left
 BuiltSoFar-none all left types same nothing =
-    let P : Types → Type 0 = λ each. FitEach (defined_by (declared_by_entries all)) [] each in
+    let P : Types → Type 0 = λ each. HoldsInTurn (IsBuilt (defined_by (declared_by_entries all))) [] each in
     record { done = []; split = same; fits = subst P (sym nothing) tt; sound = tt }
 
 -- the names of the entries in their order
@@ -117,7 +118,7 @@ inserted_at_end all left rest types id declaration key ty ordered is named so_fa
     let keys : map name_here (keys_of so_far.done) ≡ map type_name (keys_of types) =
     map-map name_here (λ entry. entry.0) so_far.done
     ∙ (sym (map-map (λ entity. entity.0) (λ entry. (name_here entry.0, raw_entity_body None entry.1)) so_far.done)
-    ∙ sym (FitEach-keys (defined_by (declared_by_entries all)) (declared_by_entries so_far.done) types so_far.fits)) in
+    ∙ sym (AreBuilt-keys (defined_by (declared_by_entries all)) (declared_by_entries so_far.done) types so_far.fits)) in
     let Q : List PlainName → Type 0 = AllByRecursion (λ name. name_cmp (name_here id) name ≡ Greater) in
     let R : (EntityType → Ordering) → Type 0 = λ compare. AllByRecursion (λ other. compare other ≡ Greater) (keys_of types) in
     let by_name = of_names (λ name. name_cmp (name_here id) name ≡ Greater) (keys_of types) (subst Q keys above) in
@@ -125,16 +126,16 @@ inserted_at_end all left rest types id declaration key ty ordered is named so_fa
     (subst R (λ i other. (ap (λ name. name_cmp name (type_name other)) (sym named) ∙ sym (entity_type_ord-name_cmp key other)) i) by_name)
 
 -- one more declaration has given its entity type
-pub BuiltSoFar-more : (all left rest : Entries) (types : Types) (id : UnreservedId) (declaration : Declaration RawName) (key : EntityType) (ty : ValidatorEntityType) → left ≡ (id, declaration) ∷ rest → Fits (defined_by (declared_by_entries all)) (name_here id, raw_entity_body None declaration) (key, ty) → IsSound (name_here id, raw_entity_body None declaration) → BuiltSoFar all types left → BuiltSoFar all (types ++ (key, ty) ∷ []) rest
+pub BuiltSoFar-more : (all left rest : Entries) (types : Types) (id : UnreservedId) (declaration : Declaration RawName) (key : EntityType) (ty : ValidatorEntityType) → left ≡ (id, declaration) ∷ rest → IsBuilt (defined_by (declared_by_entries all)) (name_here id, raw_entity_body None declaration) (key, ty) → IsSound (name_here id, raw_entity_body None declaration) → BuiltSoFar all types left → BuiltSoFar all (types ++ (key, ty) ∷ []) rest
 BuiltSoFar-more all left rest types id declaration key ty is one sound so_far =
     let entity : PlainName × EntityBody = (name_here id, raw_entity_body None declaration) in
     let declared : declared_by_entries (so_far.done ++ (id, declaration) ∷ []) ≡ declared_by_entries so_far.done ++ entity ∷ [] = map-append (λ entry. (name_here entry.0, raw_entity_body None entry.1)) so_far.done ((id, declaration) ∷ []) in
-    let P : Declared → Type 0 = λ each. FitEach (defined_by (declared_by_entries all)) each (types ++ (key, ty) ∷ []) in
+    let P : Declared → Type 0 = λ each. HoldsInTurn (IsBuilt (defined_by (declared_by_entries all))) each (types ++ (key, ty) ∷ []) in
     let Q : Declared → Type 0 = AllByRecursion IsSound in
     record {
       done = so_far.done ++ (id, declaration) ∷ [];
       split = so_far.split ∙ (ap (λ others. so_far.done ++ others) is ∙ sym (append_assoc so_far.done ((id, declaration) ∷ []) rest));
-      fits = subst P (sym declared) (FitEach-push (defined_by (declared_by_entries all)) (declared_by_entries so_far.done) types entity (key, ty) so_far.fits one);
+      fits = subst P (sym declared) (AreBuilt-push (defined_by (declared_by_entries all)) (declared_by_entries so_far.done) types entity (key, ty) so_far.fits one);
       sound = subst Q (sym declared) (AllByRecursion-push IsSound (declared_by_entries so_far.done) entity so_far.sound sound);
     }
 
@@ -155,7 +156,7 @@ declared_next all left rest types id declaration is so_far =
     (Contains-append_right (declared_by_entries so_far.done) (entity ∷ declared_by_entries rest) entity (0, omega arith, refl))
 
 -- where no declaration is left all have given their entity types
-pub built_all : (all left : Entries) (types : Types) → left ≡ [] → BuiltSoFar all types left → FitEach (defined_by (declared_by_entries all)) (declared_by_entries all) types × AllByRecursion IsSound (declared_by_entries all)
+pub built_all : (all left : Entries) (types : Types) → left ≡ [] → BuiltSoFar all types left → HoldsInTurn (IsBuilt (defined_by (declared_by_entries all))) (declared_by_entries all) types × AllByRecursion IsSound (declared_by_entries all)
 built_all all left types nothing so_far =
-    let P : Entries → Type 0 = λ entries. FitEach (defined_by (declared_by_entries all)) (declared_by_entries entries) types × AllByRecursion IsSound (declared_by_entries entries) in
+    let P : Entries → Type 0 = λ entries. HoldsInTurn (IsBuilt (defined_by (declared_by_entries all))) (declared_by_entries entries) types × AllByRecursion IsSound (declared_by_entries entries) in
     subst P (sym (so_far.split ∙ (ap (λ others. so_far.done ++ others) nothing ∙ append-nil so_far.done))) (so_far.fits, so_far.sound)

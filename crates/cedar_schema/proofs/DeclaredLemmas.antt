@@ -19,7 +19,7 @@ use Rattle.cedar_below.specs.contracts.unreserved_id.UnreservedIdOrd.TheImpl as 
 use Rattle.cedar_below.specs.declared.unreserved_id.UnreservedId.{UnreservedId}
 use Rattle.cedar_names.specs.declared.json_schema.entity_type.EntityType.{EntityType}
 use Rattle.cedar_names.specs.declared.json_schema.raw_name.RawName.{RawName}
-use Rattle.cedar_schema.specs.EntityFaults.{declared_by_entries, defined_by, name_here}
+use Rattle.cedar_schema.specs.Steps.{declared_by_entries, defined_by, name_here}
 use Rattle.cedar_below.proofs.Lists.{Contains-preimage}
 
 -- the entries of the entity types that are declared in the empty namespace

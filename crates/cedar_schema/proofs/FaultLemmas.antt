@@ -6,16 +6,17 @@ use Rattle.cedar_names.specs.Expr.{Expr}
 use Rattle.cedar_names.specs.Reference.{Reference}
 use Rattle.cedar_names.specs.declared.json_schema.reference_type.ReferenceType.{ReferenceType}
 use Rattle.cedar_schema.proofs.BuiltLemmas.{Types}
-use Rattle.cedar_schema.specs.Building.{IsSound, IsBodyFault}
+use Rattle.cedar_schema.specs.Steps.{IsSound, IsBodyFault}
 use Rattle.cedar_declared.specs.Counted.{CountsInEntity}
-use Rattle.cedar_declared.specs.Defined.{Defined, IsDefined, IsFirstDefined, IsUnresolved, ResolvesTo}
-use Rattle.cedar_schema.specs.EntityFaults.{Declared, defined_by, IsEntityFault}
+use Rattle.cedar_declared.specs.Defined.{Defined, IsDefined, IsUnresolved, ResolvesTo}
+use Rattle.cedar_schema.specs.Steps.{Declared, defined_by, IsEntityFault}
 use Rattle.cedar_declared.specs.Fault.{Fault, open_record, type_not_defined, shape_not_record, action_entity_type, want_of_memory}
-use Rattle.cedar_schema.specs.Fits.{Fits, FitEach}
-use Rattle.cedar_declared.specs.DeclaredSchema.{KindFits, TagsFit}
-use Rattle.cedar_declared.specs.Parts.{Refers, MembersRefer}
+use Rattle.cedar_schema.specs.Steps.{IsBuilt}
+use Rattle.cedar_below.specs.Lists.{HoldsInTurn}
+use Rattle.cedar_declared.specs.DeclaredSchema.{IsDeclaredKind, AreDeclaredTags}
+use Rattle.cedar_declared.specs.Mentions.{Refers, MembersRefer}
 use Rattle.cedar_declared.specs.WrittenOut.{WrittenOut, MembersWrittenOut, IsRecordType, as_text, as_long, as_truth, as_set, as_record, as_entity, as_common, as_extension, as_no_member, as_member}
-use Rattle.cedar_declared.specs.EntityTypeKind.{Kind, standard as standard_kind, enumerated as enumerated_kind, external as external_kind}
+use Rattle.cedar_declared.specs.EntityTypeKind.{EntityTypeKind, standard_kind, enumerated_kind, external_kind}
 use Rattle.cedar_rules.specs.Ty.{Ty, record_of}
 use Rattle.cedar_entities.specs.ValidatorEntityType.{entity_type_of}
 use Rattle.cedar_rules.specs.declared.open_tag.OpenTag.TheVariants.{ClosedAttributes}
@@ -24,7 +25,7 @@ use Rattle.cedar_below.specs.declared.entity_type.EntityType.{EntityType}
 use Rattle.cedar_declared.proofs.ResolutionLemmas.{first_defined}
 
 -- a reference that resolves isn't unresolved
-resolved : (defined : Defined) (reference other : Reference) (name : PlainName) → ResolvesTo defined reference name → reference ≡ other → IsUnresolved defined other → ⊥
+resolved : (defined : Defined) (reference other : Reference) (name : PlainName) → ResolvesTo defined reference name → reference ≡ other → ¬ IsUnresolved defined other
 resolved defined reference other name resolves same unresolved =
     let found = first_defined defined reference.kind reference.possibilities name resolves in
     let P : Reference → Type 0 = λ each. Contains each.possibilities name × IsDefined defined each.kind name in
@@ -33,7 +34,7 @@ resolved defined reference other name resolves same unresolved =
 
 mutual
   -- each reference of an expression that is written out resolves
-  pub written_resolves : (defined : Defined) {expr : Expr} {ty : Ty} → WrittenOut defined expr ty → (reference : Reference) → Refers expr reference → IsUnresolved defined reference → ⊥
+  pub written_resolves : (defined : Defined) {expr : Expr} {ty : Ty} → WrittenOut defined expr ty → (reference : Reference) → Refers expr reference → ¬ IsUnresolved defined reference
   written_resolves defined as_text reference refers unresolved = refers
   written_resolves defined as_long reference refers unresolved = refers
   written_resolves defined as_truth reference refers unresolved = refers
@@ -44,7 +45,7 @@ mutual
   written_resolves defined (as_extension name) reference refers unresolved = refers
 
   -- the same of attributes
-  members_resolve : (defined : Defined) {members : _} {fields : _} → MembersWrittenOut defined members fields → (reference : Reference) → MembersRefer members reference → IsUnresolved defined reference → ⊥
+  members_resolve : (defined : Defined) {members : _} {fields : _} → MembersWrittenOut defined members fields → (reference : Reference) → MembersRefer members reference → ¬ IsUnresolved defined reference
   members_resolve defined as_no_member reference refers unresolved = refers
   members_resolve defined (as_member first rest) reference refers unresolved =
       ⊎_elim (λ here. written_resolves defined first reference here unresolved) (λ later. members_resolve defined rest reference later unresolved) refers
@@ -67,11 +68,11 @@ of_contained P (first ∷ rest) x all (zero, below, is) = subst P is all.0
 of_contained P (first ∷ rest) x all (suc k, below, is) = of_contained P rest x all.1 (k, omega (arith, below), is)
 
 -- each declaration has an entity type that fits it
-fit_of : (defined : Defined) (declared : Declared) (entries : Types) (entity : PlainName × EntityBody) → FitEach defined declared entries → Contains declared entity → (entry : EntityType × ValidatorEntityType) × Fits defined entity entry
+fit_of : (defined : Defined) (declared : Declared) (entries : Types) (entity : PlainName × EntityBody) → HoldsInTurn (IsBuilt defined) declared entries → Contains declared entity → (entry : EntityType × ValidatorEntityType) × IsBuilt defined entity entry
 fit_of defined [] entries entity each among = absurd (omega (arith, among.1))
 fit_of defined (first ∷ declared) [] entity each among = absurd each
 fit_of defined (first ∷ declared) (entry ∷ entries) entity each (zero, below, is) =
-    let P : PlainName × EntityBody → Type 0 = λ e. Fits defined e entry in (entry, subst P is each.0)
+    let P : PlainName × EntityBody → Type 0 = λ e. IsBuilt defined e entry in (entry, subst P is each.0)
 fit_of defined (first ∷ declared) (entry ∷ entries) entity each (suc k, below, is) =
     fit_of defined declared entries entity each.1 (k, omega (arith, below), is)
 
@@ -100,20 +101,20 @@ fault_of_name declared name body fault among refused =
     ⊎_elim inl (λ action. inr (subst P (sym action.0) (body, among, action.1))) refused
 
 -- nothing isn't an expression
-no_expr : (expr : Expr) → None ≡ Some expr → ⊥
+no_expr : (expr : Expr) → ¬ (None ≡ Some expr)
 no_expr expr wrong = cc
 
 -- the type that the expression of tags is written out as
-written_tags : (defined : Defined) (tags : Option Expr) (ty : Option Ty) (expr : Expr) → TagsFit defined tags ty → tags ≡ Some expr → (ty : Ty) × WrittenOut defined expr ty
-written_tags defined (Some tag) (Some ty) expr fits is =
-    let P : Option Expr → Type 0 = λ each. TagsFit defined each (Some ty) in (ty, subst P is fits)
-written_tags defined (Some tag) None expr fits is = absurd fits
+written_tags : (defined : Defined) (tags : Option Expr) (ty : Option Ty) (expr : Expr) → AreDeclaredTags defined tags ty → tags ≡ Some expr → (ty : Ty) × WrittenOut defined expr ty
+written_tags defined (Some openness) (Some ty) expr fits is =
+    let P : Option Expr → Type 0 = λ each. AreDeclaredTags defined each (Some ty) in (ty, subst P is fits)
+written_tags defined (Some openness) None expr fits is = absurd fits
 written_tags defined None (Some ty) expr fits is = absurd fits
 written_tags defined None None expr fits is = absurd (no_expr expr is)
 
 -- the type that a counted expression of a fitting declaration is written out as
-written_counted : (defined : Defined) (body : EntityBody) (kind : Kind) (expr : Expr) → KindFits defined body kind → CountsInEntity body expr → (ty : Ty) × WrittenOut defined expr ty
-written_counted defined (standard parents shape tags) (standard_kind fields tag ty) expr fits counts =
+written_counted : (defined : Defined) (body : EntityBody) (kind : EntityTypeKind) (expr : Expr) → IsDeclaredKind defined body kind → CountsInEntity body expr → (ty : Ty) × WrittenOut defined expr ty
+written_counted defined (standard parents shape tags) (standard_kind fields openness ty) expr fits counts =
     let P : Expr → Type 0 = λ each. (ty : Ty) × WrittenOut defined each ty in
     ⊎_elim (λ is. subst P is (_, fits.0)) (λ is. written_tags defined tags ty expr fits.2 is) counts
 written_counted defined (standard parents shape tags) (enumerated_kind choices) expr fits counts = absurd fits
@@ -122,13 +123,13 @@ written_counted defined (enumerated ids) kind expr fits counts = absurd counts
 written_counted defined (external parents) kind expr fits counts = absurd counts
 
 -- the shape of a fitting declaration is written out as a record type
-written_shape : (defined : Defined) (parents : List Reference) (shape : Expr) (tags : Option Expr) (kind : Kind) → KindFits defined (standard parents shape tags) kind → (ty : Ty) × WrittenOut defined shape ty × IsRecordType ty
-written_shape defined parents shape tags (standard_kind fields tag ty) fits = (record_of fields ClosedAttributes, fits.0, tt)
+written_shape : (defined : Defined) (parents : List Reference) (shape : Expr) (tags : Option Expr) (kind : EntityTypeKind) → IsDeclaredKind defined (standard parents shape tags) kind → (ty : Ty) × WrittenOut defined shape ty × IsRecordType ty
+written_shape defined parents shape tags (standard_kind fields openness ty) fits = (record_of fields ClosedAttributes, fits.0, tt)
 written_shape defined parents shape tags (enumerated_kind choices) fits = absurd fits
 written_shape defined parents shape tags external_kind fits = absurd fits
 
 -- where each declaration has an entity type that fits it and is sound, nothing is at fault
-pub nothing_at_fault : (declared : Declared) (entries : Types) → FitEach (defined_by declared) declared entries → AllByRecursion IsSound declared → (fault : Fault) → IsEntityFault declared fault → ⊥
+pub nothing_at_fault : (declared : Declared) (entries : Types) → HoldsInTurn (IsBuilt (defined_by declared)) declared entries → AllByRecursion IsSound declared → (fault : Fault) → ¬ IsEntityFault declared fault
 nothing_at_fault declared entries each sound open_record at_fault =
     let counted = at_fault.1 in
     (of_contained IsSound declared counted.0 sound counted.1).closed at_fault.0 counted.2 at_fault.2

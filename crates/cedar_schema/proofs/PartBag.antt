@@ -16,7 +16,7 @@ use Rattle.cedar_names.specs.declared.json_schema.raw_name.RawName.{RawName}
 use Rattle.cedar_schema.proofs.DeclaredLemmas.{Entries}
 use Rattle.cedar_declared.specs.Bag.{Bag, declared_common, declared_entities, declared_actions, defined_names}
 use Rattle.cedar_declared.specs.Counted.{CountsIn, CountsInEntity, entity_parents, IsCounted}
-use Rattle.cedar_schema.specs.EntityFaults.{declared_by_entries, defined_by, name_here, IsCounted as IsCountedEntity}
+use Rattle.cedar_schema.specs.Steps.{declared_by_entries, defined_by, name_here, IsCountedHere}
 
 -- the declarations of entity types in the empty namespace
 abbrev pub declarations_here : Entries → Bag
@@ -61,22 +61,22 @@ is_entity_declaration (entry ∷ rest) it (suc k, below, is) =
     (found.0, Contains-cons _ (declared_by_entries rest) found.0 (inr found.1), found.2)
 
 -- no action is declared
-pub no_action_declared : (entries : Entries) (it : Declaration) (body : ActionBody) → Contains (declarations_here entries) it → it.body ≡ action body → ⊥
+pub no_action_declared : (entries : Entries) (it : Declaration) (body : ActionBody) → Contains (declarations_here entries) it → ¬ (it.body ≡ action body)
 no_action_declared entries it body among is =
     let found = is_entity_declaration entries it among in
     unlike _ _ (sym found.2 ∙ is) where
-      unlike : (entity : EntityBody) (body : ActionBody) → entity_type entity ≡ action body → ⊥
+      unlike : (entity : EntityBody) (body : ActionBody) → ¬ (entity_type entity ≡ action body)
       unlike entity body wrong = cc
 
 -- an expression that counts does so in what is declared of an entity type
-pub counted_in_entity : (entries : Entries) (expr : Expr) → IsCounted (declarations_here entries) expr → IsCountedEntity (declared_by_entries entries) expr
+pub counted_in_entity : (entries : Entries) (expr : Expr) → IsCounted (declarations_here entries) expr → IsCountedHere (declared_by_entries entries) expr
 counted_in_entity entries expr counted =
     let found = is_entity_declaration entries counted.0 counted.1 in
     let P : Body → Type 0 = λ body. CountsIn body expr in
     (found.0, found.1, subst P found.2 counted.2)
 
 -- an expression that counts in what is declared of an entity type counts
-pub counted_of_entity : (entries : Entries) (expr : Expr) → IsCountedEntity (declared_by_entries entries) expr → IsCounted (declarations_here entries) expr
+pub counted_of_entity : (entries : Entries) (expr : Expr) → IsCountedHere (declared_by_entries entries) expr → IsCounted (declarations_here entries) expr
 counted_of_entity [] expr counted = absurd (omega (arith, counted.1.1))
 counted_of_entity (entry ∷ rest) expr (entity, (zero, below, is), counts) =
     let P : PlainName × EntityBody → Type 0 = λ each. CountsInEntity each.1 expr in
@@ -86,7 +86,7 @@ counted_of_entity (entry ∷ rest) expr (entity, (suc k, below, is), counts) =
     (found.0, Contains-cons _ (declarations_here rest) found.0 (inr found.1), found.2)
 
 -- what is declared of a plain standard entity type has no parents
-pub no_parents : (body : EntityBody) (reference : Reference) → IsPlainStandard body → Contains (entity_parents body) reference → ⊥
+pub no_parents : (body : EntityBody) (reference : Reference) → IsPlainStandard body → ¬ Contains (entity_parents body) reference
 no_parents (standard parents shape tags) reference plain among =
     let P : List Reference → Type 0 = λ each. Contains each reference in
     omega (arith, (subst P plain.0 among).1)

@@ -15,11 +15,11 @@ use Rattle.cedar_schema.proofs.PartBag.{part_bag}
 use Rattle.cedar_schema.proofs.PartFaults.{fault_of_bag, entity_fault_of}
 use Rattle.cedar_schema.proofs.PartSchema.{schema_of_part}
 use Rattle.cedar_declared.specs.Bag.{Bag}
-use Rattle.cedar_schema.specs.Building.{IsSound}
+use Rattle.cedar_schema.specs.Steps.{IsSound, IsBuilt}
 use Rattle.cedar_declared.specs.DeclaredSchema.{IsDeclaredSchema}
-use Rattle.cedar_schema.specs.EntityFaults.{declared_by, defined_by, IsEntityFault}
+use Rattle.cedar_schema.specs.Steps.{declared_by, defined_by, IsEntityFault}
 use Rattle.cedar_declared.specs.Fault.{Fault, want_of_memory}
-use Rattle.cedar_schema.specs.Fits.{FitEach}
+use Rattle.cedar_below.specs.Lists.{HoldsInTurn}
 use Rattle.cedar_declared.specs.IllFormed.{IsFault, IsIllFormed}
 use Rattle.cedar_schema.specs.ValidatorSchema.{schema_of, schema_entries}
 use Rattle.cedar_schema.specs.declared.schema.ValidatorSchema.{ValidatorSchema}
@@ -30,9 +30,9 @@ part_fault definition extensions part fault refused =
     let P : Bag → Type 0 = λ bag. IsFault bag extensions fault in
     ⊎_elim inl (λ at_fault. inr (subst P (sym (part_bag definition part)) (fault_of_bag definition.entity_types.entries extensions part.plain_standard fault at_fault))) refused
 
-module _ (definition : NamespaceDefinition RawName) (extensions : Extensions) (schema : ValidatorSchema) (part : IsInPart definition) (fit : TypeNamesFit (extension_types extensions)) (each : FitEach (defined_by (declared_by definition)) (declared_by definition) (schema_entries schema)) (in_order : IsStrictlySortedBy name_cmp (map (λ entity. entity.0) (declared_by definition))) where
+module _ (definition : NamespaceDefinition RawName) (extensions : Extensions) (schema : ValidatorSchema) (part : IsInPart definition) (fit : TypeNamesFit (extension_types extensions)) (each : HoldsInTurn (IsBuilt (defined_by (declared_by definition))) (declared_by definition) (schema_entries schema)) (in_order : IsStrictlySortedBy name_cmp (map (λ entity. entity.0) (declared_by definition))) where
   -- where each declaration has an entity type that fits it and is sound, the bag isn't ill-formed
-  pub part_well_formed : AllByRecursion IsSound (declared_by definition) → IsIllFormed (raw_declarations None definition) extensions → ⊥
+  pub part_well_formed : AllByRecursion IsSound (declared_by definition) → ¬ IsIllFormed (raw_declarations None definition) extensions
   part_well_formed sound (fault, at_fault) =
       let P : Bag → Type 0 = λ bag. IsFault bag extensions fault in
       nothing_at_fault (declared_by definition) (schema_entries schema) each sound fault

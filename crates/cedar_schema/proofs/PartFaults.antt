@@ -22,14 +22,14 @@ use Rattle.cedar_schema.proofs.DeclaredLemmas.{Entries}
 use Rattle.cedar_below.proofs.Lists.{Contains-preimage}
 use Rattle.cedar_schema.proofs.PartBag.{declarations_here, no_common, no_actions, just_entities, same_entities, is_entity_declaration, no_action_declared, counted_in_entity, counted_of_entity, no_parents}
 use Rattle.cedar_schema.proofs.PartWritten.{unresolved_like, written_like, refers_to_entity, no_extension}
-use Rattle.cedar_declared.proofs.PlacesLemmas.{Twice-ascending}
+use Rattle.cedar_declared.proofs.OccurrenceLemmas.{Twice-ascending}
 use Rattle.cedar_declared.specs.Bag.{declared_entities, declared_actions, declared_types, action_uids, built_ins, defined_names}
 use Rattle.cedar_declared.specs.Counted.{CountsInEntity, IsEntityPlace, IsPlaced}
 use Rattle.cedar_declared.specs.Descent.{HasParentAction}
-use Rattle.cedar_schema.specs.EntityFaults.{Declared, declared_by_entries, defined_by, IsEntityFault, IsCounted as IsCountedEntity}
+use Rattle.cedar_schema.specs.Steps.{Declared, declared_by_entries, defined_by, IsEntityFault, IsCountedHere}
 use Rattle.cedar_declared.specs.Fault.{Fault, action_attributes, open_record, undeclared_entity_types, type_not_defined, action_not_defined, type_shadowing, action_shadowing, duplicate_entity_type, duplicate_common_type, duplicate_action, action_cycle, common_type_cycle, action_entity_type, shape_not_record, context_not_record, unknown_extension_type, reserved_name, external_below_enumerated}
 use Rattle.cedar_declared.specs.IllFormed.{IsFault, RefersToCommon}
-use Rattle.cedar_declared.specs.Places.{Twice}
+use Rattle.cedar_declared.specs.Occurrences.{Twice}
 use Rattle.cedar_declared.specs.WrittenOut.{IsNoRecord}
 
 -- what is declared is plain
@@ -47,14 +47,14 @@ plain_of (entry ∷ rest) plain entity (suc k, below, is) = plain_of rest plain.
 alone_in : (body : EntityBody) (expr : Expr) → IsPlainStandard body → CountsInEntity body expr → NamesEntitiesAlone expr
 alone_in (standard parents shape tags) expr plain counts =
     ⊎_elim (λ is. subst NamesEntitiesAlone is plain.2) (λ is. absurd (no_tags tags expr plain.1 is)) counts where
-      no_tags : (tags : Option Expr) (expr : Expr) → tags ≡ None → tags ≡ Some expr → ⊥
+      no_tags : (tags : Option Expr) (expr : Expr) → tags ≡ None → ¬ (tags ≡ Some expr)
       no_tags None expr none is = cc
-      no_tags (Some tag) expr none is = cc
+      no_tags (Some openness) expr none is = cc
 alone_in (enumerated choices) expr plain counts = absurd plain
 alone_in (external parents) expr plain counts = absurd plain
 
 -- what counts in plain declarations names entity types alone
-pub counted_alone : (entries : Entries) → ArePlain entries → (expr : Expr) → IsCountedEntity (declared_by_entries entries) expr → NamesEntitiesAlone expr
+pub counted_alone : (entries : Entries) → ArePlain entries → (expr : Expr) → IsCountedHere (declared_by_entries entries) expr → NamesEntitiesAlone expr
 counted_alone entries plain expr counted = alone_in counted.0.1 expr (plain_of entries plain counted.0 counted.1) counted.2
 
 -- an entity type is declared in the bag where it is among the declarations
@@ -68,13 +68,13 @@ declared_from entries entity among =
     let P : Declared → Type 0 = λ declared. Contains declared entity in subst P (sym (just_entities entries)) among
 
 -- no action stands in the bag
-no_action_among : {A : Type 0} (f : PlainUid × ActionBody → A) (entries : Entries) (it : A) → Contains (map f (declared_actions (declarations_here entries))) it → ⊥
+no_action_among : {A : Type 0} (f : PlainUid × ActionBody → A) (entries : Entries) (it : A) → ¬ Contains (map f (declared_actions (declarations_here entries))) it
 no_action_among f entries it among =
     let P : List (PlainUid × ActionBody) → Type 0 = λ actions. Contains (map f actions) it in
     omega (arith, (subst P (no_actions entries) among).1)
 
 -- no action is declared
-pub no_action_in : (entries : Entries) (it : PlainUid × ActionBody) → Contains (declared_actions (declarations_here entries)) it → ⊥
+pub no_action_in : (entries : Entries) (it : PlainUid × ActionBody) → ¬ Contains (declared_actions (declarations_here entries)) it
 no_action_in entries it among =
     let P : List (PlainUid × ActionBody) → Type 0 = λ actions. Contains actions it in
     omega (arith, (subst P (no_actions entries) among).1)
@@ -90,7 +90,7 @@ type_names_here : (entries : Entries) → declared_types (declarations_here entr
 type_names_here entries i = map (λ it. it.0) (no_common entries i) ++ map (λ it. it.0) (just_entities entries i)
 
 -- no reference stands at a place of an entity type
-pub no_place : (entries : Entries) → ArePlain entries → (reference : Reference) → IsPlaced (declarations_here entries) reference → ⊥
+pub no_place : (entries : Entries) → ArePlain entries → (reference : Reference) → ¬ IsPlaced (declarations_here entries) reference
 no_place entries plain reference placed =
     let found = is_entity_declaration entries placed.0 placed.1 in
     let P : Body → Type 0 = λ body. IsEntityPlace body reference in
@@ -111,7 +111,7 @@ shape_alone : (entries : Entries) → ArePlain entries → (name : PlainName) (p
 shape_alone entries plain name parents shape tags among = (plain_of entries plain (name, standard parents shape tags) among).2
 
 -- no common type leads to another
-no_common_step : (entries : Entries) (extensions : Extensions) (name other : PlainName) → RefersToCommon (defined_names (declarations_here entries) extensions) name other → ⊥
+no_common_step : (entries : Entries) (extensions : Extensions) (name other : PlainName) → ¬ RefersToCommon (defined_names (declarations_here entries) extensions) name other
 no_common_step entries extensions name other (definition, reference, body, among, refers, resolves, is_common) =
     let P : List (PlainName × Expr) → Type 0 = λ common. Contains common (name, definition) in
     omega (arith, (subst P (no_common entries) (refers_declared (declarations_here entries) extensions name definition reference among refers)).1)

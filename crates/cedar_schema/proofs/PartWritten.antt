@@ -9,7 +9,7 @@ use Rattle.cedar_names.specs.declared.json_schema.reference_type.ReferenceType.{
 use Rattle.cedar_names.specs.declared.json_schema.reference_type.ReferenceType.TheVariants.{Common, Entity, CommonOrEntity}
 use Rattle.cedar_declared.proofs.ResolutionLemmas.{IsFirst-like}
 use Rattle.cedar_declared.specs.Defined.{Defined, IsDefined, IsCommon, IsEntity, ResolvesTo, IsUnresolved}
-use Rattle.cedar_declared.specs.Parts.{Refers, MembersRefer, MentionsExtension, MembersMentionExtension}
+use Rattle.cedar_declared.specs.Mentions.{Refers, MembersRefer, MentionsExtension, MembersMentionExtension}
 use Rattle.cedar_declared.specs.WrittenOut.{WrittenOut, MembersWrittenOut, as_text, as_long, as_truth, as_set, as_record, as_entity, as_common, as_extension, as_no_member, as_member}
 use Rattle.cedar_rules.specs.Ty.{Ty, Fields}
 use Rattle.cedar_declared.proofs.ResolutionLemmas.{names_no_common}
@@ -78,7 +78,7 @@ mutual
 
 mutual
   -- no extension type stands in an expression that names entity types alone
-  pub no_extension : (expr : Expr) (word : Text) → NamesEntitiesAlone expr → MentionsExtension expr word → ⊥
+  pub no_extension : (expr : Expr) (word : Text) → NamesEntitiesAlone expr → ¬ MentionsExtension expr word
   no_extension text_expr word alone mentions = mentions
   no_extension long_expr word alone mentions = mentions
   no_extension truth_expr word alone mentions = mentions
@@ -88,7 +88,7 @@ mutual
   no_extension (extension_expr name) word alone mentions = alone
 
   -- the same of the attributes of a record
-  members_no_extension : (members : Members) (word : Text) → MembersNameEntitiesAlone members → MembersMentionExtension members word → ⊥
+  members_no_extension : (members : Members) (word : Text) → MembersNameEntitiesAlone members → ¬ MembersMentionExtension members word
   members_no_extension no_member word alone mentions = mentions
   members_no_extension (member name required expr rest) word alone mentions =
       ⊎_elim (λ here. no_extension expr word alone.0 here) (λ later. members_no_extension rest word alone.1 later) mentions

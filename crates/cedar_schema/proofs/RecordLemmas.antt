@@ -19,10 +19,10 @@ use Rattle.cedar_names.specs.Reference.{Reference}
 use Rattle.cedar_names.specs.declared.json_schema.raw_name.RawName.{RawName}
 use Rattle.cedar_names.specs.declared.json_schema.type_of.RecordType.{RecordType, out-RecordType}
 use Rattle.cedar_names.specs.declared.json_schema.type_of.TypeOfAttribute.{TypeOfAttribute, out-TypeOfAttribute}
-use Rattle.cedar_schema.specs.Building.{IsExprFault}
+use Rattle.cedar_schema.specs.Steps.{IsExprFault}
 use Rattle.cedar_declared.specs.Defined.{Defined}
 use Rattle.cedar_declared.specs.Fault.{Fault, open_record, type_not_defined, want_of_memory}
-use Rattle.cedar_declared.specs.Parts.{HasOpenRecord, MembersHaveOpenRecord, MembersRefer}
+use Rattle.cedar_declared.specs.Mentions.{HasOpenRecord, MembersHaveOpenRecord, MembersRefer}
 use Rattle.cedar_declared.specs.WrittenOut.{WrittenOut, MembersWrittenOut, as_record, as_no_member, as_member}
 use Rattle.cedar_schema.proofs.BuildingLemmas.{WrittenOut-as}
 use Rattle.cedar_rules.proofs.Extensional.{fields_from-HoldsLast}
@@ -102,7 +102,7 @@ pub record WrittenSoFar (defined : Defined) (all : RawEntries) (items : Items) (
   pub done : RawEntries
   pub split : all ≡ done ++ left
   pub written : MembersWrittenOut defined (members_from (plain_members None done)) (fields_from (plain_attributes items))
-  pub closed : MembersHaveOpenRecord (members_from (plain_members None done)) → ⊥
+  pub closed : ¬ MembersHaveOpenRecord (members_from (plain_members None done))
   pub alone : EntriesAlone left
 
 -- at first nothing is written out
@@ -133,7 +133,7 @@ plain_attributes-push items name declared bytes required ty same_name same =
     ∙ ap (λ pair. append_fields (fields_from (plain_attributes items)) (field bytes pair.0 pair.1 end)) same))
 
 -- one more entry is written out
-pub WrittenSoFar-more : (defined : Defined) (all left rest : RawEntries) (items : Items) (name name' : String Global) (attribute : TypeOfAttribute RawName) (declared : AttributeType) (ty : Ty) → left ≡ (name, attribute) ∷ rest → string_bytes name' ≡ string_bytes name → attribute_of declared ≡ ((out-TypeOfAttribute RawName attribute).required, ty) → WrittenOut defined (raw_expr None (out-TypeOfAttribute RawName attribute).ty) ty → (HasOpenRecord (raw_expr None (out-TypeOfAttribute RawName attribute).ty) → ⊥) → WrittenSoFar defined all items left → WrittenSoFar defined all (items ++ (name', declared) ∷ []) rest
+pub WrittenSoFar-more : (defined : Defined) (all left rest : RawEntries) (items : Items) (name name' : String Global) (attribute : TypeOfAttribute RawName) (declared : AttributeType) (ty : Ty) → left ≡ (name, attribute) ∷ rest → string_bytes name' ≡ string_bytes name → attribute_of declared ≡ ((out-TypeOfAttribute RawName attribute).required, ty) → WrittenOut defined (raw_expr None (out-TypeOfAttribute RawName attribute).ty) ty → (¬ HasOpenRecord (raw_expr None (out-TypeOfAttribute RawName attribute).ty)) → WrittenSoFar defined all items left → WrittenSoFar defined all (items ++ (name', declared) ∷ []) rest
 WrittenSoFar-more defined all left rest items name name' attribute declared ty is same_name same one closed so_far =
     let required = (out-TypeOfAttribute RawName attribute).required in
     let expr = raw_expr None (out-TypeOfAttribute RawName attribute).ty in
@@ -193,7 +193,7 @@ written_record defined it items left fields nothing ordered so_far holds ascendi
     (as_record (subst R (sym (fields_from-HoldsLast (plain_attributes items) fields in_order ascending holds)) written))
 
 -- a record type without additional attributes whose attributes are closed is closed
-pub closed_record : (defined : Defined) (it : RecordType RawName) (items : Items) (left : RawEntries) → left ≡ [] → (out-RecordType RawName it).additional_attributes ≡ false → WrittenSoFar defined (out-RecordType RawName it).attributes.entries items left → HasOpenRecord (raw_record None it) → ⊥
+pub closed_record : (defined : Defined) (it : RecordType RawName) (items : Items) (left : RawEntries) → left ≡ [] → (out-RecordType RawName it).additional_attributes ≡ false → WrittenSoFar defined (out-RecordType RawName it).attributes.entries items left → ¬ HasOpenRecord (raw_record None it)
 closed_record defined it items left nothing listed so_far holds =
     let all = (out-RecordType RawName it).attributes.entries in
     let P : RawEntries → Type 0 = λ entries. MembersHaveOpenRecord (members_from (plain_members None entries)) → ⊥ in

@@ -9,7 +9,7 @@ use Rattle.cedar_below.specs.declared.entity_type.EntityType.{EntityType}
 use Rattle.cedar_schema.proofs.BuiltLemmas.{Types}
 use Rattle.cedar_schema.proofs.PartSchema.{plain_entry}
 use Rattle.cedar_schema.specs.ValidatorSchema.{schema_of}
-use Rattle.cedar_below.specs.Included.{AreSame}
+use Rattle.cedar_below.specs.Lists.{HoldsInTurn}
 use Rattle.cedar_declared.specs.SameSchema.{SameEntityType, SameSchema}
 use Rattle.cedar_schema.specs.contracts.schema.ValidatorSchemaPartialEq.TheImpl as schema_eq
 use Rattle.cedar_schema.specs.declared.schema.ValidatorSchema.{ValidatorSchema}
@@ -32,7 +32,7 @@ entry-Same p q =
     (Decides-and _ _ (entity_type_eq-same p.0 q.0) (entity_types-Same p.1 q.1))
 
 -- two maps are equal exactly where their entity types are the same in turn
-entries-Same : (xs ys : Types) → Decides (pointwise same_entry xs ys) (AreSame SameEntityType (map plain_entry xs) (map plain_entry ys))
+entries-Same : (xs ys : Types) → Decides (pointwise same_entry xs ys) (HoldsInTurn SameEntityType (map plain_entry xs) (map plain_entry ys))
 entries-Same [] [] = (λ _. tt, λ _. refl)
 entries-Same [] (y ∷ ys) = none (λ same. same)
 entries-Same (x ∷ xs) [] = none (λ same. same)

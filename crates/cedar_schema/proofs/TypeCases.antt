@@ -19,7 +19,7 @@ folded-out : (it : «Type») → ty_of it ≡ folded (out-Type it)
 folded-out it = fold_out-Type Ty (Bool × Ty) Fields type_step attribute_step attributes_step it
 
 -- a layer that is no record's stands for no record type
-no_record_layer : (it : «Type») → ((attrs : Attributes) (tag : OpenTag) → it ≡ Record attrs tag → ⊥) → (part : layer.Type-F «Type» AttributeType Attributes) → out-Type it ≡ part → IsRecordType (folded part) → ⊥
+no_record_layer : (it : «Type») → ((attrs : Attributes) (openness : OpenTag) → ¬ (it ≡ Record attrs openness)) → (part : layer.Type-F «Type» AttributeType Attributes) → out-Type it ≡ part → ¬ IsRecordType (folded part)
 no_record_layer it other layer.Never is holds = holds
 no_record_layer it other (layer.Bool known) is holds = holds
 no_record_layer it other layer.Long is holds = holds
@@ -28,10 +28,10 @@ no_record_layer it other (layer.Entity kind.AnyEntity) is holds = holds
 no_record_layer it other (layer.Entity (kind.Entity lub)) is holds = holds
 no_record_layer it other (layer.Set None) is holds = holds
 no_record_layer it other (layer.Set (Some element)) is holds = holds
-no_record_layer it other (layer.Record attrs tag) is holds =
-    other attrs tag (sym (roll-out-Type it) ∙ (ap roll-Type is ∙ rolls-Record attrs tag))
+no_record_layer it other (layer.Record attrs openness) is holds =
+    other attrs openness (sym (roll-out-Type it) ∙ (ap roll-Type is ∙ rolls-Record attrs openness))
 no_record_layer it other (layer.ExtensionType name) is holds = holds
 
 -- a type that is no record type stands for none
-pub no_record : (it : «Type») → ((attrs : Attributes) (tag : OpenTag) → it ≡ Record attrs tag → ⊥) → IsRecordType (ty_of it) → ⊥
+pub no_record : (it : «Type») → ((attrs : Attributes) (openness : OpenTag) → ¬ (it ≡ Record attrs openness)) → ¬ IsRecordType (ty_of it)
 no_record it other holds = no_record_layer it other (out-Type it) refl (subst IsRecordType (folded-out it) holds)

@@ -1,4 +1,2 @@
-pub mod Building
-pub mod EntityFaults
-pub mod Fits
+pub mod Steps
 pub mod ValidatorSchema

@@ -10,14 +10,14 @@ ghost use Rattle.cedar_names.specs.RawExpr.{raw_expr, raw_variant, raw_record};
 ghost use Rattle.cedar_names.specs.RawName.{raw_name};
 ghost use Rattle.cedar_names.specs.Reference.{reference_to};
 ghost use Rattle.cedar_names.specs.declared.json_schema.reference_type.ReferenceType.TheVariants.{Entity};
-ghost use Rattle.cedar_schema.specs.Building.{defined_in, IsExprFault, IsShapeFault, IsBodyFault, IsSound};
+ghost use Rattle.cedar_schema.specs.Steps.{defined_in, IsExprFault, IsShapeFault, IsBodyFault, IsSound, IsBuilt};
 ghost use Rattle.cedar_declared.specs.Counted.{CountsInEntity};
-ghost use Rattle.cedar_schema.specs.EntityFaults.{declared_by, name_here, IsEntityFault, defined_by};
+ghost use Rattle.cedar_schema.specs.Steps.{declared_by, name_here, IsEntityFault, defined_by};
 ghost use Rattle.cedar_declared.specs.Fault.{Fault, want_of_memory, type_not_defined, action_entity_type};
 ghost use Rattle.cedar_declared.specs.SchemaError.{fault_of};
-ghost use Rattle.cedar_declared.specs.DeclaredSchema.{KindFits};
-ghost use Rattle.cedar_schema.specs.Fits.{FitEach};
-ghost use Rattle.cedar_declared.specs.Parts.{HasOpenRecord};
+ghost use Rattle.cedar_declared.specs.DeclaredSchema.{IsDeclaredKind};
+ghost use Rattle.cedar_below.specs.Lists.{HoldsInTurn};
+ghost use Rattle.cedar_declared.specs.Mentions.{HasOpenRecord};
 ghost use Rattle.cedar_declared.specs.WrittenOut.{WrittenOut};
 ghost use Rattle.cedar_types.specs.Meaning.{ty_of, fields_of};
 ghost use Rattle.cedar_rules.specs.Ty.{record_of};
@@ -106,7 +106,7 @@ fn type_of(
     requires { NamesEntitiesAlone (raw_expr None ty.now) }
     ensures written_out { IfOk result (λ written.
         WrittenOut (defined_in declarations.now) (raw_expr None ty.now) (ty_of written)) }
-    ensures closed { OnOk result (HasOpenRecord (raw_expr None ty.now) → ⊥) }
+    ensures closed { OnOk result (¬ HasOpenRecord (raw_expr None ty.now)) }
     ensures fault { IfErr result (λ error.
         IsExprFault (defined_in declarations.now) (raw_expr None ty.now) (fault_of error)) }
 {
@@ -126,7 +126,7 @@ fn variant_of(
     requires { NamesEntitiesAlone (raw_variant None ty.now) }
     ensures written_out { IfOk result (λ written.
         WrittenOut (defined_in declarations.now) (raw_variant None ty.now) (ty_of written)) }
-    ensures closed { OnOk result (HasOpenRecord (raw_variant None ty.now) → ⊥) }
+    ensures closed { OnOk result (¬ HasOpenRecord (raw_variant None ty.now)) }
     ensures fault { IfErr result (λ error.
         IsExprFault (defined_in declarations.now) (raw_variant None ty.now) (fault_of error)) }
 {
@@ -158,7 +158,7 @@ fn attributes_of(
     requires { NamesEntitiesAlone (raw_record None record_type.now) }
     ensures written_out { IfOk result (λ written.
         WrittenOut (defined_in declarations.now) (raw_record None record_type.now) (record_of (fields_of written) OpenTag.ClosedAttributes)) }
-    ensures closed { OnOk result (HasOpenRecord (raw_record None record_type.now) → ⊥) }
+    ensures closed { OnOk result (¬ HasOpenRecord (raw_record None record_type.now)) }
     ensures fault { IfErr result (λ error.
         IsExprFault (defined_in declarations.now) (raw_record None record_type.now) (fault_of error)) }
 {
@@ -182,7 +182,7 @@ fn entity_type_name(
     loc: Option<Loc>,
 ) -> Result<EntityType, SchemaError>
     ensures name { IfOk result (λ ty. type_name ty ≡ name_here id.now) }
-    ensures no_action { OnOk result (IsActionType (name_here id.now) → ⊥) }
+    ensures no_action { OnOk result (¬ IsActionType (name_here id.now)) }
     ensures fault { IfErr result (λ error. (fault_of error ≡ want_of_memory)
         ⊎ ((fault_of error ≡ action_entity_type (name_here id.now)) × IsActionType (name_here id.now))) }
 {
@@ -211,7 +211,7 @@ fn shape_attributes(
     requires { NamesEntitiesAlone (raw_expr None shape.now) }
     ensures written_out { IfOk result (λ written.
         WrittenOut (defined_in declarations.now) (raw_expr None shape.now) (record_of (fields_of written) OpenTag.ClosedAttributes)) }
-    ensures closed { OnOk result (HasOpenRecord (raw_expr None shape.now) → ⊥) }
+    ensures closed { OnOk result (¬ HasOpenRecord (raw_expr None shape.now)) }
     ensures fault { IfErr result (λ error.
         IsShapeFault (defined_in declarations.now) (type_name name.now) (raw_expr None shape.now) (fault_of error)) }
 {
@@ -232,10 +232,10 @@ fn entity_type(
     requires { IsPlainStandard (raw_entity_body None declaration.now) }
     ensures name { IfOk result (λ ty. (entity_type_of ty).name ≡ type_name name) }
     ensures kind { IfOk result (λ ty.
-        KindFits (defined_in declarations.now) (raw_entity_body None declaration.now) (entity_type_of ty).kind) }
+        IsDeclaredKind (defined_in declarations.now) (raw_entity_body None declaration.now) (entity_type_of ty).kind) }
     ensures no_descendants { IfOk result (λ ty. descendant_names ty ≡ []) }
     ensures closed { OnOk result ((expr : Expr) → CountsInEntity (raw_entity_body None declaration.now) expr
-        → HasOpenRecord expr → ⊥) }
+        → ¬ HasOpenRecord expr) }
     ensures fault { IfErr result (λ error.
         IsBodyFault (defined_in declarations.now) (type_name name) (raw_entity_body None declaration.now) (fault_of error)) }
 {
@@ -262,7 +262,7 @@ pub(crate) fn entity_types(
 ) -> Result<BTreeMap<EntityType, ValidatorEntityType>, SchemaError>
     requires { IsInPart definition.now }
     ensures fits { IfOk result (λ types.
-        FitEach (defined_by (declared_by definition.now)) (declared_by definition.now) types.entries) }
+        HoldsInTurn (IsBuilt (defined_by (declared_by definition.now))) (declared_by definition.now) types.entries) }
     ensures sound { OnOk result (AllByRecursion IsSound (declared_by definition.now)) }
     ensures in_order { OnOk result (IsStrictlySortedBy name_cmp (map (λ entity. entity.0) (declared_by definition.now))) }
     ensures fault { IfErr result (λ error. (fault_of error ≡ want_of_memory)

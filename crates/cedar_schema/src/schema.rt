@@ -59,7 +59,7 @@ impl ValidatorSchema {
         requires names_fit { TypeNamesFit (extension_types extensions.now) }
         ensures fault { IfErr result (λ error. (fault_of error ≡ want_of_memory)
             ⊎ IsFault (raw_declarations None definition) extensions.now (fault_of error)) }
-        ensures well_formed { OnOk result (IsIllFormed (raw_declarations None definition) extensions.now → ⊥) }
+        ensures well_formed { OnOk result (¬ IsIllFormed (raw_declarations None definition) extensions.now) }
         ensures declared { IfOk result (λ schema.
             IsDeclaredSchema (raw_declarations None definition) extensions.now (schema_of schema)) }
         ensures only { IfOk result (λ schema. (other : PlainSchema)

@@ -32,7 +32,7 @@ use Rattle.cedar_types.specs.declared.types.Type.{«Type», roll-Type, out-Type,
 use Rattle.cedar_types.specs.declared.types.Type.TheOpen as layer
 
 -- an answer is refused and what it would say fails
-pub none : {P : Type 0} → (P → ⊥) → Decides false P
+pub none : {P : Type 0} → ¬ P → Decides false P
 none fails = (λ e. absurd (false≢true e), λ holds. absurd (fails holds))
 
 -- tests of tags decide whether they are the same
@@ -62,8 +62,8 @@ abbrev pub AreTold : Attributes → Type 0
 AreTold a = (b : Attributes) → Decides ((attributes_eq.ghosts).eq a b) (fields_of a ≡ fields_of b)
 
 -- what one layer stands for
-abbrev folded : layer.Type-F «Type» AttributeType Attributes → Ty
-folded it = type_step (map-Type «Type» AttributeType Attributes Ty (Bool × Ty) Fields ty_of attribute_of fields_of it)
+abbrev folded_layer : layer.Type-F «Type» AttributeType Attributes → Ty
+folded_layer it = type_step (map-Type «Type» AttributeType Attributes Ty (Bool × Ty) Fields ty_of attribute_of fields_of it)
 
 -- a layer whose parts are told apart
 abbrev Told : Type 0
@@ -83,7 +83,7 @@ shape any_entity = 4
 shape (union_of names) = 4
 shape any_set = 5
 shape (set_of element) = 5
-shape (record_of fields tag) = 6
+shape (record_of fields openness) = 6
 shape (extension_of name) = 7
 
 -- the kind of a layer, as a number
@@ -94,28 +94,28 @@ layer_shape layer.Long = 2
 layer_shape layer.String = 3
 layer_shape (layer.Entity of) = 4
 layer_shape (layer.Set element) = 5
-layer_shape (layer.Record attrs tag) = 6
+layer_shape (layer.Record attrs openness) = 6
 layer_shape (layer.ExtensionType name) = 7
 
 -- what a layer stands for is of its kind
-shape-folded : (x : layer.Type-F «Type» AttributeType Attributes) → shape (folded x) ≡ layer_shape x
-shape-folded layer.Never = refl
-shape-folded (layer.Bool known) = refl
-shape-folded layer.Long = refl
-shape-folded layer.String = refl
-shape-folded (layer.Entity kind.AnyEntity) = refl
-shape-folded (layer.Entity (kind.Entity lub)) = refl
-shape-folded (layer.Set None) = refl
-shape-folded (layer.Set (Some element)) = refl
-shape-folded (layer.Record attrs tag) = refl
-shape-folded (layer.ExtensionType name) = refl
+shape-folded_layer : (x : layer.Type-F «Type» AttributeType Attributes) → shape (folded_layer x) ≡ layer_shape x
+shape-folded_layer layer.Never = refl
+shape-folded_layer (layer.Bool known) = refl
+shape-folded_layer layer.Long = refl
+shape-folded_layer layer.String = refl
+shape-folded_layer (layer.Entity kind.AnyEntity) = refl
+shape-folded_layer (layer.Entity (kind.Entity lub)) = refl
+shape-folded_layer (layer.Set None) = refl
+shape-folded_layer (layer.Set (Some element)) = refl
+shape-folded_layer (layer.Record attrs openness) = refl
+shape-folded_layer (layer.ExtensionType name) = refl
 
 -- layers that stand for the same are of one kind
-same_shape : (x z : layer.Type-F «Type» AttributeType Attributes) → folded x ≡ folded z → layer_shape x ≡ layer_shape z
-same_shape x z same = sym (shape-folded x) ∙ (ap shape same ∙ shape-folded z)
+same_shape : (x z : layer.Type-F «Type» AttributeType Attributes) → folded_layer x ≡ folded_layer z → layer_shape x ≡ layer_shape z
+same_shape x z same = sym (shape-folded_layer x) ∙ (ap shape same ∙ shape-folded_layer z)
 
 -- layers are told apart where their parts are
-layers-Decides : (y : Told) (z : layer.Type-F «Type» AttributeType Attributes) → Decides (type_eq.Laws.unfolded (roll-Type (parts y)) (roll-Type z)) (folded (parts y) ≡ folded z)
+layers-Decides : (y : Told) (z : layer.Type-F «Type» AttributeType Attributes) → Decides (type_eq.Laws.unfolded (roll-Type (parts y)) (roll-Type z)) (folded_layer (parts y) ≡ folded_layer z)
 unfolding out-Type denote.Hole.Carrier.out roll-Type denote.Hole.Carrier.roll
 layers-Decides layer.Never layer.Never = (λ _. refl, λ _. refl)
 layers-Decides (layer.Bool a) (layer.Bool b) = Decides-like _ (ap truth) (λ e. cc) (bool_eq-same a b)
@@ -135,8 +135,8 @@ layers-Decides y z = none (λ e. omega (arith, same_shape (parts y) z e))
 type_told : (x : layer.Type-F «Type» AttributeType Attributes) (y : Told) → parts y ≡ x → IsTold (roll-Type x)
 type_told x y is b =
     let z = out-Type b in
-    let rolled : Decides ((type_eq.ghosts).eq (roll-Type (parts y)) (roll-Type z)) (folded (parts y) ≡ folded z) =
-    (let D : Bool → Type 0 = λ answer. Decides answer (folded (parts y) ≡ folded z) in
+    let rolled : Decides ((type_eq.ghosts).eq (roll-Type (parts y)) (roll-Type z)) (folded_layer (parts y) ≡ folded_layer z) =
+    (let D : Bool → Type 0 = λ answer. Decides answer (folded_layer (parts y) ≡ folded_layer z) in
     subst D (sym (type_eq.Laws.is (roll-Type (parts y)) (roll-Type z))) (layers-Decides y z)) in
     let whole : Decides ((type_eq.ghosts).eq (roll-Type (parts y)) (roll-Type z)) (ty_of (roll-Type (parts y)) ≡ ty_of (roll-Type z)) =
     (let first = fold-roll-Type Ty (Bool × Ty) Fields type_step attribute_step attributes_step (parts y) in

@@ -1,9 +1,9 @@
-pub mod AnswerLemmas
 pub mod CompareLemmas
 pub mod CopyLemmas
 pub mod EqualityLaws
 pub mod FieldLemmas
 pub mod MemberLemmas
 pub mod MemberParts
+pub mod MembershipLemmas
 pub mod MergedLemmas
 pub mod UnionLemmas

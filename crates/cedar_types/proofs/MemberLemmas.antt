@@ -11,7 +11,7 @@ use Rattle.cedar_below.proofs.Lists.{list_any-Contains}
 use Rattle.cedar_below.proofs.Names.{entity_type_eq-same}
 use Rattle.cedar_rules.specs.Fields.{field_names}
 use Rattle.cedar_rules.specs.Ty.{Fields, end, field}
-use Rattle.cedar_below.specs.Included.{SameItems}
+use Rattle.cedar_below.specs.Lists.{SameItems}
 
 -- whether an entity type equals a given one decides whether the two have one name
 pub eq-Decides : (ty each : EntityType) → Decides ((entity_type_eq.ghosts).eq ty each) (type_name each ≡ type_name ty)

@@ -1,6 +1,5 @@
-pub mod Answers
 pub mod Attributes
 pub mod EntityKind
 pub mod EntityLUB
 pub mod Meaning
-pub mod Primitive
+pub mod MembershipAnswer

@@ -17,7 +17,7 @@ type_step layer.String = text
 type_step (layer.Entity of) = kind_ty of
 type_step (layer.Set None) = any_set
 type_step (layer.Set (Some element)) = set_of element.value
-type_step (layer.Record fields tag) = record_of fields tag
+type_step (layer.Record fields openness) = record_of fields openness
 type_step (layer.ExtensionType name) = extension_of (plain_name name)
 
 -- one attribute, with what its type stands for in its place

@@ -3,15 +3,15 @@
 ghost use Rattle.std.specs.Prelude.{◌≡◌, ◌↔◌, ◌⊎◌, IsTrue, true, false, IfErr};
 ghost use Rattle.cedar_below.specs.Fits.{Gives, IsUnknown, NamesListed};
 ghost use Rattle.cedar_below.specs.EntityUID.{uid_of};
-ghost use Rattle.cedar_below.specs.Included.{Included};
+ghost use Rattle.cedar_below.specs.Lists.{Included};
 ghost use Rattle.cedar_below.specs.Name.{plain_name};
 ghost use Rattle.cedar_below.specs.RestrictedExpr.{tree_of, trees_of, entries_of};
 ghost use Rattle.cedar_below.specs.Tree.{EachTree, SomeTree, entry_names};
 ghost use Rattle.cedar_below.specs.Value.{value_expr};
-ghost use Rattle.cedar_types.specs.Answers.{IsRight};
+ghost use Rattle.cedar_types.specs.MembershipAnswer.{IsMembership};
 ghost use Rattle.cedar_rules.specs.Fields.{field_names};
 ghost use Rattle.cedar_types.specs.EntityKind.{kind_ty};
-ghost use Rattle.cedar_rules.specs.Has.{Has, HasUp, Meets, HasFieldsBy, FieldsMeet, MayGive, HasTruth, HasUid};
+ghost use Rattle.cedar_rules.specs.Has.{Has, MayHave, Meets, HasFieldsBy, FieldsMeet, MayGive, HasTruth, HasUid};
 ghost use Rattle.cedar_rules.specs.OpenTag.{is_open};
 ghost use Rattle.cedar_types.specs.Meaning.{ty_of, fields_of};
 
@@ -76,10 +76,10 @@ fn all_listed(values: &BTreeMap<String, RestrictedExpr>, attrs: &Attributes) -> 
 }
 
 /// Whether a record has no attribute that isn't listed, but where it is open.
-fn only_listed(values: &BTreeMap<String, RestrictedExpr>, attrs: &Attributes, tag: OpenTag) -> bool
-    ensures { IsTrue result ↔ NamesListed (is_open tag) (entry_names (entries_of values.now)) (field_names (fields_of attrs.now)) }
+fn only_listed(values: &BTreeMap<String, RestrictedExpr>, attrs: &Attributes, openness: OpenTag) -> bool
+    ensures { IsTrue result ↔ NamesListed (is_open openness) (entry_names (entries_of values.now)) (field_names (fields_of attrs.now)) }
 {
-    match tag {
+    match openness {
         OpenTag::OpenAttributes => true,
         OpenTag::ClosedAttributes => all_listed(values, attrs),
     }
@@ -93,7 +93,7 @@ fn call_has<'v>(
     extensions: &Extensions,
 ) -> Answer<'v>
     ensures { let call = plain_name function.now in
-        IsRight result (Gives extensions.now call (trees_of args.now) (plain_name name.now))
+        IsMembership result (Gives extensions.now call (trees_of args.now) (plain_name name.now))
         (MayGive extensions.now call (trees_of args.now) (plain_name name.now))
         (λ unknown. (call ≡ unknown) × IsUnknown extensions.now unknown) }
 {
@@ -105,8 +105,8 @@ fn call_has<'v>(
 #[cycle(member)]
 fn elements_have<'v>(values: &'v [RestrictedExpr], ty: &Type, extensions: &Extensions) -> Answer<'v>
     ensures { let element = ty_of ty.now in
-        IsRight result (EachTree (λ value. Has extensions.now value element) (trees_of values.now))
-        (EachTree (λ value. HasUp extensions.now value element) (trees_of values.now))
+        IsMembership result (EachTree (λ value. Has extensions.now value element) (trees_of values.now))
+        (EachTree (λ value. MayHave extensions.now value element) (trees_of values.now))
         (λ unknown. SomeTree (λ value. Meets extensions.now unknown value element) (trees_of values.now)) }
 {
     let mut so_far = Ok(true);
@@ -125,7 +125,7 @@ fn fields_have<'v>(
     extensions: &Extensions,
 ) -> Answer<'v>
     ensures { let fields = fields_of attrs.now in
-        IsRight result (HasFieldsBy (Gives extensions.now) (entries_of values.now) fields)
+        IsMembership result (HasFieldsBy (Gives extensions.now) (entries_of values.now) fields)
         (HasFieldsBy (MayGive extensions.now) (entries_of values.now) fields)
         (λ unknown. FieldsMeet extensions.now unknown (entries_of values.now) fields) }
 {
@@ -153,7 +153,7 @@ impl Type {
         extensions: &Extensions,
     ) -> Result<bool, ExtensionFunctionLookupError<'v>>
         ensures has { (result ≡ Ok true) ↔ Has extensions.now (tree_of expr.now) (ty_of self.now) }
-        ensures lacks { (result ≡ Ok false) ↔ ¬ HasUp extensions.now (tree_of expr.now) (ty_of self.now) }
+        ensures lacks { (result ≡ Ok false) ↔ ¬ MayHave extensions.now (tree_of expr.now) (ty_of self.now) }
         ensures fault { IfErr result (λ error. Meets extensions.now (plain_name error.name.now) (tree_of expr.now) (ty_of self.now)) }
     {
         match (self, expr) {
@@ -191,7 +191,7 @@ impl Type {
         extensions: &Extensions,
     ) -> Result<bool, ExtensionFunctionLookupError<'v>>
         ensures has { (result ≡ Ok true) ↔ Has extensions.now (tree_of (value_expr value.now)) (ty_of self.now) }
-        ensures lacks { (result ≡ Ok false) ↔ ¬ HasUp extensions.now (tree_of (value_expr value.now)) (ty_of self.now) }
+        ensures lacks { (result ≡ Ok false) ↔ ¬ MayHave extensions.now (tree_of (value_expr value.now)) (ty_of self.now) }
         ensures fault { IfErr result (λ error. Meets extensions.now (plain_name error.name.now) (tree_of (value_expr value.now)) (ty_of self.now)) }
     {
         self.typecheck_restricted_expr(value.expr(), extensions)

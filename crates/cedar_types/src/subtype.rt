@@ -1,8 +1,8 @@
 //! Subtyping of types and of entity kinds.
 
 ghost use Rattle.std.specs.Prelude.{◌≡◌, ◌↔◌, IsTrue, map, string_bytes};
-ghost use Rattle.cedar_below.specs.Included.{Included};
-ghost use Rattle.cedar_rules.specs.Below.{Below, FieldsBelow, AttributeBelow, FlagsBelow, TagsBelow, NamesBelow};
+ghost use Rattle.cedar_below.specs.Lists.{Included};
+ghost use Rattle.cedar_rules.specs.Below.{Below, FieldsBelow, AttributeBelow, FlagsBelow, OpennessBelow, NamesBelow};
 ghost use Rattle.cedar_rules.specs.Fields.{IsAscending, field_names};
 ghost use Rattle.cedar_types.specs.EntityKind.{kind_ty};
 ghost use Rattle.cedar_types.specs.EntityLUB.{lub_names};
@@ -26,9 +26,9 @@ fn flags_fit(lower: bool, upper: bool, mode: ValidationMode) -> bool
     }
 }
 
-/// Whether a record with the one tag may be below a record with the other.
+/// Whether a record with the one openness may be below a record with the other.
 fn tags_fit(lower: OpenTag, upper: OpenTag) -> bool
-    ensures { IsTrue result ↔ TagsBelow lower upper }
+    ensures { IsTrue result ↔ OpennessBelow lower upper }
 {
     lower == OpenTag::ClosedAttributes || upper == OpenTag::OpenAttributes
 }
@@ -45,13 +45,13 @@ fn has_names(names: btree_map::Keys<'_, String, AttributeType>, upper: &Attribut
     true
 }
 
-/// Whether a record with the one's names may be below a record with the other's and this tag.
-fn names_fit(lower: &Attributes, upper: &Attributes, tag: OpenTag, mode: ValidationMode) -> bool
-    ensures fit { IsTrue result ↔ NamesBelow mode tag (fields_of lower.now) (fields_of upper.now) }
+/// Whether a record with the one's names may be below a record with the other's and this openness.
+fn names_fit(lower: &Attributes, upper: &Attributes, openness: OpenTag, mode: ValidationMode) -> bool
+    ensures fit { IsTrue result ↔ NamesBelow mode openness (fields_of lower.now) (fields_of upper.now) }
     ensures ascending { IsAscending (fields_of lower.now) }
 {
     let names = lower.keys();
-    let may_have_more = mode == ValidationMode::Permissive && tag == OpenTag::OpenAttributes;
+    let may_have_more = mode == ValidationMode::Permissive && openness == OpenTag::OpenAttributes;
     may_have_more || has_names(names, upper)
 }
 
@@ -149,15 +149,15 @@ impl Type {
             (
                 Type::Record {
                     attrs: lower,
-                    open_attributes: lower_tag,
+                    open_attributes: lower_openness,
                 },
                 Type::Record {
                     attrs: upper,
-                    open_attributes: upper_tag,
+                    open_attributes: upper_openness,
                 },
             ) => {
-                tags_fit(*lower_tag, *upper_tag)
-                    && names_fit(lower, upper, *upper_tag, mode)
+                tags_fit(*lower_openness, *upper_openness)
+                    && names_fit(lower, upper, *upper_openness, mode)
                     && fields_fit(lower, upper, mode)
             }
             (Type::ExtensionType { name: lower }, Type::ExtensionType { name: upper }) =>

@@ -10,11 +10,11 @@ ghost use Rattle.cedar_below.specs.Name.{plain_name};
 ghost use Rattle.cedar_rules.specs.Fields.{IsRecordOf};
 ghost use Rattle.cedar_types.specs.Attributes.{plain_attributes, plain_required};
 ghost use Rattle.cedar_types.specs.Meaning.{ty_of};
-ghost use Rattle.cedar_types.specs.Primitive.{primitive_words};
+ghost use Rattle.cedar_below.specs.TypeNames.{primitive_words};
 ghost use Rattle.cedar_rules.specs.Ty.{truth, long, text, any_entity, union_of, any_set, set_of, record_of, extension_of, end};
 ghost use Rattle.cedar_types.specs.declared.attributes.AttributeType.{AttributeType};
 ghost use Rattle.cedar_types.specs.declared.types.Type.{«Type»};
-ghost use Rattle.cedar_rules.specs.declared.bool_type.BoolType.TheVariants as known;
+ghost use Rattle.cedar_rules.specs.declared.bool_type.BoolType.TheVariants as bool_type;
 
 use crate::attributes::{AttributeType, Attributes};
 use crate::entity_kind::EntityKind;
@@ -60,7 +60,7 @@ pub enum Type {
 impl Type {
     /// The type of one truth value.
     pub fn singleton_boolean(value: bool) -> Self
-        ensures { ty_of result ≡ truth (if value then known.True else known.False) }
+        ensures { ty_of result ≡ truth (if value then bool_type.True else bool_type.False) }
     {
         Type::Bool(if value {
             BoolType::True
@@ -71,7 +71,7 @@ impl Type {
 
     /// The type of both truth values.
     pub fn primitive_boolean() -> Self
-        ensures { ty_of result ≡ truth known.AnyBool }
+        ensures { ty_of result ≡ truth bool_type.AnyBool }
     {
         Type::Bool(BoolType::AnyBool)
     }

@@ -2,7 +2,7 @@ use Rattle.std.specs.Prelude.{true, false, List, [], ◌∷◌, Some, None, code
 use Rattle.cedar_below.specs.PlainName.{PlainName, action_word}
 use Rattle.cedar_below.specs.Text.{Text}
 use Rattle.cedar_names.specs.ActionBody.{requests}
-use Rattle.cedar_names.specs.Declaration.{Declaration, common_type, entity_type, action}
+use Rattle.cedar_names.specs.Declaration.{Declaration, Body, common_type, entity_type, action}
 use Rattle.cedar_names.specs.EntityBody.{standard, enumerated, external}
 use Rattle.cedar_names.specs.Expr.{Expr, record_expr, set_expr, long_expr, named, Members, no_member, member}
 use Rattle.cedar_names.specs.Reference.{Reference, reference_to}
@@ -30,6 +30,14 @@ refer_within kind word = reference_to (Some sample_namespace) kind (alias_name w
 abbrev pub common_here : Text → Expr → Declaration
 common_here word definition = record { namespace = None; id = word; body = common_type definition }
 
+-- what is declared in `N` under an id
+abbrev pub declared_within : Text → Body → Declaration
+declared_within word body = record { namespace = Some sample_namespace; id = word; body = body }
+
+-- what is declared of a standard entity type without parents, attributes and tags
+abbrev pub plain_entity : Body
+plain_entity = entity_type (standard [] (record_expr no_member false) None)
+
 -- a standard entity type in the empty namespace, without tags
 abbrev pub entity_here : Text → List Reference → Members → Declaration
 entity_here word parents members = record { namespace = None; id = word; body = entity_type (standard parents (record_expr members false) None) }
@@ -55,8 +63,8 @@ cycle_bag = common_here (codes "A") cycle_first ∷ common_here (codes "B") cycl
 -- in `N` a common type `T` and an entity type `T`
 abbrev pub both_bag : Bag
 both_bag =
-    record { namespace = Some sample_namespace; id = codes "T"; body = common_type long_expr }
-    ∷ record { namespace = Some sample_namespace; id = codes "T"; body = entity_type (standard [] (record_expr no_member false) None) }
+    declared_within (codes "T") (common_type long_expr)
+    ∷ declared_within (codes "T") plain_entity
     ∷ []
 
 -- an entity type with the name of a built-in type
@@ -65,13 +73,13 @@ alias_bag = entity_here (codes "String") [] no_member ∷ []
 
 -- an entity type in the empty namespace, and a common type of its base name in `N`
 abbrev pub shadow_bag : Bag
-shadow_bag = entity_here (codes "User") [] no_member ∷ record { namespace = Some sample_namespace; id = codes "User"; body = common_type long_expr } ∷ []
+shadow_bag = entity_here (codes "User") [] no_member ∷ declared_within (codes "User") (common_type long_expr) ∷ []
 
 -- two actions, of the types `Action` and `N::Action`
 abbrev pub actions_bag : Bag
 actions_bag =
     action_here (codes "read") []
-    ∷ record { namespace = Some sample_namespace; id = codes "view"; body = action (record { has_attributes = false; parents = []; applies_to = requests [] [] (record_expr no_member false) }) }
+    ∷ declared_within (codes "view") (action (record { has_attributes = false; parents = []; applies_to = requests [] [] (record_expr no_member false) }))
     ∷ []
 
 -- an enumerated entity type, one below it, and an external one below that
@@ -92,7 +100,7 @@ principal_bag = action_here (codes "view") (refer_here Entity action_word ∷ []
 
 -- the entity types `T` and `N::T`
 abbrev pub nested_bag : Bag
-nested_bag = entity_here (codes "T") [] no_member ∷ record { namespace = Some sample_namespace; id = codes "T"; body = entity_type (standard [] (record_expr no_member false) None) } ∷ []
+nested_bag = entity_here (codes "T") [] no_member ∷ declared_within (codes "T") plain_entity ∷ []
 
 -- a common type that nothing refers to, an open record
 abbrev pub open_bag : Bag

@@ -31,9 +31,9 @@ pub fn cycles_name_their_members()
     ensures second { (extensions : Extensions)
         → IsFault cycle_bag extensions (common_type_cycle (alias_name (codes "B"))) }
     ensures built_in { (extensions : Extensions)
-        → IsFault cycle_bag extensions (common_type_cycle (built_in_name (codes "Long"))) → ⊥ }
+        → ¬ IsFault cycle_bag extensions (common_type_cycle (built_in_name (codes "Long"))) }
     ensures alias { (extensions : Extensions)
-        → IsFault cycle_bag extensions (common_type_cycle (alias_name (codes "Long"))) → ⊥ }
+        → ¬ IsFault cycle_bag extensions (common_type_cycle (alias_name (codes "Long"))) }
 {}
 
 /// A name that is common and entity is the common type where either may stand, and the entity type
@@ -60,7 +60,7 @@ pub fn entity_types_take_aliases_away()
 pub fn external_attributes_do_not_count()
     ensures body { (kind : EntityTypeKind RawName)
         → (parents : List Reference) × (kind_body RawName (raw_reference None) kind true ≡ external parents) }
-    ensures nothing { (reference : Reference) → HasToResolve external_bag reference → ⊥ }
+    ensures nothing { (reference : Reference) → ¬ HasToResolve external_bag reference }
 {}
 
 /// A declared name without a path is shadowed by one of the same base name with a path; the types of
@@ -68,8 +68,8 @@ pub fn external_attributes_do_not_count()
 pub fn declared_names_shadow()
     ensures types { (extensions : Extensions) → IsFault shadow_bag extensions
         (type_shadowing (alias_name (codes "User")) (within_sample (codes "User"))) }
-    ensures actions { (extensions : Extensions) → IsFault actions_bag extensions
-        (type_shadowing (alias_name action_word) (within_sample action_word)) → ⊥ }
+    ensures actions { (extensions : Extensions) → ¬ IsFault actions_bag extensions
+        (type_shadowing (alias_name action_word) (within_sample action_word)) }
 {}
 
 /// A name that is declared twice is found at any two places of a bag.
@@ -81,9 +81,9 @@ pub fn duplicates_are_found()
         (entity_here (codes "T") [] no_member ∷ entity_here (codes "U") [] no_member
         ∷ entity_here (codes "T") [] no_member ∷ [])
         extensions (duplicate_entity_type (alias_name (codes "T"))) }
-    ensures once { (extensions : Extensions) → IsFault
+    ensures once { (extensions : Extensions) → ¬ IsFault
         (entity_here (codes "T") [] no_member ∷ entity_here (codes "U") [] no_member ∷ [])
-        extensions (duplicate_entity_type (alias_name (codes "T"))) → ⊥ }
+        extensions (duplicate_entity_type (alias_name (codes "T"))) }
 {}
 
 /// An external entity type that is below an enumerated one in two steps is at fault.
@@ -112,8 +112,8 @@ pub fn names_resolve_in_their_namespace_first()
         (refer_within to.Entity (codes "T")) (within_sample (codes "T")) }
     ensures without { (extensions : Extensions) → ResolvesTo (defined_names tint_bag extensions)
         (refer_within to.Entity (codes "Shade")) (alias_name (codes "Shade")) }
-    ensures elsewhere { (extensions : Extensions) → ResolvesTo (defined_names nested_bag extensions)
-        (refer_within to.Entity (codes "T")) (alias_name (codes "T")) → ⊥ }
+    ensures elsewhere { (extensions : Extensions) → ¬ ResolvesTo (defined_names nested_bag extensions)
+        (refer_within to.Entity (codes "T")) (alias_name (codes "T")) }
 {}
 
 /// The definition of a common type counts, though nothing refers to it.
@@ -129,6 +129,6 @@ pub fn optional_attributes_may_be_missing()
         → Admits (defined_names [] extensions) extensions
         (map_value (entry (codes "a") (number_value number) no_entry)) optional_record }
     ensures further { (extensions : Extensions) (number : ℤ)
-        → Admits (defined_names [] extensions) extensions
-        (map_value (entry (codes "b") (number_value number) no_entry)) optional_record → ⊥ }
+        → ¬ Admits (defined_names [] extensions) extensions
+        (map_value (entry (codes "b") (number_value number) no_entry)) optional_record }
 {}

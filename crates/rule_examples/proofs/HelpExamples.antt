@@ -20,8 +20,8 @@ among_itself : (name : Text) → Contains (name ∷ []) name
 among_itself name = Contains-cons name [] name (inl refl)
 
 -- a record without names and one with a name have no own bound, in strict mode
-unlike_widths : HaveOwnBound Strict unit_record required_y → ⊥
-unlike_widths (record_of fields tag, own) =
+unlike_widths : ¬ HaveOwnBound Strict unit_record required_y
+unlike_widths (record_of fields openness, own) =
     let found = HasField-named fields (codes "y") (own.0.1.0.1 (codes "y") (among_itself (codes "y"))) in
     (HasBelow-of Strict end fields (codes "y") found.0 found.1 own.0.0.2 found.2).2
 unlike_widths (bound, own) = elim own.0.0 [ ]
@@ -36,8 +36,8 @@ flag_of name flag required ty (inl same) = same.1
 flag_of name flag required ty (inr none) = elim none [ ]
 
 -- a required and an optional attribute have no own bound, in strict mode
-unlike_flags : HaveOwnBound Strict required_y optional_y → ⊥
-unlike_flags (record_of fields tag, own) =
+unlike_flags : ¬ HaveOwnBound Strict required_y optional_y
+unlike_flags (record_of fields openness, own) =
     let name = codes "y" in
     let found = HasField-named fields name (own.0.0.1 name (among_itself name)) in
     let first = HasBelow-of Strict (field name true long end) fields name found.0 found.1 own.0.0.2 found.2 in

@@ -1,7 +1,7 @@
 use Rattle.std.proofs.Common.{◌≡◌, inl, inr, ⊎_elim, true, refl, sym, ap, ◌∙◌, [], ◌∷◌, List, Contains, codes}
 use Rattle.cedar_below.proofs.Inclusion.{Included-none, Included-cons, Included-head}
 use Rattle.cedar_below.proofs.Lists.{Contains-cons}
-use Rattle.cedar_below.specs.Included.{Included}
+use Rattle.cedar_below.specs.Lists.{Included}
 use Rattle.cedar_below.specs.PlainName.{PlainName}
 use Rattle.cedar_below.specs.declared.validation_mode.ValidationMode.{ValidationMode}
 use Rattle.cedar_below.specs.declared.validation_mode.ValidationMode.TheVariants.{Strict, Permissive}
@@ -71,8 +71,8 @@ dropped_least a b kept dropped first second differ pair other among apart bound 
 
 -- a bound of two records, in strict mode, has every name of theirs, and so none where the types at a name are apart
 strict_apart : (a b : Fields) (dropped : _) (first second : Ty) → HasOnly a dropped first → HasOnly b dropped second → Contains (field_names a) dropped → AreApart Strict first second
-    → (bound : Ty) → Below Strict (record_of a ClosedAttributes) bound → Below Strict (record_of b ClosedAttributes) bound → ⊥
-strict_apart a b dropped first second one other among apart (record_of fields tag) h k =
+    → (bound : Ty) → Below Strict (record_of a ClosedAttributes) bound → ¬ Below Strict (record_of b ClosedAttributes) bound
+strict_apart a b dropped first second one other among apart (record_of fields openness) h k =
     let found = HasField-named fields dropped (h.1 dropped among) in
     unnamed Strict a b fields dropped first second one other apart h.2 k.2 found.0 found.1 found.2
 strict_apart a b dropped first second one other among apart bound h k = elim h [ ]

@@ -22,7 +22,7 @@ ghost use Rattle.rule_examples.specs.Samples.{required_y, optional_y, unit_recor
 ghost use Rattle.cedar_rules.specs.Stated.{IsStated};
 ghost use Rattle.cedar_rules.specs.Ty.{never, truth, long, any_set, set_of};
 ghost use Rattle.cedar_rules.specs.TypeText.{ty_text};
-ghost use Rattle.cedar_rules.specs.declared.bool_type.BoolType.TheVariants as known;
+ghost use Rattle.cedar_rules.specs.declared.bool_type.BoolType.TheVariants as bool_type;
 ghost use Rattle.cedar_rules.specs.declared.join_error.LubHelp.{LubHelp};
 ghost use Rattle.cedar_rules.specs.declared.join_error.LubHelp.TheVariants as help;
 
@@ -103,7 +103,7 @@ pub fn texts_of_types()
 
 /// Core types of types, and types that have none.
 pub fn core_types()
-    ensures known { core_of (truth known.False) ≡ Some core_truth }
+    ensures known { core_of (truth bool_type.False) ≡ Some core_truth }
     ensures record_type { core_of open_bar ≡ Some (core_record (core_field (codes "bar") true core_long core_end) true) }
     ensures every_set { core_of any_set ≡ Some core_empty_set }
     ensures single { core_of (set_of foo_entity) ≡ Some (core_set (core_entity foo_name)) }

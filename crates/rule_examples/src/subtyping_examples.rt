@@ -11,18 +11,18 @@ ghost use Rattle.cedar_below.specs.declared.validation_mode.ValidationMode.{Vali
 ghost use Rattle.cedar_below.specs.declared.validation_mode.ValidationMode.TheVariants.{Strict, Permissive};
 ghost use Rattle.cedar_rules.specs.Agree.{Agree};
 ghost use Rattle.cedar_rules.specs.Below.{Below};
-ghost use Rattle.cedar_rules.specs.Has.{Has, HasUp, Meets};
+ghost use Rattle.cedar_rules.specs.Has.{Has, MayHave, Meets};
 ghost use Rattle.rule_examples.specs.TakesText.{TakesText};
 ghost use Rattle.cedar_rules.specs.Ty.{Ty, never, truth, long, text, any_entity, union_of, any_set, set_of, record_of, extension_of};
 ghost use Rattle.cedar_rules.specs.Ty.{end, field};
-ghost use Rattle.cedar_rules.specs.declared.bool_type.BoolType.TheVariants as known;
+ghost use Rattle.cedar_rules.specs.declared.bool_type.BoolType.TheVariants as bool_type;
 ghost use Rattle.cedar_rules.specs.declared.open_tag.OpenTag.TheVariants.{OpenAttributes, ClosedAttributes};
 
 /// Sets are below sets of more, and all are below the any-set.
 pub fn sets_by_example()
     ensures nothing { (mode : ValidationMode) → Below mode (set_of never) (set_of long) }
-    ensures known { (mode : ValidationMode) → Below mode (set_of (truth known.True)) (set_of (truth known.AnyBool)) }
-    ensures not_less { (mode : ValidationMode) → ¬ Below mode (set_of (truth known.AnyBool)) (set_of (truth known.True)) }
+    ensures known { (mode : ValidationMode) → Below mode (set_of (truth bool_type.True)) (set_of (truth bool_type.AnyBool)) }
+    ensures not_less { (mode : ValidationMode) → ¬ Below mode (set_of (truth bool_type.AnyBool)) (set_of (truth bool_type.True)) }
     ensures any { (mode : ValidationMode) (element : Ty) → Below mode (set_of element) any_set }
     ensures not_any { (mode : ValidationMode) → ¬ Below mode any_set (set_of long) }
 {}
@@ -31,8 +31,8 @@ pub fn sets_by_example()
 /// mode alone, and `{}` isn't below `{y?: Long}`, though the empty record has both types.
 pub fn closed_records_by_example()
     ensures known { (mode : ValidationMode) →
-        Below mode (record_of (field (codes "a") true (truth known.True) end) ClosedAttributes)
-        (record_of (field (codes "a") true (truth known.AnyBool) end) ClosedAttributes) }
+        Below mode (record_of (field (codes "a") true (truth bool_type.True) end) ClosedAttributes)
+        (record_of (field (codes "a") true (truth bool_type.AnyBool) end) ClosedAttributes) }
     ensures optional { Below Permissive (record_of (field (codes "a") true long end) ClosedAttributes)
         (record_of (field (codes "a") false long end) ClosedAttributes) }
     ensures not_optional { ¬ Below Strict (record_of (field (codes "a") true long end) ClosedAttributes)
@@ -68,7 +68,7 @@ pub fn entities_by_example()
     ensures has { (extensions : Extensions) (color : PlainName) (id : Text) →
         Has extensions (uid_value (record { ty = color; eid = id })) (union_of (color ∷ [])) }
     ensures lacks { (extensions : Extensions) (color shape : PlainName) (id : Text) → color ≢ shape →
-        ¬ HasUp extensions (uid_value (record { ty = shape; eid = id })) (union_of (color ∷ [])) }
+        ¬ MayHave extensions (uid_value (record { ty = shape; eid = id })) (union_of (color ∷ [])) }
 {}
 
 /// Records agree by their names and flags, whatever their tags, and entities by their kinds.
@@ -88,12 +88,12 @@ pub fn members_of_records_by_example()
     ensures listed { (extensions : Extensions) → Has extensions (map_value (entry (codes "a") (number_value (pos 1)) no_entry))
         (record_of (field (codes "a") true long end) ClosedAttributes) }
     ensures other_kind { (extensions : Extensions) →
-        ¬ HasUp extensions (map_value (entry (codes "a") (text_value (codes "x")) no_entry))
+        ¬ MayHave extensions (map_value (entry (codes "a") (text_value (codes "x")) no_entry))
         (record_of (field (codes "a") true long end) ClosedAttributes) }
-    ensures missing { (extensions : Extensions) → ¬ HasUp extensions (map_value no_entry)
+    ensures missing { (extensions : Extensions) → ¬ MayHave extensions (map_value no_entry)
         (record_of (field (codes "a") true long end) ClosedAttributes) }
     ensures unlisted { (extensions : Extensions) (value : Tree) →
-        ¬ HasUp extensions (map_value (entry (codes "a") (number_value (pos 1)) (entry (codes "z") value no_entry)))
+        ¬ MayHave extensions (map_value (entry (codes "a") (number_value (pos 1)) (entry (codes "z") value no_entry)))
         (record_of (field (codes "a") true long end) ClosedAttributes) }
     ensures unlisted_in_open { (extensions : Extensions) (value : Tree) →
         Has extensions (map_value (entry (codes "a") (number_value (pos 1)) (entry (codes "z") value no_entry)))
@@ -109,20 +109,20 @@ pub fn known_calls_by_example()
         TakesText extensions ip ipaddr →
         Has extensions (call_value ip (tree (text_value word) rest)) (extension_of ipaddr) }
     ensures number { (extensions : Extensions) (ip ipaddr : PlainName) → TakesText extensions ip ipaddr →
-        ¬ HasUp extensions (call_value ip (tree (number_value (pos 3)) no_tree)) (extension_of ipaddr) }
+        ¬ MayHave extensions (call_value ip (tree (number_value (pos 3)) no_tree)) (extension_of ipaddr) }
     ensures unknown { (extensions : Extensions) (ip ipaddr unknown : PlainName) → TakesText extensions ip ipaddr →
-        ¬ HasUp extensions (call_value ip (tree (call_value unknown no_tree) no_tree)) (extension_of ipaddr) }
+        ¬ MayHave extensions (call_value ip (tree (call_value unknown no_tree) no_tree)) (extension_of ipaddr) }
 {}
 
 /// A call of an unknown function may have each extension type, and has none. It is met at an
 /// extension type, also within sets and records, but not as an argument of another call.
 pub fn unknown_calls_by_example()
     ensures may_have { (extensions : Extensions) (unknown ty : PlainName) (args : Trees) → IsUnknown extensions unknown →
-        HasUp extensions (call_value unknown args) (extension_of ty) }
+        MayHave extensions (call_value unknown args) (extension_of ty) }
     ensures has_not { (extensions : Extensions) (unknown ty : PlainName) (args : Trees) → IsUnknown extensions unknown →
         ¬ Has extensions (call_value unknown args) (extension_of ty) }
     ensures long { (extensions : Extensions) (unknown : PlainName) (args : Trees) →
-        ¬ HasUp extensions (call_value unknown args) long }
+        ¬ MayHave extensions (call_value unknown args) long }
     ensures meets { (extensions : Extensions) (unknown ty : PlainName) (args : Trees) → IsUnknown extensions unknown →
         Meets extensions unknown (call_value unknown args) (extension_of ty) }
     ensures in_set { (extensions : Extensions) (unknown ty : PlainName) (args : Trees) (value : Tree) →
@@ -130,7 +130,7 @@ pub fn unknown_calls_by_example()
         Meets extensions unknown (set_value (tree value (tree (call_value unknown args) no_tree))) (set_of (extension_of ty)) }
     ensures beside_a_member { (extensions : Extensions) (ip ipaddr unknown : PlainName) (word : Text) →
         TakesText extensions ip ipaddr → IsUnknown extensions unknown →
-        HasUp extensions
+        MayHave extensions
         (set_value (tree (call_value ip (tree (text_value word) no_tree)) (tree (call_value unknown no_tree) no_tree)))
         (set_of (extension_of ipaddr)) }
     ensures no_member { (extensions : Extensions) (ip ipaddr unknown : PlainName) (word : Text) →
@@ -141,7 +141,7 @@ pub fn unknown_calls_by_example()
     ensures as_argument { (extensions : Extensions) (function unknown ty : PlainName) (args : Trees) → function ≢ unknown →
         ¬ Meets extensions unknown (call_value function (tree (call_value unknown args) no_tree)) (extension_of ty) }
     ensures beside_a_mismatch { (extensions : Extensions) (unknown ty : PlainName) (args : Trees) →
-        ¬ HasUp extensions
+        ¬ MayHave extensions
         (map_value (entry (codes "a") (call_value unknown args) (entry (codes "b") (text_value (codes "x")) no_entry)))
         (record_of (field (codes "a") true (extension_of ty) (field (codes "b") true long end)) ClosedAttributes) }
 {}

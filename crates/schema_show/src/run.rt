@@ -79,7 +79,7 @@ fn outcome_of(alloc: Global, command: Command) -> M<Outcome>
 ///
 /// A failed write to `err` is ignored.
 pub fn run<O: Write, E: Write>(alloc: Global, words: &[String], out: &mut O, err: &mut E) -> u8
-    ensures usage { (result ≡ 2) ↔ (IsCommand (map string_bytes words.now) → ⊥) }
+    ensures usage { (result ≡ 2) ↔ (¬ IsCommand (map string_bytes words.now)) }
 {
     let Some(command) = command_of(words) else {
         let _ = err.write_all(USAGE.as_bytes());

@@ -2,7 +2,7 @@ use Rattle.std.proofs.Common.{◌↔◌, List, Bool, ap, sym, subst, ◌∙◌, 
 use Rattle.std.proofs.lemmas.Simd.{map-map}
 use Rattle.cedar_below.specs.CoreSchemaType.{core_fields_of}
 use Rattle.cedar_below.specs.CoreTy.{core_names}
-use Rattle.cedar_below.specs.Included.{Included}
+use Rattle.cedar_below.specs.Lists.{Included}
 use Rattle.cedar_below.specs.Fits.{NamesListed}
 use Rattle.cedar_below.specs.RestrictedExpr.{entries_of}
 use Rattle.cedar_below.specs.Text.{Text}
@@ -26,9 +26,9 @@ returns-then-not-contains_key c =
     let P : List Text → Type 0 = λ names. Included names listed ↔ Included (entry_names (entries_of c.args.values.now)) listed in
     let so_far = subst P (ap (map string_bytes) c.in-Some.ensures.steps) c.loop-name.invariant in
     let found = listed-Decides (string_bytes c.in-Some.name.now) c.args.attrs.now in
-    let Q : Bool → Type 0 = λ is_open. NamesListed is_open names listed → ⊥ in (
+    let Q : Bool → Type 0 = λ open_attrs. NamesListed open_attrs names listed → ⊥ in (
       λ wrong. absurd cc,
-      λ all. absurd (subst Q (sym c.if-is_open.false) (λ within. let there = found.1 (Included-head _ _ _ (so_far.1 within)) in cc) all),
+      λ all. absurd (subst Q (sym c.if-open_attrs.false) (λ within. let there = found.1 (Included-head _ _ _ (so_far.1 within)) in cc) all),
     )
 
 pub loop-name-preserved : goal.loop-name-preserved

@@ -1,7 +1,7 @@
 use Rattle.std.proofs.Common.{◌↔◌, map, string_bytes}
 use Rattle.cedar_below.specs.CoreSchemaType.{core_fields_of}
 use Rattle.cedar_below.specs.CoreTy.{core_names}
-use Rattle.cedar_below.specs.Included.{Included}
+use Rattle.cedar_below.specs.Lists.{Included}
 use Rattle.cedar_below.specs.RestrictedExpr.{entries_of}
 use Rattle.cedar_below.specs.Tree.{entry_names}
 use Rattle.cedar_below.proofs.fits.names_listed.Given as goal

@@ -2,7 +2,7 @@ use Rattle.std.proofs.Common.{◌≡◌, sym, subst, ◌∙◌, ap, None, rules}
 use Rattle.cedar_names.proofs.VariantLemmas.{raw_variant-String, raw_variant-Long, raw_variant-Boolean, raw_variant-Set}
 use Rattle.cedar_names.specs.Expr.{set_expr}
 use Rattle.cedar_names.specs.RawExpr.{raw_expr, raw_variant}
-use Rattle.cedar_schema.specs.Building.{defined_in}
+use Rattle.cedar_schema.specs.Steps.{defined_in}
 use Rattle.cedar_declared.specs.WrittenOut.{as_text, as_long, as_truth, as_set}
 use Rattle.cedar_schema.proofs.BuildingLemmas.{WrittenOut-as, fault_passed-set}
 use Rattle.std.proofs.IntoIterSteps.{All-taken}

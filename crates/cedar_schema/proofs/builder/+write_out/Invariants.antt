@@ -1,6 +1,6 @@
 use Rattle.cedar_names.specs.declared.json_schema.raw_name.RawName.{RawName}
 use Rattle.cedar_names.specs.declared.json_schema.type_of.RecordType.{out-RecordType}
-use Rattle.cedar_schema.specs.Building.{defined_in}
+use Rattle.cedar_schema.specs.Steps.{defined_in}
 use Rattle.cedar_schema.proofs.RecordLemmas.{WrittenSoFar}
 use Rattle.cedar_schema.proofs.builder.+write_out.Given as goal
 

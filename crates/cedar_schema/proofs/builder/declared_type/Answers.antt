@@ -4,7 +4,7 @@ use Rattle.std.specs.String.{string_bytes}
 use Rattle.cedar_below.specs.Identifier.{IsIdentifier}
 use Rattle.cedar_below.specs.InternalName.{name_of}
 use Rattle.cedar_below.specs.PlainName.{PlainName, IsReserved}
-use Rattle.cedar_schema.specs.EntityFaults.{name_here}
+use Rattle.cedar_schema.specs.Steps.{name_here}
 use Rattle.cedar_schema.proofs.DeclaredLemmas.{names_of_entries, declared-unqualified, declared-unreserved, is_some-declared, not_reserved, name_here-same}
 use Rattle.cedar_schema.proofs.builder.declared_type.Goals as goal
 

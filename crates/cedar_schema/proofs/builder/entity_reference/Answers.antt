@@ -4,7 +4,7 @@ use Rattle.cedar_names.specs.Expr.{named}
 use Rattle.cedar_names.specs.RawName.{raw_name}
 use Rattle.cedar_names.specs.Reference.{reference_to}
 use Rattle.cedar_names.specs.declared.json_schema.reference_type.ReferenceType.TheVariants.{Entity}
-use Rattle.cedar_schema.specs.Building.{defined_in}
+use Rattle.cedar_schema.specs.Steps.{defined_in}
 use Rattle.cedar_declared.specs.WrittenOut.{WrittenOut, as_entity}
 use Rattle.cedar_rules.specs.Ty.{Ty, union_of}
 use Rattle.cedar_schema.proofs.builder.entity_reference.Goals as goal

@@ -4,7 +4,7 @@ use Rattle.cedar_below.specs.EntityType.{type_name}
 use Rattle.cedar_below.specs.declared.entity_type.EntityType.{EntityType}
 use Rattle.cedar_schema.proofs.BuiltLemmas.{SameItems-none}
 use Rattle.cedar_entities.specs.ValidatorEntityType.{descendant_names}
-use Rattle.cedar_below.specs.Included.{SameItems}
+use Rattle.cedar_below.specs.Lists.{SameItems}
 use Rattle.cedar_schema.proofs.builder.entity_type.Goals as goal
 
 pub returns-clause-no_descendants : goal.returns-clause-no_descendants

@@ -2,9 +2,9 @@ use Rattle.std.proofs.Common.{◌≡◌, sym, subst, ◌∙◌, None, rules}
 use Rattle.cedar_below.specs.EntityType.{type_name}
 use Rattle.cedar_below.specs.PlainName.{PlainName}
 use Rattle.cedar_names.specs.EntityBody.{raw_entity_body}
-use Rattle.cedar_schema.specs.EntityFaults.{declared_by_entries, defined_by, name_here}
-use Rattle.cedar_schema.specs.Fits.{Fits}
-use Rattle.cedar_schema.specs.Building.{IsBodyFault, IsSound}
+use Rattle.cedar_schema.specs.Steps.{declared_by_entries, defined_by, name_here}
+use Rattle.cedar_schema.specs.Steps.{IsBuilt}
+use Rattle.cedar_schema.specs.Steps.{IsBodyFault, IsSound}
 use Rattle.cedar_declared.specs.SchemaError.{fault_of}
 use Rattle.cedar_schema.proofs.BuiltLemmas.{BuiltSoFar, BuiltSoFar-more, declared_in_order, inserted_at_end, plain_next, declared_next, Types}
 use Rattle.cedar_schema.proofs.FaultLemmas.{fault_of_name, fault_of_declaration}
@@ -35,7 +35,7 @@ loop-id-preserved c =
     let key = c.in_ok-key.key in
     let ty = c.in_ok-ty.ty in
     let named : type_name key ≡ name_here c.in-Some.id.now = c.in_ok-key.ensures.name ∙ c.in_ok-name.ensures.name in
-    let fits : Fits (defined_by (declared_by_entries all)) (name_here c.in-Some.id.now, raw_entity_body None c.in-Some.declaration.now) (key, ty) = record {
+    let fits : IsBuilt (defined_by (declared_by_entries all)) (name_here c.in-Some.id.now, raw_entity_body None c.in-Some.declaration.now) (key, ty) = record {
       key = named;
       name = c.in_ok-ty.ensures.name ∙ c.in_ok-name.ensures.name;
       kind = c.in_ok-ty.ensures.kind;
@@ -53,7 +53,7 @@ loop-id-preserved-in_ok-insert c =
     let key = c.in_ok-key.key in
     let ty = c.in_ok-ty.ty in
     let named : type_name key ≡ name_here c.in-Some.id.now = c.in_ok-key.ensures.name ∙ c.in_ok-name.ensures.name in
-    let fits : Fits (defined_by (declared_by_entries all)) (name_here c.in-Some.id.now, raw_entity_body None c.in-Some.declaration.now) (key, ty) = record {
+    let fits : IsBuilt (defined_by (declared_by_entries all)) (name_here c.in-Some.id.now, raw_entity_body None c.in-Some.declaration.now) (key, ty) = record {
       key = named;
       name = c.in_ok-ty.ensures.name ∙ c.in_ok-name.ensures.name;
       kind = c.in_ok-ty.ensures.kind;

@@ -2,7 +2,7 @@ use Rattle.std.proofs.Common.{◌↔◌, List, ap, sym, subst, ◌∙◌, string
 use Rattle.std.proofs.lemmas.Simd.{map-map}
 use Rattle.cedar_below.proofs.Inclusion.{Included-step, Included-head}
 use Rattle.cedar_below.proofs.TreeLemmas.{entry_names-entries}
-use Rattle.cedar_below.specs.Included.{Included}
+use Rattle.cedar_below.specs.Lists.{Included}
 use Rattle.cedar_below.specs.RestrictedExpr.{entries_of}
 use Rattle.cedar_below.specs.Text.{Text}
 use Rattle.cedar_below.specs.Tree.{entry_names}

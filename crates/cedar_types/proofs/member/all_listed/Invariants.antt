@@ -1,5 +1,5 @@
 use Rattle.std.proofs.Common.{◌↔◌, map, string_bytes}
-use Rattle.cedar_below.specs.Included.{Included}
+use Rattle.cedar_below.specs.Lists.{Included}
 use Rattle.cedar_below.specs.RestrictedExpr.{entries_of}
 use Rattle.cedar_below.specs.Tree.{entry_names}
 use Rattle.cedar_rules.specs.Fields.{field_names}

@@ -1,7 +1,7 @@
 use Rattle.std.proofs.Common.{◌↔◌, List, ap, sym, subst, string_bytes, map, Contains}
 use Rattle.cedar_below.specs.Text.{Text}
 use Rattle.cedar_rules.specs.Fields.{field_names}
-use Rattle.cedar_below.specs.Included.{Included}
+use Rattle.cedar_below.specs.Lists.{Included}
 use Rattle.cedar_types.specs.Meaning.{fields_of, attribute_of}
 use Rattle.cedar_below.proofs.Inclusion.{Included-step, Included-head}
 use Rattle.cedar_rules.proofs.InclusionLemmas.{found-Decides}

@@ -1,6 +1,6 @@
 use Rattle.std.proofs.Common.{◌↔◌, map, string_bytes}
 use Rattle.cedar_rules.specs.Fields.{field_names}
-use Rattle.cedar_below.specs.Included.{Included}
+use Rattle.cedar_below.specs.Lists.{Included}
 use Rattle.cedar_types.specs.Meaning.{fields_of}
 use Rattle.cedar_types.proofs.subtype.has_names.Given as goal
 

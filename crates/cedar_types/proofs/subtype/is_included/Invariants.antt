@@ -1,7 +1,7 @@
 use Rattle.std.proofs.Common.{◌↔◌, map}
 use Rattle.std.specs.Slice.Iter.{iter_rest}
 use Rattle.cedar_below.specs.EntityType.{type_name}
-use Rattle.cedar_below.specs.Included.{Included}
+use Rattle.cedar_below.specs.Lists.{Included}
 use Rattle.cedar_types.specs.EntityLUB.{lub_names}
 use Rattle.cedar_types.proofs.subtype.is_included.Given as goal
 

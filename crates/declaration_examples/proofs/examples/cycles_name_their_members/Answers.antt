@@ -42,7 +42,7 @@ in_cycle extensions name chain =
     (step.0, refers_declared cycle_bag extensions name step.0 step.1 step.3 step.4)
 
 -- only the two members are declared
-not_declared : (name : PlainName) (definition : Expr) → (alias_name (codes "A") ≡ name → ⊥) → (alias_name (codes "B") ≡ name → ⊥) → Contains (declared_common cycle_bag) (name, definition) → ⊥
+not_declared : (name : PlainName) (definition : Expr) → (¬ (alias_name (codes "A") ≡ name)) → (¬ (alias_name (codes "B") ≡ name)) → ¬ Contains (declared_common cycle_bag) (name, definition)
 not_declared name definition first second (zero, below, is) = first (ap (λ entry. entry.0) is)
 not_declared name definition first second (suc zero, below, is) = second (ap (λ entry. entry.0) is)
 not_declared name definition first second (suc (suc k), below, is) = omega (arith, below)

@@ -13,7 +13,7 @@ use Rattle.cedar_declared.specs.WrittenOut.{as_text, as_long, as_entity, as_comm
 use Rattle.declaration_examples.proofs.examples.entity_types_take_aliases_away.Goals as goal
 
 -- no common type has the name of the entity type
-no_alias : (extensions : Extensions) (body : Expr) → IsCommon (defined_names alias_bag extensions) CommonOrEntity (alias_name (codes "String")) body → ⊥
+no_alias : (extensions : Extensions) (body : Expr) → ¬ IsCommon (defined_names alias_bag extensions) CommonOrEntity (alias_name (codes "String")) body
 no_alias extensions body common =
     ⊎_elim
     (λ here. ⊎_elim

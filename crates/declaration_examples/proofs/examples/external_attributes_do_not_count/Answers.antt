@@ -1,9 +1,9 @@
 use Rattle.std.proofs.Common.{[], None, map, refl}
 use Rattle.cedar_names.specs.RawExpr.{raw_reference}
-use Rattle.cedar_names.specs.declared.json_schema.entity_type.EntityTypeKind.TheVariants as of
+use Rattle.cedar_names.specs.declared.json_schema.entity_type.EntityTypeKind.TheVariants as variant
 use Rattle.cedar_names.specs.declared.json_schema.reference_type.ReferenceType.TheVariants.{Entity}
 use Rattle.declaration_examples.proofs.examples.external_attributes_do_not_count.Goals as goal
 
 pub returns-clause-body : goal.returns-clause-body
-returns-clause-body c (of.Standard it) = (map (raw_reference None Entity) it.member_of_types.items, refl)
-returns-clause-body c (of.Enum choices) = ([], refl)
+returns-clause-body c (variant.Standard it) = (map (raw_reference None Entity) it.member_of_types.items, refl)
+returns-clause-body c (variant.Enum choices) = ([], refl)

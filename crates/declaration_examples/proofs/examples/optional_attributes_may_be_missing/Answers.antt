@@ -5,7 +5,7 @@ use Rattle.cedar_declared.specs.Admits.{admits_record, admits_missing, admits_th
 use Rattle.declaration_examples.proofs.examples.optional_attributes_may_be_missing.Goals as goal
 
 -- another name isn't listed
-not_listed : Contains (codes "a" ∷ []) (codes "b") → ⊥
+not_listed : ¬ Contains (codes "a" ∷ []) (codes "b")
 not_listed (zero, below, is) = unlike_texts (codes "a") (codes "b") refl is
 not_listed (suc k, below, is) = omega (arith, below)
 

@@ -2,14 +2,14 @@ use Rattle.std.proofs.Common.{inl, true, [], refl, codes}
 use Rattle.cedar_below.specs.declared.validation_mode.ValidationMode.TheVariants.{Strict, Permissive}
 use Rattle.cedar_rules.proofs.InclusionLemmas.{Included-in_none}
 use Rattle.cedar_rules.specs.Ty.{truth, long}
-use Rattle.cedar_rules.specs.declared.bool_type.BoolType.TheVariants as known
+use Rattle.cedar_rules.specs.declared.bool_type.BoolType.TheVariants as bool_type
 use Rattle.rule_examples.proofs.subtyping_examples.closed_records_by_example.Goals as goal
 
 pub returns-clause-known : goal.returns-clause-known
 returns-clause-known c Strict =
-    (tt, (λ name among. among), ((true, truth known.True, inl (refl, refl, refl), refl, inl refl), tt))
+    (tt, (λ name among. among), ((true, truth bool_type.True, inl (refl, refl, refl), refl, inl refl), tt))
 returns-clause-known c Permissive =
-    (tt, (λ name among. among), ((true, truth known.True, inl (refl, refl, refl), (λ needed. needed), inl refl), tt))
+    (tt, (λ name among. among), ((true, truth bool_type.True, inl (refl, refl, refl), (λ needed. needed), inl refl), tt))
 
 pub returns-clause-optional : goal.returns-clause-optional
 returns-clause-optional c =

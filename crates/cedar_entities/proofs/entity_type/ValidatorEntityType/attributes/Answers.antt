@@ -1,13 +1,13 @@
 use Rattle.std.proofs.Common.{ap, ◌∙◌, sym}
-use Rattle.cedar_entities.specs.EntityTypeKind.{kind_of}
+use Rattle.cedar_entities.specs.EntityTypeKind.{plain_kind}
 use Rattle.cedar_declared.specs.EntityTypeKind.{kind_fields}
 use Rattle.cedar_entities.proofs.MemberLemmas.{end-nameless}
 use Rattle.cedar_entities.proofs.entity_type.ValidatorEntityType.attributes.Goals as goal
 
 pub returns-in-Enum : goal.returns-in-Enum
 returns-in-Enum c =
-    end-nameless _ c.args.self.now.without_attributes ∙ sym (ap (λ kind. kind_fields (kind_of kind)) c.in-Enum.is)
+    end-nameless _ c.args.self.now.without_attributes ∙ sym (ap (λ kind. kind_fields (plain_kind kind)) c.in-Enum.is)
 
 pub returns-in-External : goal.returns-in-External
 returns-in-External c =
-    end-nameless _ c.args.self.now.without_attributes ∙ sym (ap (λ kind. kind_fields (kind_of kind)) c.in-External.is)
+    end-nameless _ c.args.self.now.without_attributes ∙ sym (ap (λ kind. kind_fields (plain_kind kind)) c.in-External.is)

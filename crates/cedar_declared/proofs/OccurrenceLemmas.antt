@@ -7,11 +7,11 @@ use Rattle.std.specs.List.Sorted.{IsStrictlySortedBy}
 use Rattle.std.specs.declared.cmp.Ordering.{Ordering}
 use Rattle.std.specs.declared.cmp.Ordering.TheVariants.{Less}
 use Rattle.cedar_below.proofs.Lists.{Contains-cons, Contains-cons_cases}
-use Rattle.cedar_declared.specs.Places.{Twice}
+use Rattle.cedar_declared.specs.Occurrences.{Twice}
 use Rattle.cedar_rules.proofs.AntisymmetryLaws.{not_itself}
 
 -- no item stands twice in a list without repeats
-pub Twice-distinct : {A : Type 0} (xs : List A) (x : A) → AllPairs (λ a b. a ≢ b) xs → Twice xs x → ⊥
+pub Twice-distinct : {A : Type 0} (xs : List A) (x : A) → AllPairs (λ a b. a ≢ b) xs → ¬ Twice xs x
 Twice-distinct [] x distinct twice = twice
 Twice-distinct (first ∷ rest) x distinct twice =
     ⊎_elim
@@ -36,7 +36,7 @@ Contains-image f (first ∷ rest) x among =
     (⊎_elim (λ here. inl (ap f here)) (λ later. inr (Contains-image f rest x later)) (Contains-cons_cases first rest x among))
 
 -- where no key stands twice, the values of a key are the same
-pub value_once : {K V : Type 0} (entries : List (K × V)) → ((key : K) → Twice (map (λ entry. entry.0) entries) key → ⊥) → (key : K) (value other : V) → Contains entries (key, value) → Contains entries (key, other) → value ≡ other
+pub value_once : {K V : Type 0} (entries : List (K × V)) → ((key : K) → ¬ Twice (map (λ entry. entry.0) entries) key) → (key : K) (value other : V) → Contains entries (key, value) → Contains entries (key, other) → value ≡ other
 value_once [] once key value other among among' = absurd (omega (arith, among.1))
 value_once (first ∷ rest) once key value other among among' =
     let keys = map (λ entry. entry.0) rest in
@@ -59,7 +59,7 @@ Contains-filter p xs x among = (
 )
 
 -- no item stands twice in a list that ascends
-pub Twice-ascending : {A : Type 0} (R : A → A → Ordering) → IsTotalOrder R → (xs : List A) (x : A) → IsStrictlySortedBy R xs → Twice xs x → ⊥
+pub Twice-ascending : {A : Type 0} (R : A → A → Ordering) → IsTotalOrder R → (xs : List A) (x : A) → IsStrictlySortedBy R xs → ¬ Twice xs x
 unfolding IsStrictlySortedBy
 Twice-ascending R total [] x ascending twice = twice
 Twice-ascending R total (first ∷ rest) x ascending twice =

@@ -9,7 +9,7 @@ abbrev pub SameItems : {A : Type 0} → List A → List A → Type 0
 SameItems {A = A} items others = (item : A) → Contains items item ↔ Contains others item
 
 -- the lists are of one length, and a relation holds between their items in turn
-abbrev pub AreSame : {A : Type 0} → (A → A → Type 0) → List A → List A → Type 0
-AreSame R [] [] = Unit {0}
-AreSame R (first ∷ rest) (other ∷ others) = R first other × AreSame R rest others
-AreSame R _ _ = ⊥
+abbrev pub HoldsInTurn : {A B : Type 0} → (A → B → Type 0) → List A → List B → Type 0
+HoldsInTurn R [] [] = Unit {0}
+HoldsInTurn R (first ∷ rest) (other ∷ others) = R first other × HoldsInTurn R rest others
+HoldsInTurn R _ _ = ⊥

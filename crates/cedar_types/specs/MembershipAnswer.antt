@@ -9,7 +9,7 @@ Answer = Result Bool ExtensionFunctionLookupError
 
 -- an answer is right: yes exactly where the value has the type, no exactly where it can't have it whatever the unknown
 -- functions give, and else the fault of a function that it meets
-pub record IsRight (answer : Answer) (Holds MayHold : Type 0) (Meeting : PlainName → Type 0) : Type 0 where
+pub record IsMembership (answer : Answer) (Holds MayHold : Type 0) (Meeting : PlainName → Type 0) : Type 0 where
   pub yes : (answer ≡ Ok true) ↔ Holds
   pub no : (answer ≡ Ok false) ↔ ¬ MayHold
   pub fault : IfErr answer (λ error. Meeting (plain_name error.name.now))

@@ -11,16 +11,16 @@ use Rattle.cedar_below.specs.declared.extension.Extensions.{Extensions}
 use Rattle.cedar_below.specs.declared.extension.ExtensionFunction.{ExtensionFunction}
 use Rattle.cedar_below.specs.declared.extension.ExtensionFunctionLookupError.{ExtensionFunctionLookupError}
 use Rattle.cedar_rules.specs.Has.{MayGive}
-use Rattle.cedar_types.specs.Answers.{Answer, IsRight}
+use Rattle.cedar_types.specs.MembershipAnswer.{Answer, IsMembership}
 
 -- a test decides a part in which no call stands
-pub IsRight-test : (b : Bool) (H : Type 0) (M : PlainName → Type 0) → Decides b H → IsRight (Ok b) H H M
-IsRight-test true H M decides = record {
+pub IsMembership-test : (b : Bool) (H : Type 0) (M : PlainName → Type 0) → Decides b H → IsMembership (Ok b) H H M
+IsMembership-test true H M decides = record {
   yes = (λ _. decides.0 refl, λ _. refl);
   no = (λ e. absurd cc, λ never. absurd (never (decides.0 refl)));
   fault = tt;
 }
-IsRight-test false H M decides = record {
+IsMembership-test false H M decides = record {
   yes = (λ e. absurd cc, λ h. absurd (let e = decides.1 h in cc));
   no = (λ _ h. (let e = decides.1 h in cc), λ _. refl);
   fault = tt;
@@ -34,7 +34,7 @@ pub record IsBoth (first second both : Answer) : Type 0 where
 
 -- an answer is right so far: what is left decides about the whole where the answer isn't no, and the fault is one of
 -- the whole
-pub record IsRightSoFar (so_far : Answer) (H U : Type 0) (M : PlainName → Type 0) (Whole MayWhole : Type 0) (Meeting : PlainName → Type 0) : Type 0 where
+pub record IsMembershipSoFar (so_far : Answer) (H U : Type 0) (M : PlainName → Type 0) (Whole MayWhole : Type 0) (Meeting : PlainName → Type 0) : Type 0 where
   pub yes : so_far ≡ Ok true → H → Whole
   pub parts : Whole → (so_far ≡ Ok true) × H
   pub no : so_far ≡ Ok false → ¬ MayWhole
@@ -44,8 +44,8 @@ pub record IsRightSoFar (so_far : Answer) (H U : Type 0) (M : PlainName → Type
   pub meets : (unknown : PlainName) → M unknown → Meeting unknown
 
 -- at first all is left
-pub IsRightSoFar-none : (H U : Type 0) (M : PlainName → Type 0) → IsRightSoFar (Ok true) H U M H U M
-IsRightSoFar-none H U M = record {
+pub IsMembershipSoFar-none : (H U : Type 0) (M : PlainName → Type 0) → IsMembershipSoFar (Ok true) H U M H U M
+IsMembershipSoFar-none H U M = record {
   yes = λ _ h. h;
   parts = λ h. (refl, h);
   no = λ e. absurd cc;
@@ -67,8 +67,8 @@ IfErr-weaker (Ok b) P Q weaker holds = tt
 IfErr-weaker (Err error) P Q weaker holds = weaker error holds
 
 -- one more part is answered
-pub IsRightSoFar-more : (so_far b next : Answer) (H K U V : Type 0) (M N : PlainName → Type 0) (Whole MayWhole : Type 0) (Meeting : PlainName → Type 0) → IsBoth so_far b next → IsRightSoFar so_far (H × K) (U × V) (λ f. M f ⊎ N f) Whole MayWhole Meeting → IsRight b H U M → IsRightSoFar next K V N Whole MayWhole Meeting
-IsRightSoFar-more so_far b next H K U V M N Whole MayWhole Meeting both before right = record {
+pub IsMembershipSoFar-more : (so_far b next : Answer) (H K U V : Type 0) (M N : PlainName → Type 0) (Whole MayWhole : Type 0) (Meeting : PlainName → Type 0) → IsBoth so_far b next → IsMembershipSoFar so_far (H × K) (U × V) (λ f. M f ⊎ N f) Whole MayWhole Meeting → IsMembership b H U M → IsMembershipSoFar next K V N Whole MayWhole Meeting
+IsMembershipSoFar-more so_far b next H K U V M N Whole MayWhole Meeting both before right = record {
   yes = λ e k. (let parts = both.yes.0 e in before.yes parts.0 (right.yes.0 parts.1, k));
   parts = λ whole. (let parts = before.parts whole in (both.yes.1 (parts.0, right.yes.1 parts.1.0), parts.1.1));
   no = λ e may. ⊎_elim (λ first. before.no first may) (λ second. right.no.0 second (before.may may).0) (both.no.0 e);
@@ -79,8 +79,8 @@ IsRightSoFar-more so_far b next H K U V M N Whole MayWhole Meeting both before r
 }
 
 -- at last nothing is left
-pub IsRightSoFar-all : (so_far : Answer) (M : PlainName → Type 0) (Whole MayWhole : Type 0) (Meeting : PlainName → Type 0) → IsRightSoFar so_far (Unit {0}) (Unit {0}) M Whole MayWhole Meeting → IsRight so_far Whole MayWhole Meeting
-IsRightSoFar-all so_far M Whole MayWhole Meeting before = record {
+pub IsMembershipSoFar-all : (so_far : Answer) (M : PlainName → Type 0) (Whole MayWhole : Type 0) (Meeting : PlainName → Type 0) → IsMembershipSoFar so_far (Unit {0}) (Unit {0}) M Whole MayWhole Meeting → IsMembership so_far Whole MayWhole Meeting
+IsMembershipSoFar-all so_far M Whole MayWhole Meeting before = record {
   yes = (λ e. before.yes e tt, λ whole. (before.parts whole).0);
   no = (before.no, λ never. decided so_far (λ open_still. before.undecided open_still never tt));
   fault = before.fault;
@@ -92,8 +92,8 @@ IsRightSoFar-all so_far M Whole MayWhole Meeting before = record {
     decided (Err error) open_still = absurd (open_still (λ e. cc))
 
 -- a known call: its test decides whether it gives the value, and it has a function
-pub IsRight-known : (extensions : Extensions) (name : PlainName) (args : Trees) (ty : PlainName) (function : ExtensionFunction) (b : Bool) → function_named extensions name ≡ Some function → Decides b ((result_type function ≡ Some (core_extension ty)) × ArgumentsFit extensions args (argument_types function)) → IsRight (Ok b) (Gives extensions name args ty) (MayGive extensions name args ty) (λ unknown. (name ≡ unknown) × IsUnknown extensions unknown)
-IsRight-known extensions name args ty function b known decides =
+pub IsMembership-known : (extensions : Extensions) (name : PlainName) (args : Trees) (ty : PlainName) (function : ExtensionFunction) (b : Bool) → function_named extensions name ≡ Some function → Decides b ((result_type function ≡ Some (core_extension ty)) × ArgumentsFit extensions args (argument_types function)) → IsMembership (Ok b) (Gives extensions name args ty) (MayGive extensions name args ty) (λ unknown. (name ≡ unknown) × IsUnknown extensions unknown)
+IsMembership-known extensions name args ty function b known decides =
     let given : Decides b (Gives extensions name args ty) = (
       λ e. (let both = decides.0 e in (function, known, both.0, both.1)),
       λ gives. (let same : gives.0 ≡ function = (let found = gives.1 in cc) in
@@ -103,14 +103,14 @@ IsRight-known extensions name args ty function b known decides =
       λ e. inl (given.0 e),
       λ either. ⊎_elim given.1 (λ unknown. absurd (let found : function_named extensions name ≡ None = unknown in cc)) either,
     ) in
-    let right = IsRight-test b (Gives extensions name args ty) (λ unknown. (name ≡ unknown) × IsUnknown extensions unknown) given in
-    let right_may = IsRight-test b (MayGive extensions name args ty) (λ unknown. (name ≡ unknown) × IsUnknown extensions unknown) may in
+    let right = IsMembership-test b (Gives extensions name args ty) (λ unknown. (name ≡ unknown) × IsUnknown extensions unknown) given in
+    let right_may = IsMembership-test b (MayGive extensions name args ty) (λ unknown. (name ≡ unknown) × IsUnknown extensions unknown) may in
     record { yes = right.yes; no = right_may.no; fault = tt }
 
 -- an unknown call meets its function, and may give anything
-pub IsRight-unknown : (extensions : Extensions) (name : PlainName) (args : Trees) (ty : PlainName) (answer : Answer) (error : ExtensionFunctionLookupError) → answer ≡ Err error → plain_name error.name.now ≡ name → function_named extensions name ≡ None → IsRight answer (Gives extensions name args ty) (MayGive extensions name args ty) (λ unknown. (name ≡ unknown) × IsUnknown extensions unknown)
-IsRight-unknown extensions name args ty answer error is same none =
-    let P : Answer → Type 0 = λ given. IsRight given (Gives extensions name args ty) (MayGive extensions name args ty) (λ unknown. (name ≡ unknown) × IsUnknown extensions unknown) in
+pub IsMembership-unknown : (extensions : Extensions) (name : PlainName) (args : Trees) (ty : PlainName) (answer : Answer) (error : ExtensionFunctionLookupError) → answer ≡ Err error → plain_name error.name.now ≡ name → function_named extensions name ≡ None → IsMembership answer (Gives extensions name args ty) (MayGive extensions name args ty) (λ unknown. (name ≡ unknown) × IsUnknown extensions unknown)
+IsMembership-unknown extensions name args ty answer error is same none =
+    let P : Answer → Type 0 = λ given. IsMembership given (Gives extensions name args ty) (MayGive extensions name args ty) (λ unknown. (name ≡ unknown) × IsUnknown extensions unknown) in
     subst P (sym is)
     (record {
       yes = (λ e. absurd cc, λ gives. absurd (let found = gives.1 in cc));

@@ -7,7 +7,7 @@ abbrev mutual
   pub MentionsEntity : Ty → PlainName → Type 0
   MentionsEntity (union_of names) name = Contains names name
   MentionsEntity (set_of ty) name = MentionsEntity ty name
-  MentionsEntity (record_of fields tag) name = FieldsMentionEntity fields name
+  MentionsEntity (record_of fields openness) name = FieldsMentionEntity fields name
   MentionsEntity _ name = ⊥
 
   -- the entity type stands in the type of some attribute
@@ -20,7 +20,7 @@ abbrev mutual
   pub MentionsExtensionType : Ty → PlainName → Type 0
   MentionsExtensionType (extension_of other) name = other ≡ name
   MentionsExtensionType (set_of ty) name = MentionsExtensionType ty name
-  MentionsExtensionType (record_of fields tag) name = FieldsMentionExtensionType fields name
+  MentionsExtensionType (record_of fields openness) name = FieldsMentionExtensionType fields name
   MentionsExtensionType _ name = ⊥
 
   -- the extension type stands in the type of some attribute
