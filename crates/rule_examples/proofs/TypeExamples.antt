@@ -25,7 +25,7 @@ inclusion-unlisted lists = omega (arith, (lists.0 (codes "y") (Contains-cons (co
 pub consistent-required : ¬ IsConsistent required_y (core_record core_end false)
 consistent-required consistent =
     ⊎_elim (λ e. absurd cc) (λ e. absurd cc)
-    (consistent.1 (codes "y") true long (inl (refl, refl, refl)) (λ among. omega (arith, among.1)))
+    (consistent.1 (codes "y") true (long, inl (refl, refl, refl)) (λ among. omega (arith, among.1)))
 
 -- a type is no union without the entity types that it has
 pub disjoint-common : ¬ AreDisjointTypes foo_entity foo_or_bar
