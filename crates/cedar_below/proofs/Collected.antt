@@ -39,10 +39,12 @@ has_uid uid entity = is_eq (uid_cmp uid (entity_uid entity))
 
 has_uid-Decides : (uid : PlainUid) (entity : Entity) → Decides (has_uid uid entity) (uid ≡ entity_uid entity)
 has_uid-Decides uid entity =
-    Decides-like _ (uid_cmp-Equal uid (entity_uid entity)).0 (uid_cmp-Equal uid (entity_uid entity)).1 (Equal-is (uid_cmp uid (entity_uid entity)))
+    Decides-like _ (uid_cmp-Equal uid (entity_uid entity)).0 (uid_cmp-Equal uid (entity_uid entity)).1
+    (Equal-is (uid_cmp uid (entity_uid entity)))
 
 -- what a look-up by key finds is what a search by uid finds
-lookup-find : (uid : PlainUid) (es : Entries) → All IsAtItself es → lookup (λ key. is_eq (uid_cmp uid (uid_of key))) es ≡ find (has_uid uid) (values_of es)
+lookup-find : (uid : PlainUid) (es : Entries) → All IsAtItself es
+    → lookup (λ key. is_eq (uid_cmp uid (uid_of key))) es ≡ find (has_uid uid) (values_of es)
 lookup-find uid [] keyed = refl
 lookup-find uid (e ∷ es) keyed =
     let own : uid_of e.0 ≡ entity_uid e.1 = All-head IsAtItself e es keyed in
@@ -50,7 +52,8 @@ lookup-find uid (e ∷ es) keyed =
     λ i. cond (is_eq (uid_cmp uid (own i))) (Some e.1) (rest i)
 
 -- the map's look-up at a key finds the entity of its uid
-pub get-find : (entities : BTreeMap EntityUID Entity) (key : EntityUID) → IsKeyed entities → get_by (by_uid key) entities ≡ find (has_uid (uid_of key)) (values entities)
+pub get-find : (entities : BTreeMap EntityUID Entity) (key : EntityUID) → IsKeyed entities
+    → get_by (by_uid key) entities ≡ find (has_uid (uid_of key)) (values entities)
 get-find entities key keyed =
     (λ i. get_by (λ other. entity_uid_ord-uid_cmp key other i) entities) ∙ lookup-find (uid_of key) entities.entries keyed
 
@@ -60,9 +63,11 @@ uids-keys [] keyed = refl
 uids-keys (e ∷ es) keyed = λ i. All-head IsAtItself e es keyed i ∷ uids-keys es (All-tail IsAtItself e es keyed) i
 
 -- the entities are in uid order
-pub uids_ordered : (entities : BTreeMap EntityUID Entity) → IsKeyed entities → IsOrdered by_uid entities → IsStrictlySortedBy uid_cmp (map entity_uid (values entities))
+pub uids_ordered : (entities : BTreeMap EntityUID Entity) → IsKeyed entities → IsOrdered by_uid entities
+    → IsStrictlySortedBy uid_cmp (map entity_uid (values entities))
 uids_ordered entities keyed ordered =
-    subst (IsStrictlySortedBy uid_cmp) (uids-keys entities.entries keyed) (IsStrictlySortedBy-map by_uid uid_cmp uid_of entity_uid_ord-uid_cmp (keys_of entities.entries) ordered)
+    subst (IsStrictlySortedBy uid_cmp) (uids-keys entities.entries keyed)
+    (IsStrictlySortedBy-map by_uid uid_cmp uid_of entity_uid_ord-uid_cmp (keys_of entities.entries) ordered)
 
 -- two tests in turn that pass alike
 cond_twice : {X : Type 0} (b c : Bool) (x y z : X) → b ≡ c → cond b x z ≡ cond b x (cond c y z)
@@ -83,27 +88,35 @@ false_from_Decides false decides never = refl
 
 module _ (key : EntityUID) (entity : Entity) (own : uid_of key ≡ entity_uid entity) where
   -- one step of an insertion keeps each entry at its own uid
-  keyed_step : (e : EntityUID × Entity) (es more : Entries) → All IsAtItself (e ∷ es) → All IsAtItself more → (r : Ordering) → by_uid key e.0 ≡ r → All IsAtItself (match_ordering r ((key, entity) ∷ e ∷ es) ((e.0, entity) ∷ es) (e ∷ more))
+  keyed_step : (e : EntityUID × Entity) (es more : Entries) → All IsAtItself (e ∷ es) → All IsAtItself more
+      → (r : Ordering) → by_uid key e.0 ≡ r → All IsAtItself (match_ordering r ((key, entity) ∷ e ∷ es) ((e.0, entity) ∷ es) (e ∷ more))
   keyed_step e es more keyed after Less p = All-cons IsAtItself (key, entity) (e ∷ es) own keyed
-  keyed_step e es more keyed after Equal p = All-cons IsAtItself (e.0, entity) es (sym ((entity_uid_ord-Equal key e.0).0 p) ∙ own) (All-tail IsAtItself e es keyed)
+  keyed_step e es more keyed after Equal p = All-cons IsAtItself (e.0, entity) es
+      (sym ((entity_uid_ord-Equal key e.0).0 p) ∙ own) (All-tail IsAtItself e es keyed)
   keyed_step e es more keyed after Greater p = All-cons IsAtItself e more (All-head IsAtItself e es keyed) after
 
   -- an insertion at the entity's own uid keeps each entry at its own
   keyed-insert_entry : (es : Entries) → All IsAtItself es → All IsAtItself (insert_entry by_uid es key entity)
   keyed-insert_entry [] keyed = All-cons IsAtItself (key, entity) [] own (All-nil IsAtItself)
   keyed-insert_entry (e ∷ es) keyed =
-      keyed_step e es (insert_entry by_uid es key entity) keyed (keyed-insert_entry es (All-tail IsAtItself e es keyed)) (by_uid key e.0) refl
+      keyed_step e es (insert_entry by_uid es key entity) keyed (keyed-insert_entry es (All-tail IsAtItself e es keyed))
+      (by_uid key e.0) refl
 
   -- an entity that comes before the inserted one has another uid
-  apart : (e : EntityUID × Entity) → IsAtItself e → by_uid key e.0 ≡ Greater → (uid : PlainUid) → has_uid uid e.1 ≡ true → ¬ (has_uid uid entity ≡ true)
+  apart : (e : EntityUID × Entity) → IsAtItself e → by_uid key e.0 ≡ Greater → (uid : PlainUid) → has_uid uid e.1 ≡ true
+      → ¬ (has_uid uid entity ≡ true)
   apart e at_itself p uid there here =
-      let same : uid_of key ≡ uid_of e.0 = own ∙ sym ((has_uid-Decides uid entity).0 here) ∙ (has_uid-Decides uid e.1).0 there ∙ sym at_itself in
+      let same : uid_of key ≡ uid_of e.0 = own ∙ sym ((has_uid-Decides uid entity).0 here)
+      ∙ (has_uid-Decides uid e.1).0 there ∙ sym at_itself in
       let tie : by_uid key e.0 ≡ Equal = (entity_uid_ord-Equal key e.0).1 same in
       cc
 
   -- one step of an insertion changes what is found at the entity's uid alone
-  find_step : (uid : PlainUid) (e : EntityUID × Entity) (es more : Entries) → IsAtItself e → find (has_uid uid) (values_of more) ≡ cond (has_uid uid entity) (Some entity) (find (has_uid uid) (values_of es)) → (r : Ordering) → by_uid key e.0 ≡ r
-      → find (has_uid uid) (values_of (match_ordering r ((key, entity) ∷ e ∷ es) ((e.0, entity) ∷ es) (e ∷ more))) ≡ cond (has_uid uid entity) (Some entity) (find (has_uid uid) (values_of (e ∷ es)))
+  find_step : (uid : PlainUid) (e : EntityUID × Entity) (es more : Entries) → IsAtItself e
+      → find (has_uid uid) (values_of more) ≡ cond (has_uid uid entity) (Some entity)
+      (find (has_uid uid) (values_of es)) → (r : Ordering) → by_uid key e.0 ≡ r
+      → find (has_uid uid) (values_of (match_ordering r ((key, entity) ∷ e ∷ es) ((e.0, entity) ∷ es) (e ∷ more)))
+      ≡ cond (has_uid uid entity) (Some entity) (find (has_uid uid) (values_of (e ∷ es)))
   find_step uid e es more at_itself found Less p = refl
   find_step uid e es more at_itself found Equal p =
       let same : entity_uid entity ≡ entity_uid e.1 = sym own ∙ (entity_uid_ord-Equal key e.0).0 p ∙ at_itself in
@@ -112,7 +125,9 @@ module _ (key : EntityUID) (entity : Entity) (own : uid_of key ≡ entity_uid en
       ap (cond (has_uid uid e.1) (Some e.1)) found ∙ cond_swap (has_uid uid e.1) (has_uid uid entity) _ _ _ (apart e at_itself p uid)
 
   -- an insertion changes what is found at the entity's uid alone
-  find-insert_entry : (uid : PlainUid) (es : Entries) → All IsAtItself es → find (has_uid uid) (values_of (insert_entry by_uid es key entity)) ≡ cond (has_uid uid entity) (Some entity) (find (has_uid uid) (values_of es))
+  find-insert_entry : (uid : PlainUid) (es : Entries) → All IsAtItself es
+      → find (has_uid uid) (values_of (insert_entry by_uid es key entity))
+      ≡ cond (has_uid uid entity) (Some entity) (find (has_uid uid) (values_of es))
   find-insert_entry uid [] keyed = refl
   find-insert_entry uid (e ∷ es) keyed =
       find_step
@@ -127,23 +142,30 @@ module _ (key : EntityUID) (entity : Entity) (own : uid_of key ≡ entity_uid en
 
   module _ (old new : Entries) (keyed : All IsAtItself old) where
     -- after an insertion that may be refused each entry stands at its own uid
-    pub keyed_after : {A E : Type 0} (r : Result A E) → OnOk r (new ≡ insert_entry by_uid old key entity) → OnErr r (new ≡ old) → All IsAtItself new
+    pub keyed_after : {A E : Type 0} (r : Result A E) → OnOk r (new ≡ insert_entry by_uid old key entity)
+        → OnErr r (new ≡ old) → All IsAtItself new
     keyed_after (Ok x) inserted refused = subst (All IsAtItself) (sym inserted) (keyed-insert_entry old keyed)
     keyed_after (Err e) inserted refused = subst (All IsAtItself) (sym refused) keyed
 
-    found_after : new ≡ insert_entry by_uid old key entity → (uid : PlainUid) → find (has_uid uid) (values_of new) ≡ cond (has_uid uid entity) (Some entity) (find (has_uid uid) (values_of old))
+    found_after : new ≡ insert_entry by_uid old key entity → (uid : PlainUid)
+        → find (has_uid uid) (values_of new) ≡ cond (has_uid uid entity) (Some entity) (find (has_uid uid) (values_of old))
     found_after inserted uid = ap (λ es. find (has_uid uid) (values_of es)) inserted ∙ find-insert_entry uid old keyed
 
     -- the inserted entity is found at its uid
     pub inserted_found : new ≡ insert_entry by_uid old key entity → find (has_uid (entity_uid entity)) (values_of new) ≡ Some entity
     inserted_found inserted =
-        found_after inserted (entity_uid entity) ∙ ap (λ b. cond b (Some entity) (find (has_uid (entity_uid entity)) (values_of old))) ((has_uid-Decides (entity_uid entity) entity).1 refl)
+        found_after inserted (entity_uid entity)
+        ∙ ap (λ b. cond b (Some entity) (find (has_uid (entity_uid entity)) (values_of old)))
+        ((has_uid-Decides (entity_uid entity) entity).1 refl)
 
     -- what is found at another uid stays
-    pub others_found : new ≡ insert_entry by_uid old key entity → (uid : PlainUid) → uid ≢ entity_uid entity → find (has_uid uid) (values_of new) ≡ find (has_uid uid) (values_of old)
+    pub others_found : new ≡ insert_entry by_uid old key entity → (uid : PlainUid) → uid ≢ entity_uid entity
+        → find (has_uid uid) (values_of new) ≡ find (has_uid uid) (values_of old)
     others_found inserted uid other =
-        found_after inserted uid ∙ ap (λ b. cond b (Some entity) (find (has_uid uid) (values_of old))) (false_from_Decides _ (has_uid-Decides uid entity) other)
+        found_after inserted uid ∙ ap (λ b. cond b (Some entity) (find (has_uid uid) (values_of old)))
+        (false_from_Decides _ (has_uid-Decides uid entity) other)
 
   -- the map's look-up at the inserted key finds the entity of the inserted uid
-  pub get-find_own : (entities : BTreeMap EntityUID Entity) → IsKeyed entities → get_by (by_uid key) entities ≡ find (has_uid (entity_uid entity)) (values entities)
+  pub get-find_own : (entities : BTreeMap EntityUID Entity) → IsKeyed entities
+      → get_by (by_uid key) entities ≡ find (has_uid (entity_uid entity)) (values entities)
   get-find_own entities keyed = get-find entities key keyed ∙ ap (λ uid. find (has_uid uid) (values entities)) own

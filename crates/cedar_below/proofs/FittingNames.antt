@@ -8,7 +8,9 @@ use Rattle.cedar_below.specs.declared.name.Name.{Name}
 use Rattle.cedar_below.proofs.Lists.{All-from_map}
 
 -- the parts of `TypeNamesFit`, over the names as they are declared
-pub TypeNamesFit-parts : (names : List Name) → (All (λ name. IsUnqualified (plain_name name) × ¬ Contains primitive_words (plain_name name).base) names × AllPairs (λ a b. a ≢ b) (map plain_name names)) ↔ TypeNamesFit (map plain_name names)
+pub TypeNamesFit-parts : (names : List Name)
+    → (All (λ name. IsUnqualified (plain_name name) × ¬ Contains primitive_words (plain_name name).base) names
+    × AllPairs (λ a b. a ≢ b) (map plain_name names)) ↔ TypeNamesFit (map plain_name names)
 TypeNamesFit-parts names = (
   λ (fit, distinct). record {
     unqualified = All-map IsUnqualified plain_name names (λ k d lt. (fit k d lt).0);
@@ -16,7 +18,11 @@ TypeNamesFit-parts names = (
     free = All-map (λ (name : PlainName). ¬ Contains primitive_words name.base) plain_name names (λ k d lt. (fit k d lt).1);
   },
   λ whole. (
-    λ k d lt. (All-from_map IsUnqualified plain_name names whole.unqualified k d lt, All-from_map (λ (name : PlainName). ¬ Contains primitive_words name.base) plain_name names whole.free k d lt),
+    λ k d lt. (
+      All-from_map IsUnqualified plain_name names whole.unqualified k d lt,
+      All-from_map
+          (λ (name : PlainName). ¬ Contains primitive_words name.base) plain_name names whole.free k d lt,
+    ),
     whole.distinct,
   ),
 )

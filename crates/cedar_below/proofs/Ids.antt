@@ -40,15 +40,18 @@ pub unreserved_id_eq-same : (a b : UnreservedId) → IsTrue ((unreserved_id_eq.g
 unreserved_id_eq-same a b = text_eq-Decides (unreserved_id_text a) (unreserved_id_text b)
 
 -- identifiers that aren't reserved order by their texts
-pub unreserved_id_ord-text_cmp : (a b : UnreservedId) → (unreserved_id_ord.ghosts).cmp a b ≡ text_cmp (unreserved_id_text a) (unreserved_id_text b)
+pub unreserved_id_ord-text_cmp : (a b : UnreservedId) → (unreserved_id_ord.ghosts).cmp a b
+    ≡ text_cmp (unreserved_id_text a) (unreserved_id_text b)
 unreserved_id_ord-text_cmp a b = refl
 
 -- identifiers that aren't reserved tie exactly where their texts are equal
-pub unreserved_id_ord-Equal : (a b : UnreservedId) → ((unreserved_id_ord.ghosts).cmp a b ≡ Equal) ↔ (unreserved_id_text a ≡ unreserved_id_text b)
+pub unreserved_id_ord-Equal : (a b : UnreservedId) → ((unreserved_id_ord.ghosts).cmp a b ≡ Equal)
+    ↔ (unreserved_id_text a ≡ unreserved_id_text b)
 unreserved_id_ord-Equal a b = text_cmp-Equal (unreserved_id_text a) (unreserved_id_text b)
 
 -- the hash reads the text alone
-pub unreserved_id_hash-same : (a b : UnreservedId) → unreserved_id_text a ≡ unreserved_id_text b → (unreserved_id_hash.ghosts).hash_input a ≡ (unreserved_id_hash.ghosts).hash_input b
+pub unreserved_id_hash-same : (a b : UnreservedId) → unreserved_id_text a ≡ unreserved_id_text b
+    → (unreserved_id_hash.ghosts).hash_input a ≡ (unreserved_id_hash.ghosts).hash_input b
 unreserved_id_hash-same a b e = unreserved_id_hash.Laws.respects_eq-law a b ((unreserved_id_eq-same a b).1 e)
 
 -- entity ids are equal exactly where their texts are

@@ -1,3 +1,4 @@
+-- Lists whose members are members of others.
 use Rattle.std.proofs.Common.{◌↔◌, ◌⊎◌, inl, inr, ⊎_elim, Bool, true, false, refl, subst, List, [], ◌∷◌, Option, Some, if◌then◌else◌, Contains, arith}
 use Rattle.std.specs.Bool.{Decides}
 use Rattle.std.specs.Option.{is_some}
@@ -23,12 +24,14 @@ pub Included-tail : {A : Type 0} (x : A) (lower upper : List A) → Included (x 
 Included-tail x lower upper all y among = all y (Contains-cons x lower y (inr among))
 
 -- the rest is included where the whole is, if the first is a member
-pub Included-step : {A : Type 0} {W : Type 0} (x : A) (lower upper : List A) → Included (x ∷ lower) upper ↔ W → Contains upper x → Included lower upper ↔ W
+pub Included-step : {A : Type 0} {W : Type 0} (x : A) (lower upper : List A) → Included (x ∷ lower) upper ↔ W
+    → Contains upper x → Included lower upper ↔ W
 Included-step x lower upper so_far first =
     (λ rest. so_far.0 (Included-cons x lower upper first rest), λ whole. Included-tail x lower upper (so_far.1 whole))
 
 -- whether a choice is made decides whether there is a value
-pub chosen : {A : Type 0} (b : Bool) (x : A) (m : Option A) (P Q : Type 0) → Decides b P → Decides (is_some m) Q → Decides (is_some (if b then Some x else m)) (P ⊎ Q)
+pub chosen : {A : Type 0} (b : Bool) (x : A) (m : Option A) (P Q : Type 0) → Decides b P → Decides (is_some m) Q
+    → Decides (is_some (if b then Some x else m)) (P ⊎ Q)
 chosen true x m P Q h k = (λ _. inl (h.0 refl), λ _. refl)
 chosen false x m P Q h k = (λ e. inr (k.0 e), λ either. ⊎_elim (λ p. absurd cc (h.1 p)) k.1 either)
 

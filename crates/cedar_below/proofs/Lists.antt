@@ -19,7 +19,8 @@ Contains-cons_cases b bs x (zero, lt, e) = inl e
 Contains-cons_cases b bs x (suc k, lt, e) = inr (k, omega (arith, lt), e)
 
 -- where a test decides whether an element gives x, its search decides whether x is given
-pub list_any-Contains : {X B : Type 0} (f : X → B) (x : B) (test : X → Bool) → ((y : X) → Decides (test y) (f y ≡ x)) → (ys : List X) → Decides (list_any test ys) (Contains (map f ys) x)
+pub list_any-Contains : {X B : Type 0} (f : X → B) (x : B) (test : X → Bool) → ((y : X) → Decides (test y) (f y ≡ x))
+    → (ys : List X) → Decides (list_any test ys) (Contains (map f ys) x)
 list_any-Contains f x test same [] = (λ e. absurd cc, λ there. absurd (omega (arith, there.1)))
 list_any-Contains f x test same (y ∷ ys) =
     Decides-like
@@ -33,11 +34,13 @@ pub All-from_map : {X B : Type 0} (P : B → Type 0) (f : X → B) (ys : List X)
 All-from_map P f ys all k d lt = subst P (get_or-map f ys k d (f d) lt) (all k (f d) (rw length-map lt))
 
 -- what an element gives repeats what one before it gives
-pub repeated : {X B : Type 0} (f : X → B) (ys : List X) (i : ℕ) (y : X) → i < length ys → y ≡ get_or ys i y → Contains (map f (take i ys)) (f y) → ¬ AllPairs (λ a b. a ≢ b) (map f ys)
+pub repeated : {X B : Type 0} (f : X → B) (ys : List X) (i : ℕ) (y : X) → i < length ys → y ≡ get_or ys i y
+    → Contains (map f (take i ys)) (f y) → ¬ AllPairs (λ a b. a ≢ b) (map f ys)
 repeated f ys i y lt is (k, below, same) distinct =
     let within : k < i = omega (arith, simp (length-map, length-take) at below) in
     let inside : i < length (map f ys) = rw length-map lt in
-    let first : get_or (map f ys) k (f y) ≡ f y = sym (get_or-take i (map f ys) k (f y) within) ∙ ap (λ zs. get_or zs k (f y)) (take-map f i ys) ∙ same in
+    let first : get_or (map f ys) k (f y) ≡ f y = sym (get_or-take i (map f ys) k (f y) within)
+    ∙ ap (λ zs. get_or zs k (f y)) (take-map f i ys) ∙ same in
     let second : get_or (map f ys) i (f y) ≡ f y = get_or-map f ys i y (f y) lt ∙ ap f (sym is) in
     distinct k i (f y) within inside (first ∙ sym second)
 
@@ -46,9 +49,12 @@ distinct_push : {B : Type 0} (xs : List B) (x : B) → AllPairs (λ a b. a ≢ b
 distinct_push xs x distinct new = all_pairs_push (λ a b. a ≢ b) xs x distinct (λ k d lt e. new (k, lt, get_or_default xs k x d lt ∙ e))
 
 -- one element more that gives nothing that was given before leaves no repeats
-pub distinct_more : {X B : Type 0} (f : X → B) (ys : List X) (i : ℕ) (y : X) → i < length ys → y ≡ get_or ys i y → ¬ Contains (map f (take i ys)) (f y) → AllPairs (λ a b. a ≢ b) (map f (take i ys)) → AllPairs (λ a b. a ≢ b) (map f (take (i + 1) ys))
+pub distinct_more : {X B : Type 0} (f : X → B) (ys : List X) (i : ℕ) (y : X) → i < length ys → y ≡ get_or ys i y
+    → ¬ Contains (map f (take i ys)) (f y) → AllPairs (λ a b. a ≢ b) (map f (take i ys))
+    → AllPairs (λ a b. a ≢ b) (map f (take (i + 1) ys))
 distinct_more f ys i y lt is new distinct =
-    let more : map f (take (i + 1) ys) ≡ map f (take i ys) ++ f y ∷ [] = map_more f ys i y lt ∙ ap (λ z. map f (take i ys) ++ f z ∷ []) (sym is) in
+    let more : map f (take (i + 1) ys) ≡ map f (take i ys) ++ f y ∷ [] = map_more f ys i y lt
+    ∙ ap (λ z. map f (take i ys) ++ f z ∷ []) (sym is) in
     subst (AllPairs (λ a b. a ≢ b)) (sym more) (distinct_push (map f (take i ys)) (f y) distinct new)
 
 -- what stands in a mapped list is the image of what stands in the list

@@ -8,10 +8,12 @@ use Rattle.cedar_below.specs.declared.name.Name.{Name}
 use Rattle.cedar_below.proofs.Names.{name_ord-name_cmp}
 
 -- a look-up at a name finds what the map holds at what the name stands for
-pub get-at_name : {X : Type 0} (entries : BTreeMap Name X) (name : Name) → get_by ((name_ord.ghosts).cmp name) entries ≡ at_name entries (plain_name name)
+pub get-at_name : {X : Type 0} (entries : BTreeMap Name X) (name : Name)
+    → get_by ((name_ord.ghosts).cmp name) entries ≡ at_name entries (plain_name name)
 get-at_name entries name i = get_by (λ key. name_ord-name_cmp name key i) entries
 
 -- what is found is `Ok`, and else there is an error
-pub ok_or-found : {T E : Type 0} (found : Option (Bor T)) (error : E) → (IsOk (ok_or found error) ↔ IsSome (option_copied found)) × IfOk (ok_or found error) (λ value. option_copied found ≡ Some value.now)
+pub ok_or-found : {T E : Type 0} (found : Option (Bor T)) (error : E)
+    → (IsOk (ok_or found error) ↔ IsSome (option_copied found)) × IfOk (ok_or found error) (λ value. option_copied found ≡ Some value.now)
 ok_or-found None error = ((λ h. h, λ h. h), tt)
 ok_or-found (Some value) error = ((λ h. h, λ h. h), refl)

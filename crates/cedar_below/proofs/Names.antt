@@ -43,7 +43,8 @@ internal_name_eq-same a b =
     Decides-at
     _
     _
-    (ap (λ paths. pointwise nat_eq (id_text a.id) (id_text b.id) && paths) (sym (pointwise-map id_text (pointwise nat_eq) a.path.items b.path.items)))
+    (ap (λ paths. pointwise nat_eq (id_text a.id) (id_text b.id) && paths)
+    (sym (pointwise-map id_text (pointwise nat_eq) a.path.items b.path.items)))
     (same_parts (name_of a) (name_of b))
 
 -- names order as what they stand for
@@ -57,7 +58,8 @@ internal_name_ord-Equal a b =
     subst (λ r. (r ≡ Equal) ↔ (name_of a ≡ name_of b)) (sym (internal_name_ord-name_cmp a b)) (name_cmp-Equal (name_of a) (name_of b))
 
 -- the hash reads no more than what the name stands for
-pub internal_name_hash-same : (a b : InternalName) → name_of a ≡ name_of b → (internal_name_hash.ghosts).hash_input a ≡ (internal_name_hash.ghosts).hash_input b
+pub internal_name_hash-same : (a b : InternalName) → name_of a ≡ name_of b
+    → (internal_name_hash.ghosts).hash_input a ≡ (internal_name_hash.ghosts).hash_input b
 internal_name_hash-same a b e = internal_name_hash.Laws.respects_eq-law a b ((internal_name_eq-same a b).1 e)
 
 -- names that aren't reserved are equal exactly where they stand for the same name
@@ -89,5 +91,6 @@ pub entity_type_ord-Equal : (a b : EntityType) → ((entity_type_ord.ghosts).cmp
 entity_type_ord-Equal a b = name_ord-Equal a.0 b.0
 
 -- the hash reads no more than the type's name
-pub entity_type_hash-same : (a b : EntityType) → type_name a ≡ type_name b → (entity_type_hash.ghosts).hash_input a ≡ (entity_type_hash.ghosts).hash_input b
+pub entity_type_hash-same : (a b : EntityType) → type_name a ≡ type_name b
+    → (entity_type_hash.ghosts).hash_input a ≡ (entity_type_hash.ghosts).hash_input b
 entity_type_hash-same a b e = entity_type_hash.Laws.respects_eq-law a b ((entity_type_eq-same a b).1 e)

@@ -10,7 +10,8 @@ use Rattle.std.specs.declared.cmp.Ordering.{Ordering}
 use Rattle.std.specs.declared.cmp.Ordering.TheVariants.{Less, Greater}
 
 module _ {K L : Type 0} (R : K → K → Ordering) (S : L → L → Ordering) (f : K → L) (same : (a b : K) → R a b ≡ S (f a) (f b)) where
-  below-map : (k : K) (ks : List K) → AllByRecursion (λ other. R k other ≡ Less) ks → AllByRecursion (λ other. S (f k) other ≡ Less) (map f ks)
+  below-map : (k : K) (ks : List K) → AllByRecursion (λ other. R k other ≡ Less) ks
+      → AllByRecursion (λ other. S (f k) other ≡ Less) (map f ks)
   below-map k [] all = tt
   below-map k (first ∷ rest) all = (sym (same k first) ∙ all.0, below-map k rest all.1)
 
@@ -21,19 +22,25 @@ module _ {K L : Type 0} (R : K → K → Ordering) (S : L → L → Ordering) (f
   IsStrictlySortedBy-map (k ∷ ks) sorted = (below-map k ks sorted.0, IsStrictlySortedBy-map ks sorted.1)
 
 -- what holds of each item holds of one in the middle
-pub AllByRecursion-middle : {K : Type 0} (P : K → Type 0) (front : List K) (x : K) (back : List K) → AllByRecursion P (front ++ x ∷ back) → P x
+pub AllByRecursion-middle : {K : Type 0} (P : K → Type 0) (front : List K) (x : K) (back : List K)
+    → AllByRecursion P (front ++ x ∷ back) → P x
 AllByRecursion-middle P [] x back h = h.0
 AllByRecursion-middle P (y ∷ front) x back h = AllByRecursion-middle P front x back h.1
 
 -- in a list that ascends, an item is above each of those before it
-pub above_front : {K : Type 0} {R : K → K → Ordering} → IsTotalOrder R → (front : List K) (x : K) (back : List K) → IsStrictlySortedBy R (front ++ x ∷ back) → AllByRecursion (λ y. R x y ≡ Greater) front
+pub above_front : {K : Type 0} {R : K → K → Ordering} → IsTotalOrder R → (front : List K) (x : K) (back : List K)
+    → IsStrictlySortedBy R (front ++ x ∷ back) → AllByRecursion (λ y. R x y ≡ Greater) front
 unfolding IsStrictlySortedBy
 above_front total [] x back h = tt
-above_front {R = R} total (y ∷ front) x back h =
-    (total.antisymm x y ∙ ap ordering_reverse (AllByRecursion-middle (λ z. R y z ≡ Less) front x back h.0), above_front total front x back h.1)
+above_front {R = R} total (y ∷ front) x back h = (
+  total.antisymm x y ∙ ap ordering_reverse (AllByRecursion-middle (λ z. R y z ≡ Less) front x back h.0),
+  above_front
+      total front x back h.1,
+)
 
 -- a key above all others is inserted at the end
-pub insert_entry-end : {K X : Type 0} (R : K → K → Ordering) (entries : List (K × X)) (key : K) (value : X) → AllByRecursion (λ other. R key other ≡ Greater) (keys_of entries) → insert_entry R entries key value ≡ entries ++ (key, value) ∷ []
+pub insert_entry-end : {K X : Type 0} (R : K → K → Ordering) (entries : List (K × X)) (key : K) (value : X)
+    → AllByRecursion (λ other. R key other ≡ Greater) (keys_of entries) → insert_entry R entries key value ≡ entries ++ (key, value) ∷ []
 insert_entry-end R [] key value above = refl
 insert_entry-end R (entry ∷ rest) key value above =
     rw above.0 (ap (λ entries. entry ∷ entries) (insert_entry-end R rest key value above.1))

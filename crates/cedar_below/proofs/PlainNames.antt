@@ -17,7 +17,8 @@ ordering_then-Equal Greater s e = cc
 
 -- names are totally ordered
 pub name_cmp-total : IsTotalOrder name_cmp
-name_cmp-total = then_total (on_total (λ (name : PlainName). name.base) text_cmp-total) (on_total (λ (name : PlainName). name.path) texts_cmp-total)
+name_cmp-total = then_total (on_total (λ (name : PlainName). name.base) text_cmp-total)
+    (on_total (λ (name : PlainName). name.path) texts_cmp-total)
 
 -- only equal names tie
 pub name_cmp-IsAntisymmetric : IsAntisymmetric name_cmp

@@ -35,5 +35,6 @@ entity_uid_ord-Equal a b =
     subst (λ r. (r ≡ Equal) ↔ (uid_of a ≡ uid_of b)) (sym (entity_uid_ord-uid_cmp a b)) (uid_cmp-Equal (uid_of a) (uid_of b))
 
 -- the hash reads no more than what the uid stands for
-pub entity_uid_hash-same : (a b : EntityUID) → uid_of a ≡ uid_of b → (entity_uid_hash.ghosts).hash_input a ≡ (entity_uid_hash.ghosts).hash_input b
+pub entity_uid_hash-same : (a b : EntityUID) → uid_of a ≡ uid_of b
+    → (entity_uid_hash.ghosts).hash_input a ≡ (entity_uid_hash.ghosts).hash_input b
 entity_uid_hash-same a b e = entity_uid_hash.Laws.respects_eq-law a b ((entity_uid_eq-same a b).1 e)

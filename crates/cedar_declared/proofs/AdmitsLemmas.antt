@@ -17,12 +17,14 @@ use Rattle.cedar_rules.specs.Has.{Has, HasFieldsBy}
 use Rattle.cedar_rules.specs.Ty.{Ty, Fields}
 
 -- what is written out keeps the names of a record's attributes
-same_names : (defined : Defined) {members : Members} {fields : Fields} → MembersWrittenOut defined members fields → field_names fields ≡ member_names members
+same_names : (defined : Defined) {members : Members} {fields : Fields} → MembersWrittenOut defined members fields
+    → field_names fields ≡ member_names members
 same_names defined as_no_member = refl
 same_names defined (as_member {name = name} first rest) = ap (λ names. name ∷ names) (same_names defined rest)
 
 -- what holds of a found entry
-entry_of : (P : Tree → Type 0) (required : Bool) (found : Option Tree) (value : Tree) → found ≡ Some value → P value → EntryFits P required found
+entry_of : (P : Tree → Type 0) (required : Bool) (found : Option Tree) (value : Tree) → found ≡ Some value → P value
+    → EntryFits P required found
 entry_of P required found value is holds =
     let Q : Option Tree → Type 0 = EntryFits P required in subst Q (sym is) holds
 
@@ -33,7 +35,9 @@ entry_missing P found is =
 
 mutual
   -- a value that is admitted has the type that the expression is written out as
-  pub has_admitted : (defined : Defined) (extensions : Extensions) → HasOneDefinition defined → {value : Tree} {expr : Expr} {ty : Ty} → Admits defined extensions value expr → WrittenOut defined expr ty → Has extensions value ty
+  pub has_admitted : (defined : Defined) (extensions : Extensions) → HasOneDefinition defined
+      → {value : Tree} {expr : Expr} {ty : Ty} → Admits defined extensions value expr → WrittenOut defined expr ty
+      → Has extensions value ty
   has_admitted defined extensions one (admits_text it) as_text = tt
   has_admitted defined extensions one (admits_long it) as_long = tt
   has_admitted defined extensions one (admits_truth it) as_truth = tt
@@ -41,40 +45,58 @@ mutual
   has_admitted defined extensions one (admits_record {values = values} listed admitted) (as_record {fields = fields} written) =
       let P : List Text → Type 0 = Included (entry_names values) in
       (subst P (sym (same_names defined written)) listed, members_have_admitted defined extensions one admitted written)
-  has_admitted defined extensions one (admits_entity uid reference resolves is_entity no_common) (as_entity reference' name resolves' is_entity' no_common') =
+  has_admitted defined extensions one (admits_entity uid reference resolves is_entity no_common)
+      (as_entity reference' name resolves' is_entity' no_common') =
       (0, omega arith, IsFirst-same (IsDefined defined reference.kind) reference.possibilities name uid.ty resolves' resolves)
-  has_admitted defined extensions one (admits_entity uid reference resolves is_entity no_common) (as_common reference' name body resolves' is_common written) =
+  has_admitted defined extensions one (admits_entity uid reference resolves is_entity no_common)
+      (as_common reference' name body resolves' is_common written) =
       let same : name ≡ uid.ty = IsFirst-same (IsDefined defined reference.kind) reference.possibilities name uid.ty resolves' resolves in
       let P : PlainName → Type 0 = λ each. IsCommon defined reference.kind each body in
       absurd (no_common body (subst P same is_common))
-  has_admitted defined extensions one (admits_common reference name body resolves is_common admitted) (as_entity reference' name' resolves' is_entity no_common) =
+  has_admitted defined extensions one (admits_common reference name body resolves is_common admitted)
+      (as_entity reference' name' resolves' is_entity no_common) =
       let same : name ≡ name' = IsFirst-same (IsDefined defined reference.kind) reference.possibilities name name' resolves resolves' in
       let P : PlainName → Type 0 = λ each. IsCommon defined reference.kind each body in
       absurd (no_common body (subst P same is_common))
-  has_admitted defined extensions one {ty = ty} (admits_common reference name body resolves is_common admitted) (as_common reference' name' body' resolves' is_common' written) =
+  has_admitted defined extensions one {ty = ty} (admits_common reference name body resolves is_common admitted)
+      (as_common reference' name' body' resolves' is_common' written) =
       let same : body ≡ body' = same_definition defined one reference name name' body body' resolves resolves' is_common is_common' in
       let P : Expr → Type 0 = λ each. WrittenOut defined each ty in
       has_admitted defined extensions one admitted (subst P (sym same) written)
   has_admitted defined extensions one (admits_extension function args name gives) (as_extension name') = gives
 
   -- the same of each value
-  each_has_admitted : (defined : Defined) (extensions : Extensions) → HasOneDefinition defined → {values : Trees} {expr : Expr} {ty : Ty} → AdmitsEach defined extensions values expr → WrittenOut defined expr ty → EachTree (λ value. Has extensions value ty) values
+  each_has_admitted : (defined : Defined) (extensions : Extensions) → HasOneDefinition defined
+      → {values : Trees} {expr : Expr} {ty : Ty} → AdmitsEach defined extensions values expr
+      → WrittenOut defined expr ty → EachTree (λ value. Has extensions value ty) values
   each_has_admitted defined extensions one admits_none written = tt
   each_has_admitted defined extensions one (admits_first first rest) written =
       (has_admitted defined extensions one first written, each_has_admitted defined extensions one rest written)
 
   -- the same of the attributes of a record
-  members_have_admitted : (defined : Defined) (extensions : Extensions) → HasOneDefinition defined → {values : Entries} {members : Members} {fields : Fields} → AdmitsMembers defined extensions values members → MembersWrittenOut defined members fields → HasFieldsBy (Gives extensions) values fields
+  members_have_admitted : (defined : Defined) (extensions : Extensions) → HasOneDefinition defined
+      → {values : Entries} {members : Members} {fields : Fields} → AdmitsMembers defined extensions values members
+      → MembersWrittenOut defined members fields → HasFieldsBy (Gives extensions) values fields
   members_have_admitted defined extensions one admits_no_member as_no_member = tt
-  members_have_admitted defined extensions one (admits_missing {values = values} {name = name} missing rest) (as_member {ty = ty} first others) =
-      (entry_missing (λ value. Has extensions value ty) (entry_at name values) missing, members_have_admitted defined extensions one rest others)
-  members_have_admitted defined extensions one (admits_there {values = values} {name = name} {required = required} value there admitted rest) (as_member {ty = ty} first others) = (
-    entry_of (λ each. Has extensions each ty) required (entry_at name values) value there (has_admitted defined extensions one admitted first),
-    members_have_admitted defined extensions one rest others,
-  )
+  members_have_admitted defined extensions one (admits_missing {values = values} {name = name} missing rest)
+      (as_member {ty = ty} first others) = (
+        entry_missing (λ value. Has extensions value ty) (entry_at name values) missing,
+        members_have_admitted defined
+            extensions one rest others,
+      )
+  members_have_admitted defined extensions one (admits_there {values = values} {name = name} {required =
+      required} value there admitted rest) (as_member {ty = ty} first others) = (
+        entry_of (λ each. Has extensions each ty) required (entry_at name values) value there
+            (has_admitted defined extensions one admitted first),
+        members_have_admitted defined extensions one rest others,
+      )
 
 -- an attribute is admitted in a record as it is found there
-entry_admitted : (defined : Defined) (extensions : Extensions) (values : Entries) (name : Text) (required : Bool) (expr : Expr) (rest : Members) (ty : Ty) (found : Option Tree) → entry_at name values ≡ found → ((value : Tree) → Has extensions value ty → Admits defined extensions value expr) → EntryFits (λ value. Has extensions value ty) required found → AdmitsMembers defined extensions values rest → AdmitsMembers defined extensions values (member name required expr rest)
+entry_admitted : (defined : Defined) (extensions : Extensions) (values : Entries) (name : Text) (required : Bool)
+    (expr : Expr) (rest : Members) (ty : Ty) (found : Option Tree) → entry_at name values ≡ found
+    → ((value : Tree) → Has extensions value ty → Admits defined extensions value expr)
+    → EntryFits (λ value. Has extensions value ty) required found → AdmitsMembers defined extensions values rest
+    → AdmitsMembers defined extensions values (member name required expr rest)
 entry_admitted defined extensions values name required expr rest ty None is admits fits others =
     let P : Bool → Type 0 = λ each. AdmitsMembers defined extensions values (member name each expr rest) in
     subst P (sym fits) (admits_missing is others)
@@ -82,21 +104,25 @@ entry_admitted defined extensions values name required expr rest ty (Some value)
     admits_there value is (admits value fits) others
 
 -- where each value of a type is admitted, values of the type are
-each_admitted : (defined : Defined) (extensions : Extensions) (expr : Expr) (ty : Ty) → ((value : Tree) → Has extensions value ty → Admits defined extensions value expr) → (values : Trees) → EachTree (λ value. Has extensions value ty) values → AdmitsEach defined extensions values expr
+each_admitted : (defined : Defined) (extensions : Extensions) (expr : Expr) (ty : Ty)
+    → ((value : Tree) → Has extensions value ty → Admits defined extensions value expr) → (values : Trees)
+    → EachTree (λ value. Has extensions value ty) values → AdmitsEach defined extensions values expr
 each_admitted defined extensions expr ty admits no_tree has = admits_none
 each_admitted defined extensions expr ty admits (tree first rest) has =
     admits_first (admits first has.0) (each_admitted defined extensions expr ty admits rest has.1)
 
 mutual
   -- a value of the type that an expression is written out as is admitted
-  pub admitted_of : (defined : Defined) (extensions : Extensions) {expr : Expr} {ty : Ty} → WrittenOut defined expr ty → (value : Tree) → Has extensions value ty → Admits defined extensions value expr
+  pub admitted_of : (defined : Defined) (extensions : Extensions) {expr : Expr} {ty : Ty} → WrittenOut defined expr ty
+      → (value : Tree) → Has extensions value ty → Admits defined extensions value expr
   admitted_of defined extensions as_text (text_value it) has = admits_text it
   admitted_of defined extensions as_text _ has = absurd has
   admitted_of defined extensions as_long (number_value it) has = admits_long it
   admitted_of defined extensions as_long _ has = absurd has
   admitted_of defined extensions as_truth (truth_value it) has = admits_truth it
   admitted_of defined extensions as_truth _ has = absurd has
-  admitted_of defined extensions (as_set element) (set_value values) has = admits_set (each_admitted defined extensions _ _ (λ value holds. admitted_of defined extensions element value holds) values has)
+  admitted_of defined extensions (as_set element) (set_value values) has =
+      admits_set (each_admitted defined extensions _ _ (λ value holds. admitted_of defined extensions element value holds) values has)
   admitted_of defined extensions (as_set element) _ has = absurd has
   admitted_of defined extensions (as_record written) (map_value values) has =
       let P : List Text → Type 0 = Included (entry_names values) in
@@ -115,7 +141,12 @@ mutual
   admitted_of defined extensions (as_extension name) _ has = absurd has
 
   -- the same of the attributes of a record
-  members_admitted_of : (defined : Defined) (extensions : Extensions) {members : Members} {fields : Fields} → MembersWrittenOut defined members fields → (values : Entries) → HasFieldsBy (Gives extensions) values fields → AdmitsMembers defined extensions values members
+  members_admitted_of : (defined : Defined) (extensions : Extensions) {members : Members} {fields : Fields}
+      → MembersWrittenOut defined members fields → (values : Entries) → HasFieldsBy (Gives extensions) values fields
+      → AdmitsMembers defined extensions values members
   members_admitted_of defined extensions as_no_member values has = admits_no_member
-  members_admitted_of defined extensions (as_member {name = name} {required = required} {expr = expr} {ty = ty} {rest = rest} first others) values has =
-      entry_admitted defined extensions values name required expr rest ty (entry_at name values) refl (λ value holds. admitted_of defined extensions first value holds) has.0 (members_admitted_of defined extensions others values has.1)
+  members_admitted_of defined extensions (as_member {name = name} {required = required} {expr = expr} {ty = ty} {rest =
+      rest} first others) values has =
+      entry_admitted defined extensions values name required expr rest ty (entry_at name values) refl
+      (λ value holds. admitted_of defined extensions first value holds) has.0
+      (members_admitted_of defined extensions others values has.1)

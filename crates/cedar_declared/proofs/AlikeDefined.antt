@@ -31,13 +31,15 @@ pub same_uid : (it found : Declaration) → SameDeclaration it found → declare
 same_uid it found same i = record { ty = name_within (same.namespace i) action_word; eid = same.id i }
 
 -- what is the same as an entity type is one
-entity_body_of : (body : EntityBody) (other : Body) → SameBody (entity_type body) other → (found : EntityBody) × (other ≡ entity_type found) × SameEntityBody body found
+entity_body_of : (body : EntityBody) (other : Body) → SameBody (entity_type body) other → (found : EntityBody)
+    × (other ≡ entity_type found) × SameEntityBody body found
 entity_body_of body (entity_type found) same = (found, refl, same)
 entity_body_of body (common_type definition) same = absurd same
 entity_body_of body (action found) same = absurd same
 
 -- what is the same as an action is one
-pub action_body_of : (body : ActionBody) (other : Body) → SameBody (action body) other → (found : ActionBody) × (other ≡ action found) × SameActionBody body found
+pub action_body_of : (body : ActionBody) (other : Body) → SameBody (action body) other → (found : ActionBody)
+    × (other ≡ action found) × SameActionBody body found
 action_body_of body (action found) same = (found, refl, same)
 action_body_of body (common_type definition) same = absurd same
 action_body_of body (entity_type found) same = absurd same
@@ -50,7 +52,8 @@ common_body_of definition (action found) same = absurd same
 
 module _ (bag other : Bag) (alike : Alike bag other) where
   -- an entity type that the one declares the other does
-  pub entity_there : (name : PlainName) (body : EntityBody) → Contains (declared_entities bag) (name, body) → (found : EntityBody) × Contains (declared_entities other) (name, found) × SameEntityBody body found
+  pub entity_there : (name : PlainName) (body : EntityBody) → Contains (declared_entities bag) (name, body)
+      → (found : EntityBody) × Contains (declared_entities other) (name, found) × SameEntityBody body found
   entity_there name body among =
       let it = entity_declaration bag name body among in
       let found = alike.forth it.0 it.1 in
@@ -60,7 +63,8 @@ module _ (bag other : Bag) (alike : Alike bag other) where
       (same.0, subst Q (sym (same_name it.0 found.0 found.2) ∙ it.3) (declares_entity other found.0 same.0 found.1 same.1), same.2)
 
   -- an action that the one declares the other does
-  pub action_there : (uid : PlainUid) (body : ActionBody) → Contains (declared_actions bag) (uid, body) → (found : ActionBody) × Contains (declared_actions other) (uid, found) × SameActionBody body found
+  pub action_there : (uid : PlainUid) (body : ActionBody) → Contains (declared_actions bag) (uid, body)
+      → (found : ActionBody) × Contains (declared_actions other) (uid, found) × SameActionBody body found
   action_there uid body among =
       let it = action_declaration bag uid body among in
       let found = alike.forth it.0 it.1 in
@@ -70,7 +74,8 @@ module _ (bag other : Bag) (alike : Alike bag other) where
       (same.0, subst Q (sym (same_uid it.0 found.0 found.2) ∙ it.3) (declares_action other found.0 same.0 found.1 same.1), same.2)
 
   -- a common type that the one declares the other does
-  pub common_there : (name : PlainName) (definition : Expr) → Contains (declared_common bag) (name, definition) → Contains (declared_common other) (name, definition)
+  pub common_there : (name : PlainName) (definition : Expr) → Contains (declared_common bag) (name, definition)
+      → Contains (declared_common other) (name, definition)
   common_there name definition among =
       let it = common_declaration bag name definition among in
       let found = alike.forth it.0 it.1 in
@@ -108,7 +113,8 @@ any_of p (first ∷ rest) x among passes =
 some_of : {A : Type 0} (p : A → Bool) (xs : List A) → list_any p xs ≡ true → (x : A) × Contains xs x × (p x ≡ true)
 some_of {A = A} p [] passes = absurd (false≢true passes)
 some_of {A = A} p (first ∷ rest) passes = by (p first) refl passes (λ later. some_of p rest later) where
-  by : (answer : Bool) → p first ≡ answer → (answer || list_any p rest) ≡ true → (list_any p rest ≡ true → (x : A) × Contains rest x × (p x ≡ true)) → (x : A) × Contains (first ∷ rest) x × (p x ≡ true)
+  by : (answer : Bool) → p first ≡ answer → (answer || list_any p rest) ≡ true
+      → (list_any p rest ≡ true → (x : A) × Contains rest x × (p x ≡ true)) → (x : A) × Contains (first ∷ rest) x × (p x ≡ true)
   by true is passes later = (first, Contains-cons first rest first (inl refl), is)
   by false is passes later = let found = later passes in (found.0, Contains-cons first rest found.0 (inr found.1), found.2)
 
@@ -151,11 +157,13 @@ same_aliases : (bag other : Bag) (extensions : Extensions) → Alike bag other �
 same_aliases bag other extensions alike =
     ap (map (λ (it : Text × Expr). (alias_name it.0, it.1)))
     (filter_agree (λ (it : Text × Expr). not (is_declared_here bag it.0)) (λ (it : Text × Expr). not (is_declared_here other it.0))
-    (λ it. ap not (same_answers (is_declared_here bag it.0) (is_declared_here other it.0) (here_there bag other alike it.0) (here_there other bag (Alike-sym bag other alike) it.0)))
+    (λ it. ap not (same_answers (is_declared_here bag it.0) (is_declared_here other it.0)
+    (here_there bag other alike it.0) (here_there other bag (Alike-sym bag other alike) it.0)))
     (built_in_types extensions))
 
 -- a common name of the one is one of the other
-common_name_there : (bag other : Bag) (extensions : Extensions) → Alike bag other → (it : PlainName × Expr) → Contains (defined_names bag extensions).common it → Contains (defined_names other extensions).common it
+common_name_there : (bag other : Bag) (extensions : Extensions) → Alike bag other → (it : PlainName × Expr)
+    → Contains (defined_names bag extensions).common it → Contains (defined_names other extensions).common it
 common_name_there bag other extensions alike it among =
     let P : List (PlainName × Expr) → Type 0 = λ names. Contains names it in
     ⊎_elim
@@ -164,11 +172,13 @@ common_name_there bag other extensions alike it among =
     (λ declared. Contains-append_left (declared_common other) (built_ins extensions) it (common_there bag other alike it.0 it.1 declared))
     (λ built_in. Contains-append_right (declared_common other) (built_ins extensions) it built_in)
     (Contains-append_cases (declared_common bag) (built_ins extensions) it here)))
-    (λ alias. Contains-append_right (declared_common other ++ built_ins extensions) (aliases other extensions) it (subst P (same_aliases bag other extensions alike) alias))
+    (λ alias. Contains-append_right (declared_common other ++ built_ins extensions) (aliases other extensions) it
+    (subst P (same_aliases bag other extensions alike) alias))
     (Contains-append_cases (declared_common bag ++ built_ins extensions) (aliases bag extensions) it among)
 
 -- an entity name of the one is one of the other
-entity_name_there : (bag other : Bag) (extensions : Extensions) → Alike bag other → (name : PlainName) → Contains (defined_names bag extensions).entities name → Contains (defined_names other extensions).entities name
+entity_name_there : (bag other : Bag) (extensions : Extensions) → Alike bag other → (name : PlainName)
+    → Contains (defined_names bag extensions).entities name → Contains (defined_names other extensions).entities name
 entity_name_there bag other extensions alike name among =
     let key = λ (each : PlainName × EntityBody). each.0 in
     let type_of = λ (uid : PlainUid). uid.ty in
@@ -177,14 +187,17 @@ entity_name_there bag other extensions alike name among =
     (λ here.
     (let it = Contains-preimage key (declared_entities bag) name here in
     let found = entity_there bag other alike it.0.0 it.0.1 it.1 in
-    subst P it.2 (Contains-append_left (map key (declared_entities other)) (map type_of (action_uids other)) it.0.0 (Contains-image key (declared_entities other) (it.0.0, found.0) found.1))))
+    subst P it.2 (Contains-append_left (map key (declared_entities other)) (map type_of (action_uids other)) it.0.0
+    (Contains-image key (declared_entities other) (it.0.0, found.0) found.1))))
     (λ later.
     (let it = Contains-preimage type_of (action_uids bag) name later in
-    subst P it.2 (Contains-append_right (map key (declared_entities other)) (map type_of (action_uids other)) it.0.ty (Contains-image type_of (action_uids other) it.0 (uid_there bag other alike it.0 it.1)))))
+    subst P it.2 (Contains-append_right (map key (declared_entities other)) (map type_of (action_uids other)) it.0.ty
+    (Contains-image type_of (action_uids other) it.0 (uid_there bag other alike it.0 it.1)))))
     (Contains-append_cases (map key (declared_entities bag)) (map type_of (action_uids bag)) name among)
 
 -- bags that are alike define the same names
-pub same_defined : (bag other : Bag) (extensions : Extensions) → Alike bag other → SameDefined (defined_names bag extensions) (defined_names other extensions)
+pub same_defined : (bag other : Bag) (extensions : Extensions) → Alike bag other
+    → SameDefined (defined_names bag extensions) (defined_names other extensions)
 same_defined bag other extensions alike = record {
   common = common_name_there bag other extensions alike;
   common_back = common_name_there other bag extensions (Alike-sym bag other alike);

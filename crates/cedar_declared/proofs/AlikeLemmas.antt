@@ -50,13 +50,19 @@ SameBody-sym (action body) (entity_type other) same = absurd same
 
 -- sameness of declarations is symmetric
 SameDeclaration-sym : (it other : Declaration) → SameDeclaration it other → SameDeclaration other it
-SameDeclaration-sym it other same = record { namespace = sym same.namespace; id = sym same.id; body = SameBody-sym it.body other.body same.body }
+SameDeclaration-sym it other same = record {
+  namespace = sym same.namespace;
+  id = sym same.id;
+  body =
+      SameBody-sym it.body other.body same.body;
+}
 
 -- two bags have the same declarations, and count them alike
 pub record Alike (bag other : Bag) : Type 0 where
   pub forth : (it : Declaration) → Contains bag it → (found : Declaration) × Contains other found × SameDeclaration it found
   pub back : (it : Declaration) → Contains other it → (found : Declaration) × Contains bag found × SameDeclaration it found
-  pub counts : (f : Declaration → ℕ) → ((it found : Declaration) → SameDeclaration it found → f it ≡ f found) → sum_by f bag ≡ sum_by f other
+  pub counts : (f : Declaration → ℕ) → ((it found : Declaration) → SameDeclaration it found → f it ≡ f found)
+      → sum_by f bag ≡ sum_by f other
 
 -- bags that have the same declarations do so the other way round
 pub Alike-sym : (bag other : Bag) → Alike bag other → Alike other bag
@@ -67,7 +73,8 @@ Alike-sym bag other alike = record {
 }
 
 -- declarations that are the same in turn are found
-turn_forth : (bag other : Bag) → HoldsInTurn SameDeclaration bag other → (it : Declaration) → Contains bag it → (found : Declaration) × Contains other found × SameDeclaration it found
+turn_forth : (bag other : Bag) → HoldsInTurn SameDeclaration bag other → (it : Declaration) → Contains bag it
+    → (found : Declaration) × Contains other found × SameDeclaration it found
 turn_forth [] [] same it among = absurd (omega (arith, among.1))
 turn_forth [] (y ∷ ys) same it among = absurd same
 turn_forth (x ∷ xs) [] same it among = absurd same
@@ -78,18 +85,21 @@ turn_forth (x ∷ xs) (y ∷ ys) same it among =
     (Contains-cons_cases x xs it among)
 
 -- and the other way round
-turn_back : (bag other : Bag) → HoldsInTurn SameDeclaration bag other → (it : Declaration) → Contains other it → (found : Declaration) × Contains bag found × SameDeclaration it found
+turn_back : (bag other : Bag) → HoldsInTurn SameDeclaration bag other → (it : Declaration) → Contains other it
+    → (found : Declaration) × Contains bag found × SameDeclaration it found
 turn_back [] [] same it among = absurd (omega (arith, among.1))
 turn_back [] (y ∷ ys) same it among = absurd same
 turn_back (x ∷ xs) [] same it among = absurd same
 turn_back (x ∷ xs) (y ∷ ys) same it among =
     ⊎_elim
-    (λ here. let P : Declaration → Type 0 = λ each. SameDeclaration each x in (x, Contains-cons x xs x (inl refl), subst P here (SameDeclaration-sym x y same.0)))
+    (λ here. let P : Declaration → Type 0 = λ each. SameDeclaration each x in
+    (x, Contains-cons x xs x (inl refl), subst P here (SameDeclaration-sym x y same.0)))
     (λ later. let found = turn_back xs ys same.1 it later in (found.0, Contains-cons x xs found.0 (inr found.1), found.2))
     (Contains-cons_cases y ys it among)
 
 -- declarations that are the same in turn count alike
-turn_counts : (bag other : Bag) → HoldsInTurn SameDeclaration bag other → (f : Declaration → ℕ) → ((it found : Declaration) → SameDeclaration it found → f it ≡ f found) → sum_by f bag ≡ sum_by f other
+turn_counts : (bag other : Bag) → HoldsInTurn SameDeclaration bag other → (f : Declaration → ℕ)
+    → ((it found : Declaration) → SameDeclaration it found → f it ≡ f found) → sum_by f bag ≡ sum_by f other
 turn_counts [] [] same f alike = refl
 turn_counts [] (y ∷ ys) same f alike = absurd same
 turn_counts (x ∷ xs) [] same f alike = absurd same

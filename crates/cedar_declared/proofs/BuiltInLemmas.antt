@@ -45,14 +45,16 @@ same_unqualified : (name other : PlainName) → IsUnqualified name → IsUnquali
 same_unqualified name other plain plain' same i = record { base = same i; path = (plain ∙ sym plain') i }
 
 -- the name that gives an entry
-entry_name : (names : List PlainName) (word : Text) → Contains (map (λ entry. entry.0) (extension_entries names)) word → (name : PlainName) × Contains names name × (name.base ≡ word)
+entry_name : (names : List PlainName) (word : Text) → Contains (map (λ entry. entry.0) (extension_entries names)) word
+    → (name : PlainName) × Contains names name × (name.base ≡ word)
 entry_name names word among =
     let entry = Contains-preimage (λ entry. entry.0) (extension_entries names) word among in
     let found = Contains-preimage (λ name. (name.base, extension_expr name.base)) names entry.0 entry.1 in
     (found.0, found.1, ap (λ each. each.0) found.2 ∙ entry.2)
 
 -- distinct unqualified names have distinct base names
-extensions_once : (names : List PlainName) → All IsUnqualified names → AllPairs (λ a b. a ≢ b) names → (word : Text) → ¬ Twice (map (λ entry. entry.0) (extension_entries names)) word
+extensions_once : (names : List PlainName) → All IsUnqualified names → AllPairs (λ a b. a ≢ b) names → (word : Text)
+    → ¬ Twice (map (λ entry. entry.0) (extension_entries names)) word
 extensions_once [] plain distinct word twice = twice
 extensions_once (first ∷ rest) plain distinct word twice =
     ⊎_elim
@@ -67,7 +69,8 @@ extensions_once (first ∷ rest) plain distinct word twice =
     twice
 
 -- no built-in base name stands for two types
-pub built_in_once : (extensions : Extensions) → TypeNamesFit (extension_types extensions) → (word : Text) → ¬ Twice (map (λ entry. entry.0) (built_in_types extensions)) word
+pub built_in_once : (extensions : Extensions) → TypeNamesFit (extension_types extensions) → (word : Text)
+    → ¬ Twice (map (λ entry. entry.0) (built_in_types extensions)) word
 built_in_once extensions fit word twice =
     let names = extension_types extensions in
     ⊎_elim (words_once word)
@@ -81,7 +84,8 @@ built_in_once extensions fit word twice =
     (Twice-append primitive_words (map (λ entry. entry.0) (extension_entries names)) word twice)
 
 -- what stands twice among images stands twice among the items, where the images tell them apart
-Twice-image : {X Y : Type 0} (f : X → Y) → ((x y : X) → f x ≡ f y → x ≡ y) → (xs : List X) (y : Y) → Twice (map f xs) y → (x : X) × Twice xs x
+Twice-image : {X Y : Type 0} (f : X → Y) → ((x y : X) → f x ≡ f y → x ≡ y) → (xs : List X) (y : Y) → Twice (map f xs) y
+    → (x : X) × Twice xs x
 Twice-image f apart [] y twice = absurd twice
 Twice-image f apart (first ∷ rest) y twice =
     ⊎_elim
@@ -90,15 +94,18 @@ Twice-image f apart (first ∷ rest) y twice =
     twice
 
 -- the names of the built-in types are the base names in the reserved namespace
-built_in_names : (types : List (Text × Expr)) → map (λ (it : PlainName × Expr). it.0) (map (λ (it : Text × Expr). (built_in_name it.0, it.1)) types) ≡ map built_in_name (map (λ (it : Text × Expr). it.0) types)
+built_in_names : (types : List (Text × Expr)) → map (λ (it : PlainName × Expr). it.0)
+    (map (λ (it : Text × Expr). (built_in_name it.0, it.1)) types) ≡ map built_in_name (map (λ (it : Text × Expr). it.0) types)
 built_in_names [] = refl
 built_in_names (first ∷ rest) = ap (λ others. built_in_name first.0 ∷ others) (built_in_names rest)
 
 -- no built-in type has two definitions
-pub built_ins_once : (extensions : Extensions) → TypeNamesFit (extension_types extensions) → (name : PlainName) → ¬ Twice (map (λ it. it.0) (built_ins extensions)) name
+pub built_ins_once : (extensions : Extensions) → TypeNamesFit (extension_types extensions) → (name : PlainName)
+    → ¬ Twice (map (λ it. it.0) (built_ins extensions)) name
 built_ins_once extensions fit name twice =
     let P : List PlainName → Type 0 = λ names. Twice names name in
-    let found = Twice-image built_in_name (λ a b same. ap (λ each. each.base) same) (map (λ it. it.0) (built_in_types extensions)) name (subst P (built_in_names (built_in_types extensions)) twice) in
+    let found = Twice-image built_in_name (λ a b same. ap (λ each. each.base) same)
+    (map (λ it. it.0) (built_in_types extensions)) name (subst P (built_in_names (built_in_types extensions)) twice) in
     built_in_once extensions fit found.0 found.1
 
 -- only the empty namespace is before no path
@@ -117,7 +124,8 @@ all_or true false c d first second third = absurd (false≢true second)
 all_or false b c d first second third = absurd (false≢true first)
 
 -- a common type without a path is declared in the empty namespace
-declared_plainly : (bag : Bag) (name : PlainName) (body : Expr) → IsUnqualified name → Contains (declared_common bag) (name, body) → is_declared_here bag name.base ≡ true
+declared_plainly : (bag : Bag) (name : PlainName) (body : Expr) → IsUnqualified name
+    → Contains (declared_common bag) (name, body) → is_declared_here bag name.base ≡ true
 declared_plainly [] name body plain among = absurd (omega (arith, among.1))
 declared_plainly (it ∷ rest) name body plain among =
     ⊎_elim (λ here. here_declared it rest name body plain it.body refl here)
@@ -128,9 +136,11 @@ declared_plainly (it ∷ rest) name body plain among =
     or_later true c is = refl
     or_later false c is = is
 
-    here_declared : (it : Declaration) (rest : Bag) (name : PlainName) (body : Expr) → IsUnqualified name → (of : Body) → it.body ≡ of → Contains (common_in (declared_name it) of) (name, body) → is_declared_here (it ∷ rest) name.base ≡ true
+    here_declared : (it : Declaration) (rest : Bag) (name : PlainName) (body : Expr) → IsUnqualified name → (of : Body)
+        → it.body ≡ of → Contains (common_in (declared_name it) of) (name, body) → is_declared_here (it ∷ rest) name.base ≡ true
     here_declared it rest name body plain (common_type definition) is here =
-        let named : declared_name it ≡ name = ⊎_elim (λ same. ap (λ each. each.0) same) (λ none. absurd (omega (arith, none.1))) (Contains-cons_cases (declared_name it, definition) [] (name, body) here) in
+        let named : declared_name it ≡ name = ⊎_elim (λ same. ap (λ each. each.0) same)
+        (λ none. absurd (omega (arith, none.1))) (Contains-cons_cases (declared_name it, definition) [] (name, body) here) in
         let none : it.namespace ≡ None = no_path it.namespace (ap (λ each. each.path) named ∙ plain) in
         all_or (is_none it.namespace) (is_type it.body) (bytes_eq name.base it.id) (is_declared_here rest name.base)
         (ap is_none none) (ap is_type is) ((bytes_eq-Decides name.base it.id).1 (ap (λ each. each.base) (sym named)))
@@ -138,22 +148,29 @@ declared_plainly (it ∷ rest) name body plain among =
     here_declared it rest name body plain (action other) is here = absurd (omega (arith, here.1))
 
 -- an alias stands for what a built-in type does whose base name no type in the empty namespace has
-pub alias_of : (bag : Bag) (extensions : Extensions) (name : PlainName) (body : Expr) → Contains (aliases bag extensions) (name, body) → Contains (built_in_types extensions) (name.base, body) × IsUnqualified name × (is_declared_here bag name.base ≡ false)
+pub alias_of : (bag : Bag) (extensions : Extensions) (name : PlainName) (body : Expr)
+    → Contains (aliases bag extensions) (name, body) → Contains (built_in_types extensions) (name.base, body)
+    × IsUnqualified name × (is_declared_here bag name.base ≡ false)
 alias_of bag extensions name body among =
     let kept = filter (λ it. not (is_declared_here bag it.0)) (built_in_types extensions) in
     let found = Contains-preimage (λ it. (alias_name it.0, it.1)) kept (name, body) among in
     let passed = Contains-filter (λ it. not (is_declared_here bag it.0)) (built_in_types extensions) found.0 found.1 in
     let word : found.0.0 ≡ name.base = ap (λ each. each.0.base) found.2 in
     let P : Text × Expr → Type 0 = Contains (built_in_types extensions) in
-    let Q : Text → Type 0 = λ each. is_declared_here bag each ≡ false in
-    (subst P (λ i. (word i, (found.2 i).1)) passed.0, ap (λ each. each.0.path) (sym found.2), subst Q word (not_true (is_declared_here bag found.0.0) passed.1))
+    let Q : Text → Type 0 = λ each. is_declared_here bag each ≡ false in (
+      subst P (λ i. (word i, (found.2 i).1)) passed.0,
+      ap (λ each. each.0.path) (sym found.2),
+      subst Q word
+          (not_true (is_declared_here bag found.0.0) passed.1),
+    )
   where
     not_true : (b : Bool) → not b ≡ true → b ≡ false
     not_true true is = absurd (false≢true is)
     not_true false is = refl
 
 -- a built-in type has the reserved word before its base name
-pub built_in_path : (extensions : Extensions) (name : PlainName) (body : Expr) → Contains (built_ins extensions) (name, body) → ¬ IsUnqualified name
+pub built_in_path : (extensions : Extensions) (name : PlainName) (body : Expr)
+    → Contains (built_ins extensions) (name, body) → ¬ IsUnqualified name
 built_in_path extensions name body among plain =
     let found = Contains-preimage (λ it. (built_in_name it.0, it.1)) (built_in_types extensions) (name, body) among in
     qualified (ap (λ each. each.0.path) found.2 ∙ plain)
@@ -162,7 +179,8 @@ built_in_path extensions name body among plain =
     qualified wrong = cc
 
 -- an alias and what is declared or built in have different names
-alias_apart : (bag : Bag) (extensions : Extensions) (name : PlainName) (body other : Expr) → Contains (aliases bag extensions) (name, body) → ¬ Contains (declared_common bag ++ built_ins extensions) (name, other)
+alias_apart : (bag : Bag) (extensions : Extensions) (name : PlainName) (body other : Expr)
+    → Contains (aliases bag extensions) (name, body) → ¬ Contains (declared_common bag ++ built_ins extensions) (name, other)
 alias_apart bag extensions name body other alias among =
     let found = alias_of bag extensions name body alias in
     ⊎_elim
@@ -171,11 +189,15 @@ alias_apart bag extensions name body other alias among =
     (Contains-append_cases (declared_common bag) (built_ins extensions) (name, other) among)
 
 -- a common type is declared or built in, or an alias
-pub common_cases : (bag : Bag) (extensions : Extensions) (it : PlainName × Expr) → Contains (defined_names bag extensions).common it → Contains (declared_common bag ++ built_ins extensions) it ⊎ Contains (aliases bag extensions) it
+pub common_cases : (bag : Bag) (extensions : Extensions) (it : PlainName × Expr)
+    → Contains (defined_names bag extensions).common it → Contains (declared_common bag ++ built_ins extensions) it
+    ⊎ Contains (aliases bag extensions) it
 common_cases bag extensions it among = Contains-append_cases (declared_common bag ++ built_ins extensions) (aliases bag extensions) it among
 
 -- where no common type is declared twice, each common name has one definition
-pub one_definition : (bag : Bag) (extensions : Extensions) → TypeNamesFit (extension_types extensions) → ((name : PlainName) → ¬ Twice (map (λ it. it.0) (declared_common bag ++ built_ins extensions)) name) → HasOneDefinition (defined_names bag extensions)
+pub one_definition : (bag : Bag) (extensions : Extensions) → TypeNamesFit (extension_types extensions)
+    → ((name : PlainName) → ¬ Twice (map (λ it. it.0) (declared_common bag ++ built_ins extensions)) name)
+    → HasOneDefinition (defined_names bag extensions)
 one_definition bag extensions fit once name body other among among' =
     ⊎_elim
     (λ here. ⊎_elim
@@ -184,12 +206,14 @@ one_definition bag extensions fit once name body other among among' =
     (common_cases bag extensions (name, other) among'))
     (λ alias. ⊎_elim
     (λ here'. absurd (alias_apart bag extensions name body other alias here'))
-    (λ alias'. value_once (built_in_types extensions) (built_in_once extensions fit) name.base body other (alias_of bag extensions name body alias).0 (alias_of bag extensions name other alias').0)
+    (λ alias'. value_once (built_in_types extensions) (built_in_once extensions fit) name.base body other
+    (alias_of bag extensions name body alias).0 (alias_of bag extensions name other alias').0)
     (common_cases bag extensions (name, other) among'))
     (common_cases bag extensions (name, body) among)
 
 -- what a built-in base name stands for refers to nothing
-built_in_refers : (extensions : Extensions) (word : Text) (body : Expr) (reference : Reference) → Contains (built_in_types extensions) (word, body) → ¬ Refers body reference
+built_in_refers : (extensions : Extensions) (word : Text) (body : Expr) (reference : Reference)
+    → Contains (built_in_types extensions) (word, body) → ¬ Refers body reference
 built_in_refers extensions word body reference (zero, below, is) refers =
     let P : Text × Expr → Type 0 = λ each. Refers each.1 reference in subst P (sym is) refers
 built_in_refers extensions word body reference (suc zero, below, is) refers =
@@ -198,11 +222,13 @@ built_in_refers extensions word body reference (suc (suc zero), below, is) refer
     let P : Text × Expr → Type 0 = λ each. Refers each.1 reference in subst P (sym is) refers
 built_in_refers extensions word body reference (suc (suc (suc k)), below, is) refers =
     let P : Text × Expr → Type 0 = λ each. Refers each.1 reference in
-    let found = Contains-preimage (λ name. (name.base, extension_expr name.base)) (extension_types extensions) (word, body) (k, omega (arith, below), is) in
+    let found = Contains-preimage (λ name. (name.base, extension_expr name.base)) (extension_types extensions)
+    (word, body) (k, omega (arith, below), is) in
     subst P (sym found.2) refers
 
 -- a common type that refers to something is declared
-pub refers_declared : (bag : Bag) (extensions : Extensions) (name : PlainName) (body : Expr) (reference : Reference) → Contains (defined_names bag extensions).common (name, body) → Refers body reference → Contains (declared_common bag) (name, body)
+pub refers_declared : (bag : Bag) (extensions : Extensions) (name : PlainName) (body : Expr) (reference : Reference)
+    → Contains (defined_names bag extensions).common (name, body) → Refers body reference → Contains (declared_common bag) (name, body)
 refers_declared bag extensions name body reference among refers =
     ⊎_elim
     (λ here. ⊎_elim

@@ -32,7 +32,8 @@ module _ {A : Type 0} (test : A → A → Bool) (decides : (y x : A) → Decides
   hits_of (y ∷ ys) x among =
       ⊎_elim
       (λ hit. omega (arith, hit.1))
-      (λ miss. ⊎_elim (λ same. absurd (miss.0 same)) (λ there. omega (arith, miss.1, hits_of ys x there)) (Contains-cons_cases y ys x among))
+      (λ miss. ⊎_elim (λ same. absurd (miss.0 same)) (λ there. omega (arith, miss.1, hits_of ys x there))
+      (Contains-cons_cases y ys x among))
       (hit_cases y x)
 
   -- what is counted stands in the list
@@ -68,7 +69,8 @@ module _ {A : Type 0} (test : A → A → Bool) (decides : (y x : A) → Decides
   hits-append (y ∷ rest) ys x = omega (arith, hits-append rest ys x)
 
   -- the lists that some items give count together
-  pub hits-flat_map : {X Y : Type 0} (f : X → List Y) (key : Y → A) (xs : List X) (x : A) → hits x (map key (flat_map f xs)) ≡ sum_by (λ item. hits x (map key (f item))) xs
+  pub hits-flat_map : {X Y : Type 0} (f : X → List Y) (key : Y → A) (xs : List X) (x : A)
+      → hits x (map key (flat_map f xs)) ≡ sum_by (λ item. hits x (map key (f item))) xs
   hits-flat_map f key [] x = refl
   hits-flat_map f key (first ∷ rest) x =
       ap (hits x) (map-append key (f first) (flat_map f rest))

@@ -45,7 +45,8 @@ module _ (defined other : Defined) (same : SameDefined defined other) where
   -- a reference resolves alike
   pub resolves_there : (reference : Reference) (name : PlainName) → ResolvesTo defined reference name → ResolvesTo other reference name
   resolves_there reference name resolves =
-      IsFirst-like (IsDefined defined reference.kind) (IsDefined other reference.kind) (defined_there reference.kind) (defined_here reference.kind) reference.possibilities name resolves
+      IsFirst-like (IsDefined defined reference.kind) (IsDefined other reference.kind) (defined_there reference.kind)
+      (defined_here reference.kind) reference.possibilities name resolves
 
   -- a reference is unresolved alike
   pub unresolved_there : (reference : Reference) → IsUnresolved defined reference → IsUnresolved other reference
@@ -63,11 +64,13 @@ module _ (defined other : Defined) (same : SameDefined defined other) where
         as_entity reference name (resolves_there reference name resolves) (is_entity.0, same.entities name is_entity.1)
         (λ body common. none body (common.0, same.common_back (name, body) common.1))
     written_there (as_common reference name body resolves is_common written) =
-        as_common reference name body (resolves_there reference name resolves) (is_common.0, same.common (name, body) is_common.1) (written_there written)
+        as_common reference name body (resolves_there reference name resolves)
+        (is_common.0, same.common (name, body) is_common.1) (written_there written)
     written_there (as_extension name) = as_extension name
 
     -- the same of the attributes of a record
-    members_there : {members : Members} {fields : Fields} → MembersWrittenOut defined members fields → MembersWrittenOut other members fields
+    members_there : {members : Members} {fields : Fields} → MembersWrittenOut defined members fields
+        → MembersWrittenOut other members fields
     members_there as_no_member = as_no_member
     members_there (as_member first rest) = as_member (written_there first) (members_there rest)
 

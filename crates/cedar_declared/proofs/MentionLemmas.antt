@@ -33,7 +33,8 @@ use Rattle.cedar_rules.specs.Ty.{Ty, Fields}
 
 mutual
   -- an entity type that stands in a type which is written out is one that references can name
-  pub mentions_entity : (defined : Defined) {expr : Expr} {ty : Ty} → WrittenOut defined expr ty → (name : PlainName) → MentionsEntity ty name → Contains defined.entities name
+  pub mentions_entity : (defined : Defined) {expr : Expr} {ty : Ty} → WrittenOut defined expr ty → (name : PlainName)
+      → MentionsEntity ty name → Contains defined.entities name
   mentions_entity defined as_text name mentions = absurd mentions
   mentions_entity defined as_long name mentions = absurd mentions
   mentions_entity defined as_truth name mentions = absurd mentions
@@ -42,11 +43,13 @@ mutual
   mentions_entity defined (as_entity reference other resolves is_entity none) name mentions =
       let P : PlainName → Type 0 = Contains defined.entities in
       ⊎_elim (λ same. subst P same is_entity.1) (λ nothing. absurd (omega (arith, nothing.1))) (Contains-cons_cases other [] name mentions)
-  mentions_entity defined (as_common reference other body resolves is_common written) name mentions = mentions_entity defined written name mentions
+  mentions_entity defined (as_common reference other body resolves is_common written) name mentions =
+      mentions_entity defined written name mentions
   mentions_entity defined (as_extension word) name mentions = absurd mentions
 
   -- the same of the attributes of a record
-  members_mention_entity : (defined : Defined) {members : Members} {fields : Fields} → MembersWrittenOut defined members fields → (name : PlainName) → FieldsMentionEntity fields name → Contains defined.entities name
+  members_mention_entity : (defined : Defined) {members : Members} {fields : Fields}
+      → MembersWrittenOut defined members fields → (name : PlainName) → FieldsMentionEntity fields name → Contains defined.entities name
   members_mention_entity defined as_no_member name mentions = absurd mentions
   members_mention_entity defined (as_member first rest) name mentions =
       ⊎_elim (λ here. mentions_entity defined first name here) (λ later. members_mention_entity defined rest name later) mentions
@@ -61,12 +64,17 @@ AreKnown extensions members = (word : Text) → MembersMentionExtension members 
 
 mutual
   -- where each definition and the expression mention known extension types alone, so does what is written out
-  pub known_written : (defined : Defined) (extensions : Extensions) → ((name : PlainName) (body : Expr) → Contains defined.common (name, body) → HasKnownExtensions extensions body) → {expr : Expr} {ty : Ty} → WrittenOut defined expr ty → HasKnownExtensions extensions expr → (name : PlainName) → MentionsExtensionType ty name → Contains (extension_types extensions) name
+  pub known_written : (defined : Defined) (extensions : Extensions)
+      → ((name : PlainName) (body : Expr) → Contains defined.common (name, body) → HasKnownExtensions extensions body)
+      → {expr : Expr} {ty : Ty} → WrittenOut defined expr ty → HasKnownExtensions extensions expr
+      → (name : PlainName) → MentionsExtensionType ty name → Contains (extension_types extensions) name
   known_written defined extensions each as_text known name mentions = absurd mentions
   known_written defined extensions each as_long known name mentions = absurd mentions
   known_written defined extensions each as_truth known name mentions = absurd mentions
-  known_written defined extensions each (as_set element) known name mentions = known_written defined extensions each element known name mentions
-  known_written defined extensions each (as_record members) known name mentions = members_known_written defined extensions each members known name mentions
+  known_written defined extensions each (as_set element) known name mentions =
+      known_written defined extensions each element known name mentions
+  known_written defined extensions each (as_record members) known name mentions =
+      members_known_written defined extensions each members known name mentions
   known_written defined extensions each (as_entity reference other resolves is_entity none) known name mentions = absurd mentions
   known_written defined extensions each (as_common reference other body resolves is_common written) known name mentions =
       known_written defined extensions each written (each other body is_common.1) name mentions
@@ -74,7 +82,11 @@ mutual
       let P : PlainName → Type 0 = Contains (extension_types extensions) in subst P mentions (known word refl)
 
   -- the same of the attributes of a record
-  members_known_written : (defined : Defined) (extensions : Extensions) → ((name : PlainName) (body : Expr) → Contains defined.common (name, body) → HasKnownExtensions extensions body) → {members : Members} {fields : Fields} → MembersWrittenOut defined members fields → AreKnown extensions members → (name : PlainName) → FieldsMentionExtensionType fields name → Contains (extension_types extensions) name
+  members_known_written : (defined : Defined) (extensions : Extensions)
+      → ((name : PlainName) (body : Expr) → Contains defined.common (name, body) → HasKnownExtensions extensions body)
+      → {members : Members} {fields : Fields} → MembersWrittenOut defined members fields
+      → AreKnown extensions members → (name : PlainName) → FieldsMentionExtensionType fields name
+      → Contains (extension_types extensions) name
   members_known_written defined extensions each as_no_member known name mentions = absurd mentions
   members_known_written defined extensions each (as_member first rest) known name mentions =
       ⊎_elim
@@ -99,20 +111,27 @@ is_type_name-Decides name ty =
     Decides-like _ (name_cmp-Equal (plain_name ty) name).0 (name_cmp-Equal (plain_name ty) name).1 (ties (name_cmp (plain_name ty) name))
 
 -- an extension type is known or it isn't
-known_or_not : (extensions : Extensions) (name : PlainName) → Contains (extension_types extensions) name ⊎ ¬ Contains (extension_types extensions) name
+known_or_not : (extensions : Extensions) (name : PlainName) → Contains (extension_types extensions) name
+    ⊎ ¬ Contains (extension_types extensions) name
 known_or_not extensions name =
-    by (list_any (is_type_name name) extensions.types.items) (list_any-Contains plain_name name (is_type_name name) (is_type_name-Decides name) extensions.types.items) where
-      by : (answer : Bool) → Decides answer (Contains (extension_types extensions) name) → Contains (extension_types extensions) name ⊎ ¬ Contains (extension_types extensions) name
+    by (list_any (is_type_name name) extensions.types.items)
+    (list_any-Contains plain_name name (is_type_name name) (is_type_name-Decides name) extensions.types.items) where
+      by : (answer : Bool) → Decides answer (Contains (extension_types extensions) name)
+          → Contains (extension_types extensions) name ⊎ ¬ Contains (extension_types extensions) name
       by true decides = inl (decides.0 refl)
       by false decides = inr (λ among. false≢true (decides.1 among))
 
 -- where the bag isn't ill-formed, what counts mentions known extension types alone
-pub known_counted : (bag : Bag) (extensions : Extensions) → ¬ IsIllFormed bag extensions → (expr : Expr) → IsCounted bag expr → HasKnownExtensions extensions expr
+pub known_counted : (bag : Bag) (extensions : Extensions) → ¬ IsIllFormed bag extensions → (expr : Expr)
+    → IsCounted bag expr → HasKnownExtensions extensions expr
 known_counted bag extensions well expr counted word mentions =
-    ⊎_elim (λ known. known) (λ unknown. absurd (well (unknown_extension_type (alias_name word), (expr, counted, mentions, refl, unknown)))) (known_or_not extensions (alias_name word))
+    ⊎_elim (λ known. known) (λ unknown. absurd
+    (well (unknown_extension_type (alias_name word), (expr, counted, mentions, refl, unknown))))
+    (known_or_not extensions (alias_name word))
 
 -- what a built-in base name stands for mentions known extension types alone
-known_built_in : (extensions : Extensions) → TypeNamesFit (extension_types extensions) → (word : Text) (body : Expr) → Contains (built_in_types extensions) (word, body) → HasKnownExtensions extensions body
+known_built_in : (extensions : Extensions) → TypeNamesFit (extension_types extensions) → (word : Text) (body : Expr)
+    → Contains (built_in_types extensions) (word, body) → HasKnownExtensions extensions body
 known_built_in extensions fit word body (zero, below, is) other mentions =
     let P : Text × Expr → Type 0 = λ each. MentionsExtension each.1 other in absurd (subst P (sym is) mentions)
 known_built_in extensions fit word body (suc zero, below, is) other mentions =
@@ -121,14 +140,17 @@ known_built_in extensions fit word body (suc (suc zero), below, is) other mentio
     let P : Text × Expr → Type 0 = λ each. MentionsExtension each.1 other in absurd (subst P (sym is) mentions)
 known_built_in extensions fit word body (suc (suc (suc k)), below, is) other mentions =
     let P : Text × Expr → Type 0 = λ each. MentionsExtension each.1 other in
-    let found = Contains-preimage (λ name. (name.base, extension_expr name.base)) (extension_types extensions) (word, body) (k, omega (arith, below), is) in
+    let found = Contains-preimage (λ name. (name.base, extension_expr name.base)) (extension_types extensions)
+    (word, body) (k, omega (arith, below), is) in
     let same : found.0.base ≡ other = subst P (sym found.2) mentions in
     let plain : IsUnqualified found.0 = All-contains IsUnqualified (extension_types extensions) found.0 fit.unqualified found.1 in
     let Q : PlainName → Type 0 = Contains (extension_types extensions) in
     subst Q (λ i. record { base = same i; path = plain i }) found.1
 
 -- where the bag isn't ill-formed, each definition mentions known extension types alone
-pub known_common : (bag : Bag) (extensions : Extensions) → TypeNamesFit (extension_types extensions) → ¬ IsIllFormed bag extensions → (name : PlainName) (body : Expr) → Contains (defined_names bag extensions).common (name, body) → HasKnownExtensions extensions body
+pub known_common : (bag : Bag) (extensions : Extensions) → TypeNamesFit (extension_types extensions)
+    → ¬ IsIllFormed bag extensions → (name : PlainName) (body : Expr)
+    → Contains (defined_names bag extensions).common (name, body) → HasKnownExtensions extensions body
 known_common bag extensions fit well name body among =
     ⊎_elim
     (λ here. ⊎_elim

@@ -24,8 +24,10 @@ pub Twice-append : {A : Type 0} (xs ys : List A) (x : A) → Twice (xs ++ ys) x 
 Twice-append [] ys x twice = inr (inl twice)
 Twice-append (first ∷ rest) ys x twice =
     ⊎_elim
-    (λ here. ⊎_elim (λ there. inl (inl (here.0, there))) (λ there. inr (inr (Contains-cons first rest x (inl here.0), there))) (Contains-append_cases rest ys x here.1))
-    (λ later. ⊎_elim (λ one. inl (inr one)) (λ others. ⊎_elim (λ one. inr (inl one)) (λ both. inr (inr (Contains-cons first rest x (inr both.0), both.1))) others) (Twice-append rest ys x later))
+    (λ here. ⊎_elim (λ there. inl (inl (here.0, there))) (λ there. inr
+    (inr (Contains-cons first rest x (inl here.0), there))) (Contains-append_cases rest ys x here.1))
+    (λ later. ⊎_elim (λ one. inl (inr one)) (λ others. ⊎_elim (λ one. inr (inl one))
+    (λ both. inr (inr (Contains-cons first rest x (inr both.0), both.1))) others) (Twice-append rest ys x later))
     twice
 
 -- the image of an item that stands in a list stands in the mapped list
@@ -36,7 +38,8 @@ Contains-image f (first ∷ rest) x among =
     (⊎_elim (λ here. inl (ap f here)) (λ later. inr (Contains-image f rest x later)) (Contains-cons_cases first rest x among))
 
 -- where no key stands twice, the values of a key are the same
-pub value_once : {K V : Type 0} (entries : List (K × V)) → ((key : K) → ¬ Twice (map (λ entry. entry.0) entries) key) → (key : K) (value other : V) → Contains entries (key, value) → Contains entries (key, other) → value ≡ other
+pub value_once : {K V : Type 0} (entries : List (K × V)) → ((key : K) → ¬ Twice (map (λ entry. entry.0) entries) key)
+    → (key : K) (value other : V) → Contains entries (key, value) → Contains entries (key, other) → value ≡ other
 value_once [] once key value other among among' = absurd (omega (arith, among.1))
 value_once (first ∷ rest) once key value other among among' =
     let keys = map (λ entry. entry.0) rest in
@@ -64,6 +67,7 @@ unfolding IsStrictlySortedBy
 Twice-ascending R total [] x ascending twice = twice
 Twice-ascending R total (first ∷ rest) x ascending twice =
     ⊎_elim
-    (λ here. not_itself R total first x here.0 (All-contains (λ each. R first each ≡ Less) rest x (All-from_recursion (λ each. R first each ≡ Less) rest ascending.0) here.1))
+    (λ here. not_itself R total first x here.0 (All-contains (λ each. R first each ≡ Less) rest x
+    (All-from_recursion (λ each. R first each ≡ Less) rest ascending.0) here.1))
     (λ later. Twice-ascending R total rest x ascending.1 later)
     twice

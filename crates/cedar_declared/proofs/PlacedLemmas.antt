@@ -21,7 +21,8 @@ use Rattle.cedar_names.specs.declared.json_schema.reference_type.ReferenceType.T
 use Rattle.cedar_declared.specs.Counted.{IsEntityPlace, entity_parents, IsPrincipalOrResource, PlacesFit}
 
 -- what stands in the lists that some items give stands in one of them
-Contains-flat_map : {A B : Type 0} (f : A → List B) (xs : List A) (y : B) → Contains (flat_map f xs) y → (x : A) × Contains xs x × Contains (f x) y
+Contains-flat_map : {A B : Type 0} (f : A → List B) (xs : List A) (y : B) → Contains (flat_map f xs) y → (x : A)
+    × Contains xs x × Contains (f x) y
 Contains-flat_map f [] y among = absurd (omega (arith, among.1))
 Contains-flat_map f (first ∷ rest) y among =
     ⊎_elim
@@ -31,27 +32,31 @@ Contains-flat_map f (first ∷ rest) y among =
 
 module _ (namespace : Option PlainName) where
   -- each of some names at places of entity types refers to one
-  named_fit : (names : List RawName) (reference : Reference) → Contains (map (raw_reference namespace Entity) names) reference → reference.kind ≡ Entity
+  named_fit : (names : List RawName) (reference : Reference)
+      → Contains (map (raw_reference namespace Entity) names) reference → reference.kind ≡ Entity
   named_fit names reference among =
       let found = Contains-preimage (raw_reference namespace Entity) names reference among in
       ap (λ (each : Reference). each.kind) (sym found.2)
 
   -- the parents of an entity type do
-  parents_fit : (kind : EntityTypeKind RawName) (is_external : Bool) (reference : Reference) → Contains (entity_parents (kind_body RawName (raw_reference namespace) kind is_external)) reference → reference.kind ≡ Entity
+  parents_fit : (kind : EntityTypeKind RawName) (is_external : Bool) (reference : Reference)
+      → Contains (entity_parents (kind_body RawName (raw_reference namespace) kind is_external)) reference → reference.kind ≡ Entity
   parents_fit (variant.Standard it) false reference among = named_fit it.member_of_types.items reference among
   parents_fit (variant.Standard it) true reference among = named_fit it.member_of_types.items reference among
   parents_fit (variant.Enum choices) false reference among = absurd (omega (arith, among.1))
   parents_fit (variant.Enum choices) true reference among = absurd (omega (arith, among.1))
 
   -- the principals and resources of an action do
-  requests_fit : (is_external : Bool) (it : Option (ApplySpec RawName)) (reference : Reference) → IsPrincipalOrResource (requests_by RawName (raw_reference namespace) namespace is_external it) reference → reference.kind ≡ Entity
+  requests_fit : (is_external : Bool) (it : Option (ApplySpec RawName)) (reference : Reference)
+      → IsPrincipalOrResource (requests_by RawName (raw_reference namespace) namespace is_external it) reference → reference.kind ≡ Entity
   requests_fit true it reference place = absurd place
   requests_fit false None reference place = ⊎_elim (λ none. absurd (omega (arith, none.1))) (λ none. absurd (omega (arith, none.1))) place
   requests_fit false (Some it) reference place =
       ⊎_elim (named_fit it.principal_types.items reference) (named_fit it.resource_types.items reference) place
 
   -- the references of a definition do
-  definition_fits : (definition : NamespaceDefinition RawName) (it : Declaration) (reference : Reference) → Contains (raw_declarations namespace definition) it → IsEntityPlace it.body reference → reference.kind ≡ Entity
+  definition_fits : (definition : NamespaceDefinition RawName) (it : Declaration) (reference : Reference)
+      → Contains (raw_declarations namespace definition) it → IsEntityPlace it.body reference → reference.kind ≡ Entity
   definition_fits definition it reference among place =
       let P : Declaration → Type 0 = λ each. IsEntityPlace each.body reference in
       let common = common_declarations RawName (raw_reference namespace) namespace definition.common_types.entries in
@@ -60,9 +65,11 @@ module _ (namespace : Option PlainName) where
       ⊎_elim
       (λ types. ⊎_elim
       (λ here. let found = Contains-preimage _ definition.common_types.entries it here in absurd (subst P (sym found.2) place))
-      (λ here. let found = Contains-preimage _ definition.entity_types.entries it here in parents_fit found.0.1.kind found.0.1.external reference (subst P (sym found.2) place))
+      (λ here. let found = Contains-preimage _ definition.entity_types.entries it here in
+      parents_fit found.0.1.kind found.0.1.external reference (subst P (sym found.2) place))
       (Contains-append_cases common entities it types))
-      (λ here. let found = Contains-preimage _ definition.actions.entries it here in requests_fit found.0.1.external found.0.1.applies_to reference (subst P (sym found.2) place))
+      (λ here. let found = Contains-preimage _ definition.actions.entries it here in
+      requests_fit found.0.1.external found.0.1.applies_to reference (subst P (sym found.2) place))
       (Contains-append_cases (common ++ entities) actions it among)
 
 -- the references of raw fragments fit their places

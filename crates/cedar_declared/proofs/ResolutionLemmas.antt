@@ -21,10 +21,12 @@ IsFirst-same P (first ∷ rest) x y one other =
     one
 
 -- where two facts hold of the same items, they hold first of the same
-pub IsFirst-like : {A : Type 0} (P Q : A → Type 0) → ((x : A) → P x → Q x) → ((x : A) → Q x → P x) → (xs : List A) (x : A) → IsFirst P xs x → IsFirst Q xs x
+pub IsFirst-like : {A : Type 0} (P Q : A → Type 0) → ((x : A) → P x → Q x) → ((x : A) → Q x → P x)
+    → (xs : List A) (x : A) → IsFirst P xs x → IsFirst Q xs x
 IsFirst-like P Q to from [] x first = absurd first
 IsFirst-like P Q to from (y ∷ rest) x first =
-    ⊎_elim (λ here. inl (here.0, to y here.1)) (λ later. inr (λ holds. later.0 (from y holds), IsFirst-like P Q to from rest x later.1)) first
+    ⊎_elim (λ here. inl (here.0, to y here.1)) (λ later. inr
+    (λ holds. later.0 (from y holds), IsFirst-like P Q to from rest x later.1)) first
 
 -- no common name has two definitions
 abbrev pub HasOneDefinition : Defined → Type 0
@@ -32,7 +34,10 @@ HasOneDefinition defined =
     (name : PlainName) (body other : Expr) → Contains defined.common (name, body) → Contains defined.common (name, other) → body ≡ other
 
 -- the definitions that a reference names are the same
-pub same_definition : (defined : Defined) → HasOneDefinition defined → (reference : Reference) (name name' : PlainName) (body body' : Expr) → ResolvesTo defined reference name → ResolvesTo defined reference name' → IsCommon defined reference.kind name body → IsCommon defined reference.kind name' body' → body ≡ body'
+pub same_definition : (defined : Defined) → HasOneDefinition defined
+    → (reference : Reference) (name name' : PlainName) (body body' : Expr) → ResolvesTo defined reference name
+    → ResolvesTo defined reference name' → IsCommon defined reference.kind name body
+    → IsCommon defined reference.kind name' body' → body ≡ body'
 same_definition defined one reference name name' body body' resolves resolves' common common' =
     let same : name ≡ name' = IsFirst-same (IsDefined defined reference.kind) reference.possibilities name name' resolves resolves' in
     let P : PlainName → Type 0 = λ each. Contains defined.common (each, body') in
@@ -40,37 +45,47 @@ same_definition defined one reference name name' body body' resolves resolves' c
 
 mutual
   -- where no common name has two definitions, an expression is written out as one type
-  pub written_once : (defined : Defined) → HasOneDefinition defined → {expr : Expr} {ty ty' : Ty} → WrittenOut defined expr ty → WrittenOut defined expr ty' → ty ≡ ty'
+  pub written_once : (defined : Defined) → HasOneDefinition defined → {expr : Expr} {ty ty' : Ty}
+      → WrittenOut defined expr ty → WrittenOut defined expr ty' → ty ≡ ty'
   written_once defined one as_text as_text = refl
   written_once defined one as_long as_long = refl
   written_once defined one as_truth as_truth = refl
   written_once defined one (as_set element) (as_set other) = ap set_of (written_once defined one element other)
-  written_once defined one (as_record members) (as_record others) = ap (λ fields. record_of fields ClosedAttributes) (members_written_once defined one members others)
-  written_once defined one (as_entity reference name resolves is_entity no_common) (as_entity reference' name' resolves' is_entity' no_common') =
-      ap (λ each. union_of (each ∷ [])) (IsFirst-same (IsDefined defined reference.kind) reference.possibilities name name' resolves resolves')
-  written_once defined one (as_entity reference name resolves is_entity no_common) (as_common reference' name' body resolves' is_common written) =
+  written_once defined one (as_record members) (as_record others) =
+      ap (λ fields. record_of fields ClosedAttributes) (members_written_once defined one members others)
+  written_once defined one (as_entity reference name resolves is_entity no_common)
+      (as_entity reference' name' resolves' is_entity' no_common') =
+      ap (λ each. union_of (each ∷ [])) (IsFirst-same (IsDefined defined reference.kind) reference.possibilities name
+      name' resolves resolves')
+  written_once defined one (as_entity reference name resolves is_entity no_common)
+      (as_common reference' name' body resolves' is_common written) =
       let same : name ≡ name' = IsFirst-same (IsDefined defined reference.kind) reference.possibilities name name' resolves resolves' in
       let P : PlainName → Type 0 = λ each. IsCommon defined reference.kind each body in
       absurd (no_common body (subst P (sym same) is_common))
-  written_once defined one (as_common reference name body resolves is_common written) (as_entity reference' name' resolves' is_entity' no_common) =
+  written_once defined one (as_common reference name body resolves is_common written)
+      (as_entity reference' name' resolves' is_entity' no_common) =
       let same : name ≡ name' = IsFirst-same (IsDefined defined reference.kind) reference.possibilities name name' resolves resolves' in
       let P : PlainName → Type 0 = λ each. IsCommon defined reference.kind each body in
       absurd (no_common body (subst P same is_common))
-  written_once defined one {ty = ty} {ty' = ty'} (as_common reference name body resolves is_common written) (as_common reference' name' body' resolves' is_common' written') =
+  written_once defined one {ty = ty} {ty' = ty'} (as_common reference name body resolves is_common written)
+      (as_common reference' name' body' resolves' is_common' written') =
       let same : body ≡ body' = same_definition defined one reference name name' body body' resolves resolves' is_common is_common' in
       let P : Expr → Type 0 = λ each. WrittenOut defined each ty' in
       written_once defined one written (subst P (sym same) written')
   written_once defined one (as_extension name) (as_extension name') = refl
 
   -- the same of the attributes of a record
-  members_written_once : (defined : Defined) → HasOneDefinition defined → {members : _} {fields fields' : Fields} → MembersWrittenOut defined members fields → MembersWrittenOut defined members fields' → fields ≡ fields'
+  members_written_once : (defined : Defined) → HasOneDefinition defined → {members : _} {fields fields' : Fields}
+      → MembersWrittenOut defined members fields → MembersWrittenOut defined members fields' → fields ≡ fields'
   members_written_once defined one as_no_member as_no_member = refl
-  members_written_once defined one (as_member {name = name} {required = required} {ty = ty} first rest) (as_member {fields = others} first' rest') =
+  members_written_once defined one (as_member {name = name} {required = required} {ty = ty} first rest)
+      (as_member {fields = others} first' rest') =
       ap (λ fields. field name required ty fields) (members_written_once defined one rest rest')
       ∙ ap (λ each. field name required each others) (written_once defined one first first')
 
 -- the name that a list of possibilities resolves to is one of them, and is defined
-pub first_defined : (defined : Defined) (kind : ReferenceType) (names : List PlainName) (name : PlainName) → IsFirst (IsDefined defined kind) names name → Contains names name × IsDefined defined kind name
+pub first_defined : (defined : Defined) (kind : ReferenceType) (names : List PlainName) (name : PlainName)
+    → IsFirst (IsDefined defined kind) names name → Contains names name × IsDefined defined kind name
 first_defined defined kind [] name none = absurd none
 first_defined defined kind (first ∷ rest) name found =
     ⊎_elim
@@ -79,7 +94,8 @@ first_defined defined kind (first ∷ rest) name found =
     found
 
 -- a reference to an entity type names no common type
-pub names_no_common : (defined : Defined) (kind : ReferenceType) (name : PlainName) (body : Expr) → kind ≡ Entity → ¬ IsCommon defined kind name body
+pub names_no_common : (defined : Defined) (kind : ReferenceType) (name : PlainName) (body : Expr) → kind ≡ Entity
+    → ¬ IsCommon defined kind name body
 names_no_common defined Common name body is common = cc
 names_no_common defined Entity name body is common = common.0
 names_no_common defined CommonOrEntity name body is common = cc

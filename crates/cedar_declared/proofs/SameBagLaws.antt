@@ -35,7 +35,8 @@ module _ (defined other : Defined) (same : SameDefined defined other) where
   tags_there (Some expr) None fits = absurd fits
 
   -- a kind fits what is the same
-  kind_there : (body found : EntityBody) (kind : EntityTypeKind) → SameEntityBody body found → IsDeclaredKind defined body kind → IsDeclaredKind other found kind
+  kind_there : (body found : EntityBody) (kind : EntityTypeKind) → SameEntityBody body found
+      → IsDeclaredKind defined body kind → IsDeclaredKind other found kind
   kind_there (standard ps shape tags) (standard ps' shape' tags') (standard_kind fields openness ty) alike fits =
       let P : Expr → Type 0 = λ each. WrittenOut other each (record_of fields ClosedAttributes) in
       let Q : Option Expr → Type 0 = λ each. AreDeclaredTags other each ty in
@@ -56,20 +57,27 @@ module _ (defined other : Defined) (same : SameDefined defined other) where
   kind_there (external ps) (enumerated choices) kind alike fits = absurd alike
 
   -- what some references name the same name
-  named_there : (references others : List Reference) (name : PlainName) → SameItems references others → IsNamedBy defined references name → IsNamedBy other others name
+  named_there : (references others : List Reference) (name : PlainName) → SameItems references others
+      → IsNamedBy defined references name → IsNamedBy other others name
   named_there references others name alike (reference, among, resolves) =
       (reference, (alike reference).0 among, resolves_there defined other same reference name resolves)
 
 -- and the other way round
-named_both : (defined other : Defined) → SameDefined defined other → SameDefined other defined → (references others names : List _) → SameItems references others → ((name : PlainName) → Contains names name ↔ IsNamedBy defined references name) → (name : PlainName) → Contains names name ↔ IsNamedBy other others name
+named_both : (defined other : Defined) → SameDefined defined other → SameDefined other defined
+    → (references others names : List _) → SameItems references others
+    → ((name : PlainName) → Contains names name ↔ IsNamedBy defined references name) → (name : PlainName)
+    → Contains names name ↔ IsNamedBy other others name
 named_both defined other same back references others names alike each name = (
   λ among. named_there defined other same references others name alike ((each name).0 among),
   λ named. (each name).1 (named_there other defined back others references name (λ item. ((alike item).1, (alike item).0)) named),
 )
 
 -- the kind of an action fits what is the same
-action_kind_there : (defined other : Defined) → SameDefined defined other → SameDefined other defined → (body found : Requests) (kind : ActionKind) → SameRequests body found → IsDeclaredActionKind defined body kind → IsDeclaredActionKind other found kind
-action_kind_there defined other same back (requests ps rs context) (requests ps' rs' context') (defined_action principals resources ty) alike fits =
+action_kind_there : (defined other : Defined) → SameDefined defined other → SameDefined other defined
+    → (body found : Requests) (kind : ActionKind) → SameRequests body found → IsDeclaredActionKind defined body kind
+    → IsDeclaredActionKind other found kind
+action_kind_there defined other same back (requests ps rs context) (requests ps' rs' context')
+    (defined_action principals resources ty) alike fits =
     let P : Expr → Type 0 = λ each. WrittenOut other each ty in (
       named_both defined other same back ps ps' principals alike.0 fits.0,
       named_both defined other same back rs rs' resources alike.1 fits.1,
@@ -87,14 +95,16 @@ module _ (bag other : Bag) (extensions : Extensions) (alike : Alike bag other) w
   flipped = Alike-sym bag other alike
 
   -- an entity type that the one declares the other does
-  declared_type_there : (it : PlainName × SchemaEntityType) → IsDeclaredEntityType bag extensions it → IsDeclaredEntityType other extensions it
+  declared_type_there : (it : PlainName × SchemaEntityType) → IsDeclaredEntityType bag extensions it
+      → IsDeclaredEntityType other extensions it
   declared_type_there it declared =
       let found = entity_there bag other alike it.0 declared.body declared.declared in
       record {
         body = found.0;
         declared = found.1;
         name = declared.name;
-        kind = kind_there (defined_names bag extensions) (defined_names other extensions) (same_defined bag other extensions alike) declared.body found.0 it.1.kind found.2 declared.kind;
+        kind = kind_there (defined_names bag extensions) (defined_names other extensions)
+            (same_defined bag other extensions alike) declared.body found.0 it.1.kind found.2 declared.kind;
         descendants = λ lower. (
           λ among. descendant_there bag other extensions alike lower it.0 ((declared.descendants lower).0 among),
           λ below. (declared.descendants lower).1 (descendant_there other bag extensions flipped lower it.0 below),
@@ -109,7 +119,9 @@ module _ (bag other : Bag) (extensions : Extensions) (alike : Alike bag other) w
         body = found.0;
         declared = found.1;
         uid = declared.uid;
-        kind = action_kind_there (defined_names bag extensions) (defined_names other extensions) (same_defined bag other extensions alike) (same_defined other bag extensions flipped) declared.body.applies_to found.0.applies_to it.1.kind found.2.2 declared.kind;
+        kind = action_kind_there (defined_names bag extensions) (defined_names other extensions)
+            (same_defined bag other extensions alike) (same_defined other bag extensions flipped)
+            declared.body.applies_to found.0.applies_to it.1.kind found.2.2 declared.kind;
         descendants = λ lower. (
           λ among. descendant_action_there bag other extensions alike lower it.0 ((declared.descendants lower).0 among),
           λ below. (declared.descendants lower).1 (descendant_action_there other bag extensions flipped lower it.0 below),
@@ -136,7 +148,8 @@ module _ (bag other : Bag) (extensions : Extensions) (alike : Alike bag other) w
   }
 
 -- the uid of an action that the one declares the other does
-action_key_there : (bag other : Bag) → Alike bag other → (uid : PlainUid) → Contains (map (λ it. it.0) (declared_actions bag)) uid → Contains (map (λ it. it.0) (declared_actions other)) uid
+action_key_there : (bag other : Bag) → Alike bag other → (uid : PlainUid)
+    → Contains (map (λ it. it.0) (declared_actions bag)) uid → Contains (map (λ it. it.0) (declared_actions other)) uid
 action_key_there bag other alike uid among =
     let key = λ (each : PlainUid × ActionBody). each.0 in
     let it = Contains-preimage key (declared_actions bag) uid among in
@@ -145,7 +158,8 @@ action_key_there bag other alike uid among =
     subst P it.2 (Contains-image key (declared_actions other) (it.0.0, found.0) found.1)
 
 -- a schema that the one declares the other does
-schema_there : (bag other : Bag) (extensions : Extensions) → Alike bag other → (schema : PlainSchema) → IsDeclaredSchema bag extensions schema → IsDeclaredSchema other extensions schema
+schema_there : (bag other : Bag) (extensions : Extensions) → Alike bag other → (schema : PlainSchema)
+    → IsDeclaredSchema bag extensions schema → IsDeclaredSchema other extensions schema
 schema_there bag other extensions alike schema declared =
     let back = Alike-sym bag other alike in
     record {
@@ -165,6 +179,10 @@ pub same_bags : SameBagsDeclareTheSame
 same_bags bag other extensions same =
     let alike = SameBag-Alike bag other same in
     let back = Alike-sym bag other alike in (
-      (λ ill. (ill.0, fault_there bag other extensions alike ill.0 ill.1), λ ill. (ill.0, fault_there other bag extensions back ill.0 ill.1)),
+      (
+        λ ill. (ill.0, fault_there bag other extensions alike ill.0 ill.1),
+        λ ill.
+            (ill.0, fault_there other bag extensions back ill.0 ill.1),
+      ),
       λ schema. (schema_there bag other extensions alike schema, schema_there other bag extensions back schema),
     )

@@ -32,7 +32,8 @@ use Rattle.cedar_rules.specs.declared.open_tag.OpenTag.{OpenTag}
 use Rattle.cedar_rules.specs.declared.open_tag.OpenTag.TheVariants.{ClosedAttributes}
 
 -- in a bag that isn't ill-formed each common name has one definition
-pub one_of_well_formed : (bag : Bag) (extensions : Extensions) → TypeNamesFit (extension_types extensions) → ¬ IsIllFormed bag extensions → HasOneDefinition (defined_names bag extensions)
+pub one_of_well_formed : (bag : Bag) (extensions : Extensions) → TypeNamesFit (extension_types extensions)
+    → ¬ IsIllFormed bag extensions → HasOneDefinition (defined_names bag extensions)
 one_of_well_formed bag extensions fit well =
     one_definition bag extensions fit (λ name twice. well (duplicate_common_type name, twice))
 
@@ -42,7 +43,8 @@ fields_in (record_of fields openness) = fields
 fields_in _ = end
 
 -- the type of tags is one
-tags_once : (defined : Defined) → HasOneDefinition defined → (tags : Option Expr) (ty ty' : Option Ty) → AreDeclaredTags defined tags ty → AreDeclaredTags defined tags ty' → ty ≡ ty'
+tags_once : (defined : Defined) → HasOneDefinition defined → (tags : Option Expr) (ty ty' : Option Ty)
+    → AreDeclaredTags defined tags ty → AreDeclaredTags defined tags ty' → ty ≡ ty'
 tags_once defined one None None None fits fits' = refl
 tags_once defined one (Some expr) (Some ty) (Some ty') fits fits' = ap Some (written_once defined one fits fits')
 tags_once defined one None (Some ty) ty' fits fits' = absurd fits
@@ -51,7 +53,8 @@ tags_once defined one (Some expr) None ty' fits fits' = absurd fits
 tags_once defined one (Some expr) (Some ty) None fits fits' = absurd fits'
 
 -- what is declared of an entity type gives one kind
-kind_once : (defined : Defined) → HasOneDefinition defined → (body : EntityBody) (kind kind' : EntityTypeKind) → IsDeclaredKind defined body kind → IsDeclaredKind defined body kind' → kind ≡ kind'
+kind_once : (defined : Defined) → HasOneDefinition defined → (body : EntityBody) (kind kind' : EntityTypeKind)
+    → IsDeclaredKind defined body kind → IsDeclaredKind defined body kind' → kind ≡ kind'
 kind_once defined one (standard parents shape tags) (standard_kind fields openness ty) (standard_kind fields' openness' ty') fits fits' =
     let same_fields : fields ≡ fields' = ap fields_in (written_once defined one fits.0 fits'.0) in
     let same_tag : openness ≡ openness' = fits.1 ∙ sym fits'.1 in
@@ -61,7 +64,8 @@ kind_once defined one (standard parents shape tags) (standard_kind fields openne
 kind_once defined one (standard parents shape tags) (standard_kind fields openness ty) external_kind fits fits' = absurd fits'
 kind_once defined one (standard parents shape tags) (enumerated_kind choices) kind' fits fits' = absurd fits
 kind_once defined one (standard parents shape tags) external_kind kind' fits fits' = absurd fits
-kind_once defined one (enumerated ids) (enumerated_kind choices) (enumerated_kind choices') fits fits' = ap enumerated_kind (sym fits ∙ fits')
+kind_once defined one (enumerated ids) (enumerated_kind choices) (enumerated_kind choices') fits fits' =
+    ap enumerated_kind (sym fits ∙ fits')
 kind_once defined one (enumerated ids) (enumerated_kind choices) (standard_kind fields openness ty) fits fits' = absurd fits'
 kind_once defined one (enumerated ids) (enumerated_kind choices) external_kind fits fits' = absurd fits'
 kind_once defined one (enumerated ids) (standard_kind fields openness ty) kind' fits fits' = absurd fits
@@ -73,14 +77,20 @@ kind_once defined one (external parents) (standard_kind fields openness ty) kind
 kind_once defined one (external parents) (enumerated_kind choices) kind' fits fits' = absurd fits
 
 -- lists of the items that one fact picks are the same up to order and repeats
-same_items : {A : Type 0} (P : A → Type 0) (items others : List A) → ((item : A) → Contains items item ↔ P item) → ((item : A) → Contains others item ↔ P item) → SameItems items others
+same_items : {A : Type 0} (P : A → Type 0) (items others : List A) → ((item : A) → Contains items item ↔ P item)
+    → ((item : A) → Contains others item ↔ P item) → SameItems items others
 same_items P items others first second item =
     (λ among. (second item).1 ((first item).0 among), λ among. (first item).1 ((second item).0 among))
 
 -- what is declared of an action gives one kind, up to the order of names
-action_kind_once : (defined : Defined) → HasOneDefinition defined → (body : Requests) (kind kind' : ActionKind) → IsDeclaredActionKind defined body kind → IsDeclaredActionKind defined body kind' → SameActionKind kind kind'
-action_kind_once defined one (requests principals resources context) (defined_action ps rs ty) (defined_action ps' rs' ty') fits fits' =
-    (same_items (IsNamedBy defined principals) ps ps' fits.0 fits'.0, same_items (IsNamedBy defined resources) rs rs' fits.1 fits'.1, written_once defined one fits.2 fits'.2)
+action_kind_once : (defined : Defined) → HasOneDefinition defined → (body : Requests) (kind kind' : ActionKind)
+    → IsDeclaredActionKind defined body kind → IsDeclaredActionKind defined body kind' → SameActionKind kind kind'
+action_kind_once defined one (requests principals resources context) (defined_action ps rs ty) (defined_action ps' rs' ty') fits fits' = (
+  same_items (IsNamedBy defined principals) ps ps' fits.0 fits'.0,
+  same_items
+      (IsNamedBy defined resources) rs rs' fits.1 fits'.1,
+  written_once defined one fits.2 fits'.2,
+)
 action_kind_once defined one (requests principals resources context) (defined_action ps rs ty) external_action fits fits' = absurd fits'
 action_kind_once defined one (requests principals resources context) external_action kind' fits fits' = absurd fits
 action_kind_once defined one elsewhere external_action external_action fits fits' = tt
@@ -89,44 +99,57 @@ action_kind_once defined one elsewhere (defined_action ps rs ty) kind' fits fits
 
 module _ (bag : Bag) (extensions : Extensions) (fit : TypeNamesFit (extension_types extensions)) (well : ¬ IsIllFormed bag extensions) where
   -- two entity types of one name that are declared are the same
-  same_entity_type : (it other : PlainName × SchemaEntityType) → it.0 ≡ other.0 → IsDeclaredEntityType bag extensions it → IsDeclaredEntityType bag extensions other → SameEntityType it other
+  same_entity_type : (it other : PlainName × SchemaEntityType) → it.0 ≡ other.0 → IsDeclaredEntityType bag extensions it
+      → IsDeclaredEntityType bag extensions other → SameEntityType it other
   same_entity_type it other same first second =
       let defined = defined_names bag extensions in
       let P : PlainName → Type 0 = λ name. Contains (declared_entities bag) (name, second.body) in
-      let bodies : first.body ≡ second.body = value_once (declared_entities bag) (λ name twice. well (duplicate_entity_type name, twice)) it.0 first.body second.body first.declared (subst P (sym same) second.declared) in
+      let bodies : first.body ≡ second.body = value_once (declared_entities bag)
+      (λ name twice. well (duplicate_entity_type name, twice)) it.0 first.body second.body first.declared
+      (subst P (sym same) second.declared) in
       let Q : EntityBody → Type 0 = λ body. IsDeclaredKind defined body other.1.kind in
-      let R : PlainName → Type 0 = λ name. (lower : PlainName) → Contains other.1.descendants lower ↔ IsDescendant bag extensions lower name in
+      let R : PlainName → Type 0 = λ name. (lower : PlainName) → Contains other.1.descendants lower
+      ↔ IsDescendant bag extensions lower name in
       record {
         key = same;
         name = first.name ∙ (same ∙ sym second.name);
-        kind = kind_once defined (one_of_well_formed bag extensions fit well) first.body it.1.kind other.1.kind first.kind (subst Q (sym bodies) second.kind);
-        descendants = same_items (λ lower. IsDescendant bag extensions lower it.0) it.1.descendants other.1.descendants first.descendants (subst R (sym same) second.descendants);
+        kind = kind_once defined (one_of_well_formed bag extensions fit well) first.body it.1.kind other.1.kind
+            first.kind (subst Q (sym bodies) second.kind);
+        descendants = same_items (λ lower. IsDescendant bag extensions lower it.0) it.1.descendants other.1.descendants
+            first.descendants (subst R (sym same) second.descendants);
       }
 
   -- two actions of one uid that are declared are the same
-  same_action : (it other : PlainUid × SchemaAction) → it.0 ≡ other.0 → IsDeclaredAction bag extensions it → IsDeclaredAction bag extensions other → SameAction it other
+  same_action : (it other : PlainUid × SchemaAction) → it.0 ≡ other.0 → IsDeclaredAction bag extensions it
+      → IsDeclaredAction bag extensions other → SameAction it other
   same_action it other same first second =
       let defined = defined_names bag extensions in
       let P : PlainUid → Type 0 = λ uid. Contains (declared_actions bag) (uid, second.body) in
-      let bodies : first.body ≡ second.body = value_once (declared_actions bag) (λ uid twice. well (duplicate_action uid, twice)) it.0 first.body second.body first.declared (subst P (sym same) second.declared) in
+      let bodies : first.body ≡ second.body = value_once (declared_actions bag)
+      (λ uid twice. well (duplicate_action uid, twice)) it.0 first.body second.body first.declared
+      (subst P (sym same) second.declared) in
       let Q : ActionBody → Type 0 = λ body. IsDeclaredActionKind defined body.applies_to other.1.kind in
       let R : PlainUid → Type 0 = λ uid. (lower : PlainUid) → Contains other.1.descendants lower ↔ IsDescendantAction bag lower uid in
       record {
         key = same;
         uid = first.uid ∙ (same ∙ sym second.uid);
-        kind = action_kind_once defined (one_of_well_formed bag extensions fit well) first.body.applies_to it.1.kind other.1.kind first.kind (subst Q (sym bodies) second.kind);
-        descendants = same_items (λ lower. IsDescendantAction bag lower it.0) it.1.descendants other.1.descendants first.descendants (subst R (sym same) second.descendants);
+        kind = action_kind_once defined (one_of_well_formed bag extensions fit well) first.body.applies_to it.1.kind
+            other.1.kind first.kind (subst Q (sym bodies) second.kind);
+        descendants = same_items (λ lower. IsDescendantAction bag lower it.0) it.1.descendants other.1.descendants
+            first.descendants (subst R (sym same) second.descendants);
       }
 
   -- the entities of one action are the same
-  same_action_entity : (it other : ActionEntity) → it.uid ≡ other.uid → IsEntityOfAction bag it → IsEntityOfAction bag other → SameActionEntity it other
+  same_action_entity : (it other : ActionEntity) → it.uid ≡ other.uid → IsEntityOfAction bag it
+      → IsEntityOfAction bag other → SameActionEntity it other
   same_action_entity it other same first second =
       let R : PlainUid → Type 0 = λ uid. (upper : PlainUid) → Contains other.ancestors upper ↔ IsDescendantAction bag uid upper in
       record {
         uid = same;
         attributes = first.attributes ∙ sym second.attributes;
         tags = first.tags ∙ sym second.tags;
-        ancestors = same_items (λ upper. IsDescendantAction bag it.uid upper) it.ancestors other.ancestors first.ancestors (subst R (sym same) second.ancestors);
+        ancestors = same_items (λ upper. IsDescendantAction bag it.uid upper) it.ancestors other.ancestors
+            first.ancestors (subst R (sym same) second.ancestors);
       }
 
 -- the first of some items
@@ -140,62 +163,92 @@ rest_of [] = []
 rest_of (first ∷ rest) = rest
 
 -- lists whose keys are the same in turn are the same, where items of one key are
-same_in_turn : {A K : Type 0} (key : A → K) (P : A → Type 0) (R : A → A → Type 0) → ((it other : A) → key it ≡ key other → P it → P other → R it other) → (items others : List A) → map key items ≡ map key others → ((it : A) → Contains items it → P it) → ((it : A) → Contains others it → P it) → HoldsInTurn R items others
+same_in_turn : {A K : Type 0} (key : A → K) (P : A → Type 0) (R : A → A → Type 0)
+    → ((it other : A) → key it ≡ key other → P it → P other → R it other) → (items others : List A)
+    → map key items ≡ map key others → ((it : A) → Contains items it → P it)
+    → ((it : A) → Contains others it → P it) → HoldsInTurn R items others
 same_in_turn key P R same [] [] keys each each' = tt
 same_in_turn key P R same [] (other ∷ others) keys each each' = absurd cc
 same_in_turn key P R same (it ∷ items) [] keys each each' = absurd cc
 same_in_turn key P R same (it ∷ items) (other ∷ others) keys each each' = (
-  same it other (ap (first_of (key it)) keys) (each it (Contains-cons it items it (inl refl))) (each' other (Contains-cons other others other (inl refl))),
-  same_in_turn key P R same items others (ap rest_of keys) (λ x among. each x (Contains-cons it items x (inr among))) (λ x among. each' x (Contains-cons other others x (inr among))),
+  same it other (ap (first_of (key it)) keys) (each it (Contains-cons it items it (inl refl)))
+      (each' other (Contains-cons other others other (inl refl))),
+  same_in_turn key P R same items others (ap rest_of keys) (λ x among. each x (Contains-cons it items x (inr among)))
+      (λ x among. each' x (Contains-cons other others x (inr among))),
 )
 
 -- keys that are all among those of another list, if each item of it is declared and each that is declared is there
-keys_included : {A K : Type 0} (key : A → K) (Q : K → Type 0) (items others : List A) → ((it : A) → Contains items it → Q (key it)) → ((k : K) → Q k → Contains (map key others) k) → (k : K) → Contains (map key items) k → Contains (map key others) k
+keys_included : {A K : Type 0} (key : A → K) (Q : K → Type 0) (items others : List A)
+    → ((it : A) → Contains items it → Q (key it)) → ((k : K) → Q k → Contains (map key others) k) → (k : K)
+    → Contains (map key items) k → Contains (map key others) k
 keys_included key Q items others each there k among =
     let found = Contains-preimage key items k among in
     there k (subst Q found.2 (each found.0 found.1))
 
 -- a bag that isn't ill-formed declares one schema
-pub one_schema : (bag : Bag) (extensions : Extensions) → TypeNamesFit (extension_types extensions) → ¬ IsIllFormed bag extensions → (schema other : PlainSchema) → IsDeclaredSchema bag extensions schema → IsDeclaredSchema bag extensions other → SameSchema schema other
+pub one_schema : (bag : Bag) (extensions : Extensions) → TypeNamesFit (extension_types extensions)
+    → ¬ IsIllFormed bag extensions → (schema other : PlainSchema) → IsDeclaredSchema bag extensions schema
+    → IsDeclaredSchema bag extensions other → SameSchema schema other
 one_schema bag extensions fit well schema other first second =
     let Types : PlainName → Type 0 = Contains (map (λ it. it.0) (declared_entities bag)) in
     let Actions : PlainUid → Type 0 = Contains (map (λ it. it.0) (declared_actions bag)) in
     let Entities : PlainUid → Type 0 = IsDefinedAction bag in
-    let declared_type = λ (it : PlainName × SchemaEntityType) (declared : IsDeclaredEntityType bag extensions it). Contains-image (λ (each : PlainName × EntityBody). each.0) (declared_entities bag) (it.0, declared.body) declared.declared in
-    let declared_action = λ (it : PlainUid × SchemaAction) (declared : IsDeclaredAction bag extensions it). Contains-image (λ (each : PlainUid × ActionBody). each.0) (declared_actions bag) (it.0, declared.body) declared.declared in
+    let declared_type = λ (it : PlainName × SchemaEntityType)
+    (declared : IsDeclaredEntityType bag extensions it). Contains-image (λ (each : PlainName × EntityBody). each.0)
+    (declared_entities bag) (it.0, declared.body) declared.declared in
+    let declared_action = λ (it : PlainUid × SchemaAction) (declared : IsDeclaredAction bag extensions it).
+    Contains-image (λ (each : PlainUid × ActionBody). each.0) (declared_actions bag) (it.0, declared.body) declared.declared in
     let type_key = λ (it : PlainName × SchemaEntityType). it.0 in
     let action_key = λ (it : PlainUid × SchemaAction). it.0 in
     let entity_key = λ (it : ActionEntity). it.uid in
-    let types = Included-same name_cmp name_cmp-total (map type_key schema.entity_types) (map type_key other.entity_types) first.entity_types_in_order second.entity_types_in_order
-    (keys_included type_key Types schema.entity_types other.entity_types (λ it among. declared_type it (first.entity_types it among)) second.each_entity_type)
-    (keys_included type_key Types other.entity_types schema.entity_types (λ it among. declared_type it (second.entity_types it among)) first.each_entity_type) in
-    let actions = Included-same uid_cmp uid_cmp-total (map action_key schema.actions) (map action_key other.actions) first.actions_in_order second.actions_in_order
-    (keys_included action_key Actions schema.actions other.actions (λ it among. declared_action it (first.actions it among)) second.each_action)
-    (keys_included action_key Actions other.actions schema.actions (λ it among. declared_action it (second.actions it among)) first.each_action) in
-    let entities = Included-same uid_cmp uid_cmp-total (map entity_key schema.action_entities) (map entity_key other.action_entities) first.action_entities_in_order second.action_entities_in_order
-    (keys_included entity_key Entities schema.action_entities other.action_entities (λ it among. (first.action_entities it among).defined) second.each_action_entity)
-    (keys_included entity_key Entities other.action_entities schema.action_entities (λ it among. (second.action_entities it among).defined) first.each_action_entity) in
+    let types = Included-same name_cmp name_cmp-total (map type_key schema.entity_types)
+    (map type_key other.entity_types) first.entity_types_in_order second.entity_types_in_order
+    (keys_included type_key Types schema.entity_types other.entity_types
+    (λ it among. declared_type it (first.entity_types it among)) second.each_entity_type)
+    (keys_included type_key Types other.entity_types schema.entity_types
+    (λ it among. declared_type it (second.entity_types it among)) first.each_entity_type) in
+    let actions = Included-same uid_cmp uid_cmp-total (map action_key schema.actions)
+    (map action_key other.actions) first.actions_in_order second.actions_in_order
+    (keys_included action_key Actions schema.actions other.actions
+    (λ it among. declared_action it (first.actions it among)) second.each_action)
+    (keys_included action_key Actions other.actions schema.actions
+    (λ it among. declared_action it (second.actions it among)) first.each_action) in
+    let entities = Included-same uid_cmp uid_cmp-total (map entity_key schema.action_entities)
+    (map entity_key other.action_entities) first.action_entities_in_order second.action_entities_in_order
+    (keys_included entity_key Entities schema.action_entities other.action_entities
+    (λ it among. (first.action_entities it among).defined) second.each_action_entity)
+    (keys_included entity_key Entities other.action_entities schema.action_entities
+    (λ it among. (second.action_entities it among).defined) first.each_action_entity) in
     record {
-      entity_types = same_in_turn type_key (IsDeclaredEntityType bag extensions) SameEntityType (same_entity_type bag extensions fit well) schema.entity_types other.entity_types types first.entity_types second.entity_types;
-      actions = same_in_turn action_key (IsDeclaredAction bag extensions) SameAction (same_action bag extensions fit well) schema.actions other.actions actions first.actions second.actions;
-      action_entities = same_in_turn entity_key (IsEntityOfAction bag) SameActionEntity (same_action_entity bag extensions fit well) schema.action_entities other.action_entities entities first.action_entities second.action_entities;
+      entity_types = same_in_turn type_key (IsDeclaredEntityType bag extensions) SameEntityType
+          (same_entity_type bag extensions fit well) schema.entity_types other.entity_types types first.entity_types second.entity_types;
+      actions = same_in_turn action_key (IsDeclaredAction bag extensions) SameAction
+          (same_action bag extensions fit well) schema.actions other.actions actions first.actions second.actions;
+      action_entities = same_in_turn entity_key (IsEntityOfAction bag) SameActionEntity
+          (same_action_entity bag extensions fit well) schema.action_entities other.action_entities entities
+          first.action_entities second.action_entities;
     }
 
 -- what is written out as a type has just the values that it admits
-pub admits_the_same : (bag : Bag) (extensions : Extensions) → HasOneDefinition (defined_names bag extensions) → (expr : Expr) (ty : Ty) → WrittenOut (defined_names bag extensions) expr ty → AdmitsTheSame bag extensions expr ty
+pub admits_the_same : (bag : Bag) (extensions : Extensions) → HasOneDefinition (defined_names bag extensions)
+    → (expr : Expr) (ty : Ty) → WrittenOut (defined_names bag extensions) expr ty → AdmitsTheSame bag extensions expr ty
 admits_the_same bag extensions one expr ty written value =
     let defined = defined_names bag extensions in
     (λ has. admitted_of defined extensions written value has, λ admitted. has_admitted defined extensions one admitted written)
 
 -- the types of the declared schema have just the declared values
-pub types_admit : (bag : Bag) (extensions : Extensions) → TypeNamesFit (extension_types extensions) → ¬ IsIllFormed bag extensions → (schema : PlainSchema) → IsDeclaredSchema bag extensions schema → TypesAdmitTheDeclared bag extensions schema
+pub types_admit : (bag : Bag) (extensions : Extensions) → TypeNamesFit (extension_types extensions)
+    → ¬ IsIllFormed bag extensions → (schema : PlainSchema) → IsDeclaredSchema bag extensions schema
+    → TypesAdmitTheDeclared bag extensions schema
 types_admit bag extensions fit well schema declared =
     let defined = defined_names bag extensions in
     let one = one_of_well_formed bag extensions fit well in
-    let fits = λ (name : PlainName) (body : EntityBody) (it : SchemaEntityType) (among : Contains (declared_entities bag) (name, body)) (there : Contains schema.entity_types (name, it)).
+    let fits = λ (name : PlainName) (body : EntityBody) (it : SchemaEntityType)
+    (among : Contains (declared_entities bag) (name, body)) (there : Contains schema.entity_types (name, it)).
     (let found = declared.entity_types (name, it) there in
     let P : EntityBody → Type 0 = λ each. IsDeclaredKind defined each it.kind in
-    subst P (value_once (declared_entities bag) (λ each twice. well (duplicate_entity_type each, twice)) name found.body body found.declared among) found.kind) in
+    subst P (value_once (declared_entities bag) (λ each twice. well (duplicate_entity_type each, twice)) name found.body
+    body found.declared among) found.kind) in
     record {
       attributes = λ name parents shape tags it fields openness tag_type among there is.
           (let P : EntityTypeKind → Type 0 = IsDeclaredKind defined (standard parents shape tags) in
@@ -208,7 +261,8 @@ types_admit bag extensions fit well schema declared =
           admits_the_same bag extensions one tags tag_type kind_fits.2);
       contexts = λ uid body principals resources context it principal_types resource_types ty among applies there is.
           (let found = declared.actions (uid, it) there in
-          let same = value_once (declared_actions bag) (λ each twice. well (duplicate_action each, twice)) uid found.body body found.declared among in
+          let same = value_once (declared_actions bag) (λ each twice. well (duplicate_action each, twice)) uid
+          found.body body found.declared among in
           let P : ActionBody → Type 0 = λ each. IsDeclaredActionKind defined each.applies_to it.kind in
           let Q : Requests → Type 0 = λ each. IsDeclaredActionKind defined each it.kind in
           let R : ActionKind → Type 0 = IsDeclaredActionKind defined (requests principals resources context) in

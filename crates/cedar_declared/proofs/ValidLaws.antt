@@ -53,16 +53,22 @@ module _ (bag : Bag) (extensions : Extensions) (schema : PlainSchema) (declared 
   pub declared_closed : IsClosedSchema schema
   declared_closed = record {
     entity_types = λ lower upper chain.
-        (let last = last_step (ListsDescendant schema) lower upper chain in
-        (last.1.0, last.1.1, ((declared.entity_types (upper, last.1.0) last.1.1).descendants lower).1 (reached_descendant lower upper chain)));
+        (let last = last_step (ListsDescendant schema) lower upper chain in (
+          last.1.0,
+          last.1.1,
+          ((declared.entity_types (upper, last.1.0) last.1.1).descendants lower).1
+              (reached_descendant lower upper chain),
+        ));
     actions = λ lower upper chain.
         (let last = last_step (ListsDescendantAction schema) lower upper chain in
         (last.1.0, last.1.1, ((declared.actions (upper, last.1.0) last.1.1).descendants lower).1 (reached_action lower upper chain)));
   }
 
-module _ (bag : Bag) (extensions : Extensions) (schema : PlainSchema) (fit : TypeNamesFit (extension_types extensions)) (places : PlacesFit bag) (well : ¬ IsIllFormed bag extensions) (declared : IsDeclaredSchema bag extensions schema) where
+module _ (bag : Bag) (extensions : Extensions) (schema : PlainSchema) (fit : TypeNamesFit (extension_types extensions))
+    (places : PlacesFit bag) (well : ¬ IsIllFormed bag extensions) (declared : IsDeclaredSchema bag extensions schema) where
   -- what references can name as an entity type is declared, or the type of a declared action
-  entity_known : (name : PlainName) → Contains (defined_names bag extensions).entities name → HasEntityType schema name ⊎ ((uid : PlainUid) × HasAction schema uid × (uid.ty ≡ name))
+  entity_known : (name : PlainName) → Contains (defined_names bag extensions).entities name → HasEntityType schema name
+      ⊎ ((uid : PlainUid) × HasAction schema uid × (uid.ty ≡ name))
   entity_known name among =
       ⊎_elim
       (λ here. inl (declared.each_entity_type name here))
@@ -80,7 +86,9 @@ module _ (bag : Bag) (extensions : Extensions) (schema : PlainSchema) (fit : Typ
       ap (λ (each : PlainUid). each.ty.base) (sym (declaration.3 ∙ found.2))
 
   -- a type of an entity type is what a counted expression is written out as
-  kind_written : (body : EntityBody) (kind : EntityTypeKind) (ty : Ty) → IsDeclaredKind (defined_names bag extensions) body kind → IsTypeOfKind kind ty → (expr : Expr) × CountsInEntity body expr × WrittenOut (defined_names bag extensions) expr ty
+  kind_written : (body : EntityBody) (kind : EntityTypeKind) (ty : Ty)
+      → IsDeclaredKind (defined_names bag extensions) body kind → IsTypeOfKind kind ty → (expr : Expr)
+      × CountsInEntity body expr × WrittenOut (defined_names bag extensions) expr ty
   kind_written (standard parents shape tags) (standard_kind fields openness tag_type) ty fits of_kind =
       let P : Ty → Type 0 = WrittenOut (defined_names bag extensions) shape in
       ⊎_elim
@@ -88,7 +96,9 @@ module _ (bag : Bag) (extensions : Extensions) (schema : PlainSchema) (fit : Typ
       (λ same. tags_written tags tag_type fits.2 same)
       of_kind
     where
-      tags_written : (tags : Option Expr) (tag_type : Option Ty) → AreDeclaredTags (defined_names bag extensions) tags tag_type → tag_type ≡ Some ty → (expr : Expr) × ((shape ≡ expr) ⊎ (tags ≡ Some expr)) × WrittenOut (defined_names bag extensions) expr ty
+      tags_written : (tags : Option Expr) (tag_type : Option Ty)
+          → AreDeclaredTags (defined_names bag extensions) tags tag_type → tag_type ≡ Some ty → (expr : Expr)
+          × ((shape ≡ expr) ⊎ (tags ≡ Some expr)) × WrittenOut (defined_names bag extensions) expr ty
       tags_written (Some expr) (Some other) written same =
           let P : Option Ty → Type 0 = AreDeclaredTags (defined_names bag extensions) (Some expr) in (expr, inr refl, subst P same written)
       tags_written (Some expr) None written same = absurd written
@@ -104,7 +114,9 @@ module _ (bag : Bag) (extensions : Extensions) (schema : PlainSchema) (fit : Typ
   kind_written (external parents) external_kind ty fits of_kind = absurd of_kind
 
   -- a context of an action is what a counted expression is written out as
-  context_written : (body : Requests) (kind : ActionKind) (ty : Ty) → IsDeclaredActionKind (defined_names bag extensions) body kind → IsContextOf kind ty → (expr : Expr) × CountsInRequests body expr × WrittenOut (defined_names bag extensions) expr ty
+  context_written : (body : Requests) (kind : ActionKind) (ty : Ty)
+      → IsDeclaredActionKind (defined_names bag extensions) body kind → IsContextOf kind ty → (expr : Expr)
+      × CountsInRequests body expr × WrittenOut (defined_names bag extensions) expr ty
   context_written (requests principals resources context) (defined_action ps rs other) ty fits same =
       let P : Ty → Type 0 = WrittenOut (defined_names bag extensions) context in (context, refl, subst P same fits.2)
   context_written (requests principals resources context) external_action ty fits same = absurd same
@@ -146,10 +158,13 @@ module _ (bag : Bag) (extensions : Extensions) (schema : PlainSchema) (fit : Typ
       subst P found.2 (Contains-image (λ (each : PlainUid × ActionBody). each.0) (declared_actions bag) (found.0.0, it.body) it.declared)
 
   -- an external entity type of the schema is declared as one
-  declared_external : (name : PlainName) → IsOfKind schema name IsExternal → (parents : List Reference) × Contains (declared_entities bag) (name, external parents)
+  declared_external : (name : PlainName) → IsOfKind schema name IsExternal → (parents : List Reference)
+      × Contains (declared_entities bag) (name, external parents)
   declared_external name (it, there, is_external) =
       let found = declared.entity_types (name, it) there in by found.body it.kind found.kind is_external found.declared where
-        by : (body : EntityBody) (kind : EntityTypeKind) → IsDeclaredKind (defined_names bag extensions) body kind → IsExternal kind → Contains (declared_entities bag) (name, body) → (parents : List Reference) × Contains (declared_entities bag) (name, external parents)
+        by : (body : EntityBody) (kind : EntityTypeKind) → IsDeclaredKind (defined_names bag extensions) body kind
+            → IsExternal kind → Contains (declared_entities bag) (name, body) → (parents : List Reference)
+            × Contains (declared_entities bag) (name, external parents)
         by (external parents) kind fits is_external among = (parents, among)
         by (standard parents shape tags) (standard_kind fields openness tag_type) fits is_external among = absurd is_external
         by (standard parents shape tags) (enumerated_kind ids) fits is_external among = absurd fits
@@ -159,10 +174,13 @@ module _ (bag : Bag) (extensions : Extensions) (schema : PlainSchema) (fit : Typ
         by (enumerated choices) external_kind fits is_external among = absurd fits
 
   -- an enumerated entity type of the schema is declared as one
-  declared_enumerated : (name : PlainName) → IsOfKind schema name IsEnumerated → (choices : List Text) × Contains (declared_entities bag) (name, enumerated choices)
+  declared_enumerated : (name : PlainName) → IsOfKind schema name IsEnumerated → (choices : List Text)
+      × Contains (declared_entities bag) (name, enumerated choices)
   declared_enumerated name (it, there, is_enumerated) =
       let found = declared.entity_types (name, it) there in by found.body it.kind found.kind is_enumerated found.declared where
-        by : (body : EntityBody) (kind : EntityTypeKind) → IsDeclaredKind (defined_names bag extensions) body kind → IsEnumerated kind → Contains (declared_entities bag) (name, body) → (choices : List Text) × Contains (declared_entities bag) (name, enumerated choices)
+        by : (body : EntityBody) (kind : EntityTypeKind) → IsDeclaredKind (defined_names bag extensions) body kind
+            → IsEnumerated kind → Contains (declared_entities bag) (name, body) → (choices : List Text)
+            × Contains (declared_entities bag) (name, enumerated choices)
         by (enumerated choices) kind fits is_enumerated among = (choices, among)
         by (standard parents shape tags) (standard_kind fields openness tag_type) fits is_enumerated among = absurd is_enumerated
         by (standard parents shape tags) (enumerated_kind ids) fits is_enumerated among = absurd fits
@@ -172,7 +190,9 @@ module _ (bag : Bag) (extensions : Extensions) (schema : PlainSchema) (fit : Typ
         by (external parents) external_kind fits is_enumerated among = absurd is_enumerated
 
   -- a principal or a resource of an action of the schema is named at its place
-  named_place : (it : PlainUid × SchemaAction) (name : PlainName) → Contains schema.actions it → IsPrincipalOrResourceOf it.1.kind name → (reference : Reference) × IsPlaced bag reference × ResolvesTo (defined_names bag extensions) reference name
+  named_place : (it : PlainUid × SchemaAction) (name : PlainName) → Contains schema.actions it
+      → IsPrincipalOrResourceOf it.1.kind name → (reference : Reference) × IsPlaced bag reference
+      × ResolvesTo (defined_names bag extensions) reference name
   named_place it name there named =
       let found = declared.actions it there in
       let declaration = action_declaration bag it.0 found.body found.declared in
@@ -180,7 +200,9 @@ module _ (bag : Bag) (extensions : Extensions) (schema : PlainSchema) (fit : Typ
       let P : Body → Type 0 = λ body. IsEntityPlace body place.0 in
       (place.0, (declaration.0, declaration.1, subst P (sym declaration.2) place.1), place.2)
     where
-      by : (body : Requests) (kind : ActionKind) → IsDeclaredActionKind (defined_names bag extensions) body kind → IsPrincipalOrResourceOf kind name → (reference : Reference) × IsPrincipalOrResource body reference × ResolvesTo (defined_names bag extensions) reference name
+      by : (body : Requests) (kind : ActionKind) → IsDeclaredActionKind (defined_names bag extensions) body kind
+          → IsPrincipalOrResourceOf kind name → (reference : Reference) × IsPrincipalOrResource body reference
+          × ResolvesTo (defined_names bag extensions) reference name
       by (requests principals resources context) (defined_action ps rs ty) fits names =
           ⊎_elim
           (λ principal. let found = (fits.0 name).0 principal in (found.0, inl found.1, found.2))
@@ -191,7 +213,8 @@ module _ (bag : Bag) (extensions : Extensions) (schema : PlainSchema) (fit : Typ
       by elsewhere external_action fits names = absurd names
 
   -- what a reference at the place of an entity type resolves to can be named as one
-  placed_entity : (reference : Reference) (name : PlainName) → IsPlaced bag reference → ResolvesTo (defined_names bag extensions) reference name → Contains (defined_names bag extensions).entities name
+  placed_entity : (reference : Reference) (name : PlainName) → IsPlaced bag reference
+      → ResolvesTo (defined_names bag extensions) reference name → Contains (defined_names bag extensions).entities name
   placed_entity reference name placed resolves =
       let defined = defined_names bag extensions in
       ⊎_elim
@@ -200,19 +223,22 @@ module _ (bag : Bag) (extensions : Extensions) (schema : PlainSchema) (fit : Typ
       (first_defined defined reference.kind reference.possibilities name resolves).1
 
   -- a principal or a resource of an action of the schema is an entity type of it
-  request_known : (it : PlainUid × SchemaAction) (name : PlainName) → Contains schema.actions it → IsPrincipalOrResourceOf it.1.kind name → HasEntityType schema name
+  request_known : (it : PlainUid × SchemaAction) (name : PlainName) → Contains schema.actions it
+      → IsPrincipalOrResourceOf it.1.kind name → HasEntityType schema name
   request_known it name there named =
       let place = named_place it name there named in
       ⊎_elim
       (λ known. known)
       (λ of_action.
       (let is_action : IsActionType name = ap (λ (each : PlainName). each.base) (sym of_action.2) ∙ action_type of_action.0 of_action.1 in
-      let P : PlainName → Type 0 = λ each. IsActionType each × (reference : Reference) × IsPlaced bag reference × ResolvesTo (defined_names bag extensions) reference each in
+      let P : PlainName → Type 0 = λ each. IsActionType each × (reference : Reference) × IsPlaced bag reference
+      × ResolvesTo (defined_names bag extensions) reference each in
       absurd (well (
         undeclared_entity_types (name ∷ []),
         (
           λ none. cc,
-          λ each among. ⊎_elim (λ same. subst P same (is_action, place.0, place.1, place.2)) (λ nothing. absurd (omega (arith, nothing.1))) (Contains-cons_cases name [] each among),
+          λ each among. ⊎_elim (λ same. subst P same (is_action, place.0, place.1, place.2))
+              (λ nothing. absurd (omega (arith, nothing.1))) (Contains-cons_cases name [] each among),
         ),
       ))))
       (entity_known name (placed_entity place.0 name place.1 place.2))
@@ -220,8 +246,10 @@ module _ (bag : Bag) (extensions : Extensions) (schema : PlainSchema) (fit : Typ
   -- a descendant that the schema lists is an entity type of it
   descendant_known : (lower upper : PlainName) → ListsDescendant schema lower upper → HasEntityType schema lower
   descendant_known lower upper lists =
-      let step = (first_step (HasParent bag extensions) lower upper (listed_descendant bag extensions schema declared lower upper lists)).1 in
-      declared.each_entity_type lower (Contains-image (λ (each : PlainName × EntityBody). each.0) (declared_entities bag) (lower, step.0) step.2)
+      let step = (first_step (HasParent bag extensions) lower upper
+      (listed_descendant bag extensions schema declared lower upper lists)).1 in
+      declared.each_entity_type lower (Contains-image (λ (each : PlainName × EntityBody). each.0)
+      (declared_entities bag) (lower, step.0) step.2)
 
   -- a descendant of an action that the schema lists is an action of it
   action_descendant_known : (lower upper : PlainUid) → ListsDescendantAction schema lower upper → HasAction schema lower
@@ -232,9 +260,11 @@ module _ (bag : Bag) (extensions : Extensions) (schema : PlainSchema) (fit : Typ
   -- an enumerated entity type of the schema is below none
   enumerated_below_none : (lower upper : PlainName) → IsOfKind schema lower IsEnumerated → ¬ Chain (ListsDescendant schema) lower upper
   enumerated_below_none lower upper enumerated_type chain =
-      let step = (first_step (HasParent bag extensions) lower upper (reached_descendant bag extensions schema declared lower upper chain)).1 in
+      let step = (first_step (HasParent bag extensions) lower upper
+      (reached_descendant bag extensions schema declared lower upper chain)).1 in
       let found = declared_enumerated lower enumerated_type in
-      let same : step.0 ≡ enumerated found.0 = value_once (declared_entities bag) (λ name twice. well (duplicate_entity_type name, twice)) lower step.0 (enumerated found.0) step.2 found.1 in
+      let same : step.0 ≡ enumerated found.0 = value_once (declared_entities bag)
+      (λ name twice. well (duplicate_entity_type name, twice)) lower step.0 (enumerated found.0) step.2 found.1 in
       let P : EntityBody → Type 0 = λ body. Contains (entity_parents body) step.1 in
       omega (arith, (subst P same step.3).1)
 
@@ -252,14 +282,25 @@ module _ (bag : Bag) (extensions : Extensions) (schema : PlainSchema) (fit : Typ
         (let found = type_written ty type_in in entity_known name (mentions_entity (defined_names bag extensions) found.2 name mentions));
     extensions_known = λ ty name type_in mentions.
         (let found = type_written ty type_in in
-        known_written (defined_names bag extensions) extensions (known_common bag extensions fit well) found.2 (known_counted bag extensions well found.0 found.1) name mentions);
-    no_action_type = λ name has is_action. let found = declared_type name has in well (action_entity_type name, (found.0, found.1, is_action));
+        known_written (defined_names bag extensions) extensions (known_common bag extensions fit well) found.2
+        (known_counted bag extensions well found.0 found.1) name mentions);
+    no_action_type = λ name has is_action. let found = declared_type name has in
+        well (action_entity_type name, (found.0, found.1, is_action));
     action_uids = action_type;
     no_action_cycle = λ uid chain. well (action_cycle uid, reached_action bag extensions schema declared uid uid chain);
     no_external_below_enumerated = λ lower upper first second chain.
         (let external_type = declared_external lower first in
         let enumerated_type = declared_enumerated upper second in
-        well (external_below_enumerated lower upper, (external_type.0, enumerated_type.0, external_type.1, enumerated_type.1, reached_descendant bag extensions schema declared lower upper chain)));
+        well (
+          external_below_enumerated lower upper,
+          (
+            external_type.0,
+            enumerated_type.0,
+            external_type.1,
+            enumerated_type.1,
+            reached_descendant bag extensions schema declared lower upper chain,
+          ),
+        ));
     no_enumerated_below = enumerated_below_none;
     descendants_known = descendant_known;
     requests_known = request_known;
@@ -267,5 +308,14 @@ module _ (bag : Bag) (extensions : Extensions) (schema : PlainSchema) (fit : Typ
     no_shadowed_type = λ name qualified first second plain not_plain not_reserved same.
         well (type_shadowing name qualified, (among_types name first, among_types qualified second, plain, not_plain, not_reserved, same));
     no_shadowed_action = λ uid qualified first second plain not_plain same.
-        well (action_shadowing uid qualified, (declared_action_uid uid first, declared_action_uid qualified second, plain, not_plain, same));
+        well (
+          action_shadowing uid qualified,
+          (
+            declared_action_uid uid first,
+            declared_action_uid qualified second,
+            plain,
+            not_plain,
+            same,
+          ),
+        );
   }

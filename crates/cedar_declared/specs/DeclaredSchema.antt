@@ -26,7 +26,8 @@ AreDeclaredTags defined _ _ = ⊥
 -- the kind is the one that is declared: closed attributes that are the shape written out, with its tags; the same
 -- choices; or external
 abbrev pub IsDeclaredKind : Defined → EntityBody → EntityTypeKind → Type 0
-IsDeclaredKind defined (standard parents shape tags) (standard_kind fields openness ty) = WrittenOut defined shape (record_of fields ClosedAttributes) × (openness ≡ ClosedAttributes) × AreDeclaredTags defined tags ty
+IsDeclaredKind defined (standard parents shape tags) (standard_kind fields openness ty) =
+    WrittenOut defined shape (record_of fields ClosedAttributes) × (openness ≡ ClosedAttributes) × AreDeclaredTags defined tags ty
 IsDeclaredKind defined (enumerated ids) (enumerated_kind choices) = ids ≡ choices
 IsDeclaredKind defined (external parents) external_kind = Unit {0}
 IsDeclaredKind defined _ _ = ⊥

@@ -15,7 +15,8 @@ use Rattle.cedar_declared.specs.Occurrences.{IsFirst}
 -- that of a declared action
 abbrev pub NamesAction : Bag → ActionReference → PlainUid → Type 0
 NamesAction bag reference uid =
-    IsFirst (λ ty. Contains (action_uids bag) (record { ty = ty; eid = reference.id })) reference.ty.possibilities uid.ty × (uid.eid ≡ reference.id)
+    IsFirst (λ ty. Contains (action_uids bag) (record { ty = ty; eid = reference.id })) reference.ty.possibilities
+    uid.ty × (uid.eid ≡ reference.id)
 
 -- the reference to an action names nothing
 abbrev pub NamesNoAction : Bag → ActionReference → Type 0

@@ -32,15 +32,18 @@ AdmitsTheSame bag extensions expr ty = (value : Tree) → Has extensions value t
 -- the attributes of each standard entity type, its tags, and the context of each action have just the values that what
 -- is declared of them admits
 pub record TypesAdmitTheDeclared (bag : Bag) (extensions : Extensions) (schema : PlainSchema) : Type 0 where
-  pub attributes : (name : PlainName) (parents : List Reference) (shape : Expr) (tags : Option Expr) (it : SchemaEntityType) (fields : Fields) (openness : OpenTag) (tag_type : Option Ty)
+  pub attributes : (name : PlainName) (parents : List Reference) (shape : Expr) (tags : Option Expr)
+      (it : SchemaEntityType) (fields : Fields) (openness : OpenTag) (tag_type : Option Ty)
       → Contains (declared_entities bag) (name, standard parents shape tags) → Contains schema.entity_types (name, it)
       → it.kind ≡ standard_kind fields openness tag_type
       → AdmitsTheSame bag extensions shape (record_of fields openness)
-  pub tags : (name : PlainName) (parents : List Reference) (shape tags : Expr) (it : SchemaEntityType) (fields : Fields) (openness : OpenTag) (tag_type : Ty)
+  pub tags : (name : PlainName) (parents : List Reference) (shape tags : Expr) (it : SchemaEntityType) (fields : Fields)
+      (openness : OpenTag) (tag_type : Ty)
       → Contains (declared_entities bag) (name, standard parents shape (Some tags))
       → Contains schema.entity_types (name, it) → it.kind ≡ standard_kind fields openness (Some tag_type)
       → AdmitsTheSame bag extensions tags tag_type
-  pub contexts : (uid : PlainUid) (body : ActionBody) (principals resources : List Reference) (context : Expr) (it : SchemaAction) (principal_types resource_types : List PlainName) (ty : Ty)
+  pub contexts : (uid : PlainUid) (body : ActionBody) (principals resources : List Reference) (context : Expr)
+      (it : SchemaAction) (principal_types resource_types : List PlainName) (ty : Ty)
       → Contains (declared_actions bag) (uid, body) → body.applies_to ≡ requests principals resources context
       → Contains schema.actions (uid, it) → it.kind ≡ defined_action principal_types resource_types ty
       → AdmitsTheSame bag extensions context ty

@@ -38,12 +38,14 @@ tags-Decides (Some a) None = none (λ e. cc)
 tags-Decides (Some a) (Some b) = Decides-like _ (ap Some) (λ e. cc) (types-Decides a b)
 
 -- lists of ids are equal exactly where their texts are
-ids-Decides : (xs ys : List Eid) → Decides (pointwise (λ a b. pointwise nat_eq (eid_text a) (eid_text b)) xs ys) (map eid_text xs ≡ map eid_text ys)
+ids-Decides : (xs ys : List Eid) → Decides (pointwise (λ a b. pointwise nat_eq (eid_text a) (eid_text b)) xs ys)
+    (map eid_text xs ≡ map eid_text ys)
 ids-Decides [] [] = (λ _. refl, λ _. refl)
 ids-Decides [] (y ∷ ys) = none (λ e. cc)
 ids-Decides (x ∷ xs) [] = none (λ e. cc)
 ids-Decides (x ∷ xs) (y ∷ ys) =
-    Decides-like _ (λ both i. both.0 i ∷ both.1 i) (λ e. (cc, cc)) (Decides-and _ _ (text_eq-Decides (eid_text x) (eid_text y)) (ids-Decides xs ys))
+    Decides-like _ (λ both i. both.0 i ∷ both.1 i) (λ e. (cc, cc))
+    (Decides-and _ _ (text_eq-Decides (eid_text x) (eid_text y)) (ids-Decides xs ys))
 
 -- kinds of entity types are equal exactly where they stand for the same
 pub kinds-Decides : (a b : ValidatorEntityTypeKind) → Decides ((kind_eq.ghosts).eq a b) (plain_kind a ≡ plain_kind b)
@@ -51,8 +53,10 @@ kinds-Decides (variant.Standard a) (variant.Standard b) =
     Decides-like _
     (λ all i. standard_kind (all.0 i) (all.1.0 i) (all.1.1 i))
     (λ e. (ap kind_fields e, (ap kind_openness e, ap kind_tags e)))
-    (Decides-and _ _ (attributes-Decides a.attributes b.attributes) (Decides-and _ _ (open_tag-Decides a.open_attributes b.open_attributes) (tags-Decides a.tags b.tags)))
-kinds-Decides (variant.Enum a) (variant.Enum b) = Decides-like _ (ap enumerated_kind) (λ e. cc) (ids-Decides (a.head ∷ a.tail.items) (b.head ∷ b.tail.items))
+    (Decides-and _ _ (attributes-Decides a.attributes b.attributes)
+    (Decides-and _ _ (open_tag-Decides a.open_attributes b.open_attributes) (tags-Decides a.tags b.tags)))
+kinds-Decides (variant.Enum a) (variant.Enum b) = Decides-like _ (ap enumerated_kind) (λ e. cc)
+    (ids-Decides (a.head ∷ a.tail.items) (b.head ∷ b.tail.items))
 kinds-Decides variant.External variant.External = (λ _. refl, λ _. refl)
 kinds-Decides a b = none (λ e. cc)
 
@@ -64,15 +68,18 @@ alike false true first second forth back = absurd (false≢true (first.1 (back (
 alike false false first second forth back = refl
 
 -- sets of descendants are equal exactly where they have the same names
-descendants-Decides : (a b : ValidatorEntityType) → Decides (hash_set_eq (name_eq.ghosts).eq a.descendants b.descendants) (SameItems (descendant_names a) (descendant_names b))
+descendants-Decides : (a b : ValidatorEntityType)
+    → Decides (hash_set_eq (name_eq.ghosts).eq a.descendants b.descendants) (SameItems (descendant_names a) (descendant_names b))
 descendants-Decides a b =
     Decides-like _
     (λ same. SameItems-searches a.descendants.keys b.descendants.keys same)
-    (λ same ty. alike _ _ (list_any-names ty a.descendants.keys) (list_any-names ty b.descendants.keys) (same (type_name ty)).0 (same (type_name ty)).1)
+    (λ same ty. alike _ _ (list_any-names ty a.descendants.keys) (list_any-names ty b.descendants.keys)
+    (same (type_name ty)).0 (same (type_name ty)).1)
     (hash_set_eq_decides entity_type_equal.Laws.laws-law a.descendants b.descendants)
 
 -- entity types are equal exactly where their names, their kinds and their descendants are
-pub entity_types-Same : (a b : ValidatorEntityType) → Decides ((entity_type_eq.ghosts).eq a b) ((entity_type_of a ≡ entity_type_of b) × SameItems (descendant_names a) (descendant_names b))
+pub entity_types-Same : (a b : ValidatorEntityType) → Decides ((entity_type_eq.ghosts).eq a b)
+    ((entity_type_of a ≡ entity_type_of b) × SameItems (descendant_names a) (descendant_names b))
 entity_types-Same a b =
     Decides-like _
     (λ all. ((λ i. record { name = all.0 i; kind = all.1.1 i }), all.1.0))

@@ -16,7 +16,9 @@ use Rattle.cedar_below.specs.Lists.{SameItems}
 use Rattle.cedar_types.proofs.MemberLemmas.{Contains-named, list_any-names}
 
 -- where two lists answer each search by equality alike, the names of the one are among those of the other
-within : (types others : List EntityType) → ((ty : EntityType) → list_any ((entity_type_eq.ghosts).eq ty) types ≡ list_any ((entity_type_eq.ghosts).eq ty) others) → (name : PlainName) → Contains (map type_name types) name → Contains (map type_name others) name
+within : (types others : List EntityType) → ((ty : EntityType)
+    → list_any ((entity_type_eq.ghosts).eq ty) types ≡ list_any ((entity_type_eq.ghosts).eq ty) others)
+    → (name : PlainName) → Contains (map type_name types) name → Contains (map type_name others) name
 within types others alike name among =
     let found = Contains-named types name among in
     let P : PlainName → Type 0 = Contains (map type_name others) in
@@ -25,7 +27,9 @@ within types others alike name among =
     ((list_any-names found.0 others).0 (sym (alike found.0) ∙ (list_any-names found.0 types).1 (subst Q (sym found.2) among)))
 
 -- where two lists answer each search by equality alike, they have the same names
-pub SameItems-searches : (types others : List EntityType) → ((ty : EntityType) → list_any ((entity_type_eq.ghosts).eq ty) types ≡ list_any ((entity_type_eq.ghosts).eq ty) others) → SameItems (map type_name types) (map type_name others)
+pub SameItems-searches : (types others : List EntityType) → ((ty : EntityType)
+    → list_any ((entity_type_eq.ghosts).eq ty) types ≡ list_any ((entity_type_eq.ghosts).eq ty) others)
+    → SameItems (map type_name types) (map type_name others)
 SameItems-searches types others alike name =
     (within types others alike name, within others types (λ ty. sym (alike ty)) name)
 

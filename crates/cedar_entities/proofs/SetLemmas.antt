@@ -10,7 +10,8 @@ use Rattle.cedar_below.proofs.Names.{entity_type_eq-same}
 
 -- two lists answer each search by equality alike
 abbrev pub AnswersAlike : List EntityType → List EntityType → Type 0
-AnswersAlike types others = (q : EntityType) → list_any ((entity_type_eq.ghosts).eq q) types ≡ list_any ((entity_type_eq.ghosts).eq q) others
+AnswersAlike types others = (q : EntityType) → list_any ((entity_type_eq.ghosts).eq q) types
+    ≡ list_any ((entity_type_eq.ghosts).eq q) others
 
 -- a test that is asked first may be asked last
 cond-or : (b c : Bool) → cond b true c ≡ (c || (b || false))
@@ -20,12 +21,16 @@ cond-or false true = refl
 cond-or false false = refl
 
 -- an entity type of the same name is told from others alike
-eq-same_name : (ty copy q : EntityType) → type_name copy ≡ type_name ty → (entity_type_eq.ghosts).eq copy q ≡ (entity_type_eq.ghosts).eq q ty
+eq-same_name : (ty copy q : EntityType) → type_name copy ≡ type_name ty
+    → (entity_type_eq.ghosts).eq copy q ≡ (entity_type_eq.ghosts).eq q ty
 eq-same_name ty copy q same =
     entity_type_equal.Laws.laws-law.congr copy ty q ((entity_type_eq-same copy ty).1 same) ∙ entity_type_equal.Laws.laws-law.symm ty q
 
 -- where an entity type of the same name is inserted, the lists still answer alike
-pub AnswersAlike-insert : (before old new : List EntityType) (ty copy : EntityType) → AnswersAlike old before → type_name copy ≡ type_name ty → ((q : EntityType) → list_any ((entity_type_eq.ghosts).eq q) new ≡ cond ((entity_type_eq.ghosts).eq copy q) true (list_any ((entity_type_eq.ghosts).eq q) old)) → AnswersAlike new (before ++ ty ∷ [])
+pub AnswersAlike-insert : (before old new : List EntityType) (ty copy : EntityType) → AnswersAlike old before
+    → type_name copy ≡ type_name ty → ((q : EntityType) → list_any ((entity_type_eq.ghosts).eq q) new
+    ≡ cond ((entity_type_eq.ghosts).eq copy q) true (list_any ((entity_type_eq.ghosts).eq q) old))
+    → AnswersAlike new (before ++ ty ∷ [])
 AnswersAlike-insert before old new ty copy alike same inserted q =
     let eq = (entity_type_eq.ghosts).eq in
     inserted q

@@ -24,7 +24,8 @@ use Rattle.cedar_names.specs.declared.json_schema.reference_type.ReferenceType.{
 use Rattle.cedar_names.specs.declared.json_schema.reference_type.ReferenceType.TheVariants.{Common, Entity, CommonOrEntity}
 
 -- lists of names are equal exactly where they stand for the same names in order
-pub internal_names-Decides : (xs ys : List InternalName) → Decides (pointwise (internal_name_eq.ghosts).eq xs ys) (map name_of xs ≡ map name_of ys)
+pub internal_names-Decides : (xs ys : List InternalName) → Decides (pointwise (internal_name_eq.ghosts).eq xs ys)
+    (map name_of xs ≡ map name_of ys)
 internal_names-Decides [] [] = (λ _. refl, λ _. refl)
 internal_names-Decides [] (y ∷ ys) = (λ e. cc, λ e. cc)
 internal_names-Decides (x ∷ xs) [] = (λ e. cc, λ e. cc)
@@ -40,7 +41,8 @@ pub raw_name-Decides : (a b : RawName) → Decides ((raw_name_eq.ghosts).eq a b)
 raw_name-Decides a b = internal_name_eq-same a.0 b.0
 
 -- the hash reads no more than what the raw name stands for
-pub raw_name_hash-same : (a b : RawName) → raw_name a ≡ raw_name b → (raw_name_hash.ghosts).hash_input a ≡ (raw_name_hash.ghosts).hash_input b
+pub raw_name_hash-same : (a b : RawName) → raw_name a ≡ raw_name b
+    → (raw_name_hash.ghosts).hash_input a ≡ (raw_name_hash.ghosts).hash_input b
 raw_name_hash-same a b e = raw_name_hash.Laws.respects_eq-law a b ((raw_name-Decides a b).1 e)
 
 -- base names of common types are equal exactly where their texts are
@@ -48,7 +50,8 @@ pub common_type_id-Decides : (a b : CommonTypeId) → Decides ((common_type_id_e
 common_type_id-Decides a b = bytes_decides (common_type_text a) (common_type_text b)
 
 -- the hash reads the text alone
-pub common_type_id_hash-same : (a b : CommonTypeId) → common_type_text a ≡ common_type_text b → (common_type_id_hash.ghosts).hash_input a ≡ (common_type_id_hash.ghosts).hash_input b
+pub common_type_id_hash-same : (a b : CommonTypeId) → common_type_text a ≡ common_type_text b
+    → (common_type_id_hash.ghosts).hash_input a ≡ (common_type_id_hash.ghosts).hash_input b
 common_type_id_hash-same a b e = common_type_id_hash.Laws.respects_eq-law a b ((common_type_id-Decides a b).1 e)
 
 -- the test of two reference types decides whether they are equal
@@ -64,7 +67,8 @@ reference_type-Decides CommonOrEntity Entity = (λ e. cc, λ e. cc)
 reference_type-Decides CommonOrEntity CommonOrEntity = (λ _. refl, λ _. refl)
 
 -- conditional names are equal exactly where their possibilities and their reference types are
-pub conditional_name-Decides : (a b : ConditionalName) → Decides ((conditional_name_eq.ghosts).eq a b) ((possibilities_of a ≡ possibilities_of b) × (reference_type_of a ≡ reference_type_of b))
+pub conditional_name-Decides : (a b : ConditionalName) → Decides ((conditional_name_eq.ghosts).eq a b)
+    ((possibilities_of a ≡ possibilities_of b) × (reference_type_of a ≡ reference_type_of b))
 conditional_name-Decides a b =
     Decides-and
     _
@@ -73,5 +77,8 @@ conditional_name-Decides a b =
     (reference_type-Decides a.reference_type b.reference_type)
 
 -- the hash reads no more than the possibilities and the reference type
-pub conditional_name_hash-same : (a b : ConditionalName) → possibilities_of a ≡ possibilities_of b → reference_type_of a ≡ reference_type_of b → (conditional_name_hash.ghosts).hash_input a ≡ (conditional_name_hash.ghosts).hash_input b
-conditional_name_hash-same a b names kinds = conditional_name_hash.Laws.respects_eq-law a b ((conditional_name-Decides a b).1 (names, kinds))
+pub conditional_name_hash-same : (a b : ConditionalName) → possibilities_of a ≡ possibilities_of b
+    → reference_type_of a ≡ reference_type_of b → (conditional_name_hash.ghosts).hash_input a
+    ≡ (conditional_name_hash.ghosts).hash_input b
+conditional_name_hash-same a b names kinds = conditional_name_hash.Laws.respects_eq-law a b
+    ((conditional_name-Decides a b).1 (names, kinds))

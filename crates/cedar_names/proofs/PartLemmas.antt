@@ -1,3 +1,4 @@
+-- The test of the part, layer by layer.
 use Rattle.std.proofs.Common.{◌≡◌, Bool, List, [], ◌∷◌, None, map, sym, subst}
 use Rattle.std.specs.List.{AllByRecursion}
 use Rattle.std.specs.declared.alloc.Global.{Global}
@@ -32,17 +33,22 @@ DecidedBy-all it = record {
 }
 
 -- an attribute names entity types alone exactly where its type does
-pub attribute_alone : (attribute : TypeOfAttribute RawName) (name : String Global) (rest : List (String Global × TypeOfAttribute RawName)) → EntriesAlone ((name, attribute) ∷ rest) → NamesEntitiesAlone (raw_expr None (out-TypeOfAttribute RawName attribute).ty)
+pub attribute_alone : (attribute : TypeOfAttribute RawName) (name : String Global)
+    (rest : List (String Global × TypeOfAttribute RawName)) → EntriesAlone ((name, attribute) ∷ rest)
+    → NamesEntitiesAlone (raw_expr None (out-TypeOfAttribute RawName attribute).ty)
 attribute_alone attribute name rest alone =
     let P : Bool × Expr → Type 0 = λ pair. NamesEntitiesAlone pair.1 in
     subst P (raw_attribute-parts None attribute) alone.0
 
 -- after an entry that names entity types alone the others decide
-pub DecidedBy-rest : (it : RecordType RawName) (name : String Global) (attribute : TypeOfAttribute RawName) (left rest : List (String Global × TypeOfAttribute RawName)) → left ≡ (name, attribute) ∷ rest → NamesEntitiesAlone (raw_expr None (out-TypeOfAttribute RawName attribute).ty) → DecidedBy it left → DecidedBy it rest
+pub DecidedBy-rest : (it : RecordType RawName) (name : String Global) (attribute : TypeOfAttribute RawName)
+    (left rest : List (String Global × TypeOfAttribute RawName)) → left ≡ (name, attribute) ∷ rest
+    → NamesEntitiesAlone (raw_expr None (out-TypeOfAttribute RawName attribute).ty) → DecidedBy it left → DecidedBy it rest
 DecidedBy-rest it name attribute left rest is alone decided =
     let P : Bool × Expr → Type 0 = λ pair. NamesEntitiesAlone pair.1 in
     record {
-      suffices = λ others. decided.suffices (subst EntriesAlone (sym is) (subst P (sym (raw_attribute-parts None attribute)) alone, others));
+      suffices = λ others. decided.suffices (subst EntriesAlone (sym is)
+          (subst P (sym (raw_attribute-parts None attribute)) alone, others));
       needed = λ all. (subst EntriesAlone is (decided.needed all)).1;
     }
 
@@ -56,14 +62,17 @@ pub record IsLeftToTest (definition : NamespaceDefinition RawName) (left : List 
   pub needed : IsInPart definition → EntitiesPlain left
 
 -- where no common type and no action is declared, all entity types are left to test
-pub IsLeftToTest-all : (definition : NamespaceDefinition RawName) → definition.common_types.entries ≡ [] → definition.actions.entries ≡ [] → IsLeftToTest definition definition.entity_types.entries
+pub IsLeftToTest-all : (definition : NamespaceDefinition RawName) → definition.common_types.entries ≡ []
+    → definition.actions.entries ≡ [] → IsLeftToTest definition definition.entity_types.entries
 IsLeftToTest-all definition common actions = record {
   suffices = λ plain. record { no_common_types = common; no_actions = actions; plain_standard = plain };
   needed = λ part. part.plain_standard;
 }
 
 -- after an entity type that is plain the others are left to test
-pub IsLeftToTest-rest : (definition : NamespaceDefinition RawName) (id : UnreservedId) (ty : EntityType RawName) (left rest : List (UnreservedId × EntityType RawName)) → left ≡ (id, ty) ∷ rest → IsPlainStandard (raw_entity_body None ty) → IsLeftToTest definition left → IsLeftToTest definition rest
+pub IsLeftToTest-rest : (definition : NamespaceDefinition RawName) (id : UnreservedId) (ty : EntityType RawName)
+    (left rest : List (UnreservedId × EntityType RawName)) → left ≡ (id, ty) ∷ rest
+    → IsPlainStandard (raw_entity_body None ty) → IsLeftToTest definition left → IsLeftToTest definition rest
 IsLeftToTest-rest definition id ty left rest is plain tested = record {
   suffices = λ others. tested.suffices (subst EntitiesPlain (sym is) (plain, others));
   needed = λ part. (subst EntitiesPlain is (tested.needed part)).1;

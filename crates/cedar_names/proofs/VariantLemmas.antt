@@ -1,3 +1,4 @@
+-- What the variants of a written type stand for.
 use Rattle.std.proofs.Common.{◌≡◌, Option, rules}
 use Rattle.std.specs.declared.alloc.Global.{Global}
 use Rattle.std.specs.declared.boxed.Box.{Box}
@@ -26,17 +27,21 @@ pub raw_variant-Boolean : (namespace : Option PlainName) → raw_variant namespa
 raw_variant-Boolean namespace = search (rules, the_lemmas)
 
 -- what a written set type stands for
-pub raw_variant-Set : (namespace : Option PlainName) (element : Box («Type» RawName) Global) → raw_variant namespace (Set element) ≡ set_expr (raw_expr namespace element.value)
+pub raw_variant-Set : (namespace : Option PlainName) (element : Box («Type» RawName) Global)
+    → raw_variant namespace (Set element) ≡ set_expr (raw_expr namespace element.value)
 raw_variant-Set namespace element = search (rules, the_lemmas)
 
 -- what a written record type stands for
-pub raw_variant-Record : (namespace : Option PlainName) (it : RecordType RawName) → raw_variant namespace (Record it) ≡ raw_record namespace it
+pub raw_variant-Record : (namespace : Option PlainName) (it : RecordType RawName)
+    → raw_variant namespace (Record it) ≡ raw_record namespace it
 raw_variant-Record namespace it = search (rules, the_lemmas)
 
 -- what a written entity type stands for
-pub raw_variant-Entity : (namespace : Option PlainName) (name : RawName) → raw_variant namespace (Entity name) ≡ named (reference_to namespace entity (raw_name name))
+pub raw_variant-Entity : (namespace : Option PlainName) (name : RawName)
+    → raw_variant namespace (Entity name) ≡ named (reference_to namespace entity (raw_name name))
 raw_variant-Entity namespace name = search (rules, the_lemmas)
 
 -- what a type that is written out stands for
-pub raw_expr-Plain : (namespace : Option PlainName) (ty : TypeVariant RawName) (loc : Option Loc) → raw_expr namespace (Plain ty loc) ≡ raw_variant namespace ty
+pub raw_expr-Plain : (namespace : Option PlainName) (ty : TypeVariant RawName) (loc : Option Loc)
+    → raw_expr namespace (Plain ty loc) ≡ raw_variant namespace ty
 raw_expr-Plain namespace ty loc = search (rules, the_lemmas)

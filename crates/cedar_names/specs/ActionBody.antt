@@ -49,7 +49,8 @@ module _ (N : Type 0) (refer : ReferenceType → N → Reference) (namespace : O
   abbrev pub applies_to : Option (ApplySpec N) → Requests
   applies_to None = requests [] [] (record_expr no_member false)
   applies_to (Some it) =
-      requests (map (refer Entity) it.principal_types.items) (map (refer Entity) it.resource_types.items) (written_type N refer it.context.0)
+      requests (map (refer Entity) it.principal_types.items) (map (refer Entity) it.resource_types.items)
+      (written_type N refer it.context.0)
 
   -- the requests that a declaration gives by whether it is external
   abbrev pub requests_by : Bool → Option (ApplySpec N) → Requests
@@ -58,4 +59,9 @@ module _ (N : Type 0) (refer : ReferenceType → N → Reference) (namespace : O
 
   -- what a declaration of an action says
   abbrev pub action_body : ActionType N → ActionBody
-  action_body it = record { has_attributes = is_some it.attributes; parents = parent_actions it.member_of; applies_to = requests_by it.external it.applies_to }
+  action_body it = record {
+    has_attributes = is_some it.attributes;
+    parents = parent_actions it.member_of;
+    applies_to =
+        requests_by it.external it.applies_to;
+  }

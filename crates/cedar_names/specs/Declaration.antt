@@ -43,17 +43,32 @@ module _ (N : Type 0) (refer : ReferenceType → N → Reference) (namespace : O
   -- the declarations of some common types
   abbrev pub common_declarations : List (CommonTypeId × CommonType N) → List Declaration
   common_declarations entries =
-      map (λ entry. record { namespace = namespace; id = common_type_text entry.0; body = common_type (written_type N refer entry.1.ty) }) entries
+      map (λ entry. record {
+        namespace = namespace;
+        id = common_type_text entry.0;
+        body =
+            common_type (written_type N refer entry.1.ty);
+      }) entries
 
   -- the declarations of some entity types
   abbrev pub entity_declarations : List (UnreservedId × EntityType N) → List Declaration
   entity_declarations entries =
-      map (λ entry. record { namespace = namespace; id = unreserved_id_text entry.0; body = entity_type (entity_body N refer entry.1) }) entries
+      map (λ entry. record {
+        namespace = namespace;
+        id = unreserved_id_text entry.0;
+        body =
+            entity_type (entity_body N refer entry.1);
+      }) entries
 
   -- the declarations of some actions
   abbrev pub action_declarations : List (String Global × ActionType N) → List Declaration
   action_declarations entries =
-      map (λ entry. record { namespace = namespace; id = string_bytes entry.0; body = action (action_body N refer namespace entry.1) }) entries
+      map (λ entry. record {
+        namespace = namespace;
+        id = string_bytes entry.0;
+        body =
+            action (action_body N refer namespace entry.1);
+      }) entries
 
   -- the declarations of a namespace's definition: its common types, its entity types and its actions
   abbrev pub declarations : NamespaceDefinition N → List Declaration

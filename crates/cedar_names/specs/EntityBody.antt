@@ -25,7 +25,8 @@ pub data EntityBody : Type 0 where
 module _ (N : Type 0) (refer : ReferenceType → N → Reference) where
   -- what a declaration says by its kind and by whether it is external; external choices are ignored
   abbrev pub kind_body : EntityTypeKind N → Bool → EntityBody
-  kind_body (variant.Standard it) false = standard (map (refer Entity) it.member_of_types.items) (written_type N refer it.shape.0) (option_map (written_type N refer) it.tags)
+  kind_body (variant.Standard it) false = standard (map (refer Entity) it.member_of_types.items)
+      (written_type N refer it.shape.0) (option_map (written_type N refer) it.tags)
   kind_body (variant.Standard it) true = external (map (refer Entity) it.member_of_types.items)
   kind_body (variant.Enum choices) false = enumerated (map eid_text (choices.head ∷ choices.tail.items))
   kind_body (variant.Enum choices) true = external []

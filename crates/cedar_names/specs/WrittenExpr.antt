@@ -30,7 +30,8 @@ module _ (N : Type 0) (refer : ReferenceType → N → Reference) where
 
   -- one record type, with what its attributes stand for in their places
   abbrev pub record_step : layer.RecordType-F N Expr Expr Expr (Bool × Expr) → Expr
-  record_step it = record_expr (members_from (map (λ entry. (string_bytes entry.0, entry.1)) it.attributes.entries)) it.additional_attributes
+  record_step it = record_expr (members_from (map (λ entry. (string_bytes entry.0, entry.1)) it.attributes.entries))
+      it.additional_attributes
 
   -- one attribute, with what its type stands for in its place
   abbrev pub attribute_step : layer.TypeOfAttribute-F N Expr Expr Expr (Bool × Expr) → Bool × Expr

@@ -1,3 +1,4 @@
+-- Strict subtyping is permissive subtyping of types that agree.
 use Rattle.std.proofs.Common.{◌≡◌, ◌↔◌, inl, inr, Bool, sym, ap, subst, ◌∙◌, Some, Contains}
 use Rattle.cedar_below.specs.Text.{Text}
 use Rattle.cedar_below.specs.declared.validation_mode.ValidationMode.TheVariants.{Strict, Permissive}

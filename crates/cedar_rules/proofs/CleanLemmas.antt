@@ -1,3 +1,4 @@
+-- A type is clean exactly where the any-set stands nowhere in it.
 use Rattle.std.proofs.Common.{inl, inr, refl}
 use Rattle.cedar_rules.specs.Clean.{IsClean, AreClean, IsAnySet, CleanIsWithoutAnySet}
 use Rattle.cedar_rules.specs.StandsIn.{StandsIn, StandsInFields}

@@ -1,3 +1,4 @@
+-- A type has no core type exactly where one that lacks it stands in it.
 use Rattle.std.proofs.Common.{◌≡◌, ◌⊎◌, inl, inr, ⊎_elim, refl, ap, Option, Some, None}
 use Rattle.std.specs.Option.{option_map, option_zip}
 use Rattle.cedar_below.specs.CoreTy.{core_set, core_record, core_entity, core_field}

@@ -1,3 +1,4 @@
+-- Disjoint types have no value in common.
 use Rattle.cedar_below.specs.Tree.{uid_value}
 use Rattle.cedar_rules.specs.Disjoint.{DisjointTypesShareNoValue}
 use Rattle.cedar_rules.specs.Ty.{union_of}

@@ -1,3 +1,4 @@
+-- What follows for the least own bound of two types.
 use Rattle.std.proofs.Common.{inl, inr, ⊎_elim, refl, sym, subst, Ok, Err}
 use Rattle.cedar_below.specs.declared.validation_mode.ValidationMode.{ValidationMode}
 use Rattle.cedar_rules.proofs.AntisymmetryLaws.{Below-same}

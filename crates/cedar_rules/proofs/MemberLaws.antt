@@ -1,3 +1,4 @@
+-- What has a type has each type above it.
 use Rattle.std.proofs.Common.{◌≡◌, ◌⊎◌, inl, inr, ⊎_elim, Bool, true, false, refl, sym, subst, ◌∙◌, Option, Some, None, Contains}
 use Rattle.cedar_below.specs.Fits.{EntryFits, NamesListed}
 use Rattle.cedar_below.specs.PlainName.{PlainName}

@@ -1,3 +1,4 @@
+-- Own bounds: clean bounds are own bounds, and what lies within clean types is clean.
 use Rattle.std.proofs.Common.{inl, inr, refl, subst, Bool}
 use Rattle.cedar_below.specs.Text.{Text}
 use Rattle.cedar_rules.specs.Below.{HasField}

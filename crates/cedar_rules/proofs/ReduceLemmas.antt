@@ -1,3 +1,4 @@
+-- Types that are joined in turn.
 use Rattle.std.proofs.Common.{◌≡◌, inl, inr, ap, sym, subst, List, [], ◌∷◌, Ok, Err, IfOk}
 use Rattle.std.proofs.lemmas.List.Elements.{All-contains, All-from_recursion}
 use Rattle.std.specs.List.{AllByRecursion}

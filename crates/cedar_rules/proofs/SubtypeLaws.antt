@@ -1,3 +1,4 @@
+-- Subtyping is reflexive and transitive.
 use Rattle.std.proofs.Common.{inl, inr, ⊎_elim, Bool, refl, sym, subst, ◌∙◌, Contains, arith}
 use Rattle.cedar_below.proofs.Inclusion.{Included-none, Included-cons}
 use Rattle.cedar_below.proofs.Lists.{Contains-cons, Contains-cons_cases}

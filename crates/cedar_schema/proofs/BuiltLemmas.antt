@@ -1,3 +1,4 @@
+-- Entity types that are built one after another.
 use Rattle.std.proofs.Common.{◌≡◌, List, [], ◌∷◌, ◌++◌, None, map, ap, sym, subst, ◌∙◌, refl, append_assoc, arith, Contains}
 use Rattle.std.proofs.lemmas.List.{map-append, append-nil}
 use Rattle.std.proofs.lemmas.List.Elements.{Contains-append_right}
@@ -55,7 +56,9 @@ abbrev pub Types : Type 0
 Types = List (EntityType × ValidatorEntityType)
 
 -- one more declaration, and the entity type that it gives
-AreBuilt-push : (defined : Defined) (declared : Declared) (entries : Types) (entity : PlainName × EntityBody) (entry : EntityType × ValidatorEntityType) → HoldsInTurn (IsBuilt defined) declared entries → IsBuilt defined entity entry → HoldsInTurn (IsBuilt defined) (declared ++ entity ∷ []) (entries ++ entry ∷ [])
+AreBuilt-push : (defined : Defined) (declared : Declared) (entries : Types) (entity : PlainName × EntityBody)
+    (entry : EntityType × ValidatorEntityType) → HoldsInTurn (IsBuilt defined) declared entries
+    → IsBuilt defined entity entry → HoldsInTurn (IsBuilt defined) (declared ++ entity ∷ []) (entries ++ entry ∷ [])
 AreBuilt-push defined [] [] entity entry each one = (one, tt)
 AreBuilt-push defined [] (other ∷ entries) entity entry each one = absurd each
 AreBuilt-push defined (other ∷ declared) [] entity entry each one = absurd each
@@ -63,7 +66,8 @@ AreBuilt-push defined (other ∷ declared) (first ∷ entries) entity entry each
     (each.0, AreBuilt-push defined declared entries entity entry each.1 one)
 
 -- the names of the keys are those that are declared
-pub AreBuilt-keys : (defined : Defined) (declared : Declared) (entries : Types) → HoldsInTurn (IsBuilt defined) declared entries → map type_name (keys_of entries) ≡ map (λ entity. entity.0) declared
+pub AreBuilt-keys : (defined : Defined) (declared : Declared) (entries : Types)
+    → HoldsInTurn (IsBuilt defined) declared entries → map type_name (keys_of entries) ≡ map (λ entity. entity.0) declared
 AreBuilt-keys defined [] [] each = refl
 AreBuilt-keys defined [] (other ∷ entries) each = absurd each
 AreBuilt-keys defined (other ∷ declared) [] each = absurd each
@@ -76,7 +80,8 @@ AllByRecursion-push P [] x all one = (one, tt)
 AllByRecursion-push P (first ∷ rest) x all one = (all.0, AllByRecursion-push P rest x all.1 one)
 
 -- what holds of the name of each key
-of_names : (P : PlainName → Type 0) (keys : List EntityType) → AllByRecursion P (map type_name keys) → AllByRecursion (λ key. P (type_name key)) keys
+of_names : (P : PlainName → Type 0) (keys : List EntityType) → AllByRecursion P (map type_name keys)
+    → AllByRecursion (λ key. P (type_name key)) keys
 of_names P [] all = tt
 of_names P (key ∷ keys) all = (all.0, of_names P keys all.1)
 
@@ -94,18 +99,24 @@ BuiltSoFar-none all left types same nothing =
     record { done = []; split = same; fits = subst P (sym nothing) tt; sound = tt }
 
 -- the names of the entries in their order
-names_in_order : (all : Entries) → IsStrictlySortedBy ((unreserved_id_ord.ghosts).cmp) (keys_of all) → IsStrictlySortedBy name_cmp (map name_here (keys_of all))
+names_in_order : (all : Entries) → IsStrictlySortedBy ((unreserved_id_ord.ghosts).cmp) (keys_of all)
+    → IsStrictlySortedBy name_cmp (map name_here (keys_of all))
 names_in_order all ordered = IsStrictlySortedBy-map ((unreserved_id_ord.ghosts).cmp) name_cmp name_here id_order (keys_of all) ordered
 
 -- what the entries declare is in the order of the names
-pub declared_in_order : (all : Entries) → IsStrictlySortedBy ((unreserved_id_ord.ghosts).cmp) (keys_of all) → IsStrictlySortedBy name_cmp (map (λ entity. entity.0) (declared_by_entries all))
+pub declared_in_order : (all : Entries) → IsStrictlySortedBy ((unreserved_id_ord.ghosts).cmp) (keys_of all)
+    → IsStrictlySortedBy name_cmp (map (λ entity. entity.0) (declared_by_entries all))
 declared_in_order all ordered =
     let P : List PlainName → Type 0 = IsStrictlySortedBy name_cmp in
-    let names : map name_here (keys_of all) ≡ map (λ (entity : PlainName × EntityBody). entity.0) (declared_by_entries all) = map-map _ _ all ∙ sym (map-map _ _ all) in
+    let names : map name_here (keys_of all) ≡ map (λ (entity : PlainName × EntityBody). entity.0)
+    (declared_by_entries all) = map-map _ _ all ∙ sym (map-map _ _ all) in
     subst P names (names_in_order all ordered)
 
 -- what a declaration gives goes to the end of the map
-pub inserted_at_end : (all left rest : Entries) (types : Types) (id : UnreservedId) (declaration : Declaration RawName) (key : EntityType) (ty : ValidatorEntityType) → IsStrictlySortedBy ((unreserved_id_ord.ghosts).cmp) (keys_of all) → left ≡ (id, declaration) ∷ rest → type_name key ≡ name_here id → BuiltSoFar all types left → insert_entry ((entity_type_ord.ghosts).cmp) types key ty ≡ types ++ (key, ty) ∷ []
+pub inserted_at_end : (all left rest : Entries) (types : Types) (id : UnreservedId) (declaration : Declaration RawName)
+    (key : EntityType) (ty : ValidatorEntityType) → IsStrictlySortedBy ((unreserved_id_ord.ghosts).cmp) (keys_of all)
+    → left ≡ (id, declaration) ∷ rest → type_name key ≡ name_here id → BuiltSoFar all types left
+    → insert_entry ((entity_type_ord.ghosts).cmp) types key ty ≡ types ++ (key, ty) ∷ []
 inserted_at_end all left rest types id declaration key ty ordered is named so_far =
     let cmp : EntityType → EntityType → Ordering = (entity_type_ord.ghosts).cmp in
     let P : List PlainName → Type 0 = IsStrictlySortedBy name_cmp in
@@ -114,7 +125,8 @@ inserted_at_end all left rest types id declaration key ty ordered is named so_fa
     ∙ (ap (map name_here) (map-append (λ entry. entry.0) so_far.done ((id, declaration) ∷ rest))
     ∙ map-append name_here (keys_of so_far.done) (id ∷ keys_of rest)) in
     let above : AllByRecursion (λ name. name_cmp (name_here id) name ≡ Greater) (map name_here (keys_of so_far.done)) =
-    above_front name_cmp-total (map name_here (keys_of so_far.done)) (name_here id) (map name_here (keys_of rest)) (subst P names (names_in_order all ordered)) in
+    above_front name_cmp-total (map name_here (keys_of so_far.done)) (name_here id) (map name_here (keys_of rest))
+    (subst P names (names_in_order all ordered)) in
     let keys : map name_here (keys_of so_far.done) ≡ map type_name (keys_of types) =
     map-map name_here (λ entry. entry.0) so_far.done
     ∙ (sym (map-map (λ entity. entity.0) (λ entry. (name_here entry.0, raw_entity_body None entry.1)) so_far.done)
@@ -126,37 +138,53 @@ inserted_at_end all left rest types id declaration key ty ordered is named so_fa
     (subst R (λ i other. (ap (λ name. name_cmp name (type_name other)) (sym named) ∙ sym (entity_type_ord-name_cmp key other)) i) by_name)
 
 -- one more declaration has given its entity type
-pub BuiltSoFar-more : (all left rest : Entries) (types : Types) (id : UnreservedId) (declaration : Declaration RawName) (key : EntityType) (ty : ValidatorEntityType) → left ≡ (id, declaration) ∷ rest → IsBuilt (defined_by (declared_by_entries all)) (name_here id, raw_entity_body None declaration) (key, ty) → IsSound (name_here id, raw_entity_body None declaration) → BuiltSoFar all types left → BuiltSoFar all (types ++ (key, ty) ∷ []) rest
+pub BuiltSoFar-more : (all left rest : Entries) (types : Types) (id : UnreservedId) (declaration : Declaration RawName)
+    (key : EntityType) (ty : ValidatorEntityType) → left ≡ (id, declaration) ∷ rest
+    → IsBuilt (defined_by (declared_by_entries all)) (name_here id, raw_entity_body None declaration) (key, ty)
+    → IsSound (name_here id, raw_entity_body None declaration) → BuiltSoFar all types left
+    → BuiltSoFar all (types ++ (key, ty) ∷ []) rest
 BuiltSoFar-more all left rest types id declaration key ty is one sound so_far =
     let entity : PlainName × EntityBody = (name_here id, raw_entity_body None declaration) in
-    let declared : declared_by_entries (so_far.done ++ (id, declaration) ∷ []) ≡ declared_by_entries so_far.done ++ entity ∷ [] = map-append (λ entry. (name_here entry.0, raw_entity_body None entry.1)) so_far.done ((id, declaration) ∷ []) in
+    let declared : declared_by_entries (so_far.done ++ (id, declaration) ∷ []) ≡ declared_by_entries so_far.done
+    ++ entity ∷ [] = map-append (λ entry. (name_here entry.0, raw_entity_body None entry.1)) so_far.done ((id, declaration) ∷ []) in
     let P : Declared → Type 0 = λ each. HoldsInTurn (IsBuilt (defined_by (declared_by_entries all))) each (types ++ (key, ty) ∷ []) in
     let Q : Declared → Type 0 = AllByRecursion IsSound in
     record {
       done = so_far.done ++ (id, declaration) ∷ [];
       split = so_far.split ∙ (ap (λ others. so_far.done ++ others) is ∙ sym (append_assoc so_far.done ((id, declaration) ∷ []) rest));
-      fits = subst P (sym declared) (AreBuilt-push (defined_by (declared_by_entries all)) (declared_by_entries so_far.done) types entity (key, ty) so_far.fits one);
+      fits = subst P (sym declared) (AreBuilt-push (defined_by (declared_by_entries all))
+          (declared_by_entries so_far.done) types entity (key, ty) so_far.fits one);
       sound = subst Q (sym declared) (AllByRecursion-push IsSound (declared_by_entries so_far.done) entity so_far.sound sound);
     }
 
 -- the next declaration is plain
-pub plain_next : (all left rest : Entries) (types : Types) (id : UnreservedId) (declaration : Declaration RawName) → left ≡ (id, declaration) ∷ rest → AllByRecursion IsPlainStandard (map (λ entry. raw_entity_body None entry.1) all) → BuiltSoFar all types left → IsPlainStandard (raw_entity_body None declaration)
+pub plain_next : (all left rest : Entries) (types : Types) (id : UnreservedId) (declaration : Declaration RawName)
+    → left ≡ (id, declaration) ∷ rest → AllByRecursion IsPlainStandard (map (λ entry. raw_entity_body None entry.1) all)
+    → BuiltSoFar all types left → IsPlainStandard (raw_entity_body None declaration)
 plain_next all left rest types id declaration is plain so_far =
     let P : List EntityBody → Type 0 = AllByRecursion IsPlainStandard in
-    AllByRecursion-middle IsPlainStandard (map (λ entry. raw_entity_body None entry.1) so_far.done) (raw_entity_body None declaration) (map (λ entry. raw_entity_body None entry.1) rest)
-    (subst P (ap (map (λ entry. raw_entity_body None entry.1)) (so_far.split ∙ ap (λ others. so_far.done ++ others) is) ∙ map-append (λ entry. raw_entity_body None entry.1) so_far.done ((id, declaration) ∷ rest)) plain)
+    AllByRecursion-middle IsPlainStandard (map (λ entry. raw_entity_body None entry.1) so_far.done)
+    (raw_entity_body None declaration) (map (λ entry. raw_entity_body None entry.1) rest)
+    (subst P (ap (map (λ entry. raw_entity_body None entry.1)) (so_far.split ∙ ap (λ others. so_far.done ++ others) is)
+    ∙ map-append (λ entry. raw_entity_body None entry.1) so_far.done ((id, declaration) ∷ rest)) plain)
 
 -- the next declaration is among all
-pub declared_next : (all left rest : Entries) (types : Types) (id : UnreservedId) (declaration : Declaration RawName) → left ≡ (id, declaration) ∷ rest → BuiltSoFar all types left → Contains (declared_by_entries all) (name_here id, raw_entity_body None declaration)
+pub declared_next : (all left rest : Entries) (types : Types) (id : UnreservedId) (declaration : Declaration RawName)
+    → left ≡ (id, declaration) ∷ rest → BuiltSoFar all types left
+    → Contains (declared_by_entries all) (name_here id, raw_entity_body None declaration)
 declared_next all left rest types id declaration is so_far =
     let entity : PlainName × EntityBody = (name_here id, raw_entity_body None declaration) in
     let P : Declared → Type 0 = λ each. Contains each entity in
     subst P
-    (sym (ap declared_by_entries (so_far.split ∙ ap (λ others. so_far.done ++ others) is) ∙ map-append (λ entry. (name_here entry.0, raw_entity_body None entry.1)) so_far.done ((id, declaration) ∷ rest)))
+    (sym (ap declared_by_entries (so_far.split ∙ ap (λ others. so_far.done ++ others) is)
+    ∙ map-append (λ entry. (name_here entry.0, raw_entity_body None entry.1)) so_far.done ((id, declaration) ∷ rest)))
     (Contains-append_right (declared_by_entries so_far.done) (entity ∷ declared_by_entries rest) entity (0, omega arith, refl))
 
 -- where no declaration is left all have given their entity types
-pub built_all : (all left : Entries) (types : Types) → left ≡ [] → BuiltSoFar all types left → HoldsInTurn (IsBuilt (defined_by (declared_by_entries all))) (declared_by_entries all) types × AllByRecursion IsSound (declared_by_entries all)
+pub built_all : (all left : Entries) (types : Types) → left ≡ [] → BuiltSoFar all types left
+    → HoldsInTurn (IsBuilt (defined_by (declared_by_entries all))) (declared_by_entries all) types
+    × AllByRecursion IsSound (declared_by_entries all)
 built_all all left types nothing so_far =
-    let P : Entries → Type 0 = λ entries. HoldsInTurn (IsBuilt (defined_by (declared_by_entries all))) (declared_by_entries entries) types × AllByRecursion IsSound (declared_by_entries entries) in
+    let P : Entries → Type 0 = λ entries. HoldsInTurn (IsBuilt (defined_by (declared_by_entries all)))
+    (declared_by_entries entries) types × AllByRecursion IsSound (declared_by_entries entries) in
     subst P (sym (so_far.split ∙ (ap (λ others. so_far.done ++ others) nothing ∙ append-nil so_far.done))) (so_far.fits, so_far.sound)

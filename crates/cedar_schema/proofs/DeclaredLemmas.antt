@@ -1,3 +1,4 @@
+-- Names that entries of the empty namespace declare.
 use Rattle.std.proofs.Common.{◌≡◌, ◌≢◌, ◌<◌, Bool, List, [], ◌∷◌, length, map, get_or, ap, sym, subst, ◌∙◌, ⊎_elim, arith, Contains, is_some}
 use Rattle.std.proofs.lemmas.List.Elements.{Contains-get_or}
 use Rattle.std.proofs.lemmas.Map.Made.{is_some-lookup}
@@ -35,7 +36,8 @@ pub names_of_entries-map : (entries : Entries) → names_of_entries entries ≡ 
 names_of_entries-map entries = map-map _ _ entries
 
 -- a declared name is that of some id
-pub declared_id : (entries : Entries) (name : PlainName) → Contains (names_of_entries entries) name → (id : UnreservedId) × (name_here id ≡ name)
+pub declared_id : (entries : Entries) (name : PlainName) → Contains (names_of_entries entries) name
+    → (id : UnreservedId) × (name_here id ≡ name)
 declared_id entries name among =
     let P : List PlainName → Type 0 = λ names. Contains names name in
     let found = Contains-preimage (λ entry. name_here entry.0) entries name (subst P (names_of_entries-map entries) among) in
@@ -49,11 +51,15 @@ names_of_entries-keys entries = names_of_entries-map entries ∙ sym (map-map na
 is_eq-name_here : (id each : UnreservedId) → Decides (is_eq ((unreserved_id_ord.ghosts).cmp id each)) (name_here each ≡ name_here id)
 is_eq-name_here id each =
     let equal = Equal-is ((unreserved_id_ord.ghosts).cmp id each) in
-    let same = unreserved_id_ord-Equal id each in
-    (λ holds. ap (λ text. record { base = text; path = [] }) (sym (same.0 (equal.0 holds))), λ names. equal.1 (same.1 (sym (ap (λ name. name.base) names))))
+    let same = unreserved_id_ord-Equal id each in (
+      λ holds. ap (λ text. record { base = text; path = [] }) (sym (same.0 (equal.0 holds))),
+      λ names. equal.1
+          (same.1 (sym (ap (λ name. name.base) names))),
+    )
 
 -- a look-up by an id finds something exactly where its name here is declared
-pub is_some-declared : (id : UnreservedId) (entries : Entries) → Decides (is_some (lookup (is_at ((unreserved_id_ord.ghosts).cmp id)) entries)) (Contains (names_of_entries entries) (name_here id))
+pub is_some-declared : (id : UnreservedId) (entries : Entries)
+    → Decides (is_some (lookup (is_at ((unreserved_id_ord.ghosts).cmp id)) entries)) (Contains (names_of_entries entries) (name_here id))
 is_some-declared id entries =
     let test : UnreservedId → Bool = is_at ((unreserved_id_ord.ghosts).cmp id) in
     let P : Bool → Type 0 = λ found. Decides found (Contains (names_of_entries entries) (name_here id)) in
@@ -66,7 +72,8 @@ pub declared-unqualified : (entries : Entries) (name : PlainName) → Contains (
 declared-unqualified entries name among = sym (ap (λ each. each.path) (declared_id entries name among).1)
 
 -- the base of a declared name is an identifier that isn't reserved
-pub declared-unreserved : (entries : Entries) (name : PlainName) → Contains (names_of_entries entries) name → IsIdentifier name.base × (name.base ≢ reserved_word)
+pub declared-unreserved : (entries : Entries) (name : PlainName) → Contains (names_of_entries entries) name
+    → IsIdentifier name.base × (name.base ≢ reserved_word)
 declared-unreserved entries name among =
     let found = declared_id entries name among in
     let base : unreserved_id_text found.0 ≡ name.base = ap (λ each. each.base) found.1 in

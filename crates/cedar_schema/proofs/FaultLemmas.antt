@@ -1,3 +1,4 @@
+-- Refusals of an entity type are faults of the declarations, and where all are built nothing is at fault.
 use Rattle.std.proofs.Common.{◌≡◌, ◌⊎◌, zero, suc, List, [], ◌∷◌, Option, Some, None, sym, subst, refl, inl, inr, ⊎_elim, arith, Contains}
 use Rattle.std.specs.List.{AllByRecursion}
 use Rattle.cedar_below.specs.PlainName.{PlainName, IsActionType}
@@ -25,7 +26,8 @@ use Rattle.cedar_below.specs.declared.entity_type.EntityType.{EntityType}
 use Rattle.cedar_declared.proofs.ResolutionLemmas.{first_defined}
 
 -- a reference that resolves isn't unresolved
-resolved : (defined : Defined) (reference other : Reference) (name : PlainName) → ResolvesTo defined reference name → reference ≡ other → ¬ IsUnresolved defined other
+resolved : (defined : Defined) (reference other : Reference) (name : PlainName) → ResolvesTo defined reference name
+    → reference ≡ other → ¬ IsUnresolved defined other
 resolved defined reference other name resolves same unresolved =
     let found = first_defined defined reference.kind reference.possibilities name resolves in
     let P : Reference → Type 0 = λ each. Contains each.possibilities name × IsDefined defined each.kind name in
@@ -34,31 +36,38 @@ resolved defined reference other name resolves same unresolved =
 
 mutual
   -- each reference of an expression that is written out resolves
-  pub written_resolves : (defined : Defined) {expr : Expr} {ty : Ty} → WrittenOut defined expr ty → (reference : Reference) → Refers expr reference → ¬ IsUnresolved defined reference
+  pub written_resolves : (defined : Defined) {expr : Expr} {ty : Ty} → WrittenOut defined expr ty
+      → (reference : Reference) → Refers expr reference → ¬ IsUnresolved defined reference
   written_resolves defined as_text reference refers unresolved = refers
   written_resolves defined as_long reference refers unresolved = refers
   written_resolves defined as_truth reference refers unresolved = refers
   written_resolves defined (as_set element) reference refers unresolved = written_resolves defined element reference refers unresolved
   written_resolves defined (as_record members) reference refers unresolved = members_resolve defined members reference refers unresolved
-  written_resolves defined (as_entity other name resolves is_entity no_common) reference refers unresolved = resolved defined other reference name resolves refers unresolved
-  written_resolves defined (as_common other name body resolves is_common written) reference refers unresolved = resolved defined other reference name resolves refers unresolved
+  written_resolves defined (as_entity other name resolves is_entity no_common) reference refers unresolved =
+      resolved defined other reference name resolves refers unresolved
+  written_resolves defined (as_common other name body resolves is_common written) reference refers unresolved =
+      resolved defined other reference name resolves refers unresolved
   written_resolves defined (as_extension name) reference refers unresolved = refers
 
   -- the same of attributes
-  members_resolve : (defined : Defined) {members : _} {fields : _} → MembersWrittenOut defined members fields → (reference : Reference) → MembersRefer members reference → ¬ IsUnresolved defined reference
+  members_resolve : (defined : Defined) {members : _} {fields : _} → MembersWrittenOut defined members fields
+      → (reference : Reference) → MembersRefer members reference → ¬ IsUnresolved defined reference
   members_resolve defined as_no_member reference refers unresolved = refers
   members_resolve defined (as_member first rest) reference refers unresolved =
-      ⊎_elim (λ here. written_resolves defined first reference here unresolved) (λ later. members_resolve defined rest reference later unresolved) refers
+      ⊎_elim (λ here. written_resolves defined first reference here unresolved)
+      (λ later. members_resolve defined rest reference later unresolved) refers
 
 -- what is written out as a record type, where no common types are declared, is written out as nothing else
-written_as_record : (declared : Declared) {expr : Expr} {ty ty' : Ty} → WrittenOut (defined_by declared) expr ty → IsRecordType ty → WrittenOut (defined_by declared) expr ty' → IsRecordType ty'
+written_as_record : (declared : Declared) {expr : Expr} {ty ty' : Ty} → WrittenOut (defined_by declared) expr ty
+    → IsRecordType ty → WrittenOut (defined_by declared) expr ty' → IsRecordType ty'
 written_as_record declared as_text is_record other = absurd is_record
 written_as_record declared as_long is_record other = absurd is_record
 written_as_record declared as_truth is_record other = absurd is_record
 written_as_record declared (as_set element) is_record other = absurd is_record
 written_as_record declared (as_record members) is_record (as_record others) = tt
 written_as_record declared (as_entity reference name resolves is_entity no_common) is_record other = absurd is_record
-written_as_record declared (as_common reference name body resolves is_common written) is_record other = absurd (omega (arith, is_common.1.1))
+written_as_record declared (as_common reference name body resolves is_common written) is_record other =
+    absurd (omega (arith, is_common.1.1))
 written_as_record declared (as_extension name) is_record other = absurd is_record
 
 -- what holds of each item holds of one that stands in the list
@@ -68,7 +77,9 @@ of_contained P (first ∷ rest) x all (zero, below, is) = subst P is all.0
 of_contained P (first ∷ rest) x all (suc k, below, is) = of_contained P rest x all.1 (k, omega (arith, below), is)
 
 -- each declaration has an entity type that fits it
-fit_of : (defined : Defined) (declared : Declared) (entries : Types) (entity : PlainName × EntityBody) → HoldsInTurn (IsBuilt defined) declared entries → Contains declared entity → (entry : EntityType × ValidatorEntityType) × IsBuilt defined entity entry
+fit_of : (defined : Defined) (declared : Declared) (entries : Types) (entity : PlainName × EntityBody)
+    → HoldsInTurn (IsBuilt defined) declared entries → Contains declared entity
+    → (entry : EntityType × ValidatorEntityType) × IsBuilt defined entity entry
 fit_of defined [] entries entity each among = absurd (omega (arith, among.1))
 fit_of defined (first ∷ declared) [] entity each among = absurd each
 fit_of defined (first ∷ declared) (entry ∷ entries) entity each (zero, below, is) =
@@ -77,11 +88,18 @@ fit_of defined (first ∷ declared) (entry ∷ entries) entity each (suc k, belo
     fit_of defined declared entries entity each.1 (k, omega (arith, below), is)
 
 -- the refusal of a declaration's shape is a fault of all declarations, or memory was wanting
-fault_of_shape : (declared : Declared) (name : PlainName) (parents : List Reference) (shape : Expr) (tags : Option Expr) (fault : Fault) → Contains declared (name, standard parents shape tags) → IsBodyFault (defined_by declared) name (standard parents shape tags) fault → (fault ≡ want_of_memory) ⊎ IsEntityFault declared fault
+fault_of_shape : (declared : Declared) (name : PlainName) (parents : List Reference) (shape : Expr) (tags : Option Expr)
+    (fault : Fault) → Contains declared (name, standard parents shape tags)
+    → IsBodyFault (defined_by declared) name (standard parents shape tags) fault → (fault ≡ want_of_memory)
+    ⊎ IsEntityFault declared fault
 fault_of_shape declared name parents shape tags open_record among at_fault =
     inr (shape, ((name, standard parents shape tags), among, inl refl), at_fault)
 fault_of_shape declared name parents shape tags (type_not_defined references) among at_fault =
-    inr (at_fault.0, λ reference listed. let found = at_fault.1 reference listed in (shape, ((name, standard parents shape tags), among, inl refl), found.0, found.1))
+    inr (
+      at_fault.0,
+      λ reference listed. let found = at_fault.1 reference listed in
+          (shape, ((name, standard parents shape tags), among, inl refl), found.0, found.1),
+    )
 fault_of_shape declared name parents shape tags (shape_not_record other) among at_fault =
     let P : PlainName → Type 0 = λ each. Contains declared (each, standard parents shape tags) in
     inr (parents, shape, tags, subst P (sym at_fault.0) among, at_fault.1)
@@ -89,13 +107,18 @@ fault_of_shape declared name parents shape tags want_of_memory among at_fault = 
 fault_of_shape declared name parents shape tags _ among at_fault = absurd at_fault
 
 -- the refusal of a declaration is a fault of all declarations, or memory was wanting
-pub fault_of_declaration : (declared : Declared) (name : PlainName) (body : EntityBody) (fault : Fault) → Contains declared (name, body) → IsBodyFault (defined_by declared) name body fault → (fault ≡ want_of_memory) ⊎ IsEntityFault declared fault
-fault_of_declaration declared name (standard parents shape tags) fault among at_fault = fault_of_shape declared name parents shape tags fault among at_fault
+pub fault_of_declaration : (declared : Declared) (name : PlainName) (body : EntityBody) (fault : Fault)
+    → Contains declared (name, body) → IsBodyFault (defined_by declared) name body fault → (fault ≡ want_of_memory)
+    ⊎ IsEntityFault declared fault
+fault_of_declaration declared name (standard parents shape tags) fault among at_fault =
+    fault_of_shape declared name parents shape tags fault among at_fault
 fault_of_declaration declared name (enumerated ids) fault among at_fault = absurd at_fault
 fault_of_declaration declared name (external parents) fault among at_fault = absurd at_fault
 
 -- the refusal of a name is a fault of all declarations, or memory was wanting
-pub fault_of_name : (declared : Declared) (name : PlainName) (body : EntityBody) (fault : Fault) → Contains declared (name, body) → (fault ≡ want_of_memory) ⊎ ((fault ≡ action_entity_type name) × IsActionType name) → (fault ≡ want_of_memory) ⊎ IsEntityFault declared fault
+pub fault_of_name : (declared : Declared) (name : PlainName) (body : EntityBody) (fault : Fault)
+    → Contains declared (name, body) → (fault ≡ want_of_memory)
+    ⊎ ((fault ≡ action_entity_type name) × IsActionType name) → (fault ≡ want_of_memory) ⊎ IsEntityFault declared fault
 fault_of_name declared name body fault among refused =
     let P : Fault → Type 0 = IsEntityFault declared in
     ⊎_elim inl (λ action. inr (subst P (sym action.0) (body, among, action.1))) refused
@@ -105,7 +128,8 @@ no_expr : (expr : Expr) → ¬ (None ≡ Some expr)
 no_expr expr wrong = cc
 
 -- the type that the expression of tags is written out as
-written_tags : (defined : Defined) (tags : Option Expr) (ty : Option Ty) (expr : Expr) → AreDeclaredTags defined tags ty → tags ≡ Some expr → (ty : Ty) × WrittenOut defined expr ty
+written_tags : (defined : Defined) (tags : Option Expr) (ty : Option Ty) (expr : Expr) → AreDeclaredTags defined tags ty
+    → tags ≡ Some expr → (ty : Ty) × WrittenOut defined expr ty
 written_tags defined (Some openness) (Some ty) expr fits is =
     let P : Option Expr → Type 0 = λ each. AreDeclaredTags defined each (Some ty) in (ty, subst P is fits)
 written_tags defined (Some openness) None expr fits is = absurd fits
@@ -113,7 +137,8 @@ written_tags defined None (Some ty) expr fits is = absurd fits
 written_tags defined None None expr fits is = absurd (no_expr expr is)
 
 -- the type that a counted expression of a fitting declaration is written out as
-written_counted : (defined : Defined) (body : EntityBody) (kind : EntityTypeKind) (expr : Expr) → IsDeclaredKind defined body kind → CountsInEntity body expr → (ty : Ty) × WrittenOut defined expr ty
+written_counted : (defined : Defined) (body : EntityBody) (kind : EntityTypeKind) (expr : Expr)
+    → IsDeclaredKind defined body kind → CountsInEntity body expr → (ty : Ty) × WrittenOut defined expr ty
 written_counted defined (standard parents shape tags) (standard_kind fields openness ty) expr fits counts =
     let P : Expr → Type 0 = λ each. (ty : Ty) × WrittenOut defined each ty in
     ⊎_elim (λ is. subst P is (_, fits.0)) (λ is. written_tags defined tags ty expr fits.2 is) counts
@@ -123,13 +148,17 @@ written_counted defined (enumerated ids) kind expr fits counts = absurd counts
 written_counted defined (external parents) kind expr fits counts = absurd counts
 
 -- the shape of a fitting declaration is written out as a record type
-written_shape : (defined : Defined) (parents : List Reference) (shape : Expr) (tags : Option Expr) (kind : EntityTypeKind) → IsDeclaredKind defined (standard parents shape tags) kind → (ty : Ty) × WrittenOut defined shape ty × IsRecordType ty
+written_shape : (defined : Defined) (parents : List Reference) (shape : Expr) (tags : Option Expr)
+    (kind : EntityTypeKind) → IsDeclaredKind defined (standard parents shape tags) kind → (ty : Ty)
+    × WrittenOut defined shape ty × IsRecordType ty
 written_shape defined parents shape tags (standard_kind fields openness ty) fits = (record_of fields ClosedAttributes, fits.0, tt)
 written_shape defined parents shape tags (enumerated_kind choices) fits = absurd fits
 written_shape defined parents shape tags external_kind fits = absurd fits
 
 -- where each declaration has an entity type that fits it and is sound, nothing is at fault
-pub nothing_at_fault : (declared : Declared) (entries : Types) → HoldsInTurn (IsBuilt (defined_by declared)) declared entries → AllByRecursion IsSound declared → (fault : Fault) → ¬ IsEntityFault declared fault
+pub nothing_at_fault : (declared : Declared) (entries : Types)
+    → HoldsInTurn (IsBuilt (defined_by declared)) declared entries → AllByRecursion IsSound declared → (fault : Fault)
+    → ¬ IsEntityFault declared fault
 nothing_at_fault declared entries each sound open_record at_fault =
     let counted = at_fault.1 in
     (of_contained IsSound declared counted.0 sound counted.1).closed at_fault.0 counted.2 at_fault.2

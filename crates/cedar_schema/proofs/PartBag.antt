@@ -23,7 +23,8 @@ abbrev pub declarations_here : Entries → Bag
 declarations_here = entity_declarations RawName (raw_reference None) None
 
 -- a definition of the part declares entity types alone
-pub part_bag : (definition : NamespaceDefinition RawName) → IsInPart definition → raw_declarations None definition ≡ declarations_here definition.entity_types.entries
+pub part_bag : (definition : NamespaceDefinition RawName) → IsInPart definition
+    → raw_declarations None definition ≡ declarations_here definition.entity_types.entries
 part_bag definition part =
     (λ i. common_declarations RawName (raw_reference None) None (part.no_common_types i)
     ++ declarations_here definition.entity_types.entries
@@ -46,13 +47,15 @@ just_entities [] = refl
 just_entities (entry ∷ rest) = ap (λ others. (name_here entry.0, raw_entity_body None entry.1) ∷ others) (just_entities rest)
 
 -- the entity types that references can name are those that are declared
-pub same_entities : (entries : Entries) (extensions : Extensions) → (defined_names (declarations_here entries) extensions).entities ≡ (defined_by (declared_by_entries entries)).entities
+pub same_entities : (entries : Entries) (extensions : Extensions)
+    → (defined_names (declarations_here entries) extensions).entities ≡ (defined_by (declared_by_entries entries)).entities
 same_entities entries extensions =
     (λ i. map (λ it. it.0) (just_entities entries i) ++ map (λ uid. uid.ty) (map (λ it. it.0) (no_actions entries i)))
     ∙ append-nil (map (λ it. it.0) (declared_by_entries entries))
 
 -- each declaration is of an entity type
-pub is_entity_declaration : (entries : Entries) (it : Declaration) → Contains (declarations_here entries) it → (entity : PlainName × EntityBody) × Contains (declared_by_entries entries) entity × (it.body ≡ entity_type entity.1)
+pub is_entity_declaration : (entries : Entries) (it : Declaration) → Contains (declarations_here entries) it
+    → (entity : PlainName × EntityBody) × Contains (declared_by_entries entries) entity × (it.body ≡ entity_type entity.1)
 is_entity_declaration [] it among = absurd (omega (arith, among.1))
 is_entity_declaration (entry ∷ rest) it (zero, below, is) =
     (_, (0, omega arith, refl), ap (λ each. each.body) (sym is))
@@ -61,7 +64,8 @@ is_entity_declaration (entry ∷ rest) it (suc k, below, is) =
     (found.0, Contains-cons _ (declared_by_entries rest) found.0 (inr found.1), found.2)
 
 -- no action is declared
-pub no_action_declared : (entries : Entries) (it : Declaration) (body : ActionBody) → Contains (declarations_here entries) it → ¬ (it.body ≡ action body)
+pub no_action_declared : (entries : Entries) (it : Declaration) (body : ActionBody)
+    → Contains (declarations_here entries) it → ¬ (it.body ≡ action body)
 no_action_declared entries it body among is =
     let found = is_entity_declaration entries it among in
     unlike _ _ (sym found.2 ∙ is) where
@@ -69,14 +73,16 @@ no_action_declared entries it body among is =
       unlike entity body wrong = cc
 
 -- an expression that counts does so in what is declared of an entity type
-pub counted_in_entity : (entries : Entries) (expr : Expr) → IsCounted (declarations_here entries) expr → IsCountedHere (declared_by_entries entries) expr
+pub counted_in_entity : (entries : Entries) (expr : Expr) → IsCounted (declarations_here entries) expr
+    → IsCountedHere (declared_by_entries entries) expr
 counted_in_entity entries expr counted =
     let found = is_entity_declaration entries counted.0 counted.1 in
     let P : Body → Type 0 = λ body. CountsIn body expr in
     (found.0, found.1, subst P found.2 counted.2)
 
 -- an expression that counts in what is declared of an entity type counts
-pub counted_of_entity : (entries : Entries) (expr : Expr) → IsCountedHere (declared_by_entries entries) expr → IsCounted (declarations_here entries) expr
+pub counted_of_entity : (entries : Entries) (expr : Expr) → IsCountedHere (declared_by_entries entries) expr
+    → IsCounted (declarations_here entries) expr
 counted_of_entity [] expr counted = absurd (omega (arith, counted.1.1))
 counted_of_entity (entry ∷ rest) expr (entity, (zero, below, is), counts) =
     let P : PlainName × EntityBody → Type 0 = λ each. CountsInEntity each.1 expr in

@@ -25,21 +25,29 @@ use Rattle.cedar_schema.specs.ValidatorSchema.{schema_of, schema_entries}
 use Rattle.cedar_schema.specs.declared.schema.ValidatorSchema.{ValidatorSchema}
 
 -- a fault of the entity types is one of the bag
-pub part_fault : (definition : NamespaceDefinition RawName) (extensions : Extensions) → IsInPart definition → (fault : Fault) → (fault ≡ want_of_memory) ⊎ IsEntityFault (declared_by definition) fault → (fault ≡ want_of_memory) ⊎ IsFault (raw_declarations None definition) extensions fault
+pub part_fault : (definition : NamespaceDefinition RawName) (extensions : Extensions) → IsInPart definition
+    → (fault : Fault) → (fault ≡ want_of_memory) ⊎ IsEntityFault (declared_by definition) fault
+    → (fault ≡ want_of_memory) ⊎ IsFault (raw_declarations None definition) extensions fault
 part_fault definition extensions part fault refused =
     let P : Bag → Type 0 = λ bag. IsFault bag extensions fault in
-    ⊎_elim inl (λ at_fault. inr (subst P (sym (part_bag definition part)) (fault_of_bag definition.entity_types.entries extensions part.plain_standard fault at_fault))) refused
+    ⊎_elim inl (λ at_fault. inr (subst P (sym (part_bag definition part))
+    (fault_of_bag definition.entity_types.entries extensions part.plain_standard fault at_fault))) refused
 
-module _ (definition : NamespaceDefinition RawName) (extensions : Extensions) (schema : ValidatorSchema) (part : IsInPart definition) (fit : TypeNamesFit (extension_types extensions)) (each : HoldsInTurn (IsBuilt (defined_by (declared_by definition))) (declared_by definition) (schema_entries schema)) (in_order : IsStrictlySortedBy name_cmp (map (λ entity. entity.0) (declared_by definition))) where
+module _ (definition : NamespaceDefinition RawName) (extensions : Extensions) (schema : ValidatorSchema)
+    (part : IsInPart definition) (fit : TypeNamesFit (extension_types extensions))
+    (each : HoldsInTurn (IsBuilt (defined_by (declared_by definition))) (declared_by definition)
+    (schema_entries schema)) (in_order : IsStrictlySortedBy name_cmp (map (λ entity. entity.0) (declared_by definition))) where
   -- where each declaration has an entity type that fits it and is sound, the bag isn't ill-formed
   pub part_well_formed : AllByRecursion IsSound (declared_by definition) → ¬ IsIllFormed (raw_declarations None definition) extensions
   part_well_formed sound (fault, at_fault) =
       let P : Bag → Type 0 = λ bag. IsFault bag extensions fault in
       nothing_at_fault (declared_by definition) (schema_entries schema) each sound fault
-      (entity_fault_of definition.entity_types.entries extensions part.plain_standard in_order fit fault (subst P (part_bag definition part) at_fault))
+      (entity_fault_of definition.entity_types.entries extensions part.plain_standard in_order fit fault
+      (subst P (part_bag definition part) at_fault))
 
   -- where each declaration has an entity type that fits it, the schema is the one that the bag declares
   pub part_declared : IsDeclaredSchema (raw_declarations None definition) extensions (schema_of schema)
   part_declared =
       let P : Bag → Type 0 = λ bag. IsDeclaredSchema bag extensions (schema_of schema) in
-      subst P (sym (part_bag definition part)) (schema_of_part definition.entity_types.entries extensions schema part.plain_standard in_order each)
+      subst P (sym (part_bag definition part)) (schema_of_part definition.entity_types.entries extensions schema
+      part.plain_standard in_order each)

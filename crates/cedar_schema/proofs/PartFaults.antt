@@ -37,7 +37,8 @@ abbrev pub ArePlain : Entries → Type 0
 ArePlain entries = AllByRecursion IsPlainStandard (map (λ entry. raw_entity_body None entry.1) entries)
 
 -- each of the plain declarations is
-pub plain_of : (entries : Entries) → ArePlain entries → (entity : PlainName × EntityBody) → Contains (declared_by_entries entries) entity → IsPlainStandard entity.1
+pub plain_of : (entries : Entries) → ArePlain entries → (entity : PlainName × EntityBody)
+    → Contains (declared_by_entries entries) entity → IsPlainStandard entity.1
 plain_of [] plain entity among = absurd (omega (arith, among.1))
 plain_of (entry ∷ rest) plain entity (zero, below, is) =
     let P : PlainName × EntityBody → Type 0 = λ each. IsPlainStandard each.1 in subst P is plain.0
@@ -54,21 +55,25 @@ alone_in (enumerated choices) expr plain counts = absurd plain
 alone_in (external parents) expr plain counts = absurd plain
 
 -- what counts in plain declarations names entity types alone
-pub counted_alone : (entries : Entries) → ArePlain entries → (expr : Expr) → IsCountedHere (declared_by_entries entries) expr → NamesEntitiesAlone expr
+pub counted_alone : (entries : Entries) → ArePlain entries → (expr : Expr)
+    → IsCountedHere (declared_by_entries entries) expr → NamesEntitiesAlone expr
 counted_alone entries plain expr counted = alone_in counted.0.1 expr (plain_of entries plain counted.0 counted.1) counted.2
 
 -- an entity type is declared in the bag where it is among the declarations
-declared_to : (entries : Entries) (entity : PlainName × EntityBody) → Contains (declared_entities (declarations_here entries)) entity → Contains (declared_by_entries entries) entity
+declared_to : (entries : Entries) (entity : PlainName × EntityBody)
+    → Contains (declared_entities (declarations_here entries)) entity → Contains (declared_by_entries entries) entity
 declared_to entries entity among =
     let P : Declared → Type 0 = λ declared. Contains declared entity in subst P (just_entities entries) among
 
 -- an entity type among the declarations is declared in the bag
-pub declared_from : (entries : Entries) (entity : PlainName × EntityBody) → Contains (declared_by_entries entries) entity → Contains (declared_entities (declarations_here entries)) entity
+pub declared_from : (entries : Entries) (entity : PlainName × EntityBody)
+    → Contains (declared_by_entries entries) entity → Contains (declared_entities (declarations_here entries)) entity
 declared_from entries entity among =
     let P : Declared → Type 0 = λ declared. Contains declared entity in subst P (sym (just_entities entries)) among
 
 -- no action stands in the bag
-no_action_among : {A : Type 0} (f : PlainUid × ActionBody → A) (entries : Entries) (it : A) → ¬ Contains (map f (declared_actions (declarations_here entries))) it
+no_action_among : {A : Type 0} (f : PlainUid × ActionBody → A) (entries : Entries) (it : A)
+    → ¬ Contains (map f (declared_actions (declarations_here entries))) it
 no_action_among f entries it among =
     let P : List (PlainUid × ActionBody) → Type 0 = λ actions. Contains (map f actions) it in
     omega (arith, (subst P (no_actions entries) among).1)
@@ -80,7 +85,8 @@ no_action_in entries it among =
     omega (arith, (subst P (no_actions entries) among).1)
 
 -- the names of the entity types have no path
-no_path_here : (entries : Entries) (name : PlainName) → Contains (map (λ entity. entity.0) (declared_by_entries entries)) name → IsUnqualified name
+no_path_here : (entries : Entries) (name : PlainName) → Contains
+    (map (λ entity. entity.0) (declared_by_entries entries)) name → IsUnqualified name
 no_path_here [] name among = absurd (omega (arith, among.1))
 no_path_here (entry ∷ rest) name (zero, below, is) = ap (λ each. each.path) (sym is)
 no_path_here (entry ∷ rest) name (suc k, below, is) = no_path_here rest name (k, omega (arith, below), is)
@@ -97,28 +103,47 @@ no_place entries plain reference placed =
     no_parents found.0.1 reference (plain_of entries plain found.0 found.1) (subst P found.2 placed.2)
 
 -- what is no record type where the bag's names are defined is none where the entity types are
-no_record_like : (entries : Entries) (extensions : Extensions) (shape : Expr) → NamesEntitiesAlone shape → IsNoRecord (defined_names (declarations_here entries) extensions) shape → IsNoRecord (defined_by (declared_by_entries entries)) shape
-no_record_like entries extensions shape alone none =
-    (none.0, written_like (defined_names (declarations_here entries) extensions) (defined_by (declared_by_entries entries)) (same_entities entries extensions) alone none.1, none.2)
+no_record_like : (entries : Entries) (extensions : Extensions) (shape : Expr) → NamesEntitiesAlone shape
+    → IsNoRecord (defined_names (declarations_here entries) extensions) shape
+    → IsNoRecord (defined_by (declared_by_entries entries)) shape
+no_record_like entries extensions shape alone none = (
+  none.0,
+  written_like (defined_names (declarations_here entries) extensions)
+      (defined_by (declared_by_entries entries)) (same_entities entries extensions) alone none.1,
+  none.2,
+)
 
 -- the other way round
-no_record_back : (entries : Entries) (extensions : Extensions) (shape : Expr) → NamesEntitiesAlone shape → IsNoRecord (defined_by (declared_by_entries entries)) shape → IsNoRecord (defined_names (declarations_here entries) extensions) shape
-no_record_back entries extensions shape alone none =
-    (none.0, written_like (defined_by (declared_by_entries entries)) (defined_names (declarations_here entries) extensions) (sym (same_entities entries extensions)) alone none.1, none.2)
+no_record_back : (entries : Entries) (extensions : Extensions) (shape : Expr) → NamesEntitiesAlone shape
+    → IsNoRecord (defined_by (declared_by_entries entries)) shape
+    → IsNoRecord (defined_names (declarations_here entries) extensions) shape
+no_record_back entries extensions shape alone none = (
+  none.0,
+  written_like (defined_by (declared_by_entries entries))
+      (defined_names (declarations_here entries) extensions) (sym (same_entities entries extensions)) alone none.1,
+  none.2,
+)
 
 -- the shape of a plain declaration names entity types alone
-shape_alone : (entries : Entries) → ArePlain entries → (name : PlainName) (parents : List Reference) (shape : Expr) (tags : Option Expr) → Contains (declared_by_entries entries) (name, standard parents shape tags) → NamesEntitiesAlone shape
+shape_alone : (entries : Entries) → ArePlain entries → (name : PlainName) (parents : List Reference) (shape : Expr)
+    (tags : Option Expr) → Contains (declared_by_entries entries) (name, standard parents shape tags) → NamesEntitiesAlone shape
 shape_alone entries plain name parents shape tags among = (plain_of entries plain (name, standard parents shape tags) among).2
 
 -- no common type leads to another
-no_common_step : (entries : Entries) (extensions : Extensions) (name other : PlainName) → ¬ RefersToCommon (defined_names (declarations_here entries) extensions) name other
+no_common_step : (entries : Entries) (extensions : Extensions) (name other : PlainName)
+    → ¬ RefersToCommon (defined_names (declarations_here entries) extensions) name other
 no_common_step entries extensions name other (definition, reference, body, among, refers, resolves, is_common) =
     let P : List (PlainName × Expr) → Type 0 = λ common. Contains common (name, definition) in
-    omega (arith, (subst P (no_common entries) (refers_declared (declarations_here entries) extensions name definition reference among refers)).1)
+    omega (
+      arith,
+      (subst P (no_common entries) (refers_declared
+          (declarations_here entries) extensions name definition reference among refers)).1,
+    )
 
 module _ (entries : Entries) (extensions : Extensions) (plain : ArePlain entries) where
   -- a fault of the entity types is one of the bag
-  pub fault_of_bag : (fault : Fault) → IsEntityFault (declared_by_entries entries) fault → IsFault (declarations_here entries) extensions fault
+  pub fault_of_bag : (fault : Fault) → IsEntityFault (declared_by_entries entries) fault
+      → IsFault (declarations_here entries) extensions fault
   fault_of_bag open_record at_fault = (at_fault.0, counted_of_entity entries at_fault.0 at_fault.1, at_fault.2)
   fault_of_bag (type_not_defined references) at_fault = (
     at_fault.0,
@@ -126,7 +151,8 @@ module _ (entries : Entries) (extensions : Extensions) (plain : ArePlain entries
         (let found = at_fault.1 reference listed in
         let alone = refers_to_entity found.0 reference (counted_alone entries plain found.0 found.1) found.2 in (
           inl (found.0, counted_of_entity entries found.0 found.1, found.2),
-          unresolved_like (defined_by (declared_by_entries entries)) (defined_names (declarations_here entries) extensions) (sym (same_entities entries extensions)) reference alone found.3,
+          unresolved_like (defined_by (declared_by_entries entries))
+              (defined_names (declarations_here entries) extensions) (sym (same_entities entries extensions)) reference alone found.3,
         )),
   )
   fault_of_bag (action_entity_type name) at_fault = (at_fault.0, declared_from entries (name, at_fault.0) at_fault.1, at_fault.2)
@@ -149,9 +175,11 @@ some_first : {A : Type 0} (items : List A) → items ≢ [] → (item : A) × Co
 some_first [] some = absurd (some refl)
 some_first (first ∷ rest) some = (first, (0, omega arith, refl))
 
-module _ (entries : Entries) (extensions : Extensions) (plain : ArePlain entries) (ascending : AreAscending entries) (fit : TypeNamesFit (extension_types extensions)) where
+module _ (entries : Entries) (extensions : Extensions) (plain : ArePlain entries) (ascending : AreAscending entries)
+    (fit : TypeNamesFit (extension_types extensions)) where
   -- no fault of the bag is in its types but those of entity types
-  pub entity_fault_of : (fault : Fault) → IsFault (declarations_here entries) extensions fault → IsEntityFault (declared_by_entries entries) fault
+  pub entity_fault_of : (fault : Fault) → IsFault (declarations_here entries) extensions fault
+      → IsEntityFault (declared_by_entries entries) fault
   entity_fault_of (action_attributes ids) at_fault =
       let found = some_first ids at_fault.0 in
       let has = at_fault.3 found.0 found.1 in
@@ -168,8 +196,13 @@ module _ (entries : Entries) (extensions : Extensions) (plain : ArePlain entries
         ⊎_elim
         (λ counts.
         (let counted = counted_in_entity entries counts.0 counts.1 in
-        let alone = refers_to_entity counts.0 reference (counted_alone entries plain counts.0 counted) counts.2 in
-        (counts.0, counted, counts.2, unresolved_like (defined_names (declarations_here entries) extensions) (defined_by (declared_by_entries entries)) (same_entities entries extensions) reference alone found.1)))
+        let alone = refers_to_entity counts.0 reference (counted_alone entries plain counts.0 counted) counts.2 in (
+          counts.0,
+          counted,
+          counts.2,
+          unresolved_like (defined_names (declarations_here entries) extensions)
+              (defined_by (declared_by_entries entries)) (same_entities entries extensions) reference alone found.1,
+        )))
         (λ placed. absurd (no_place entries plain reference placed))
         found.0),
   )
@@ -183,7 +216,8 @@ module _ (entries : Entries) (extensions : Extensions) (plain : ArePlain entries
   entity_fault_of (action_shadowing uid qualified) at_fault = absurd (no_action_among (λ it. it.0) entries uid at_fault.0)
   entity_fault_of (duplicate_entity_type name) at_fault =
       let P : Declared → Type 0 = λ declared. Twice (map (λ it. it.0) declared) name in
-      absurd (Twice-ascending name_cmp name_cmp-total (map (λ entity. entity.0) (declared_by_entries entries)) name ascending (subst P (just_entities entries) at_fault))
+      absurd (Twice-ascending name_cmp name_cmp-total (map (λ entity. entity.0) (declared_by_entries entries)) name
+      ascending (subst P (just_entities entries) at_fault))
   entity_fault_of (duplicate_common_type name) at_fault =
       let P : List (PlainName × Expr) → Type 0 = λ common. Twice (map (λ it. it.0) (common ++ built_ins extensions)) name in
       absurd (built_ins_once extensions fit name (subst P (no_common entries) at_fault))

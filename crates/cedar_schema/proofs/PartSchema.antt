@@ -36,10 +36,20 @@ use Rattle.cedar_entities.specs.declared.entity_type.ValidatorEntityType.{Valida
 
 -- an entity type of the map, as plain data under its name
 abbrev pub plain_entry : EntityType × ValidatorEntityType → PlainName × SchemaEntityType
-plain_entry entry = (type_name entry.0, record { name = (entity_type_of entry.1).name; kind = (entity_type_of entry.1).kind; descendants = descendant_names entry.1 })
+plain_entry entry = (
+  type_name entry.0,
+  record {
+    name = (entity_type_of entry.1).name;
+    kind =
+        (entity_type_of entry.1).kind;
+    descendants = descendant_names entry.1;
+  },
+)
 
 -- each entity type of the map fits a declaration
-declaration_of : (defined : Defined) (declared : Declared) (entries : Types) (entry : EntityType × ValidatorEntityType) → HoldsInTurn (IsBuilt defined) declared entries → Contains entries entry → (entity : PlainName × EntityBody) × Contains declared entity × IsBuilt defined entity entry
+declaration_of : (defined : Defined) (declared : Declared) (entries : Types) (entry : EntityType × ValidatorEntityType)
+    → HoldsInTurn (IsBuilt defined) declared entries → Contains entries entry → (entity : PlainName × EntityBody)
+    × Contains declared entity × IsBuilt defined entity entry
 declaration_of defined [] [] entry each among = absurd (omega (arith, among.1))
 declaration_of defined [] (other ∷ entries) entry each among = absurd each
 declaration_of defined (entity ∷ declared) [] entry each among = absurd each
@@ -51,7 +61,8 @@ declaration_of defined (entity ∷ declared) (first ∷ entries) entry each (suc
     (found.0, Contains-cons entity declared found.0 (inr found.1), found.2)
 
 -- the kind that fits a plain declaration does so by the entity types alone
-kind_like : (defined other : Defined) → defined.entities ≡ other.entities → (body : EntityBody) (kind : EntityTypeKind) → IsPlainStandard body → IsDeclaredKind defined body kind → IsDeclaredKind other body kind
+kind_like : (defined other : Defined) → defined.entities ≡ other.entities → (body : EntityBody) (kind : EntityTypeKind)
+    → IsPlainStandard body → IsDeclaredKind defined body kind → IsDeclaredKind other body kind
 kind_like defined other same (standard parents shape tags) (standard_kind fields openness ty) plain fits =
     (written_like defined other same plain.2 fits.0, fits.1, tags_like tags ty plain.1 fits.2) where
       tags_like : (tags : Option Expr) (ty : Option Ty) → tags ≡ None → AreDeclaredTags defined tags ty → AreDeclaredTags other tags ty
@@ -72,16 +83,22 @@ module _ (entries : Entries) (extensions : Extensions) (plain : ArePlain entries
       no_parents step.1.0 step.1.1 (plain_of entries plain (lower, step.1.0) (subst P (just_entities entries) step.1.2)) step.1.3
 
   -- an entity type that fits its declaration is the declared one
-  declared_entry : (entity : PlainName × EntityBody) (entry : EntityType × ValidatorEntityType) → Contains (declared_by_entries entries) entity → IsBuilt (defined_by (declared_by_entries entries)) entity entry → IsDeclaredEntityType (declarations_here entries) extensions (plain_entry entry)
+  declared_entry : (entity : PlainName × EntityBody) (entry : EntityType × ValidatorEntityType)
+      → Contains (declared_by_entries entries) entity → IsBuilt (defined_by (declared_by_entries entries)) entity entry
+      → IsDeclaredEntityType (declarations_here entries) extensions (plain_entry entry)
   declared_entry entity entry among fits =
       let P : PlainName → Type 0 = λ name. Contains (declared_entities (declarations_here entries)) (name, entity.1) in
-      let Q : List PlainName → Type 0 = λ names. (lower : PlainName) → Contains names lower ↔ IsDescendant (declarations_here entries) extensions lower (type_name entry.0) in
+      let Q : List PlainName → Type 0 = λ names. (lower : PlainName) → Contains names lower
+      ↔ IsDescendant (declarations_here entries) extensions lower (type_name entry.0) in
       record {
         body = entity.1;
         declared = subst P (sym fits.key) (declared_from entries entity among);
         name = fits.name ∙ sym fits.key;
-        kind = kind_like (defined_by (declared_by_entries entries)) (defined_names (declarations_here entries) extensions) (sym (same_entities entries extensions)) entity.1 (entity_type_of entry.1).kind (plain_of entries plain entity among) fits.kind;
-        descendants = subst Q (sym fits.no_descendants) (λ lower. (λ none. absurd (omega (arith, none.1)), λ chain. absurd (no_descendant lower (type_name entry.0) chain)));
+        kind = kind_like (defined_by (declared_by_entries entries))
+            (defined_names (declarations_here entries) extensions) (sym (same_entities entries extensions)) entity.1
+            (entity_type_of entry.1).kind (plain_of entries plain entity among) fits.kind;
+        descendants = subst Q (sym fits.no_descendants) (λ lower.
+            (λ none. absurd (omega (arith, none.1)), λ chain. absurd (no_descendant lower (type_name entry.0) chain)));
       }
 
 -- the names of the entity types of the map, in order
@@ -89,16 +106,22 @@ names_of_types : (types : Types) → map (λ (it : PlainName × SchemaEntityType
 names_of_types types = map-map _ _ types ∙ sym (map-map _ _ types)
 
 -- where each declaration has an entity type that fits it, the schema is the declared one
-pub schema_of_part : (entries : Entries) (extensions : Extensions) (schema : ValidatorSchema) → ArePlain entries → AreAscending entries → HoldsInTurn (IsBuilt (defined_by (declared_by_entries entries))) (declared_by_entries entries) (schema_entries schema) → IsDeclaredSchema (declarations_here entries) extensions (schema_of schema)
+pub schema_of_part : (entries : Entries) (extensions : Extensions) (schema : ValidatorSchema) → ArePlain entries
+    → AreAscending entries → HoldsInTurn (IsBuilt (defined_by (declared_by_entries entries)))
+    (declared_by_entries entries) (schema_entries schema) → IsDeclaredSchema (declarations_here entries) extensions (schema_of schema)
 unfolding IsStrictlySortedBy
 schema_of_part entries extensions schema plain ascending each =
     let types = schema_entries schema in
     let declared = declared_by_entries entries in
-    let names : map (λ (it : PlainName × SchemaEntityType). it.0) (schema_entity_types schema) ≡ map (λ (entity : PlainName × EntityBody). entity.0) declared = names_of_types types ∙ AreBuilt-keys (defined_by declared) declared types each in
+    let names : map (λ (it : PlainName × SchemaEntityType). it.0) (schema_entity_types schema)
+    ≡ map (λ (entity : PlainName × EntityBody). entity.0) declared = names_of_types types
+    ∙ AreBuilt-keys (defined_by declared) declared types each in
     let P : List PlainName → Type 0 = IsStrictlySortedBy name_cmp in
     let Q : PlainName × SchemaEntityType → Type 0 = IsDeclaredEntityType (declarations_here entries) extensions in
-    let R : Declared → Type 0 = λ entities. (name : PlainName) → Contains (map (λ it. it.0) entities) name → Contains (map (λ (it : PlainName × SchemaEntityType). it.0) (schema_entity_types schema)) name in
-    let S : List PlainName → Type 0 = λ here. (name : PlainName) → Contains here name → Contains (map (λ (it : PlainName × SchemaEntityType). it.0) (schema_entity_types schema)) name in
+    let R : Declared → Type 0 = λ entities. (name : PlainName) → Contains (map (λ it. it.0) entities) name
+    → Contains (map (λ (it : PlainName × SchemaEntityType). it.0) (schema_entity_types schema)) name in
+    let S : List PlainName → Type 0 = λ here. (name : PlainName) → Contains here name
+    → Contains (map (λ (it : PlainName × SchemaEntityType). it.0) (schema_entity_types schema)) name in
     record {
       entity_types = λ it among.
           (let entry = Contains-preimage plain_entry types it among in

@@ -15,45 +15,54 @@ use Rattle.cedar_rules.specs.Ty.{Ty, Fields}
 use Rattle.cedar_declared.proofs.ResolutionLemmas.{names_no_common}
 
 -- where the entity types are the same, a reference to one names the same
-entity_like : (defined other : Defined) → defined.entities ≡ other.entities → (kind : ReferenceType) (name : PlainName) → IsEntity defined kind name → IsEntity other kind name
+entity_like : (defined other : Defined) → defined.entities ≡ other.entities → (kind : ReferenceType) (name : PlainName)
+    → IsEntity defined kind name → IsEntity other kind name
 entity_like defined other same kind name is_entity =
     let P : List PlainName → Type 0 = λ names. Contains names name in
     (is_entity.0, subst P same is_entity.1)
 
 -- where the entity types are the same, a name is defined for references to entity types in the one as in the other
-defined_like : (defined other : Defined) → defined.entities ≡ other.entities → (kind : ReferenceType) → kind ≡ Entity → (name : PlainName) → IsDefined defined kind name → IsDefined other kind name
+defined_like : (defined other : Defined) → defined.entities ≡ other.entities → (kind : ReferenceType) → kind ≡ Entity
+    → (name : PlainName) → IsDefined defined kind name → IsDefined other kind name
 defined_like defined other same kind is name found =
-    ⊎_elim (λ common. absurd (names_no_common defined kind name common.0 is common.1)) (λ is_entity. inr (entity_like defined other same kind name is_entity)) found
+    ⊎_elim (λ common. absurd (names_no_common defined kind name common.0 is common.1))
+    (λ is_entity. inr (entity_like defined other same kind name is_entity)) found
 
 -- a reference to an entity type resolves alike
-pub resolves_like : (defined other : Defined) → defined.entities ≡ other.entities → (reference : Reference) → reference.kind ≡ Entity → (name : PlainName) → ResolvesTo defined reference name → ResolvesTo other reference name
+pub resolves_like : (defined other : Defined) → defined.entities ≡ other.entities → (reference : Reference)
+    → reference.kind ≡ Entity → (name : PlainName) → ResolvesTo defined reference name → ResolvesTo other reference name
 resolves_like defined other same reference is name resolves =
     IsFirst-like (IsDefined defined reference.kind) (IsDefined other reference.kind)
     (defined_like defined other same reference.kind is) (defined_like other defined (sym same) reference.kind is)
     reference.possibilities name resolves
 
 -- a reference to an entity type is unresolved alike
-pub unresolved_like : (defined other : Defined) → defined.entities ≡ other.entities → (reference : Reference) → reference.kind ≡ Entity → IsUnresolved defined reference → IsUnresolved other reference
+pub unresolved_like : (defined other : Defined) → defined.entities ≡ other.entities → (reference : Reference)
+    → reference.kind ≡ Entity → IsUnresolved defined reference → IsUnresolved other reference
 unresolved_like defined other same reference is unresolved name among found =
     unresolved name among (defined_like other defined (sym same) reference.kind is name found)
 
 mutual
   -- an expression that names entity types alone is written out alike
-  pub written_like : (defined other : Defined) → defined.entities ≡ other.entities → {expr : Expr} {ty : Ty} → NamesEntitiesAlone expr → WrittenOut defined expr ty → WrittenOut other expr ty
+  pub written_like : (defined other : Defined) → defined.entities ≡ other.entities → {expr : Expr} {ty : Ty}
+      → NamesEntitiesAlone expr → WrittenOut defined expr ty → WrittenOut other expr ty
   written_like defined other same alone as_text = as_text
   written_like defined other same alone as_long = as_long
   written_like defined other same alone as_truth = as_truth
   written_like defined other same alone (as_set element) = as_set (written_like defined other same alone element)
   written_like defined other same alone (as_record members) = as_record (members_written_like defined other same alone members)
   written_like defined other same alone (as_entity reference name resolves is_entity none) =
-      as_entity reference name (resolves_like defined other same reference alone name resolves) (entity_like defined other same reference.kind name is_entity)
+      as_entity reference name (resolves_like defined other same reference alone name resolves)
+      (entity_like defined other same reference.kind name is_entity)
       (λ body common. names_no_common other reference.kind name body alone common)
   written_like defined other same alone (as_common reference name body resolves is_common written) =
       absurd (names_no_common defined reference.kind name body alone is_common)
   written_like defined other same alone (as_extension name) = absurd alone
 
   -- the same of the attributes of a record
-  members_written_like : (defined other : Defined) → defined.entities ≡ other.entities → {members : Members} {fields : Fields} → MembersNameEntitiesAlone members → MembersWrittenOut defined members fields → MembersWrittenOut other members fields
+  members_written_like : (defined other : Defined) → defined.entities ≡ other.entities
+      → {members : Members} {fields : Fields} → MembersNameEntitiesAlone members
+      → MembersWrittenOut defined members fields → MembersWrittenOut other members fields
   members_written_like defined other same alone as_no_member = as_no_member
   members_written_like defined other same alone (as_member first rest) =
       as_member (written_like defined other same alone.0 first) (members_written_like defined other same alone.1 rest)
@@ -71,7 +80,8 @@ mutual
   refers_to_entity (extension_expr name) reference alone refers = absurd refers
 
   -- the same of the attributes of a record
-  members_refer_to_entity : (members : Members) (reference : Reference) → MembersNameEntitiesAlone members → MembersRefer members reference → reference.kind ≡ Entity
+  members_refer_to_entity : (members : Members) (reference : Reference) → MembersNameEntitiesAlone members
+      → MembersRefer members reference → reference.kind ≡ Entity
   members_refer_to_entity no_member reference alone refers = absurd refers
   members_refer_to_entity (member name required expr rest) reference alone refers =
       ⊎_elim (λ here. refers_to_entity expr reference alone.0 here) (λ later. members_refer_to_entity rest reference alone.1 later) refers

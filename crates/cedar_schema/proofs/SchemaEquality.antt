@@ -27,7 +27,13 @@ same_entry p q = (name_eq.ghosts).eq p.0 q.0 && (entity_type_eq.ghosts).eq p.1 q
 entry-Same : (p q : EntityType × ValidatorEntityType) → Decides (same_entry p q) (SameEntityType (plain_entry p) (plain_entry q))
 entry-Same p q =
     Decides-like _
-    (λ both. record { key = both.0; name = ap (λ (it : PlainEntityType). it.name) both.1.0; kind = ap (λ (it : PlainEntityType). it.kind) both.1.0; descendants = both.1.1 })
+    (λ both. record {
+      key = both.0;
+      name = ap (λ (it : PlainEntityType). it.name) both.1.0;
+      kind =
+          ap (λ (it : PlainEntityType). it.kind) both.1.0;
+      descendants = both.1.1;
+    })
     (λ same. (same.key, ((λ i. record { name = same.name i; kind = same.kind i }), same.descendants)))
     (Decides-and _ _ (entity_type_eq-same p.0 q.0) (entity_types-Same p.1 q.1))
 

@@ -1,3 +1,4 @@
+-- Types that stand for no record type.
 use Rattle.std.proofs.Common.{◌≡◌, Bool, Some, None, refl, ap, sym, subst, ◌∙◌}
 use Rattle.cedar_declared.specs.WrittenOut.{IsRecordType}
 use Rattle.cedar_types.specs.Meaning.{ty_of, type_step, attribute_step, attributes_step, fields_of, attribute_of}
@@ -19,7 +20,8 @@ folded-out : (it : «Type») → ty_of it ≡ folded (out-Type it)
 folded-out it = fold_out-Type Ty (Bool × Ty) Fields type_step attribute_step attributes_step it
 
 -- a layer that is no record's stands for no record type
-no_record_layer : (it : «Type») → ((attrs : Attributes) (openness : OpenTag) → ¬ (it ≡ Record attrs openness)) → (part : layer.Type-F «Type» AttributeType Attributes) → out-Type it ≡ part → ¬ IsRecordType (folded part)
+no_record_layer : (it : «Type») → ((attrs : Attributes) (openness : OpenTag) → ¬ (it ≡ Record attrs openness))
+    → (part : layer.Type-F «Type» AttributeType Attributes) → out-Type it ≡ part → ¬ IsRecordType (folded part)
 no_record_layer it other layer.Never is holds = holds
 no_record_layer it other (layer.Bool known) is holds = holds
 no_record_layer it other layer.Long is holds = holds

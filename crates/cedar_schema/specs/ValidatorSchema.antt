@@ -19,7 +19,15 @@ entity_type_named schema name = get_by (λ key. name_cmp name (type_name key)) s
 -- the entity types of a schema, each under its name
 abbrev pub schema_entity_types : ValidatorSchema → List (PlainName × SchemaEntityType)
 schema_entity_types schema =
-    map (λ entry. (type_name entry.0, record { name = (entity_type_of entry.1).name; kind = (entity_type_of entry.1).kind; descendants = descendant_names entry.1 })) (schema_entries schema)
+    map (λ entry. (
+      type_name entry.0,
+      record {
+        name = (entity_type_of entry.1).name;
+        kind =
+            (entity_type_of entry.1).kind;
+        descendants = descendant_names entry.1;
+      },
+    )) (schema_entries schema)
 
 -- what a schema stands for; as yet none has an action
 abbrev pub schema_of : ValidatorSchema → PlainSchema

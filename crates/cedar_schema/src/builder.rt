@@ -98,7 +98,7 @@ fn entity_reference(
 
 /// The type that a written type stands for.
 #[cycle(write_out)]
-fn type_of(
+fn write_type(
     alloc: Global,
     ty: &json_schema::Type<RawName>,
     declarations: &Declarations,
@@ -111,14 +111,14 @@ fn type_of(
         IsExprFault (defined_in declarations.now) (raw_expr None ty.now) (fault_of error)) }
 {
     match ty {
-        json_schema::Type::Plain { ty, .. } => variant_of(alloc, ty, declarations),
+        json_schema::Type::Plain { ty, .. } => write_variant(alloc, ty, declarations),
         json_schema::Type::CommonTypeRef { .. } => unreachable!(),
     }
 }
 
 /// The same of a type that is written out.
 #[cycle(write_out)]
-fn variant_of(
+fn write_variant(
     alloc: Global,
     ty: &TypeVariant<RawName>,
     declarations: &Declarations,
@@ -135,11 +135,11 @@ fn variant_of(
         TypeVariant::Long => Ok(Type::primitive_long()),
         TypeVariant::Boolean => Ok(Type::primitive_boolean()),
         TypeVariant::Set { element } => {
-            let element = type_of(alloc, element, declarations)?;
+            let element = write_type(alloc, element, declarations)?;
             Ok(Type::set(Rc::new(alloc, element)?))
         }
         TypeVariant::Record(record_type) => Ok(Type::Record {
-            attrs: attributes_of(alloc, record_type, declarations)?,
+            attrs: write_attributes(alloc, record_type, declarations)?,
             open_attributes: OpenTag::ClosedAttributes,
         }),
         TypeVariant::Entity { name } => entity_reference(alloc, name, declarations),
@@ -150,7 +150,7 @@ fn variant_of(
 
 /// The attributes of a record type.
 #[cycle(write_out)]
-fn attributes_of(
+fn write_attributes(
     alloc: Global,
     record_type: &RecordType<RawName>,
     declarations: &Declarations,
@@ -167,7 +167,7 @@ fn attributes_of(
     }
     let mut attributes = Vec::with_capacity(alloc, record_type.attributes.len())?;
     for (name, attribute) in &record_type.attributes {
-        let ty = Rc::new(alloc, type_of(alloc, &attribute.ty, declarations)?)?;
+        let ty = Rc::new(alloc, write_type(alloc, &attribute.ty, declarations)?)?;
         let declared = AttributeType::new_with_loc(ty, attribute.required, attribute.loc);
         attributes.push((name.clone()?, declared))?;
     }
@@ -215,7 +215,7 @@ fn shape_attributes(
     ensures fault { IfErr result (λ error.
         IsShapeFault (defined_in declarations.now) (type_name name.now) (raw_expr None shape.now) (fault_of error)) }
 {
-    let written = type_of(alloc, shape, declarations)?;
+    let written = write_type(alloc, shape, declarations)?;
     if let Type::Record { attrs, .. } = written {
         return Ok(attrs);
     }

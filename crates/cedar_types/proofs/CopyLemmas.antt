@@ -1,3 +1,4 @@
+-- Copies of attributes stand for the same.
 use Rattle.std.proofs.Common.{◌≡◌, Bool, refl, sym, ap, subst, ◌∙◌, map, List, [], ◌∷◌, ◌++◌, append_assoc, string_bytes}
 use Rattle.std.proofs.lemmas.List.{map-append}
 use Rattle.std.proofs.lemmas.Simd.{map-map}

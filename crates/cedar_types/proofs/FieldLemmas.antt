@@ -1,3 +1,4 @@
+-- What the map of attributes stands for, as it is gone over, looked up and filled.
 use Rattle.std.proofs.Common.{◌≡◌, Bool, true, false, refl, sym, ap, subst, ◌∙◌, map, List, [], ◌∷◌, Option, Some, None, cond, string_bytes, if◌then◌else◌, ◌++◌}
 use Rattle.std.proofs.lemmas.Simd.{map-map}
 use Rattle.std.proofs.lemmas.List.{map-append}

@@ -1,3 +1,4 @@
+-- What an answer of membership says of elements, of attributes and of uids.
 use Rattle.std.proofs.Common.{Bor, refl, ◌≡◌, ℕ, ◌<◌, ◌+◌, Bool, false, not, List, length, get_or, drop, Ok, Option, Some, None, ap, sym, subst, ◌∙◌}
 use Rattle.std.specs.Option.{option_map, option_copied}
 use Rattle.std.specs.BTreeMap.{BTreeMap, get_by_text}

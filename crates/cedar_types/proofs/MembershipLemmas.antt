@@ -1,3 +1,4 @@
+-- Answers of membership, brought together one after another.
 use Rattle.std.proofs.Common.{◌≡◌, ◌↔◌, ◌⊎◌, inl, inr, Bool, true, false, Ok, Err, refl, sym, subst, IfErr, ⊎_elim, Option, Some, None, IsSome}
 use Rattle.std.specs.Bool.{Decides}
 use Rattle.cedar_below.specs.Name.{plain_name}

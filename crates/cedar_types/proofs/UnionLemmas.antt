@@ -1,3 +1,4 @@
+-- Unions of entity types, one entity type after another.
 use Rattle.std.proofs.Common.{◌≡◌, ◌<◌, ◌+◌, ℕ, ◌∷◌, ◌++◌, [], List, length, map, take, get_or, ap, subst, sym, ◌∙◌, ⊎_elim, Contains}
 use Rattle.std.proofs.lemmas.List.{map_more, get_or-map, length-map}
 use Rattle.std.proofs.lemmas.List.Elements.{Contains-push_cases}

@@ -40,17 +40,28 @@ plain_entity = entity_type (standard [] (record_expr no_member false) None)
 
 -- a standard entity type in the empty namespace, without tags
 abbrev pub entity_here : Text → List Reference → Members → Declaration
-entity_here word parents members = record { namespace = None; id = word; body = entity_type (standard parents (record_expr members false) None) }
+entity_here word parents members = record {
+  namespace = None;
+  id = word;
+  body =
+      entity_type (standard parents (record_expr members false) None);
+}
 
 -- an action in the empty namespace, without parents, for some principals and no resources
 abbrev pub action_here : Text → List Reference → Declaration
 action_here id principals =
-    record { namespace = None; id = id; body = action (record { has_attributes = false; parents = []; applies_to = requests principals [] (record_expr no_member false) }) }
+    record {
+      namespace = None;
+      id = id;
+      body =
+          action (record { has_attributes = false; parents = []; applies_to = requests principals [] (record_expr no_member false) });
+    }
 
 -- the definition of `A` in a cycle: it refers to `B`, and to the alias of a built-in type
 abbrev pub cycle_first : Expr
 cycle_first =
-    record_expr (member (codes "b") true (named (refer_here CommonOrEntity (codes "B"))) (member (codes "n") true (named (refer_here CommonOrEntity (codes "Long"))) no_member)) false
+    record_expr (member (codes "b") true (named (refer_here CommonOrEntity (codes "B")))
+    (member (codes "n") true (named (refer_here CommonOrEntity (codes "Long"))) no_member)) false
 
 -- the definition of `B` in a cycle: it refers to `A`
 abbrev pub cycle_second : Expr
@@ -79,7 +90,8 @@ shadow_bag = entity_here (codes "User") [] no_member ∷ declared_within (codes 
 abbrev pub actions_bag : Bag
 actions_bag =
     action_here (codes "read") []
-    ∷ declared_within (codes "view") (action (record { has_attributes = false; parents = []; applies_to = requests [] [] (record_expr no_member false) }))
+    ∷ declared_within (codes "view")
+    (action (record { has_attributes = false; parents = []; applies_to = requests [] [] (record_expr no_member false) }))
     ∷ []
 
 -- an enumerated entity type, one below it, and an external one below that
@@ -92,7 +104,8 @@ tint_bag =
 
 -- two entity types, each below the other
 abbrev pub ring_bag : Bag
-ring_bag = entity_here (codes "A") (refer_here Entity (codes "B") ∷ []) no_member ∷ entity_here (codes "B") (refer_here Entity (codes "A") ∷ []) no_member ∷ []
+ring_bag = entity_here (codes "A") (refer_here Entity (codes "B") ∷ []) no_member
+    ∷ entity_here (codes "B") (refer_here Entity (codes "A") ∷ []) no_member ∷ []
 
 -- an action whose principal is of the action's own type
 abbrev pub principal_bag : Bag

@@ -1,6 +1,10 @@
 //! Tests of names, values, extensions and entities.
 
-use cedar_below::{CoreAttributeType, CoreSchemaType, Eid, Entities, Entity, EntityType, EntityUID, ExtensionFunction, ExtensionFunctionLookupError, Extensions, Id, InternalName, Loc, Name, NonEmpty, RestrictedExpr, UnreservedId};
+use cedar_below::{
+    CoreAttributeType, CoreSchemaType, Eid, Entities, Entity, EntityType, EntityUID,
+    ExtensionFunction, ExtensionFunctionLookupError, Extensions, Id, InternalName, Loc, Name,
+    NonEmpty, RestrictedExpr, UnreservedId,
+};
 use std::alloc::Global;
 use std::collections::{BTreeMap, BTreeSet};
 use std::test::Fail;
@@ -153,26 +157,38 @@ fn locations_are_not_compared(rt: HostRuntime) -> Result<(), Fail> {
 }
 
 #[test]
-fn copies_are_equal(rt: HostRuntime) -> Result<(), Fail> {
+fn copies_of_ids_are_equal(rt: HostRuntime) -> Result<(), Fail> {
     let alloc = rt.alloc();
     let word = id(alloc, "a")?;
     assert_eq!(rt; word.clone()?, word);
     let unreserved = UnreservedId::new(text(alloc, "a")?).ok_or("reserved")?;
     assert_eq!(rt; unreserved.clone()?, unreserved);
-    let internal = internal(alloc, &["A", "__cedar"], "B", Some(PLACE))?;
-    assert_eq!(rt; internal.clone()?, internal);
-    assert_eq!(rt; internal.clone()?.loc(), Some(PLACE));
-    let name = name(alloc, &["A"], "B")?;
-    assert_eq!(rt; name.clone()?, name);
-    let ty = EntityType::new(name);
-    assert_eq!(rt; ty.clone()?, ty);
-    let uid = uid(alloc, "A", "b c", Some(PLACE))?;
-    assert_eq!(rt; uid.clone()?, uid);
     let ids = NonEmpty {
         head: Eid(text(alloc, "x")?),
         tail: vec![in alloc; Eid(text(alloc, "y")?)]?,
     };
     assert_eq!(rt; ids.clone()?, ids);
+    Ok(())
+}
+
+#[test]
+fn copies_of_names_are_equal(rt: HostRuntime) -> Result<(), Fail> {
+    let alloc = rt.alloc();
+    let ty = EntityType::new(name(alloc, &["A"], "B")?);
+    assert_eq!(rt; ty.clone()?, ty);
+    let name = ty.into_name();
+    assert_eq!(rt; name.clone()?, name);
+    let internal = internal(alloc, &["A", "__cedar"], "B", Some(PLACE))?;
+    let copy = internal.clone()?;
+    assert_eq!(rt; copy.loc(), Some(PLACE));
+    assert_eq!(rt; copy, internal);
+    Ok(())
+}
+
+#[test]
+fn copies_of_uids_are_equal(rt: HostRuntime) -> Result<(), Fail> {
+    let uid = uid(rt.alloc(), "A", "b c", Some(PLACE))?;
+    assert_eq!(rt; uid.clone()?, uid);
     Ok(())
 }
 
@@ -231,78 +247,109 @@ fn core_record(alloc: Global, open_attrs: bool) -> Result<CoreSchemaType, Fail> 
 }
 
 /// The record whose attributes of these names are 1.
-fn ones(alloc: Global, names: &[&str]) -> Result<RestrictedExpr, Fail> {
+fn ones(alloc: Global, names: &str) -> Result<RestrictedExpr, Fail> {
     let mut values = BTreeMap::new(alloc);
-    for name in names {
+    for name in names.split_whitespace() {
         values.insert(text(alloc, name)?, RestrictedExpr::Long(1))?;
     }
     Ok(RestrictedExpr::Record(values))
 }
 
+/// Whether a value fits a core type, where no function is known.
+fn fits(alloc: Global, value: RestrictedExpr, core: CoreSchemaType) -> bool {
+    let none = Extensions::new(Vec::new(alloc), BTreeMap::new(alloc));
+    value.fits(&core, &none)
+}
+
 #[test]
 fn records_fit_by_their_listed_attributes(rt: HostRuntime) -> Result<(), Fail> {
     let alloc = rt.alloc();
-    let none = Extensions::new(Vec::new(alloc), BTreeMap::new(alloc));
-    let closed = core_record(alloc, false)?;
-    let open = core_record(alloc, true)?;
-    assert!(rt; ones(alloc, &["a"])?.fits(&closed, &none));
-    assert!(rt; !ones(alloc, &[])?.fits(&open, &none));
-    assert!(rt; !ones(alloc, &["a", "b"])?.fits(&closed, &none));
-    assert!(rt; ones(alloc, &["a", "b"])?.fits(&open, &none));
-    assert!(rt; !ones(alloc, &["a"])?.fits(&CoreSchemaType::Long, &none));
+    let cases = [
+        ("a", false, true),
+        ("", true, false),
+        ("a b", false, false),
+        ("a b", true, true),
+    ];
+    for (names, open_attrs, fit) in cases {
+        let core = core_record(alloc, open_attrs)?;
+        assert_eq!(rt; fits(alloc, ones(alloc, names)?, core), fit, "at {names}");
+    }
     Ok(())
 }
 
+/// The core type of sets of whole numbers, or of truth values.
+fn core_set(alloc: Global, of_numbers: bool) -> Result<CoreSchemaType, Fail> {
+    let element_ty = if of_numbers {
+        CoreSchemaType::Long
+    } else {
+        CoreSchemaType::Bool
+    };
+    Ok(CoreSchemaType::Set {
+        element_ty: Box::new(alloc, element_ty)?,
+    })
+}
+
 #[test]
-fn sets_and_entities_fit_core_types(rt: HostRuntime) -> Result<(), Fail> {
+fn sets_fit_by_their_elements(rt: HostRuntime) -> Result<(), Fail> {
     let alloc = rt.alloc();
-    let none = Extensions::new(Vec::new(alloc), BTreeMap::new(alloc));
+    for (length, of_numbers, fit) in [(1, true, true), (1, false, false), (0, false, true)] {
+        let mut elements = Vec::new(alloc);
+        for _ in 0..length {
+            elements.push(RestrictedExpr::Long(1))?;
+        }
+        let set = RestrictedExpr::Set(elements);
+        assert_eq!(rt; fits(alloc, set, core_set(alloc, of_numbers)?), fit);
+    }
     let empty = RestrictedExpr::Set(Vec::new(alloc));
-    let numbers = RestrictedExpr::Set(vec![in alloc; RestrictedExpr::Long(1)]?);
-    let longs = CoreSchemaType::Set {
-        element_ty: Box::new(alloc, CoreSchemaType::Long)?,
-    };
-    let truths = CoreSchemaType::Set {
-        element_ty: Box::new(alloc, CoreSchemaType::Bool)?,
-    };
-    assert!(rt; empty.fits(&CoreSchemaType::EmptySet, &none));
-    assert!(rt; !numbers.fits(&CoreSchemaType::EmptySet, &none));
-    assert!(rt; numbers.fits(&longs, &none));
-    assert!(rt; !numbers.fits(&truths, &none));
-    assert!(rt; empty.fits(&truths, &none));
-    let user = RestrictedExpr::EntityUid(uid(alloc, "User", "a", Some(PLACE))?);
-    let user_type = CoreSchemaType::Entity {
-        ty: EntityType::new(name(alloc, &[], "User")?),
-    };
-    let group_type = CoreSchemaType::Entity {
-        ty: EntityType::new(name(alloc, &[], "Group")?),
-    };
-    assert!(rt; user.fits(&user_type, &none));
-    assert!(rt; !user.fits(&group_type, &none));
+    assert!(rt; fits(alloc, empty, CoreSchemaType::EmptySet));
     Ok(())
 }
 
 #[test]
-fn entities_are_kept_by_uid(rt: HostRuntime) -> Result<(), Fail> {
+fn entities_fit_their_core_type(rt: HostRuntime) -> Result<(), Fail> {
     let alloc = rt.alloc();
+    for (base, fit) in [("User", true), ("Group", false)] {
+        let user = RestrictedExpr::EntityUid(uid(alloc, "User", "a", Some(PLACE))?);
+        let core = CoreSchemaType::Entity {
+            ty: EntityType::new(name(alloc, &[], base)?),
+        };
+        assert_eq!(rt; fits(alloc, user, core), fit, "at {base}");
+    }
+    Ok(())
+}
+
+/// The entities `User::"b"`, put in twice, and `User::"a"`, each below two groups.
+fn users(alloc: Global) -> Result<Entities, Fail> {
     let mut entities = Entities::new(alloc);
-    assert!(rt; entities.is_empty());
-    assert!(rt; entities.insert(entity(alloc, "b", None)?)?.is_none());
-    assert!(rt; entities.insert(entity(alloc, "a", None)?)?.is_none());
-    assert!(rt; entities.insert(entity(alloc, "b", Some(PLACE))?)?.is_some());
-    assert_eq!(rt; entities.len(), 2);
+    entities.insert(entity(alloc, "b", None)?)?;
+    entities.insert(entity(alloc, "a", None)?)?;
+    entities
+        .insert(entity(alloc, "b", Some(PLACE))?)?
+        .ok_or("the one that was there")?;
+    Ok(entities)
+}
+
+#[test]
+fn entities_are_listed_by_uid(rt: HostRuntime) -> Result<(), Fail> {
+    let alloc = rt.alloc();
     let mut uids = String::new(alloc);
-    for entity in entities.iter() {
+    for entity in users(alloc)?.iter() {
         uids.push_str(entity.uid().eid().as_str())?;
         for ancestor in entity.ancestors() {
             uids.push_str(ancestor.eid().as_str())?;
         }
     }
     assert_eq!(rt; uids.as_str(), "aabbab");
-    let found = entities
-        .get(&uid(alloc, "User", "b", None)?)
-        .ok_or("not found")?;
-    assert_eq!(rt; found.uid().loc(), Some(PLACE));
+    Ok(())
+}
+
+#[test]
+fn entities_are_found_by_uid(rt: HostRuntime) -> Result<(), Fail> {
+    let alloc = rt.alloc();
+    let entities = users(alloc)?;
+    assert_eq!(rt; entities.len(), 2);
+    let found = entities.get(&uid(alloc, "User", "b", None)?);
+    assert_eq!(rt; found.ok_or("not found")?.uid().loc(), Some(PLACE));
     assert!(rt; entities.get(&uid(alloc, "Group", "b", None)?).is_none());
     Ok(())
 }

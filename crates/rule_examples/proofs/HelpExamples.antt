@@ -1,3 +1,4 @@
+-- Helps and reductions of sample types.
 use Rattle.std.proofs.Common.{◌≡◌, inl, inr, Bool, true, false, refl, sym, ◌∙◌, [], ◌∷◌, Ok, Err, Contains, codes, arith}
 use Rattle.cedar_below.proofs.Lists.{Contains-cons}
 use Rattle.cedar_below.specs.Text.{Text}

@@ -1,3 +1,4 @@
+-- Joins of sample types.
 use Rattle.std.proofs.Common.{◌≡◌, inl, inr, ⊎_elim, true, refl, sym, ap, ◌∙◌, [], ◌∷◌, List, Contains, codes}
 use Rattle.cedar_below.proofs.Inclusion.{Included-none, Included-cons, Included-head}
 use Rattle.cedar_below.proofs.Lists.{Contains-cons}

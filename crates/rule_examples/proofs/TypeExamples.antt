@@ -1,3 +1,4 @@
+-- Inclusion, consistency and disjointness of sample types.
 use Rattle.std.proofs.Common.{inl, inr, ⊎_elim, true, false, refl, [], ◌∷◌, codes, arith}
 use Rattle.cedar_below.proofs.Inclusion.{Included-none}
 use Rattle.cedar_below.proofs.Lists.{Contains-cons}

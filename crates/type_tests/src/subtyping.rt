@@ -1,14 +1,10 @@
 //! Tests of subtyping and of membership.
 
-use cedar_types::{AttributeType, EntityKind, EntityLUB, OpenTag, Type};
-use crate::test_values::{entity_type, name, set, text};
-use cedar_below::{
-    CoreSchemaType, Eid, EntityUID, ExtensionFunction, Extensions, RestrictedExpr, ValidationMode,
-    Value,
-};
+use crate::test_values::{entity_type, name, sample, value};
+use cedar_below::{CoreSchemaType, ExtensionFunction, Extensions, ValidationMode, Value};
+use cedar_types::{EntityKind, EntityLUB, Type};
 use std::alloc::Global;
 use std::collections::BTreeMap;
-use std::rc::Rc;
 use std::test::Fail;
 
 /// Extensions with the type `ipaddr`, and the function `ip` of a text that returns it.
@@ -24,213 +20,101 @@ fn extensions(alloc: Global) -> Result<Extensions, Fail> {
     Ok(Extensions::new(vec![in alloc; name(alloc, "ipaddr")?]?, functions))
 }
 
-/// An attribute with its name: whether it is required, and its type.
-fn attribute(
-    alloc: Global,
-    word: &str,
-    is_required: bool,
-    ty: Type,
-) -> Result<(String, AttributeType), Fail> {
-    let ty = Rc::new(alloc, ty)?;
-    Ok((text(alloc, word)?, AttributeType::new(ty, is_required)))
-}
+/// Types, each with one above it or not, in strict mode and in permissive mode.
+const SUBTYPES: [(&str, &str, bool, bool); 21] = [
+    ("unit", "a-long-optional", false, false),
+    ("a-true", "a-bool", true, true),
+    ("a-bool", "a-true", false, false),
+    ("a-long-open", "any-record", false, true),
+    ("a-long", "a-long-optional", false, true),
+    ("a-long-optional", "a-long", false, false),
+    ("any-record", "unit", false, false),
+    ("unit", "any-record", true, true),
+    ("a-long", "unit", false, false),
+    ("never", "a-long", true, true),
+    ("set-never", "set-long", true, true),
+    ("set-long", "set-never", false, false),
+    ("set-long", "any-set", true, true),
+    ("any-set", "set-long", false, false),
+    ("foo", "any-entity", false, true),
+    ("any-entity", "foo", false, false),
+    ("foo", "foo", true, true),
+    ("foo", "bar", false, false),
+    ("true", "bool", true, true),
+    ("long", "string", false, false),
+    ("ipaddr", "string", false, false),
+];
 
-/// The record type of some attributes.
-fn record<const N: usize>(
-    alloc: Global,
-    tag: OpenTag,
-    attributes: [(String, AttributeType); N],
-) -> Result<Type, Fail> {
-    let items = Vec::from_array(alloc, attributes)?;
-    Ok(Type::record_with_attributes(alloc, items, tag)?)
-}
-
-/// The closed record type of one attribute `a`.
-fn closed(alloc: Global, is_required: bool, ty: Type) -> Result<Type, Fail> {
-    let one = [attribute(alloc, "a", is_required, ty)?];
-    record(alloc, OpenTag::ClosedAttributes, one)
-}
-
-fn ipaddr(alloc: Global) -> Result<Type, Fail> {
-    Ok(Type::extension(name(alloc, "ipaddr")?))
-}
-
-/// A call of a function with these arguments.
-fn call<const N: usize>(
-    alloc: Global,
-    function: &str,
-    args: [RestrictedExpr; N],
-) -> Result<RestrictedExpr, Fail> {
-    Ok(RestrictedExpr::ExtensionCall {
-        function: name(alloc, function)?,
-        args: Vec::from_array(alloc, args)?,
-    })
-}
-
-/// A value with the name of its attribute.
-fn entry(
-    alloc: Global,
-    word: &str,
-    value: RestrictedExpr,
-) -> Result<(String, RestrictedExpr), Fail> {
-    Ok((text(alloc, word)?, value))
-}
-
-/// A record of some values.
-fn values<const N: usize>(
-    alloc: Global,
-    entries: [(String, RestrictedExpr); N],
-) -> Result<RestrictedExpr, Fail> {
-    let mut values = BTreeMap::new(alloc);
-    for (word, value) in Vec::from_array(alloc, entries)? {
-        values.insert(word, value)?;
+#[test]
+fn types_are_below_others_by_their_rules(rt: HostRuntime) -> Result<(), Fail> {
+    let alloc = rt.alloc();
+    for (lower, upper, strict, permissive) in SUBTYPES {
+        let a = sample(alloc, lower)?;
+        let b = sample(alloc, upper)?;
+        assert_eq!(rt;
+            Type::is_subtype(&a, &b, ValidationMode::Strict),
+            strict,
+            "{lower} and {upper}, strict"
+        );
+        assert_eq!(rt;
+            Type::is_subtype(&a, &b, ValidationMode::Permissive),
+            permissive,
+            "{lower} and {upper}, permissive"
+        );
     }
-    Ok(RestrictedExpr::Record(values))
+    Ok(())
 }
 
-fn word(alloc: Global, of: &str) -> Result<RestrictedExpr, Fail> {
-    Ok(RestrictedExpr::String(text(alloc, of)?))
-}
+/// Types with a value, and whether the value has the type; or None for the fault of `nosuch`.
+const MEMBERS: [(&str, &str, Option<bool>); 20] = [
+    ("long", "1", Some(true)),
+    ("string", "1", Some(false)),
+    ("string", "x", Some(true)),
+    ("foo", "blue", Some(true)),
+    ("bar", "blue", Some(false)),
+    ("any-entity", "blue", Some(true)),
+    ("unit", "{}", Some(true)),
+    ("a-long-optional", "{}", Some(true)),
+    ("a-long", "{}", Some(false)),
+    ("a-long", "{a: x}", Some(false)),
+    ("a-long", "{a: 1, z: nosuch()}", Some(false)),
+    ("address", "{a: nosuch(), b: x}", Some(false)),
+    ("ipaddr", "ip(x)", Some(true)),
+    ("ipaddr", "ip()", Some(true)),
+    ("ipaddr", "ip(x, 1)", Some(true)),
+    ("ipaddr", "ip(1)", Some(false)),
+    ("ipaddr", "ip(nosuch())", Some(false)),
+    ("ipaddr", "ip(x, nosuch())", Some(true)),
+    ("ipaddr", "nosuch()", None),
+    ("set-ipaddr", "[ip(x), nosuch()]", None),
+];
 
-/// Whether the one type is below the other, in strict mode and in permissive mode.
-fn below(lower: &Type, upper: &Type) -> (bool, bool) {
-    (
-        Type::is_subtype(lower, upper, ValidationMode::Strict),
-        Type::is_subtype(lower, upper, ValidationMode::Permissive),
-    )
-}
-
-/// What membership answers, with the base name of the function at fault.
-fn member<'v>(
-    alloc: Global,
-    ty: &Type,
-    value: &'v RestrictedExpr,
-) -> Result<Result<bool, &'v str>, Fail> {
+#[test]
+fn values_have_types_by_their_rules(rt: HostRuntime) -> Result<(), Fail> {
+    let alloc = rt.alloc();
     let extensions = extensions(alloc)?;
-    Ok(match ty.typecheck_restricted_expr(value, &extensions) {
-        Ok(answer) => Ok(answer),
-        Err(error) => Err(error.name.basename().as_str()),
-    })
-}
-
-#[test]
-fn records_are_below_what_asks_no_more(rt: HostRuntime) -> Result<(), Fail> {
-    let alloc = rt.alloc();
-    let none = record(alloc, OpenTag::ClosedAttributes, [])?;
-    let any = record(alloc, OpenTag::OpenAttributes, [])?;
-    let long = closed(alloc, true, Type::Long)?;
-    let open_long = [attribute(alloc, "a", true, Type::Long)?];
-    let open_long = record(alloc, OpenTag::OpenAttributes, open_long)?;
-    let maybe_long = closed(alloc, false, Type::Long)?;
-    let known = closed(alloc, true, Type::singleton_boolean(true))?;
-    let truth = closed(alloc, true, Type::primitive_boolean())?;
-    assert_eq!(rt; below(&none, &maybe_long), (false, false));
-    assert_eq!(rt; below(&known, &truth), (true, true));
-    assert_eq!(rt; below(&truth, &known), (false, false));
-    assert_eq!(rt; below(&open_long, &any), (false, true));
-    assert_eq!(rt; below(&long, &maybe_long), (false, true));
-    assert_eq!(rt; below(&maybe_long, &long), (false, false));
-    assert_eq!(rt; below(&any, &none), (false, false));
-    assert_eq!(rt; below(&none, &any), (true, true));
-    assert_eq!(rt; below(&long, &none), (false, false));
+    for (ty, word, has) in MEMBERS {
+        let of = sample(alloc, ty)?;
+        let value = Value::new(value(alloc, word)?);
+        match of.typecheck_value(&value, &extensions) {
+            Ok(answer) => assert_eq!(rt; Some(answer), has, "{word} of {ty}"),
+            Err(fault) => {
+                assert_eq!(rt; has, None, "{word} of {ty}");
+                assert_eq!(rt; fault.name.basename().as_str(), "nosuch");
+            }
+        }
+    }
     Ok(())
 }
 
 #[test]
-fn sets_are_below_sets_of_more(rt: HostRuntime) -> Result<(), Fail> {
+fn unknown_functions_have_no_other_type(rt: HostRuntime) -> Result<(), Fail> {
     let alloc = rt.alloc();
-    let nothing = set(alloc, Type::Never)?;
-    let longs = set(alloc, Type::Long)?;
-    assert_eq!(rt; below(&nothing, &longs), (true, true));
-    assert_eq!(rt; below(&longs, &nothing), (false, false));
-    assert_eq!(rt; below(&longs, &Type::any_set()), (true, true));
-    assert_eq!(rt; below(&Type::any_set(), &longs), (false, false));
-    Ok(())
-}
-
-#[test]
-fn entities_are_below_any_entity_in_permissive_mode(rt: HostRuntime) -> Result<(), Fail> {
-    let alloc = rt.alloc();
-    let color = Type::named_entity_reference(alloc, entity_type(alloc, "Color")?)?;
-    let user = Type::named_entity_reference(alloc, entity_type(alloc, "User")?)?;
-    assert_eq!(rt; below(&color, &Type::any_entity_reference()), (false, true));
-    assert_eq!(rt; below(&color, &color), (true, true));
-    assert_eq!(rt; below(&color, &user), (false, false));
-    let uid = EntityUID::new(
-        entity_type(alloc, "Color")?,
-        Eid(text(alloc, "blue")?),
-        None,
-    );
-    let blue = RestrictedExpr::EntityUid(uid);
-    assert_eq!(rt; member(alloc, &color, &blue)?, Ok(true));
-    assert_eq!(rt; member(alloc, &user, &blue)?, Ok(false));
-    Ok(())
-}
-
-#[test]
-fn calls_have_the_type_that_their_function_returns(rt: HostRuntime) -> Result<(), Fail> {
-    let alloc = rt.alloc();
-    let ipaddr = ipaddr(alloc)?;
-    let one = call(alloc, "ip", [word(alloc, "x")?])?;
-    assert_eq!(rt; member(alloc, &ipaddr, &one)?, Ok(true));
-    let none = call(alloc, "ip", [])?;
-    assert_eq!(rt; member(alloc, &ipaddr, &none)?, Ok(true));
-    let more = call(alloc, "ip", [word(alloc, "x")?, RestrictedExpr::Long(3)])?;
-    assert_eq!(rt; member(alloc, &ipaddr, &more)?, Ok(true));
-    let wrong = call(alloc, "ip", [RestrictedExpr::Long(3)])?;
-    assert_eq!(rt; member(alloc, &ipaddr, &wrong)?, Ok(false));
-    let inner = call(alloc, "ip", [call(alloc, "nosuch", [])?])?;
-    assert_eq!(rt; member(alloc, &ipaddr, &inner)?, Ok(false));
-    let beyond = call(alloc, "ip", [word(alloc, "x")?, call(alloc, "nosuch", [])?])?;
-    assert_eq!(rt; member(alloc, &ipaddr, &beyond)?, Ok(true));
-    Ok(())
-}
-
-#[test]
-fn unknown_functions_are_faults_where_nothing_else_is_wrong(rt: HostRuntime) -> Result<(), Fail> {
-    let alloc = rt.alloc();
-    let ipaddr_type = ipaddr(alloc)?;
-    let unknown = call(alloc, "nosuch", [])?;
-    assert_eq!(rt; member(alloc, &ipaddr_type, &unknown)?, Err("nosuch"));
-    assert_eq!(rt; member(alloc, &Type::Long, &unknown)?, Ok(false));
-    let addresses = set(alloc, ipaddr(alloc)?)?;
-    let elements = [
-        call(alloc, "ip", [word(alloc, "x")?])?,
-        call(alloc, "nosuch", [])?,
-    ];
-    let both = RestrictedExpr::Set(Vec::from_array(alloc, elements)?);
-    assert_eq!(rt; member(alloc, &addresses, &both)?, Err("nosuch"));
-    let pair = [
-        attribute(alloc, "a", true, ipaddr(alloc)?)?,
-        attribute(alloc, "b", true, Type::Long)?,
-    ];
-    let pair = record(alloc, OpenTag::ClosedAttributes, pair)?;
-    let mismatch = [
-        entry(alloc, "a", call(alloc, "nosuch", [])?)?,
-        entry(alloc, "b", word(alloc, "x")?)?,
-    ];
-    let mismatch = values(alloc, mismatch)?;
-    assert_eq!(rt; member(alloc, &pair, &mismatch)?, Ok(false));
-    let long = closed(alloc, true, Type::Long)?;
-    let unlisted = [
-        entry(alloc, "a", RestrictedExpr::Long(1))?,
-        entry(alloc, "z", call(alloc, "nosuch", [])?)?,
-    ];
-    let unlisted = values(alloc, unlisted)?;
-    assert_eq!(rt; member(alloc, &long, &unlisted)?, Ok(false));
-    Ok(())
-}
-
-#[test]
-fn records_have_what_is_required(rt: HostRuntime) -> Result<(), Fail> {
-    let alloc = rt.alloc();
-    let none = values(alloc, [])?;
-    let empty = record(alloc, OpenTag::ClosedAttributes, [])?;
-    assert_eq!(rt; member(alloc, &empty, &none)?, Ok(true));
-    let maybe = closed(alloc, false, Type::Long)?;
-    assert_eq!(rt; member(alloc, &maybe, &none)?, Ok(true));
-    let long = closed(alloc, true, Type::Long)?;
-    assert_eq!(rt; member(alloc, &long, &none)?, Ok(false));
+    let unknown = value(alloc, "nosuch()")?;
+    let answer = Type::Long
+        .typecheck_restricted_expr(&unknown, &extensions(alloc)?)
+        .ok();
+    assert_eq!(rt; answer, Some(false));
     Ok(())
 }
 
@@ -240,37 +124,21 @@ fn kind(alloc: Global, word: &str) -> Result<EntityKind, Fail> {
     Ok(EntityKind::Entity(EntityLUB::single_entity(alloc, ty)?))
 }
 
-#[test]
-fn kinds_are_below_what_has_their_entity_types(rt: HostRuntime) -> Result<(), Fail> {
-    let alloc = rt.alloc();
-    let color = EntityLUB::single_entity(alloc, entity_type(alloc, "Color")?)?;
-    let user = EntityLUB::single_entity(alloc, entity_type(alloc, "User")?)?;
-    let both = EntityKind::Entity(color.least_upper_bound(&user)?);
-    let color = kind(alloc, "Color")?;
-    let any = EntityKind::AnyEntity;
-    assert!(rt; color.is_subtype(&both, ValidationMode::Permissive));
-    assert!(rt; !color.is_subtype(&both, ValidationMode::Strict));
-    assert!(rt; !both.is_subtype(&color, ValidationMode::Permissive));
-    assert!(rt; both.is_subtype(&both, ValidationMode::Strict));
-    assert!(rt; both.is_subtype(&any, ValidationMode::Permissive));
-    assert!(rt; !any.is_subtype(&both, ValidationMode::Permissive));
-    Ok(())
+/// The kind of the entities of two types.
+fn kind_of_two(alloc: Global, word: &str, other: &str) -> Result<EntityKind, Fail> {
+    let first = EntityLUB::single_entity(alloc, entity_type(alloc, word)?)?;
+    let second = EntityLUB::single_entity(alloc, entity_type(alloc, other)?)?;
+    Ok(EntityKind::Entity(first.least_upper_bound(&second)?))
 }
 
 #[test]
-fn values_have_the_types_of_their_expressions(rt: HostRuntime) -> Result<(), Fail> {
+fn kinds_are_below_what_has_their_entity_types(rt: HostRuntime) -> Result<(), Fail> {
     let alloc = rt.alloc();
-    let extensions = extensions(alloc)?;
-    let number = Value::new(RestrictedExpr::Long(7));
-    assert!(rt; matches!(Type::Long.typecheck_value(&number, &extensions), Ok(true)));
-    assert!(rt;
-        matches!(
-            Type::String.typecheck_value(&number, &extensions),
-            Ok(false)
-        )
-    );
-    let unknown = Value::new(call(alloc, "nosuch", [])?);
-    let ipaddr = ipaddr(alloc)?;
-    assert!(rt; ipaddr.typecheck_value(&unknown, &extensions).is_err());
+    let both = kind_of_two(alloc, "Color", "User")?;
+    let color = kind(alloc, "Color")?;
+    assert!(rt; color.is_subtype(&both, ValidationMode::Permissive));
+    assert!(rt; !color.is_subtype(&both, ValidationMode::Strict));
+    assert!(rt; !both.is_subtype(&color, ValidationMode::Permissive));
+    assert!(rt; both.is_subtype(&EntityKind::AnyEntity, ValidationMode::Permissive));
     Ok(())
 }

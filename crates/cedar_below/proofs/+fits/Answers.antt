@@ -20,43 +20,63 @@ pub fits::all_fit-returns-then-not-fits : goal.fits::all_fit-returns-then-not-fi
 fits::all_fit-returns-then-not-fits t c =
     let P : Tree → Type 0 = λ value. Fits c.args.extensions.now value (core_ty_of c.args.ty.now) in
     let Q : List RestrictedExpr → Type 0 = λ values. EachTree P (trees_of values) ↔ EachTree P (trees_of c.args.values.now) in
-    let so_far = subst Q (drop-at c.args.values.now c.loop-value.value-index c.value-item.result c.loop-value-test.true c.value-item.is) c.loop-value.invariant in
+    let so_far = subst Q (drop-at c.args.values.now c.loop-value.value-index c.value-item.result c.loop-value-test.true
+    c.value-item.is) c.loop-value.invariant in
     part_fails so_far (λ fits. absurd (let there = c.fits.ensures.1 fits in cc))
 
 pub fits::all_fit-loop-value-preserved : goal.fits::all_fit-loop-value-preserved
 fits::all_fit-loop-value-preserved t c =
     let P : Tree → Type 0 = λ value. Fits c.args.extensions.now value (core_ty_of c.args.ty.now) in
     let Q : List RestrictedExpr → Type 0 = λ values. EachTree P (trees_of values) ↔ EachTree P (trees_of c.args.values.now) in
-    let so_far = subst Q (drop-at c.args.values.now c.loop-value.value-index c.value-item.result c.loop-value-test.true c.value-item.is) c.loop-value.invariant in
+    let so_far = subst Q (drop-at c.args.values.now c.loop-value.value-index c.value-item.result c.loop-value-test.true
+    c.value-item.is) c.loop-value.invariant in
     rest_alone so_far (c.fits.ensures.0 c.if-not-fits.false)
 
 pub fits::fields_fit-returns-then-not-fits : goal.fits::fields_fit-returns-then-not-fits
 fits::fields_fit-returns-then-not-fits t c =
     let values = entries_of c.args.values.now in
-    let Q : List (String Global × CoreAttributeType) → Type 0 = λ entries. FieldsFit c.args.extensions.now values (core_fields_from (map (λ entry. (string_bytes entry.0, core_attribute_of entry.1)) entries)) ↔ FieldsFit c.args.extensions.now values (core_fields_of c.args.attrs.now) in
+    let Q : List (String Global × CoreAttributeType) → Type 0 =
+    λ entries. FieldsFit c.args.extensions.now values (core_fields_from
+    (map (λ entry. (string_bytes entry.0, core_attribute_of entry.1)) entries))
+    ↔ FieldsFit c.args.extensions.now values (core_fields_of c.args.attrs.now) in
     let so_far = subst Q c.in-Some.ensures.steps c.loop-name.invariant in
     let attribute = core_attribute_of c.in-Some.attribute.now in
     let parts = core_attribute_of-parts c.in-Some.attribute.now in
     let P : Tree → Type 0 = λ value. Fits c.args.extensions.now value attribute.1 in
     let R : Bool → Type 0 = λ fits. Decides fits (EntryFits P attribute.0 (entry_at (string_bytes c.in-Some.name.now) values)) in
     let decides : R c.match-get.fits = elim c.match-get.branch [
-      | fits::fields_fit-in-Some-get w ↦ subst R (sym w.fits-is) (EntryFits-Some P attribute.0 _ c.args.values.now c.get.result w.in-Some-get.value _ c.get.ensures.value w.in-Some-get.is (subst (λ ty. Decides w.fits-fits.result (Fits c.args.extensions.now (tree_of w.in-Some-get.value.now) ty)) (ap (λ (p : Bool × CoreTy). p.1) (sym parts)) w.fits-fits.ensures))
-      | fits::fields_fit-in-None-get w ↦ EntryFits-None P attribute.0 _ c.args.values.now c.get.result _ c.get.ensures.value w.in-None-get.is (not-Decides attribute.0 c.match-get.fits (w.fits-is ∙ ap (λ (p : Bool × CoreTy). not p.0) (sym parts)))
+      | fits::fields_fit-in-Some-get w ↦ subst R (sym w.fits-is)
+          (EntryFits-Some P attribute.0 _ c.args.values.now c.get.result w.in-Some-get.value _ c.get.ensures.value
+          w.in-Some-get.is (subst (λ ty. Decides w.fits-fits.result
+          (Fits c.args.extensions.now (tree_of w.in-Some-get.value.now) ty))
+          (ap (λ (p : Bool × CoreTy). p.1) (sym parts)) w.fits-fits.ensures))
+      | fits::fields_fit-in-None-get w ↦ EntryFits-None P attribute.0 _ c.args.values.now c.get.result _
+          c.get.ensures.value w.in-None-get.is (not-Decides attribute.0 c.match-get.fits (w.fits-is
+          ∙ ap (λ (p : Bool × CoreTy). not p.0) (sym parts)))
     ] in
     part_fails so_far (λ fits. absurd (let there = decides.1 fits in cc))
 
 pub fits::fields_fit-loop-name-preserved : goal.fits::fields_fit-loop-name-preserved
 fits::fields_fit-loop-name-preserved t c =
     let values = entries_of c.args.values.now in
-    let Q : List (String Global × CoreAttributeType) → Type 0 = λ entries. FieldsFit c.args.extensions.now values (core_fields_from (map (λ entry. (string_bytes entry.0, core_attribute_of entry.1)) entries)) ↔ FieldsFit c.args.extensions.now values (core_fields_of c.args.attrs.now) in
+    let Q : List (String Global × CoreAttributeType) → Type 0 =
+    λ entries. FieldsFit c.args.extensions.now values (core_fields_from
+    (map (λ entry. (string_bytes entry.0, core_attribute_of entry.1)) entries))
+    ↔ FieldsFit c.args.extensions.now values (core_fields_of c.args.attrs.now) in
     let so_far = subst Q c.in-Some.ensures.steps c.loop-name.invariant in
     let attribute = core_attribute_of c.in-Some.attribute.now in
     let parts = core_attribute_of-parts c.in-Some.attribute.now in
     let P : Tree → Type 0 = λ value. Fits c.args.extensions.now value attribute.1 in
     let R : Bool → Type 0 = λ fits. Decides fits (EntryFits P attribute.0 (entry_at (string_bytes c.in-Some.name.now) values)) in
     let decides : R c.match-get.fits = elim c.match-get.branch [
-      | fits::fields_fit-in-Some-get w ↦ subst R (sym w.fits-is) (EntryFits-Some P attribute.0 _ c.args.values.now c.get.result w.in-Some-get.value _ c.get.ensures.value w.in-Some-get.is (subst (λ ty. Decides w.fits-fits.result (Fits c.args.extensions.now (tree_of w.in-Some-get.value.now) ty)) (ap (λ (p : Bool × CoreTy). p.1) (sym parts)) w.fits-fits.ensures))
-      | fits::fields_fit-in-None-get w ↦ EntryFits-None P attribute.0 _ c.args.values.now c.get.result _ c.get.ensures.value w.in-None-get.is (not-Decides attribute.0 c.match-get.fits (w.fits-is ∙ ap (λ (p : Bool × CoreTy). not p.0) (sym parts)))
+      | fits::fields_fit-in-Some-get w ↦ subst R (sym w.fits-is)
+          (EntryFits-Some P attribute.0 _ c.args.values.now c.get.result w.in-Some-get.value _ c.get.ensures.value
+          w.in-Some-get.is (subst (λ ty. Decides w.fits-fits.result
+          (Fits c.args.extensions.now (tree_of w.in-Some-get.value.now) ty))
+          (ap (λ (p : Bool × CoreTy). p.1) (sym parts)) w.fits-fits.ensures))
+      | fits::fields_fit-in-None-get w ↦ EntryFits-None P attribute.0 _ c.args.values.now c.get.result _
+          c.get.ensures.value w.in-None-get.is (not-Decides attribute.0 c.match-get.fits (w.fits-is
+          ∙ ap (λ (p : Bool × CoreTy). not p.0) (sym parts)))
     ] in
     rest_alone so_far (decides.0 c.if-not-fits.false)
 
@@ -74,10 +94,12 @@ value::RestrictedExpr::fits-returns-in-Set-Set t c =
     let values = c.in-Set-Set.values in
     let element = c.in-Set-Set.element_ty in
     let P : Tree → CoreTy → Type 0 = λ value ty. Decides c.all_fit.result (Fits c.args.extensions.now value ty) in
-    let Q : List RestrictedExpr → CoreSchemaType → Type 0 = λ items ty. Decides c.all_fit.result (EachTree (λ value. Fits c.args.extensions.now value (core_ty_of ty)) (trees_of items)) in
+    let Q : List RestrictedExpr → CoreSchemaType → Type 0 = λ items ty. Decides c.all_fit.result
+    (EachTree (λ value. Fits c.args.extensions.now value (core_ty_of ty)) (trees_of items)) in
     subst (λ value. P value (core_ty_of c.args.ty.now)) (sym (ap tree_of c.in-Set-Set.is-0 ∙ tree_of-set values))
     (subst (P (set_value (trees_of values.items))) (sym (ap core_ty_of c.in-Set-Set.is-1 ∙ core_ty_of-set element))
-    (subst (λ items. Q items element.value) c.deref.ensures.value (subst (Q c.deref.result.now) c.deref-in-Set-Set.ensures c.all_fit.ensures)))
+    (subst (λ items. Q items element.value) c.deref.ensures.value
+    (subst (Q c.deref.result.now) c.deref-in-Set-Set.ensures c.all_fit.ensures)))
 
 pub value::RestrictedExpr::fits-returns-then-names_listed : goal.value::RestrictedExpr::fits-returns-then-names_listed
 value::RestrictedExpr::fits-returns-then-names_listed t c =
@@ -85,7 +107,8 @@ value::RestrictedExpr::fits-returns-then-names_listed t c =
     let attrs = c.in-Record-Record.attrs in
     let P : Tree → CoreTy → Type 0 = λ value ty. Decides c.fields_fit.result (Fits c.args.extensions.now value ty) in
     subst (λ value. P value (core_ty_of c.args.ty.now)) (sym (ap tree_of c.in-Record-Record.is-0 ∙ tree_of-record values))
-    (subst (P (map_value (entries_of values))) (sym (ap core_ty_of c.in-Record-Record.is-1 ∙ core_ty_of-record attrs c.in-Record-Record.open_attrs))
+    (subst (P (map_value (entries_of values))) (sym (ap core_ty_of c.in-Record-Record.is-1
+    ∙ core_ty_of-record attrs c.in-Record-Record.open_attrs))
     (λ e. (c.names_listed.ensures.0 c.if-names_listed.true, c.fields_fit.ensures.0 e), λ both. c.fields_fit.ensures.1 both.1))
 
 pub value::RestrictedExpr::fits-returns-else-names_listed : goal.value::RestrictedExpr::fits-returns-else-names_listed
@@ -94,7 +117,8 @@ value::RestrictedExpr::fits-returns-else-names_listed t c =
     let attrs = c.in-Record-Record.attrs in
     let P : Tree → CoreTy → Type 0 = λ value ty. Decides c.names_listed.result (Fits c.args.extensions.now value ty) in
     subst (λ value. P value (core_ty_of c.args.ty.now)) (sym (ap tree_of c.in-Record-Record.is-0 ∙ tree_of-record values))
-    (subst (P (map_value (entries_of values))) (sym (ap core_ty_of c.in-Record-Record.is-1 ∙ core_ty_of-record attrs c.in-Record-Record.open_attrs))
+    (subst (P (map_value (entries_of values))) (sym (ap core_ty_of c.in-Record-Record.is-1
+    ∙ core_ty_of-record attrs c.in-Record-Record.open_attrs))
     (λ e. absurd cc, λ both. c.names_listed.ensures.1 both.0))
 
 pub value::RestrictedExpr::fits-returns-in-ExtensionCall-Extension : goal.value::RestrictedExpr::fits-returns-in-ExtensionCall-Extension
@@ -103,4 +127,6 @@ value::RestrictedExpr::fits-returns-in-ExtensionCall-Extension t c =
     let args = c.in-ExtensionCall-Extension.args-0 in
     let P : Tree → CoreTy → Type 0 = λ value ty. Decides c.returns.result (Fits c.args.extensions.now value ty) in
     subst (λ value. P value (core_ty_of c.args.ty.now)) (sym (ap tree_of c.in-ExtensionCall-Extension.is-0 ∙ tree_of-call function args))
-    (subst (P (call_value (plain_name function) (trees_of args.items))) (sym (ap core_ty_of c.in-ExtensionCall-Extension.is-1 ∙ core_ty_of-extension c.in-ExtensionCall-Extension.name)) c.returns.ensures)
+    (subst (P (call_value (plain_name function) (trees_of args.items)))
+    (sym (ap core_ty_of c.in-ExtensionCall-Extension.is-1 ∙ core_ty_of-extension c.in-ExtensionCall-Extension.name))
+    c.returns.ensures)

@@ -8,4 +8,5 @@ use Rattle.cedar_below.proofs.fits.arguments_fit.Given as goal
 
 abbrev pub invariant-loop-arg : goal.invariant-loop-arg
 invariant-loop-arg l =
-    ArgumentsFit l.extensions (trees_of (iter_rest (zip_first l.arg-iterator))) (map core_ty_of (iter_rest (zip_second l.arg-iterator))) ↔ ArgumentsFit l.extensions (trees_of l.args) (map core_ty_of l.types)
+    ArgumentsFit l.extensions (trees_of (iter_rest (zip_first l.arg-iterator)))
+    (map core_ty_of (iter_rest (zip_second l.arg-iterator))) ↔ ArgumentsFit l.extensions (trees_of l.args) (map core_ty_of l.types)

@@ -16,7 +16,9 @@ loop-name-init c =
     let listed = core_names (core_fields_of c.args.attrs.now) in
     let P : List Text → Type 0 = λ names. Included names listed ↔ Included (entry_names (entries_of c.args.values.now)) listed in
     subst P
-    (entry_names-entries c.args.values.now.entries ∙ (sym (map-map string_bytes (λ entry. entry.0) c.args.values.now.entries) ∙ ap (map string_bytes) (sym (c.into_iter-name-iterator.ensures.into_iter_gives ∙ c.keys-name-items.ensures.rest))))
+    (entry_names-entries c.args.values.now.entries
+    ∙ (sym (map-map string_bytes (λ entry. entry.0) c.args.values.now.entries)
+    ∙ ap (map string_bytes) (sym (c.into_iter-name-iterator.ensures.into_iter_gives ∙ c.keys-name-items.ensures.rest))))
     (λ h. h, λ h. h)
 
 pub returns-then-not-contains_key : goal.returns-then-not-contains_key

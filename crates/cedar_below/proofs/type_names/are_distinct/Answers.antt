@@ -5,13 +5,20 @@ use Rattle.cedar_below.proofs.Lists.{repeated, distinct_more}
 use Rattle.cedar_below.proofs.type_names.are_distinct.Goals as goal
 
 pub returns-then-has_name : goal.returns-then-has_name
-returns-then-has_name c =
-    (λ e. absurd cc, λ distinct. absurd (repeated plain_name _ _ _ c.loop-i-test.true c.index-names-i.is (c.if-has_name.ensures.0 refl) distinct))
+returns-then-has_name c = (
+  λ e. absurd cc,
+  λ distinct. absurd (repeated plain_name _ _ _ c.loop-i-test.true c.index-names-i.is
+      (c.if-has_name.ensures.0 refl) distinct),
+)
 
 pub loop-i-preserved : goal.loop-i-preserved
 loop-i-preserved c =
-    distinct_more plain_name _ _ _ c.loop-i-test.true c.index-names-i.is (λ there. let e = c.if-has_name.ensures.1 there in cc) c.loop-i.invariant
+    distinct_more plain_name _ _ _ c.loop-i-test.true c.index-names-i.is (λ there. let e =
+    c.if-has_name.ensures.1 there in cc) c.loop-i.invariant
 
 pub returns : goal.returns
-returns c =
-    (λ _. subst (λ names. AllPairs (λ a b. a ≢ b) (map plain_name names)) (take_all c.loop-i.i c.args.names.now c.loop-i-test.false) c.loop-i.invariant, λ _. refl)
+returns c = (
+  λ _. subst (λ names. AllPairs (λ a b. a ≢ b) (map plain_name names))
+      (take_all c.loop-i.i c.args.names.now c.loop-i-test.false) c.loop-i.invariant,
+  λ _. refl,
+)

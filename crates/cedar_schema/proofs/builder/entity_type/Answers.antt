@@ -11,4 +11,5 @@ pub returns-clause-no_descendants : goal.returns-clause-no_descendants
 returns-clause-no_descendants c =
     let made = c.in_ok-new_standard.ensures.descendants in
     let P : List EntityType → Type 0 = λ types. SameItems (descendant_names c.in_ok-new_standard.field-0) (map type_name types) in
-    SameItems-none (descendant_names c.in_ok-new_standard.field-0) (subst P (All-taken made.0 made.1 made.3 ∙ (made.2.0 ∙ c.new-descendants.ensures.items)) made.4)
+    SameItems-none (descendant_names c.in_ok-new_standard.field-0)
+    (subst P (All-taken made.0 made.1 made.3 ∙ (made.2.0 ∙ c.new-descendants.ensures.items)) made.4)

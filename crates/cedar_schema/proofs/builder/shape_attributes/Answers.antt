@@ -6,5 +6,13 @@ pub returns : goal.returns
 returns c = record {
   written_out = tt;
   closed = tt;
-  fault = (c.in_ok-clone.ensures.name, (ty_of c.in_ok-written.written, c.in_ok-written.ensures.written_out, no_record c.in_ok-written.written c.in_default.not-Record));
+  fault = (
+    c.in_ok-clone.ensures.name,
+    (
+      ty_of c.in_ok-written.written,
+      c.in_ok-written.ensures.written_out,
+      no_record
+          c.in_ok-written.written c.in_default.not-Record,
+    ),
+  );
 }

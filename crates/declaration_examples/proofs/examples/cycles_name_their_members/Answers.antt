@@ -12,7 +12,8 @@ use Rattle.declaration_examples.specs.Samples.{refer_here, cycle_first, cycle_se
 use Rattle.declaration_examples.proofs.examples.cycles_name_their_members.Goals as goal
 
 -- the one refers to the other
-first_to_second : (extensions : Extensions) → RefersToCommon (defined_names cycle_bag extensions) (alias_name (codes "A")) (alias_name (codes "B"))
+first_to_second : (extensions : Extensions) → RefersToCommon (defined_names cycle_bag extensions)
+    (alias_name (codes "A")) (alias_name (codes "B"))
 first_to_second extensions = (
   cycle_first,
   refer_here CommonOrEntity (codes "B"),
@@ -24,7 +25,8 @@ first_to_second extensions = (
 )
 
 -- and the other to the one
-second_to_first : (extensions : Extensions) → RefersToCommon (defined_names cycle_bag extensions) (alias_name (codes "B")) (alias_name (codes "A"))
+second_to_first : (extensions : Extensions) → RefersToCommon (defined_names cycle_bag extensions)
+    (alias_name (codes "B")) (alias_name (codes "A"))
 second_to_first extensions = (
   cycle_second,
   refer_here CommonOrEntity (codes "A"),
@@ -36,13 +38,16 @@ second_to_first extensions = (
 )
 
 -- a name in a cycle is declared
-in_cycle : (extensions : Extensions) (name : PlainName) → Chain (RefersToCommon (defined_names cycle_bag extensions)) name name → (definition : Expr) × Contains (declared_common cycle_bag) (name, definition)
+in_cycle : (extensions : Extensions) (name : PlainName) → Chain
+    (RefersToCommon (defined_names cycle_bag extensions)) name name → (definition : Expr)
+    × Contains (declared_common cycle_bag) (name, definition)
 in_cycle extensions name chain =
     let step = (first_step (RefersToCommon (defined_names cycle_bag extensions)) name name chain).1 in
     (step.0, refers_declared cycle_bag extensions name step.0 step.1 step.3 step.4)
 
 -- only the two members are declared
-not_declared : (name : PlainName) (definition : Expr) → (¬ (alias_name (codes "A") ≡ name)) → (¬ (alias_name (codes "B") ≡ name)) → ¬ Contains (declared_common cycle_bag) (name, definition)
+not_declared : (name : PlainName) (definition : Expr) → (¬ (alias_name (codes "A") ≡ name))
+    → (¬ (alias_name (codes "B") ≡ name)) → ¬ Contains (declared_common cycle_bag) (name, definition)
 not_declared name definition first second (zero, below, is) = first (ap (λ entry. entry.0) is)
 not_declared name definition first second (suc zero, below, is) = second (ap (λ entry. entry.0) is)
 not_declared name definition first second (suc (suc k), below, is) = omega (arith, below)

@@ -13,7 +13,8 @@ use Rattle.cedar_declared.specs.WrittenOut.{as_text, as_long, as_entity, as_comm
 use Rattle.declaration_examples.proofs.examples.entity_types_take_aliases_away.Goals as goal
 
 -- no common type has the name of the entity type
-no_alias : (extensions : Extensions) (body : Expr) → ¬ IsCommon (defined_names alias_bag extensions) CommonOrEntity (alias_name (codes "String")) body
+no_alias : (extensions : Extensions) (body : Expr) → ¬ IsCommon (defined_names alias_bag extensions) CommonOrEntity
+    (alias_name (codes "String")) body
 no_alias extensions body common =
     ⊎_elim
     (λ here. ⊎_elim
@@ -35,5 +36,7 @@ returns-clause-built_in c extensions =
 
 pub returns-clause-alias : goal.returns-clause-alias
 returns-clause-alias c extensions =
-    let there = Contains-append_right (declared_common alias_bag ++ built_ins extensions) (aliases alias_bag extensions) (alias_name (codes "Long"), long_expr) (1, omega arith, refl) in
-    as_common (refer_here CommonOrEntity (codes "Long")) (alias_name (codes "Long")) long_expr (inl (refl, inl (long_expr, (tt, there)))) (tt, there) as_long
+    let there = Contains-append_right (declared_common alias_bag ++ built_ins extensions) (aliases alias_bag extensions)
+    (alias_name (codes "Long"), long_expr) (1, omega arith, refl) in
+    as_common (refer_here CommonOrEntity (codes "Long")) (alias_name (codes "Long")) long_expr
+    (inl (refl, inl (long_expr, (tt, there)))) (tt, there) as_long

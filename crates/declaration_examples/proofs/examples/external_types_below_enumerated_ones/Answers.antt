@@ -12,8 +12,19 @@ returns c extensions = (
   codes "red" ∷ [],
   (2, omega arith, refl),
   (0, omega arith, refl),
-  more
-      (external (refer_here Entity (codes "Shade") ∷ []), refer_here Entity (codes "Shade"), (2, omega arith, refl), (0, omega arith, refl), inl (refl, inr (tt, (1, omega arith, refl))))
-      (one
-      (standard (refer_here Entity (codes "Color") ∷ []) (record_expr no_member false) None, refer_here Entity (codes "Color"), (1, omega arith, refl), (0, omega arith, refl), inl (refl, inr (tt, (0, omega arith, refl))))),
+  more (
+    external (refer_here Entity (codes "Shade") ∷ []),
+    refer_here Entity (codes "Shade"),
+    (2, omega arith, refl),
+    (0, omega arith, refl),
+    inl (refl, inr (tt, (1, omega arith, refl))),
+  )
+      (one (
+        standard (refer_here Entity (codes "Color") ∷ []) (record_expr no_member false) None,
+        refer_here Entity
+            (codes "Color"),
+        (1, omega arith, refl),
+        (0, omega arith, refl),
+        inl (refl, inr (tt, (0, omega arith, refl))),
+      )),
 )

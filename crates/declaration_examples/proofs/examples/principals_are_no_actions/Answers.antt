@@ -12,7 +12,8 @@ use Rattle.declaration_examples.proofs.examples.principals_are_no_actions.Goals 
 -- the name is that of an action's type, and stands for a principal
 abbrev IsNamed : Extensions → PlainName → Type 0
 IsNamed extensions name =
-    IsActionType name × (reference : Reference) × IsPlaced principal_bag reference × ResolvesTo (defined_names principal_bag extensions) reference name
+    IsActionType name × (reference : Reference) × IsPlaced principal_bag reference
+    × ResolvesTo (defined_names principal_bag extensions) reference name
 
 -- the type of the action is
 action_named : (extensions : Extensions) → IsNamed extensions (alias_name action_word)

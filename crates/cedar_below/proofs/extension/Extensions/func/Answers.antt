@@ -4,8 +4,10 @@ use Rattle.cedar_below.proofs.extension.Extensions.func.Goals as goal
 
 pub returns-clause-known : goal.returns-clause-known
 returns-clause-known c =
-    rw (c.ok_or.ensures.value, ← (c.get.ensures.value ∙ get-at_name c.args.self.now.functions c.args.name.now)) (ok_or-found c.get.result _).0
+    rw (c.ok_or.ensures.value, ← (c.get.ensures.value ∙ get-at_name c.args.self.now.functions c.args.name.now))
+    (ok_or-found c.get.result _).0
 
 pub returns-clause-function : goal.returns-clause-function
 returns-clause-function c =
-    rw (c.ok_or.ensures.value, ← (c.get.ensures.value ∙ get-at_name c.args.self.now.functions c.args.name.now)) (ok_or-found c.get.result _).1
+    rw (c.ok_or.ensures.value, ← (c.get.ensures.value ∙ get-at_name c.args.self.now.functions c.args.name.now))
+    (ok_or-found c.get.result _).1

@@ -6,4 +6,5 @@ use Rattle.cedar_below.proofs.internal_name.InternalNameDisplay.fmt.Given as goa
 
 abbrev pub invariant-loop-part : goal.invariant-loop-part
 invariant-loop-part g l =
-    IsPlainFormatter l.initial.f → HasWritten g.W.Write.write_str_gives l.initial.f (flat_map (λ part. part ++ codes "::") (map id_text (take l.part-index l.part-items))) l.f
+    IsPlainFormatter l.initial.f → HasWritten g.W.Write.write_str_gives l.initial.f
+    (flat_map (λ part. part ++ codes "::") (map id_text (take l.part-index l.part-items))) l.f

@@ -12,7 +12,8 @@ loop-ty-preserved c =
     let P : List EntityType → Type 0 = AnswersAlike c.insert.new.self.keys in
     subst P
     (sym (map-append deref c.loop-ty.yielded (c.in-Some.ty ∷ [])))
-    (AnswersAlike-insert (map deref c.loop-ty.yielded) c.loop-ty.copy.keys c.insert.new.self.keys c.in-Some.ty.now c.in_ok-clone.field-0 c.loop-ty.invariant c.in_ok-clone.ensures.name c.in_ok-insert.ensures.updates.0)
+    (AnswersAlike-insert (map deref c.loop-ty.yielded) c.loop-ty.copy.keys c.insert.new.self.keys c.in-Some.ty.now
+    c.in_ok-clone.field-0 c.loop-ty.invariant c.in_ok-clone.ensures.name c.in_ok-insert.ensures.updates.0)
 
 pub returns : goal.returns
 returns c =

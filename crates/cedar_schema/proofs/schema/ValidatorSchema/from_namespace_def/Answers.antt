@@ -20,22 +20,34 @@ returns-in_err-entity_types-clause-fault c =
 
 pub returns-clause-well_formed : goal.returns-clause-well_formed
 returns-clause-well_formed c =
-    part_well_formed c.args.definition c.args.extensions.now (built_schema c.in_ok-entity_types.field-0) c.requires.part c.requires.names_fit c.in_ok-entity_types.ensures.fits c.in_ok-entity_types.ensures.in_order c.in_ok-entity_types.ensures.sound
+    part_well_formed c.args.definition c.args.extensions.now
+    (built_schema c.in_ok-entity_types.field-0) c.requires.part c.requires.names_fit
+    c.in_ok-entity_types.ensures.fits c.in_ok-entity_types.ensures.in_order c.in_ok-entity_types.ensures.sound
 
 pub returns-clause-declared : goal.returns-clause-declared
 returns-clause-declared c =
-    part_declared c.args.definition c.args.extensions.now (built_schema c.in_ok-entity_types.field-0) c.requires.part c.requires.names_fit c.in_ok-entity_types.ensures.fits c.in_ok-entity_types.ensures.in_order
+    part_declared c.args.definition c.args.extensions.now (built_schema c.in_ok-entity_types.field-0) c.requires.part
+    c.requires.names_fit c.in_ok-entity_types.ensures.fits c.in_ok-entity_types.ensures.in_order
 
 pub returns-clause-only : goal.returns-clause-only
 returns-clause-only c = λ other declared.
     (let bag = raw_declarations None c.args.definition in
-    let built = part_declared c.args.definition c.args.extensions.now (built_schema c.in_ok-entity_types.field-0) c.requires.part c.requires.names_fit c.in_ok-entity_types.ensures.fits c.in_ok-entity_types.ensures.in_order in
-    let well = part_well_formed c.args.definition c.args.extensions.now (built_schema c.in_ok-entity_types.field-0) c.requires.part c.requires.names_fit c.in_ok-entity_types.ensures.fits c.in_ok-entity_types.ensures.in_order c.in_ok-entity_types.ensures.sound in
-    one_schema bag c.args.extensions.now c.requires.names_fit well other (schema_of (built_schema c.in_ok-entity_types.field-0)) declared built)
+    let built = part_declared c.args.definition c.args.extensions.now
+    (built_schema c.in_ok-entity_types.field-0) c.requires.part c.requires.names_fit
+    c.in_ok-entity_types.ensures.fits c.in_ok-entity_types.ensures.in_order in
+    let well = part_well_formed c.args.definition c.args.extensions.now
+    (built_schema c.in_ok-entity_types.field-0) c.requires.part c.requires.names_fit
+    c.in_ok-entity_types.ensures.fits c.in_ok-entity_types.ensures.in_order c.in_ok-entity_types.ensures.sound in
+    one_schema bag c.args.extensions.now c.requires.names_fit well other
+    (schema_of (built_schema c.in_ok-entity_types.field-0)) declared built)
 
 pub returns-clause-admits : goal.returns-clause-admits
 returns-clause-admits c =
     let bag = raw_declarations None c.args.definition in
-    let built = part_declared c.args.definition c.args.extensions.now (built_schema c.in_ok-entity_types.field-0) c.requires.part c.requires.names_fit c.in_ok-entity_types.ensures.fits c.in_ok-entity_types.ensures.in_order in
-    let well = part_well_formed c.args.definition c.args.extensions.now (built_schema c.in_ok-entity_types.field-0) c.requires.part c.requires.names_fit c.in_ok-entity_types.ensures.fits c.in_ok-entity_types.ensures.in_order c.in_ok-entity_types.ensures.sound in
+    let built = part_declared c.args.definition c.args.extensions.now
+    (built_schema c.in_ok-entity_types.field-0) c.requires.part c.requires.names_fit
+    c.in_ok-entity_types.ensures.fits c.in_ok-entity_types.ensures.in_order in
+    let well = part_well_formed c.args.definition c.args.extensions.now
+    (built_schema c.in_ok-entity_types.field-0) c.requires.part c.requires.names_fit
+    c.in_ok-entity_types.ensures.fits c.in_ok-entity_types.ensures.in_order c.in_ok-entity_types.ensures.sound in
     types_admit bag c.args.extensions.now c.requires.names_fit well (schema_of (built_schema c.in_ok-entity_types.field-0)) built
