@@ -1,8 +1,10 @@
 //! Shows the schemas of some built-in cases as sorted lines.
 #![tactic(auto)]
 
-use std::io;
+use std::alloc::AllocGlobal;
+use std::env::Env;
 use std::process::ExitCode;
+use std::{env, io};
 
 mod cases;
 mod command;
@@ -11,12 +13,19 @@ mod run;
 #[cfg(test)]
 mod tests;
 
-fn main(rt: HostRuntime) -> io::Result<ExitCode> {
+/// The words that the program was called with, without its own name.
+fn words<R: Env + AllocGlobal>(rt: &R) -> io::Result<Vec<String>> {
     let mut words = Vec::new(rt.alloc());
-    for word in std::env::args(&rt)?.skip(1) {
+    for word in env::args(rt)?.skip(1) {
         words.push(word)?;
     }
-    let mut out = io::writer(&rt);
+    Ok(words)
+}
+
+fn main(rt: HostRuntime) -> ExitCode {
     let mut err = rt.stderr();
-    Ok(ExitCode::from(run::run(rt.alloc(), &words, &mut out, &mut err)))
+    ExitCode::from(match words(&rt) {
+        Ok(words) => run::run(rt.alloc(), &words, &mut io::writer(&rt), &mut err),
+        Err(error) => run::unread(&error, &mut err),
+    })
 }

@@ -1,6 +1,6 @@
 //! What the program does, over any two writers.
 
-ghost use Rattle.std.specs.Prelude.{◌≡◌, ◌<◌, ◌↔◌, IfOk, map, string_bytes};
+ghost use Rattle.std.specs.Prelude.{◌≡◌, ◌<◌, ◌↔◌, ◌⊎◌, IfOk, OnErr, map, string_bytes};
 ghost use Rattle.schema_show.specs.Words.{IsCommand};
 
 use crate::cases::{sample_extensions, shapes};
@@ -9,6 +9,7 @@ use crate::lines::{lines_of, text_of};
 use cedar_schema::below::{M, Memory};
 use cedar_schema::{SchemaError, ValidatorSchema};
 use std::alloc::Global;
+use std::io;
 use std::io::Write;
 
 /// How to call the program.
@@ -16,7 +17,7 @@ const USAGE: &str = "usage: schema_show list | show CASE | join MODE A B\n";
 
 /// What is printed, and the status that goes with it.
 #[derive(Drop)]
-struct Outcome {
+pub(crate) struct Outcome {
     text: String,
     status: u8,
 }
@@ -36,11 +37,14 @@ fn schema_of(alloc: Global, case: Case) -> Result<ValidatorSchema, SchemaError> 
     }
 }
 
-/// The lines of a case, or the line that says how it was refused.
-fn show(alloc: Global, case: Case) -> M<Outcome>
+/// The lines of a schema, or the line that says how it was refused.
+pub(crate) fn lines_or_refusal(
+    alloc: Global,
+    built: Result<ValidatorSchema, SchemaError>,
+) -> M<Outcome>
     ensures { IfOk result (λ outcome. outcome.status < 2) }
 {
-    match schema_of(alloc, case) {
+    match built {
         Ok(schema) => Ok(Outcome {
             text: text_of(alloc, &lines_of(alloc, &schema)?)?,
             status: 0,
@@ -65,7 +69,25 @@ fn outcome_of(alloc: Global, command: Command) -> M<Outcome>
             text: String::from_str(alloc, "shapes\n")?,
             status: 0,
         }),
-        Command::Show(case) => show(alloc, case),
+        Command::Show(case) => lines_or_refusal(alloc, schema_of(alloc, case)),
+    }
+}
+
+/// Writes what a command gave, and answers the status: its own, 3 for want of memory, or 4 where `out`
+/// couldn't be written. A failed write to `err` is ignored.
+pub(crate) fn finish<O: Write, E: Write>(outcome: M<Outcome>, out: &mut O, err: &mut E) -> u8
+    ensures given { IfOk outcome (λ given. (result ≡ given.status) ⊎ (result ≡ 4)) }
+    ensures refused { OnErr outcome (result ≡ 3) }
+{
+    match outcome {
+        Ok(outcome) => match out.write_all(outcome.text.as_bytes()) {
+            Ok(()) => outcome.status,
+            Err(_) => 4,
+        },
+        Err(Memory) => {
+            let _ = err.write_all(b"memory\n");
+            3
+        }
     }
 }
 
@@ -85,14 +107,18 @@ pub fn run<O: Write, E: Write>(alloc: Global, words: &[String], out: &mut O, err
         let _ = err.write_all(USAGE.as_bytes());
         return 2;
     };
-    match outcome_of(alloc, command) {
-        Ok(outcome) => match out.write_all(outcome.text.as_bytes()) {
-            Ok(()) => outcome.status,
-            Err(_) => 4,
-        },
-        Err(Memory) => {
-            let _ = err.write_all(b"memory\n");
-            3
-        }
+    finish(outcome_of(alloc, command), out, err)
+}
+
+/// Answers the status where the words couldn't be read: 3 for want of memory, and 2 for a word that is
+/// no text. A failed write to `err` is ignored.
+pub fn unread<E: Write>(error: &io::Error, err: &mut E) -> u8
+    ensures { (result ≡ 2) ⊎ (result ≡ 3) }
+{
+    if error.kind() == io::ErrorKind::OutOfMemory {
+        let _ = err.write_all(b"memory\n");
+        return 3;
     }
+    let _ = err.write_all(USAGE.as_bytes());
+    2
 }

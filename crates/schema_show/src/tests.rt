@@ -1,6 +1,8 @@
 //! Tests of the program.
 
-use crate::run::run;
+use crate::run::{finish, lines_or_refusal, run, unread};
+use cedar_schema::SchemaError;
+use cedar_schema::below::Memory;
 use std::alloc::Global;
 use std::io;
 use std::io::Write;
@@ -61,7 +63,7 @@ fn commands_print_what_they_name(rt: HostRuntime) -> Result<(), Fail> {
 #[test]
 fn other_words_are_answered_by_the_usage(rt: HostRuntime) -> Result<(), Fail> {
     let alloc = rt.alloc();
-    let cases: [(&str, &[&str]); 11] = [
+    let cases: [(&str, &[&str]); 12] = [
         ("no words", &[]),
         ("an empty word", &[""]),
         ("an unknown command", &["draw"]),
@@ -73,6 +75,10 @@ fn other_words_are_answered_by_the_usage(rt: HostRuntime) -> Result<(), Fail> {
         ("a case in another case", &["show", "Shapes"]),
         ("a further word of show", &["show", "shapes", "shapes"]),
         ("words in another order", &["shapes", "show"]),
+        (
+            "joins, which aren't there yet",
+            &["join", "strict", "true", "false"],
+        ),
     ];
     for (place, texts) in cases {
         let (mut out, mut err) = (Vec::new(alloc), Vec::new(alloc));
@@ -104,5 +110,46 @@ fn failed_usage_line_is_ignored(rt: HostRuntime) -> Result<(), Fail> {
     let status = run(alloc, &words_of(alloc, &["draw"])?, &mut out, &mut Broken);
     assert_eq!(rt; status, 2);
     assert!(rt; out.is_empty());
+    Ok(())
+}
+
+#[test]
+fn refused_schemas_are_answered_by_their_kind(rt: HostRuntime) -> Result<(), Fail> {
+    let alloc = rt.alloc();
+    let (mut out, mut err) = (Vec::new(alloc), Vec::new(alloc));
+    let refused = Err(SchemaError::ActionInvariantViolation);
+    let status = finish(lines_or_refusal(alloc, refused), &mut out, &mut err);
+    assert_eq!(rt; status, 1);
+    assert_eq!(rt;
+        out.as_slice(),
+        b"refused: ActionInvariantViolation\n".as_slice()
+    );
+    assert!(rt; err.is_empty());
+    Ok(())
+}
+
+#[test]
+fn want_of_memory_is_answered_by_its_status(rt: HostRuntime) -> Result<(), Fail> {
+    let alloc = rt.alloc();
+    let (mut out, mut err) = (Vec::new(alloc), Vec::new(alloc));
+    let refused = Err(SchemaError::Memory(Memory));
+    let status = finish(lines_or_refusal(alloc, refused), &mut out, &mut err);
+    assert_eq!(rt; status, 3);
+    assert_eq!(rt; err.as_slice(), b"memory\n".as_slice());
+    assert!(rt; out.is_empty());
+    Ok(())
+}
+
+#[test]
+fn unread_words_are_answered_by_their_status(rt: HostRuntime) -> Result<(), Fail> {
+    let cases = [
+        (io::ErrorKind::OutOfMemory, 3, "memory\n"),
+        (io::ErrorKind::InvalidData, 2, USAGE_LINE),
+    ];
+    for (kind, want, line) in cases {
+        let mut err = Vec::new(rt.alloc());
+        assert_eq!(rt; unread(&io::Error::from(kind), &mut err), want);
+        assert_eq!(rt; err.as_slice(), line.as_bytes());
+    }
     Ok(())
 }
