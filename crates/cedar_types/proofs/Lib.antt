@@ -6,4 +6,5 @@ pub mod MemberLemmas
 pub mod MemberParts
 pub mod MembershipLemmas
 pub mod MergedLemmas
+pub mod OrderLaws
 pub mod UnionLemmas

@@ -7,6 +7,7 @@ ghost use Rattle.cedar_rules.specs.Agree.{Agree};
 ghost use Rattle.cedar_rules.specs.Below.{Below};
 ghost use Rattle.cedar_rules.specs.Fields.{IsAscending};
 ghost use Rattle.cedar_rules.specs.CompareLaws.{ComparesBy};
+ghost use Rattle.cedar_rules.specs.Order.{ty_cmp, fields_cmp, attribute_cmp, union_cmp};
 ghost use Rattle.cedar_types.specs.EntityKind.{kind_ty};
 ghost use Rattle.cedar_types.specs.EntityLUB.{lub_names};
 ghost use Rattle.cedar_types.specs.Meaning.{ty_of, attribute_of, fields_of};
@@ -16,7 +17,6 @@ use crate::attributes::{AttributeType, Attributes};
 use crate::entity_kind::EntityKind;
 use crate::entity_lub::EntityLUB;
 use crate::types::Type;
-use cedar_rules::BoolType;
 use std::hash::Hash;
 
 /// The attributes of a record have ascending names, and each stands for a well-formed plain type.
@@ -64,24 +64,22 @@ pub fn strict_subtyping_of_types_is_permissive_and_agrees(a: &Type, b: &Type)
     types_are_well_formed(a);
 }
 
-/// Equality, order and hash of what is known of a truth value, of unions, and of kinds of entities go by
-/// what they stand for.
+/// Equality, order and hash of unions and of kinds of entities go by what they stand for.
 pub fn entity_kinds_compare_by_what_they_stand_for()
-    ensures truths { ComparesBy (λ (known : BoolType). known)
-        ⟦<BoolType as PartialEq>⟧.eq ⟦<BoolType as Ord>⟧.cmp ⟦<BoolType as Hash>⟧.hash_input }
-    ensures unions { ComparesBy lub_names
+    ensures unions { ComparesBy lub_names union_cmp
         ⟦<EntityLUB as PartialEq>⟧.eq ⟦<EntityLUB as Ord>⟧.cmp ⟦<EntityLUB as Hash>⟧.hash_input }
-    ensures kinds { ComparesBy kind_ty
+    ensures kinds { ComparesBy kind_ty ty_cmp
         ⟦<EntityKind as PartialEq>⟧.eq ⟦<EntityKind as Ord>⟧.cmp ⟦<EntityKind as Hash>⟧.hash_input }
 {}
 
 /// Equality, order and hash of types, of attributes and of one attribute go by what they stand for,
-/// whatever their locations.
+/// whatever their locations: types by kind in the order in which the variants are written, and then by
+/// their parts in turn.
 pub fn types_compare_by_what_they_stand_for()
-    ensures types { ComparesBy ty_of
+    ensures types { ComparesBy ty_of ty_cmp
         ⟦<Type as PartialEq>⟧.eq ⟦<Type as Ord>⟧.cmp ⟦<Type as Hash>⟧.hash_input }
-    ensures attributes { ComparesBy fields_of
+    ensures attributes { ComparesBy fields_of fields_cmp
         ⟦<Attributes as PartialEq>⟧.eq ⟦<Attributes as Ord>⟧.cmp ⟦<Attributes as Hash>⟧.hash_input }
-    ensures attribute { ComparesBy attribute_of
+    ensures attribute { ComparesBy attribute_of attribute_cmp
         ⟦<AttributeType as PartialEq>⟧.eq ⟦<AttributeType as Ord>⟧.cmp ⟦<AttributeType as Hash>⟧.hash_input }
 {}
