@@ -291,14 +291,14 @@ mutual
 
 -- permissive subtyping of inhabited types is inclusion of values and of names
 pub inclusion_and_names : SubtypingIsInclusionAndNames
-inclusion_and_names extensions a b first second lives also = (
+inclusion_and_names a b first second extensions lives also = (
   λ below. ((λ value has. HasBy-above (Gives extensions) value Permissive a b has below), below_lists a b first below),
   λ both. included_below extensions b a first lives both.0 both.1,
 )
 
 -- permissive subtyping of stated types is inclusion of values
 pub inclusion : SubtypingIsInclusion
-inclusion extensions a b first second stated also = (
+inclusion a b first second extensions stated also = (
   λ below value has. HasBy-above (Gives extensions) value Permissive a b has below,
   λ within. included_below extensions b a first stated.0 within (included_lists extensions a b first stated.0 also.1 within),
 )

@@ -30,15 +30,23 @@ abbrev mutual
       ((own_required : Bool) (own : Ty) → HasField lower name own_required own → ListsNames own ty)
       × FieldsListNames lower upper
 
+-- of two types, if they are stated, permissive subtyping is inclusion of values
+abbrev pub SubtypingIsInclusionOf : Ty → Ty → Type 0
+SubtypingIsInclusionOf a b =
+    (extensions : Extensions) → IsStated extensions a → IsStated extensions b
+    → Below Permissive a b ↔ ValuesIncluded extensions a b
+
+-- of two types, if they are inhabited throughout, permissive subtyping is inclusion of values where the lower type lists
+-- the upper's names
+abbrev pub SubtypingIsInclusionAndNamesOf : Ty → Ty → Type 0
+SubtypingIsInclusionAndNamesOf a b =
+    (extensions : Extensions) → IsInhabited extensions a → IsInhabited extensions b
+    → Below Permissive a b ↔ (ValuesIncluded extensions a b × ListsNames a b)
+
 -- on stated types, permissive subtyping is inclusion of values
 abbrev pub SubtypingIsInclusion : Type 0
-SubtypingIsInclusion =
-    (extensions : Extensions) (a b : Ty) → IsWellFormed a → IsWellFormed b
-    → IsStated extensions a → IsStated extensions b → Below Permissive a b ↔ ValuesIncluded extensions a b
+SubtypingIsInclusion = (a b : Ty) → IsWellFormed a → IsWellFormed b → SubtypingIsInclusionOf a b
 
 -- with optional attributes too, it is inclusion of values where the lower type lists the upper's names
 abbrev pub SubtypingIsInclusionAndNames : Type 0
-SubtypingIsInclusionAndNames =
-    (extensions : Extensions) (a b : Ty) → IsWellFormed a → IsWellFormed b
-    → IsInhabited extensions a → IsInhabited extensions b
-    → Below Permissive a b ↔ (ValuesIncluded extensions a b × ListsNames a b)
+SubtypingIsInclusionAndNames = (a b : Ty) → IsWellFormed a → IsWellFormed b → SubtypingIsInclusionAndNamesOf a b

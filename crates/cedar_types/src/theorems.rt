@@ -8,6 +8,7 @@ ghost use Rattle.cedar_rules.specs.Below.{Below};
 ghost use Rattle.cedar_rules.specs.Fields.{IsAscending};
 ghost use Rattle.cedar_rules.specs.CompareLaws.{ComparesBy};
 ghost use Rattle.cedar_rules.specs.Order.{ty_cmp, fields_cmp, attribute_cmp, union_cmp};
+ghost use Rattle.cedar_rules.specs.InclusionLaws.{SubtypingIsInclusionOf, SubtypingIsInclusionAndNamesOf};
 ghost use Rattle.cedar_types.specs.EntityKind.{kind_ty};
 ghost use Rattle.cedar_types.specs.EntityLUB.{lub_names};
 ghost use Rattle.cedar_types.specs.Meaning.{ty_of, attribute_of, fields_of};
@@ -20,8 +21,10 @@ use crate::types::Type;
 use std::hash::Hash;
 
 /// The attributes of a record have ascending names, and each stands for a well-formed plain type.
+///
+/// It goes over the attributes, and is there for its contract.
 #[cycle(well_formed)]
-fn attributes_are_well_formed(attrs: &Attributes)
+pub fn attributes_are_well_formed(attrs: &Attributes)
     ensures ascending { IsAscending (fields_of attrs.now) }
     ensures types { AreWellFormed (fields_of attrs.now) }
 {
@@ -62,6 +65,16 @@ pub fn strict_subtyping_of_types_is_permissive_and_agrees(a: &Type, b: &Type)
         ↔ (Below mode.Permissive (ty_of a.now) (ty_of b.now) × Agree (ty_of a.now) (ty_of b.now)) }
 {
     types_are_well_formed(a);
+}
+
+/// On types, permissive subtyping is inclusion of values where both are stated; and where they are only
+/// inhabited throughout, it is inclusion of values and of names.
+pub fn permissive_subtyping_of_types_is_inclusion(a: &Type, b: &Type)
+    ensures stated { SubtypingIsInclusionOf (ty_of a.now) (ty_of b.now) }
+    ensures with_optional { SubtypingIsInclusionAndNamesOf (ty_of a.now) (ty_of b.now) }
+{
+    types_are_well_formed(a);
+    types_are_well_formed(b);
 }
 
 /// Equality, order and hash of unions and of kinds of entities go by what they stand for.
