@@ -1,4 +1,5 @@
 use Rattle.std.specs.Prelude.{◌↔◌, Bool}
+use Rattle.cedar_below.specs.IsValue.{IsValue}
 use Rattle.cedar_below.specs.Lists.{Included}
 use Rattle.cedar_below.specs.Tree.{Tree}
 use Rattle.cedar_below.specs.declared.extension.Extensions.{Extensions}
@@ -12,7 +13,7 @@ use Rattle.cedar_rules.specs.WellFormed.{IsWellFormed}
 
 -- each value of the one type is a value of the other
 abbrev pub ValuesIncluded : Extensions → Ty → Ty → Type 0
-ValuesIncluded extensions lower upper = (value : Tree) → Has extensions value lower → Has extensions value upper
+ValuesIncluded extensions lower upper = (value : Tree) → IsValue value → Has extensions value lower → Has extensions value upper
 
 abbrev mutual
   -- the lower type lists the upper's names: at each place that both have, each name of the upper record is one of the

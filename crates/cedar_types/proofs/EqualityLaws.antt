@@ -8,7 +8,8 @@ use Rattle.std.specs.declared.string.String.{String}
 use Rattle.cedar_below.proofs.Names.{name_eq-same}
 use Rattle.cedar_below.proofs.Texts.{text_eq-Decides}
 use Rattle.cedar_below.specs.Text.{Text}
-use Rattle.cedar_rules.proofs.CompareLemmas.{none, bool_eq-same, open_tag-Decides}
+use Rattle.cedar_rules.proofs.CompareLemmas.{bool_eq-same}
+pub use Rattle.cedar_rules.proofs.CompareLemmas.{none, open_tag-Decides}
 use Rattle.cedar_types.proofs.CompareLemmas.{kind_eq-same}
 use Rattle.cedar_rules.specs.Order.{kind_place}
 use Rattle.cedar_types.specs.Meaning.{ty_of, attribute_of, fields_of, type_step, attribute_step, attributes_step}

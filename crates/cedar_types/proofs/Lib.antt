@@ -2,6 +2,7 @@ pub mod CompareLemmas
 pub mod CopyLemmas
 pub mod EqualityLaws
 pub mod FieldLemmas
+pub mod FormedLemmas
 pub mod MemberLemmas
 pub mod MemberParts
 pub mod MembershipLemmas

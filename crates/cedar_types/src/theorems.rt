@@ -5,28 +5,36 @@ ghost use Rattle.cedar_below.specs.declared.validation_mode.ValidationMode.{Vali
 ghost use Rattle.cedar_below.specs.declared.validation_mode.ValidationMode.TheVariants as mode;
 ghost use Rattle.cedar_rules.specs.Agree.{Agree};
 ghost use Rattle.cedar_rules.specs.Below.{Below};
-ghost use Rattle.cedar_rules.specs.Fields.{IsAscending};
+ghost use Rattle.cedar_rules.specs.Fields.{IsAscending, field_names};
 ghost use Rattle.cedar_rules.specs.CompareLaws.{ComparesBy};
 ghost use Rattle.cedar_rules.specs.Order.{ty_cmp, fields_cmp, attribute_cmp, union_cmp};
 ghost use Rattle.cedar_rules.specs.InclusionLaws.{SubtypingIsInclusionOf, SubtypingIsInclusionAndNamesOf};
 ghost use Rattle.cedar_types.specs.EntityKind.{kind_ty};
 ghost use Rattle.cedar_types.specs.EntityLUB.{lub_names};
 ghost use Rattle.cedar_types.specs.Meaning.{ty_of, attribute_of, fields_of};
-ghost use Rattle.cedar_rules.specs.WellFormed.{IsWellFormed, AreWellFormed};
+ghost use Rattle.cedar_rules.specs.WellFormed.{IsWellFormed, AreWellFormed, AreTexts};
 
 use crate::attributes::{AttributeType, Attributes};
 use crate::entity_kind::EntityKind;
 use crate::entity_lub::EntityLUB;
 use crate::types::Type;
+use cedar_below::theorems::names_are_of_identifiers;
 use std::hash::Hash;
 
-/// The attributes of a record have ascending names, and each stands for a well-formed plain type.
+/// Each kind of entities stands for a well-formed plain type.
+pub fn kinds_are_well_formed(kind: &EntityKind)
+    ensures { IsWellFormed (kind_ty kind.now) }
+{}
+
+/// The attributes of a record have ascending names, which are texts, and each stands for a well-formed
+/// plain type.
 ///
 /// It goes over the attributes, and is there for its contract.
 #[cycle(well_formed)]
 pub fn attributes_are_well_formed(attrs: &Attributes)
     ensures ascending { IsAscending (fields_of attrs.now) }
     ensures types { AreWellFormed (fields_of attrs.now) }
+    ensures texts { AreTexts (field_names (fields_of attrs.now)) }
 {
     for (_, attribute) in &attrs.attrs {
         types_are_well_formed(&attribute.attr_type);
@@ -46,6 +54,8 @@ pub fn types_are_well_formed(ty: &Type)
             element_type: Some(element),
         } => types_are_well_formed(element),
         Type::Record { attrs, .. } => attributes_are_well_formed(attrs),
+        Type::Entity(kind) => kinds_are_well_formed(kind),
+        Type::ExtensionType { name } => names_are_of_identifiers(name),
         _ => {}
     }
 }

@@ -12,10 +12,10 @@ use Rattle.cedar_rules.specs.Ty.{long}
 
 -- a record without attributes has the one with an optional attribute
 pub inclusion-included : (extensions : Extensions) → ValuesIncluded extensions unit_record optional_y
-inclusion-included extensions (map_value no_entry) has = (Included-none (codes "y" ∷ []), (refl, tt))
-inclusion-included extensions (map_value (entry name value rest)) has =
+inclusion-included extensions (map_value no_entry) real has = (Included-none (codes "y" ∷ []), (refl, tt))
+inclusion-included extensions (map_value (entry name value rest)) real has =
     absurd (omega (arith, (has.0 name (Contains-cons name _ name (inl refl))).1))
-inclusion-included extensions value has = elim has [ ]
+inclusion-included extensions value real has = elim has [ ]
 
 -- but it doesn't list its name
 pub inclusion-unlisted : ¬ ListsNames unit_record optional_y
@@ -25,7 +25,7 @@ inclusion-unlisted lists = omega (arith, (lists.0 (codes "y") (Contains-cons (co
 pub consistent-required : ¬ IsConsistent required_y (core_record core_end false)
 consistent-required consistent =
     ⊎_elim (λ e. absurd cc) (λ e. absurd cc)
-    (consistent.1 (codes "y") true long (inl (refl, refl, refl)) (λ among. omega (arith, among.1)))
+    (consistent.1 (codes "y") true (long, inl (refl, refl, refl)) (λ among. omega (arith, among.1)))
 
 -- a type is no union without the entity types that it has
 pub disjoint-common : ¬ AreDisjointTypes foo_entity foo_or_bar
