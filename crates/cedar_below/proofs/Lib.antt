@@ -10,3 +10,4 @@ pub mod PlainNames
 pub mod Texts
 pub mod TreeLemmas
 pub mod Uids
+pub mod ValueLemmas

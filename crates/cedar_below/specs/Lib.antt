@@ -10,6 +10,7 @@ pub mod Fits
 pub mod Id
 pub mod Identifier
 pub mod InternalName
+pub mod IsValue
 pub mod KeyedEntities
 pub mod Lists
 pub mod Name

@@ -1,4 +1,4 @@
-//! Laws of the comparisons: what equality, order and hash say of names and uids.
+//! Laws of the comparisons: what equality, order and hash say of names and uids; and what a name is.
 
 ghost use Rattle.std.specs.Prelude.{◌≡◌, ◌↔◌, IsTrue};
 ghost use Rattle.std.specs.Cmp.{IsTotalOrder};
@@ -7,6 +7,7 @@ ghost use Rattle.cedar_below.specs.EntityType.{type_name};
 ghost use Rattle.cedar_below.specs.EntityUID.{uid_of};
 ghost use Rattle.cedar_below.specs.Id.{id_text};
 ghost use Rattle.cedar_below.specs.InternalName.{name_of};
+ghost use Rattle.cedar_below.specs.IsValue.{IsName};
 ghost use Rattle.cedar_below.specs.Name.{plain_name};
 ghost use Rattle.cedar_below.specs.PlainName.{PlainName, name_cmp};
 ghost use Rattle.cedar_below.specs.PlainUid.{PlainUid, uid_cmp};
@@ -86,4 +87,9 @@ pub fn names_are_totally_ordered()
 pub fn uids_are_totally_ordered()
     ensures total { IsTotalOrder uid_cmp }
     ensures same { (a b : PlainUid) → (uid_cmp a b ≡ Ordering.Equal) ↔ (a ≡ b) }
+{}
+
+/// What a name stands for isn't reserved, and its parts are identifiers.
+pub fn names_are_of_identifiers(name: &Name)
+    ensures { IsName (plain_name name.now) }
 {}

@@ -3,6 +3,7 @@ use Rattle.std.proofs.Common.{◌≡◌, ◌≢◌, ◌⊎◌, inl, inr, ⊎_eli
 use Rattle.cedar_below.proofs.Lists.{Contains-cons}
 use Rattle.cedar_below.proofs.PlainNames.{name_cmp-total, name_cmp-Equal}
 use Rattle.cedar_below.specs.Lists.{Included}
+use Rattle.cedar_below.specs.IsValue.{IsName}
 use Rattle.cedar_below.specs.PlainName.{PlainName, name_cmp}
 use Rattle.cedar_below.specs.declared.validation_mode.ValidationMode.{ValidationMode}
 use Rattle.cedar_below.specs.declared.validation_mode.ValidationMode.TheVariants.{Strict, Permissive}
@@ -129,10 +130,10 @@ pub decide_names : (a b : PlainName) → IsDecided (a ≡ b)
 decide_names = decide_same name_cmp name_cmp-Equal
 
 -- extension types have an answer
-pub extensions_answered : (mode : ValidationMode) (a b : PlainName) → IsAnswered mode (extension_of a) (extension_of b)
-extensions_answered mode a b =
+pub extensions_answered : (mode : ValidationMode) (a b : PlainName) → IsName b → IsAnswered mode (extension_of a) (extension_of b)
+extensions_answered mode a b second =
     ⊎_elim
-    (λ same. second_is_upper mode (extension_of a) (extension_of b) same tt)
+    (λ same. second_is_upper mode (extension_of a) (extension_of b) same second)
     (λ differ. refused mode (extension_of a) (extension_of b) help.None (no_bound differ) refl)
     (decide_names a b)
   where
@@ -151,7 +152,11 @@ pub unions_answered : (a b : List PlainName) → IsWellFormed (union_of a) → I
 unions_answered a b first second =
     let both = merge name_cmp name_cmp-total name_cmp-Equal a b second.1 in
     given Permissive (union_of a) (union_of b) (union_of both.all)
-    (((both.first, (both.second, tt)), tt), below both) (includes_some a both.all first.0 both.first, both.ascending)
+    (((both.first, (both.second, tt)), tt), below both) (
+      includes_some a both.all first.0 both.first,
+      both.ascending,
+      (λ name among. ⊎_elim (first.2 name) (second.2 name) (both.only name among)),
+    )
   where
     below : (both : Merged name_cmp a b) (bound : Ty) → IsOwnBound Permissive (union_of a) (union_of b) bound → Below Permissive (union_of both.all) bound
     below both any_entity own = tt

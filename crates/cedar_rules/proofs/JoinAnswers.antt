@@ -38,10 +38,10 @@ mutual
   answered mode (set_of a) any_set first second = second_is_upper mode (set_of a) any_set tt tt
   answered mode (set_of a) (set_of b) first second = sets_answered mode a b (answered mode a b first second)
   answered Permissive (record_of fa ta) (record_of fb tb) first second =
-      permissive_records_answered fa fb ta tb first.0 second.0 (fields_answered Permissive fa fb first.1 second.1)
+      permissive_records_answered fa fb ta tb first.0 second.0 first.2 (fields_answered Permissive fa fb first.1 second.1)
   answered Strict (record_of fa ta) (record_of fb tb) first second =
-      strict_records_answered fa fb ta tb first.0 second.0 (fields_answered Strict fa fb first.1 second.1)
-  answered mode (extension_of a) (extension_of b) first second = extensions_answered mode a b
+      strict_records_answered fa fb ta tb first.0 second.0 first.2 (fields_answered Strict fa fb first.1 second.1)
+  answered mode (extension_of a) (extension_of b) first second = extensions_answered mode a b second
   answered mode any_entity (record_of fb tb) first second =
       refused mode any_entity (record_of fb tb) help.EntityRecord
       (unlike_shapes mode any_entity (record_of fb tb) (λ e. absurd cc) (λ e. absurd cc) (λ e. absurd cc)) refl

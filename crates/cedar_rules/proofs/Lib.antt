@@ -3,6 +3,7 @@ pub mod AnsweredLemmas
 pub mod AntisymmetryLaws
 pub mod ApartLemmas
 pub mod CleanLemmas
+pub mod CompareLemmas
 pub mod CoreLemmas
 pub mod Decisions
 pub mod DisjointLemmas

@@ -19,7 +19,7 @@ use Rattle.cedar_rules.specs.Fields.{IsAscending, field_names}
 use Rattle.cedar_rules.specs.Below.{HasField, OpennessBelow, NamesBelow, Below, FieldsBelow}
 use Rattle.cedar_rules.specs.OwnBound.{IsEither, IsOwnBound, HaveOwnBound, IsLeastOwnBound}
 use Rattle.cedar_rules.specs.Ty.{Ty, record_of, Fields, end, field}
-use Rattle.cedar_rules.specs.WellFormed.{IsWellFormed, AreWellFormed}
+use Rattle.cedar_rules.specs.WellFormed.{IsWellFormed, AreWellFormed, AreTexts}
 use Rattle.cedar_rules.specs.declared.open_tag.OpenTag.{OpenTag}
 use Rattle.cedar_rules.specs.declared.open_tag.OpenTag.TheVariants.{OpenAttributes, ClosedAttributes}
 
@@ -254,18 +254,22 @@ below_open OpenAttributes = tt
 below_open ClosedAttributes = tt
 
 -- records have an answer in permissive mode
-pub permissive_records_answered : (fa fb : Fields) (ta tb : OpenTag) → IsAscending fa → IsAscending fb → AreAnswered Permissive fa fb → IsAnswered Permissive (record_of fa ta) (record_of fb tb)
-permissive_records_answered fa fb ta tb first second answers =
+pub permissive_records_answered : (fa fb : Fields) (ta tb : OpenTag) → IsAscending fa → IsAscending fb → AreTexts (field_names fa) → AreAnswered Permissive fa fb → IsAnswered Permissive (record_of fa ta) (record_of fb tb)
+permissive_records_answered fa fb ta tb first second texts answers =
     let it = permissive_join fa fb first second answers in
+    let names : AreTexts (field_names it.fields) = λ name among.
+    (let found = HasField-named it.fields name among in
+    let part = it.sound name found.0 found.1 found.2 in
+    texts name (HasField-name fa name part.first_flag part.first part.in_first)) in
     ⊎_elim
     (λ all. given Permissive (record_of fa ta) (record_of fb tb) (record_of it.fields ClosedAttributes) (
       permissive_own fa fb ta tb ClosedAttributes it (subst (λ g. OpennessBelow g ClosedAttributes) (sym all.0.0) tt) (subst (λ g. OpennessBelow g ClosedAttributes) (sym all.0.1) tt) all.1.0 all.1.1,
       permissive_least fa fb ta tb ClosedAttributes it first second (λ _. tt),
     )
-    (it.ascending, it.formed))
+    (it.ascending, it.formed, names))
     (λ none. given Permissive (record_of fa ta) (record_of fb tb) (record_of it.fields OpenAttributes) (
       permissive_own fa fb ta tb OpenAttributes it (below_open ta) (below_open tb) tt tt,
       permissive_least fa fb ta tb OpenAttributes it first second (λ all. absurd (none all)),
     )
-    (it.ascending, it.formed))
+    (it.ascending, it.formed, names))
     (decide_both (decide_both (decide_closed ta) (decide_closed tb)) (decide_both (decide_included decide_texts (field_names fa) (field_names it.fields)) (decide_included decide_texts (field_names fb) (field_names it.fields))))

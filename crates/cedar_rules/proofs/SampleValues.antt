@@ -1,10 +1,15 @@
 -- Values of inhabited types, and of records with a chosen attribute.
 use Rattle.std.proofs.Common.{◌≡◌, ◌≢◌, inl, inr, ⊎_elim, Bool, true, false, refl, sym, subst, ◌∙◌, ℕ, zero, suc, ◌+◌, ◌≤◌, pos, length, List, [], ◌∷◌, Option, Some, None, Contains, arith}
 use Rattle.std.proofs.lemmas.Slice.Eq.{bytes_eq-Decides}
+use Rattle.std.proofs.Math.Facts.{sfits_lit}
 use Rattle.std.specs.Str.{bytes_eq}
 use Rattle.cedar_below.proofs.Inclusion.{Included-none, Included-cons}
 use Rattle.cedar_below.proofs.Lists.{Contains-cons, Contains-cons_cases}
 use Rattle.cedar_below.specs.Fits.{EntryFits, Gives, NamesListed}
+use Rattle.std.specs.declared.cmp.Ordering.TheVariants.{Less, Equal}
+use Rattle.cedar_below.proofs.Texts.{text_cmp-Equal}
+use Rattle.cedar_below.proofs.ValueLemmas.{length-stretch, stretch, stretch_name, IsText-stretch, IsText-nil, IsName-stretch}
+use Rattle.cedar_below.specs.IsValue.{IsText, IsName, IsValue, AreEntries}
 use Rattle.cedar_below.specs.Lists.{Included}
 use Rattle.cedar_below.specs.PlainName.{PlainName}
 use Rattle.cedar_below.specs.Text.{Text}
@@ -12,7 +17,7 @@ use Rattle.cedar_below.specs.Tree.{Tree, truth_value, number_value, text_value, 
 use Rattle.cedar_below.specs.declared.extension.Extensions.{Extensions}
 use Rattle.cedar_rules.proofs.AgreeLaws.{HasField-once}
 use Rattle.cedar_rules.proofs.RecordAnswers.{decide_texts}
-use Rattle.cedar_rules.proofs.Extensional.{rest_ascending}
+use Rattle.cedar_rules.proofs.Extensional.{IsBelowEach, first_below, rest_ascending}
 use Rattle.cedar_rules.proofs.SubtypeLaws.{HasField-name}
 use Rattle.cedar_rules.proofs.SubtypeLemmas.{chosen_first, unchosen}
 use Rattle.cedar_rules.specs.Fields.{IsAscending, field_names}
@@ -21,7 +26,7 @@ use Rattle.cedar_rules.specs.Has.{Has, HasBy, HasFieldsBy, HasTruth}
 use Rattle.cedar_rules.specs.OpenTag.{is_open}
 use Rattle.cedar_rules.specs.Stated.{IsInhabited, AreInhabited}
 use Rattle.cedar_rules.specs.Ty.{Ty, never, truth, long, text, any_entity, union_of, any_set, set_of, record_of, extension_of, Fields, end, field}
-use Rattle.cedar_rules.specs.WellFormed.{IsWellFormed, AreWellFormed}
+use Rattle.cedar_rules.specs.WellFormed.{IsWellFormed, AreWellFormed, AreTexts}
 use Rattle.cedar_rules.specs.declared.bool_type.BoolType.{BoolType}
 use Rattle.cedar_rules.specs.declared.bool_type.BoolType.TheVariants.{AnyBool, True, False}
 use Rattle.cedar_rules.specs.declared.open_tag.OpenTag.{OpenTag}
@@ -81,31 +86,45 @@ within_total f (y ∷ ys) x among =
     (λ there. (let less = within_total f ys x there in omega (arith, less)))
     (Contains-cons_cases y ys x among)
 
--- a text of a length
-abbrev stretch : ℕ → Text
-stretch zero = []
-stretch (suc k) = 0 ∷ stretch k
-
--- its length
-length-stretch : (k : ℕ) → length (stretch k) ≡ k
-length-stretch zero = refl
-length-stretch (suc k) = (let before = length-stretch k in omega (arith, before))
-
 -- a text that is in neither of two lists
-pub fresh_text : (names others : List Text) → (n : Text) × ¬ Contains names n × ¬ Contains others n
+pub fresh_text : (names others : List Text) → (n : Text) × ¬ Contains names n × ¬ Contains others n × IsText n
 fresh_text names others =
     let k = suc (total (λ name. name) names + total (λ name. name) others) in (
       stretch k,
       (λ among. (let less = within_total (λ name. name) names (stretch k) among in let long_enough = length-stretch k in omega (arith, less, long_enough))),
       (λ among. (let less = within_total (λ name. name) others (stretch k) among in let long_enough = length-stretch k in omega (arith, less, long_enough))),
+      IsText-stretch k,
     )
 
 -- a name that isn't in a list
-pub fresh_name : (names : List PlainName) → (name : PlainName) × ¬ Contains names name
+pub fresh_name : (names : List PlainName) → (name : PlainName) × ¬ Contains names name × IsName name
 fresh_name names =
-    let k = suc (total (λ (name : PlainName). name.base) names) in
-    let name : PlainName = record { base = stretch k; path = [] } in
-    (name, λ among. (let less = within_total (λ (name : PlainName). name.base) names name among in let long_enough = length-stretch k in omega (arith, less, long_enough)))
+    let k = total (λ (name : PlainName). name.base) names in (
+      stretch_name k,
+      (λ among. (let less = within_total (λ (name : PlainName). name.base) names (stretch_name k) among in let long_enough = length-stretch (suc k) in omega (arith, less, long_enough))),
+      IsName-stretch k,
+    )
+
+-- a uid of that type is a value
+pub uid_is_value : (name : PlainName) → IsName name → IsValue (uid_value (record { ty = name; eid = [] }))
+uid_is_value name named = (named, IsText-nil)
+
+-- zero is a value
+pub zero_is_value : IsValue (number_value (pos 0))
+zero_is_value = sfits_lit tt
+
+-- a name below each of the names isn't one of them
+below_isn't : (name : Text) (fields : Fields) → IsBelowEach name fields → ¬ Contains (field_names fields) name
+below_isn't name end below among = omega (arith, among.1)
+below_isn't name (field other required ty rest) below among =
+    ⊎_elim
+    (λ same. (let tied : Less ≡ Equal = sym below.0 ∙ (text_cmp-Equal name other).1 (sym same) in cc))
+    (below_isn't name rest below.1)
+    (Contains-cons_cases other (field_names rest) name among)
+
+-- a name isn't one of those after it, where they ascend
+pub first_absent : (name : Text) (required : Bool) (ty : Ty) (rest : Fields) → IsAscending (field name required ty rest) → ¬ Contains (field_names rest) name
+first_absent name required ty rest ascending = below_isn't name rest (first_below name required ty rest ascending)
 
 -- a value of what is known of a truth value
 pub truth_sample : (known : BoolType) → (value : Bool) × HasTruth value known
@@ -128,6 +147,7 @@ pub record Sample (extensions : Extensions) (fields : Fields) (without : Text) :
   pub values : Entries
   pub listed : Included (entry_names values) (field_names fields)
   pub absent : ¬ Contains (entry_names values) without
+  pub valid : AreEntries values
   pub has : (n : Text) (r : Bool) (t : Ty) → HasField fields n r t → n ≢ without → (value : Tree) × (entry_at n values ≡ Some value) × Has extensions value t
 
 -- an attribute of the name is left out
@@ -136,16 +156,18 @@ leave_out extensions name without required ty rest same before = record {
   values = before.values;
   listed = λ n among. Contains-cons name (field_names rest) n (inr (before.listed n among));
   absent = before.absent;
+  valid = before.valid;
   has = λ n r t has differ. ⊎_elim (λ here. absurd (differ (sym here.0 ∙ same))) (λ there. before.has n r t there differ) has;
 }
 
 -- an attribute of another name gets a value
-put_in : (extensions : Extensions) (name without : Text) (required : Bool) (ty : Ty) (rest : Fields) (value : Tree) → IsAscending (field name required ty rest) → name ≢ without → Has extensions value ty → Sample extensions rest without → Sample extensions (field name required ty rest) without
-put_in extensions name without required ty rest value ascending differ holds before = record {
+put_in : (extensions : Extensions) (name without : Text) (required : Bool) (ty : Ty) (rest : Fields) (value : Tree) → IsAscending (field name required ty rest) → IsText name → name ≢ without → IsValue value → Has extensions value ty → Sample extensions rest without → Sample extensions (field name required ty rest) without
+put_in extensions name without required ty rest value ascending named differ real holds before = record {
   values = entry name value before.values;
   listed = Included-cons name (entry_names before.values) (name ∷ field_names rest) (Contains-cons name (field_names rest) name (inl refl))
       (λ n among. Contains-cons name (field_names rest) n (inr (before.listed n among)));
   absent = λ among. ⊎_elim differ before.absent (Contains-cons_cases name (entry_names before.values) without among);
+  valid = (named, real, before.valid, (λ among. first_absent name required ty rest ascending (before.listed name among)));
   has = λ n r t has apart. ⊎_elim
       (λ same. (let first : HasField (field name required ty rest) n required ty = inl (sym same, refl, refl) in (
         value,
@@ -162,20 +184,21 @@ put_in extensions name without required ty rest value ascending differ holds bef
 
 mutual
   -- an inhabited type has a value
-  pub inhabitant : (extensions : Extensions) (ty : Ty) → IsWellFormed ty → IsInhabited extensions ty → (value : Tree) × Has extensions value ty
+  pub inhabitant : (extensions : Extensions) (ty : Ty) → IsWellFormed ty → IsInhabited extensions ty → (value : Tree) × IsValue value × Has extensions value ty
   inhabitant extensions never formed lives = elim lives [ ]
-  inhabitant extensions (truth known) formed lives = (let it = truth_sample known in (truth_value it.0, it.1))
-  inhabitant extensions long formed lives = (number_value (pos 0), tt)
-  inhabitant extensions text formed lives = (text_value [], tt)
-  inhabitant extensions any_entity formed lives = (uid_value (record { ty = record { base = []; path = [] }; eid = [] }), tt)
+  inhabitant extensions (truth known) formed lives = (let it = truth_sample known in (truth_value it.0, tt, it.1))
+  inhabitant extensions long formed lives = (number_value (pos 0), zero_is_value, tt)
+  inhabitant extensions text formed lives = (text_value [], IsText-nil, tt)
+  inhabitant extensions any_entity formed lives = (uid_value (record { ty = stretch_name 0; eid = [] }), uid_is_value (stretch_name 0) (IsName-stretch 0), tt)
   inhabitant extensions (union_of names) formed lives =
-      (let it = some_name names formed.0 in (uid_value (record { ty = it.0; eid = [] }), it.1))
-  inhabitant extensions any_set formed lives = (set_value no_tree, tt)
-  inhabitant extensions (set_of ty) formed lives = (set_value no_tree, tt)
+      (let it = some_name names formed.0 in (uid_value (record { ty = it.0; eid = [] }), uid_is_value it.0 (formed.2 it.0 it.1), it.1))
+  inhabitant extensions any_set formed lives = (set_value no_tree, tt, tt)
+  inhabitant extensions (set_of ty) formed lives = (set_value no_tree, tt, tt)
   inhabitant extensions (record_of fields openness) formed lives =
       let fresh = fresh_text (field_names fields) [] in
-      let it = sample extensions fields fresh.0 formed.0 formed.1 lives in (
+      let it = sample extensions fields fresh.0 formed.0 formed.1 formed.2 lives in (
         map_value it.values,
+        it.valid,
         (
           only_listed openness it.values fields it.listed,
           HasFields-from (Gives extensions) it.values fields
@@ -186,17 +209,18 @@ mutual
   inhabitant extensions (extension_of name) formed lives = lives
 
   -- inhabited attributes have values
-  pub sample : (extensions : Extensions) (fields : Fields) (without : Text) → IsAscending fields → AreWellFormed fields → AreInhabited extensions fields → Sample extensions fields without
-  sample extensions end without ascending formed lives = record {
+  pub sample : (extensions : Extensions) (fields : Fields) (without : Text) → IsAscending fields → AreWellFormed fields → AreTexts (field_names fields) → AreInhabited extensions fields → Sample extensions fields without
+  sample extensions end without ascending formed texts lives = record {
     values = no_entry;
     listed = Included-none [];
     absent = λ among. omega (arith, among.1);
+    valid = tt;
     has = λ n r t has differ. absurd has;
   }
-  sample extensions (field name required ty rest) without ascending formed lives =
-      let before = sample extensions rest without (rest_ascending name required ty rest ascending) formed.1 lives.1 in
+  sample extensions (field name required ty rest) without ascending formed texts lives =
+      let before = sample extensions rest without (rest_ascending name required ty rest ascending) formed.1 (λ n among. texts n (Contains-cons name (field_names rest) n (inr among))) lives.1 in
       let value = inhabitant extensions ty formed.0 lives.0 in
       ⊎_elim
       (λ same. leave_out extensions name without required ty rest same before)
-      (λ differ. put_in extensions name without required ty rest value.0 ascending differ value.1 before)
+      (λ differ. put_in extensions name without required ty rest value.0 ascending (texts name (Contains-cons name (field_names rest) name (inl refl))) differ value.1 value.2 before)
       (decide_texts name without)

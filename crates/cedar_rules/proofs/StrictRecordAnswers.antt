@@ -18,7 +18,7 @@ use Rattle.cedar_rules.specs.Below.{HasField, OpennessBelow, Below}
 use Rattle.cedar_rules.specs.Help.{IsHelpAtName}
 use Rattle.cedar_rules.specs.OwnBound.{IsEither, IsOwnBound, HaveOwnBound, IsLeastOwnBound}
 use Rattle.cedar_rules.specs.Ty.{Ty, record_of, Fields, end, field}
-use Rattle.cedar_rules.specs.WellFormed.{IsWellFormed, AreWellFormed}
+use Rattle.cedar_rules.specs.WellFormed.{IsWellFormed, AreWellFormed, AreTexts}
 use Rattle.cedar_rules.specs.declared.join_error.LubHelp.{LubHelp}
 use Rattle.cedar_rules.specs.declared.join_error.LubHelp.TheVariants as help
 use Rattle.cedar_rules.specs.declared.open_tag.OpenTag.{OpenTag}
@@ -223,8 +223,8 @@ decide_lengths m n = from_test (nat_eq m n) refl
     from_test false e = inr (eqb-false m n e)
 
 -- records have an answer in strict mode
-pub strict_records_answered : (fa fb : Fields) (ta tb : OpenTag) → IsAscending fa → IsAscending fb → AreAnswered Strict fa fb → IsAnswered Strict (record_of fa ta) (record_of fb tb)
-strict_records_answered fa fb ta tb first second answers =
+pub strict_records_answered : (fa fb : Fields) (ta tb : OpenTag) → IsAscending fa → IsAscending fb → AreTexts (field_names fa) → AreAnswered Strict fa fb → IsAnswered Strict (record_of fa ta) (record_of fb tb)
+strict_records_answered fa fb ta tb first second texts answers =
     ⊎_elim
     (λ like. ⊎_elim
     (λ it. given Strict (record_of fa ta) (record_of fb tb) (record_of it.fields (either_tag ta tb))
@@ -233,8 +233,14 @@ strict_records_answered fa fb ta tb first second answers =
     (λ n among. (let found = HasField-named fa n among in
     let kept = HasField-named it.fields n (it.complete n found.0 found.1 found.2) in
     let part = it.sound n kept.0 kept.1 kept.2 in
-    HasField-name fb n part.second_flag part.second part.in_second))).1 like))
-    (it.ascending, it.formed))
+    HasField-name fb n part.second_flag part.second part.in_second))).1 like)) (
+      it.ascending,
+      it.formed,
+      (λ name among.
+          (let found = HasField-named it.fields name among in
+          let part = it.sound name found.0 found.1 found.2 in
+          texts name (HasField-name fa name part.first_flag part.first part.in_first))),
+    ))
     (λ found. refused Strict (record_of fa ta) (record_of fb tb) found.0
     (help_refuses fa fa fb ta tb found.0 first second (λ n r t has. has) found.1)
     (inr (like, found.1)))

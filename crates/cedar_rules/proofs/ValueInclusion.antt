@@ -5,6 +5,8 @@ use Rattle.cedar_below.proofs.Lists.{Contains-cons}
 use Rattle.cedar_below.specs.CoreTy.{core_extension}
 use Rattle.cedar_below.specs.CoreSchemaType.{result_type}
 use Rattle.cedar_below.specs.Fits.{EntryFits, Gives, NamesListed}
+use Rattle.cedar_below.proofs.ValueLemmas.{stretch_name, IsText-nil, IsName-stretch}
+use Rattle.cedar_below.specs.IsValue.{IsText, IsName, IsValue}
 use Rattle.cedar_below.specs.Lists.{Included}
 use Rattle.cedar_below.specs.PlainName.{PlainName}
 use Rattle.cedar_below.specs.Text.{Text}
@@ -15,7 +17,7 @@ use Rattle.cedar_rules.proofs.AgreeLaws.{HasField-once, AreWellFormed-of}
 use Rattle.cedar_rules.proofs.Decisions.{decide_among}
 use Rattle.cedar_rules.proofs.MemberLaws.{HasBy-above, HasFieldsBy-of}
 use Rattle.cedar_rules.proofs.RecordAnswers.{decide_texts}
-use Rattle.cedar_rules.proofs.SampleValues.{HasFields-from, fits_some, some_fits, entry_here, entry_there, absent_entry, fresh_text, fresh_name, truth_sample, some_name, only_listed, Sample, inhabitant, sample}
+use Rattle.cedar_rules.proofs.SampleValues.{HasFields-from, fits_some, some_fits, entry_here, entry_there, absent_entry, fresh_text, fresh_name, truth_sample, some_name, uid_is_value, zero_is_value, only_listed, Sample, inhabitant, sample}
 use Rattle.cedar_rules.proofs.SubtypeLaws.{FieldsWithin, HasField-name, HasField-named, FieldsBelow-names}
 use Rattle.cedar_rules.specs.Fields.{IsAscending, field_names}
 use Rattle.cedar_rules.specs.Below.{HasField, OpennessBelow, NamesBelow, Below, FieldsBelow}
@@ -24,7 +26,7 @@ use Rattle.cedar_rules.specs.OpenTag.{is_open}
 use Rattle.cedar_rules.specs.InclusionLaws.{ValuesIncluded, ListsNames, FieldsListNames, SubtypingIsInclusion, SubtypingIsInclusionAndNames}
 use Rattle.cedar_rules.specs.Stated.{IsInhabited, AreInhabited, RequiresAll, FieldsRequireAll}
 use Rattle.cedar_rules.specs.Ty.{Ty, never, truth, long, text, any_entity, union_of, any_set, set_of, record_of, extension_of, Fields, end, field}
-use Rattle.cedar_rules.specs.WellFormed.{IsWellFormed, AreWellFormed}
+use Rattle.cedar_rules.specs.WellFormed.{IsWellFormed, AreWellFormed, AreTexts}
 use Rattle.cedar_rules.specs.declared.bool_type.BoolType.{BoolType}
 use Rattle.cedar_rules.specs.declared.bool_type.BoolType.TheVariants.{AnyBool, True, False}
 use Rattle.cedar_rules.specs.declared.open_tag.OpenTag.{OpenTag}
@@ -38,13 +40,13 @@ AreInhabited-of extensions (field other flag of rest) name required ty lives (in
     AreInhabited-of extensions rest name required ty lives.1 there
 
 -- some value doesn't have a type
-other_value : (extensions : Extensions) (ty : Ty) → (value : Tree) × ¬ Has extensions value ty
-other_value extensions (truth known) = (text_value [], λ has. has)
-other_value extensions ty = (truth_value true, λ has. elim has [ ])
+other_value : (extensions : Extensions) (ty : Ty) → (value : Tree) × IsValue value × ¬ Has extensions value ty
+other_value extensions (truth known) = (text_value [], IsText-nil, λ has. has)
+other_value extensions ty = (truth_value true, tt, λ has. elim has [ ])
 
 -- elements of sets are included where the sets are
 elements_included : (extensions : Extensions) (a b : Ty) → ValuesIncluded extensions (set_of a) (set_of b) → ValuesIncluded extensions a b
-elements_included extensions a b within value has = (within (set_value (tree value no_tree)) (has, tt)).0
+elements_included extensions a b within value real has = (within (set_value (tree value no_tree)) (real, tt) (has, tt)).0
 
 -- a name of a record isn't one that the record doesn't have
 name_differs : (fields : Fields) (n m : Text) (r : Bool) (t : Ty) → ¬ Contains (field_names fields) m → HasField fields n r t → n ≢ m
@@ -54,8 +56,13 @@ name_differs fields n m r t absent has same = absent (subst (Contains (field_nam
 record Inclusion (extensions : Extensions) (fa fb : Fields) (ta tb : OpenTag) : Type 0 where
   first : IsAscending fa
   formed : AreWellFormed fa
+  texts : AreTexts (field_names fa)
   lives : AreInhabited extensions fa
   within : ValuesIncluded extensions (record_of fa ta) (record_of fb tb)
+
+-- a sample of a record with a further value is a value
+sample_is_value : (extensions : Extensions) (fa : Fields) (n : Text) (value : Tree) (it : Sample extensions fa n) → IsText n → IsValue value → IsValue (map_value (entry n value it.values))
+sample_is_value extensions fa n value it named real = (named, real, it.valid, it.absent)
 
 -- a sample of the first record with every name, and one further value
 with_value : (extensions : Extensions) (fa : Fields) (ta : OpenTag) (n : Text) (value : Tree) (it : Sample extensions fa n) → IsAscending fa → ((r : Bool) (t : Ty) → HasField fa n r t → Has extensions value t) → NamesListed (is_open ta) (entry_names (entry n value it.values)) (field_names fa) → Has extensions (map_value (entry n value it.values)) (record_of fa ta)
@@ -77,13 +84,13 @@ more_listed extensions fa ta n value it among =
 
 -- the values of attributes of a name are included where the records are
 attributes_included : (extensions : Extensions) (fa fb : Fields) (ta tb : OpenTag) (n : Text) (ra rb : Bool) (a b : Ty) → Inclusion extensions fa fb ta tb → HasField fa n ra a → HasField fb n rb b → ValuesIncluded extensions a b
-attributes_included extensions fa fb ta tb n ra rb a b known has also value holds =
-    let it = sample extensions fa n known.first known.formed known.lives in
+attributes_included extensions fa fb ta tb n ra rb a b known has also value real holds =
+    let it = sample extensions fa n known.first known.formed known.texts known.lives in
     let whole = with_value extensions fa ta n value it known.first
     (λ r t there. subst (Has extensions value) (HasField-once fa n ra r a t known.first has there).1 holds)
     (more_listed extensions fa ta n value it (HasField-name fa n ra a has)) in
     some_fits (λ v. Has extensions v b) rb (entry_at n (entry n value it.values)) value (entry_here n n value it.values refl)
-    (HasFieldsBy-of (Gives extensions) (entry n value it.values) fb n rb b (known.within (map_value (entry n value it.values)) whole).1 also)
+    (HasFieldsBy-of (Gives extensions) (entry n value it.values) fb n rb b (known.within (map_value (entry n value it.values)) (sample_is_value extensions fa n value it (known.texts n (HasField-name fa n ra a has)) real) whole).1 also)
 
 -- a sample without a name that the record doesn't require is a value of it
 lacking_value : (extensions : Extensions) (fa : Fields) (ta : OpenTag) (n : Text) (it : Sample extensions fa n) → ((r : Bool) (t : Ty) → HasField fa n r t → r ≡ false) → Has extensions (map_value it.values) (record_of fa ta)
@@ -98,19 +105,19 @@ lacking_value extensions fa ta n it optional = (
 )
 
 -- an inhabited record has a value
-record_value : (extensions : Extensions) (fa : Fields) (ta : OpenTag) → IsAscending fa → AreWellFormed fa → AreInhabited extensions fa → (values : Entries) × Has extensions (map_value values) (record_of fa ta)
-record_value extensions fa ta ascending formed lives =
+record_value : (extensions : Extensions) (fa : Fields) (ta : OpenTag) → IsAscending fa → AreWellFormed fa → AreTexts (field_names fa) → AreInhabited extensions fa → (values : Entries) × IsValue (map_value values) × Has extensions (map_value values) (record_of fa ta)
+record_value extensions fa ta ascending formed texts lives =
     let fresh = fresh_text (field_names fa) [] in
-    let it = sample extensions fa fresh.0 ascending formed lives in
-    (it.values, lacking_value extensions fa ta fresh.0 it (λ r t has. absurd (fresh.1 (HasField-name fa fresh.0 r t has))))
+    let it = sample extensions fa fresh.0 ascending formed texts lives in
+    (it.values, it.valid, lacking_value extensions fa ta fresh.0 it (λ r t has. absurd (fresh.1 (HasField-name fa fresh.0 r t has))))
 
 -- a name that the first record needn't have isn't required by the second
 optional_too : (extensions : Extensions) (fa fb : Fields) (ta tb : OpenTag) (n : Text) (rb : Bool) (b : Ty) → Inclusion extensions fa fb ta tb → ((r : Bool) (t : Ty) → HasField fa n r t → r ≡ false) → HasField fb n rb b → rb ≡ false
 optional_too extensions fa fb ta tb n rb b known optional also =
-    let it = sample extensions fa n known.first known.formed known.lives in
+    let it = sample extensions fa n known.first known.formed known.texts known.lives in
     let whole = lacking_value extensions fa ta n it optional in
     subst (EntryFits (λ v. Has extensions v b) rb) (absent_entry n it.values it.absent)
-    (HasFieldsBy-of (Gives extensions) it.values fb n rb b (known.within (map_value it.values) whole).1 also)
+    (HasFieldsBy-of (Gives extensions) it.values fb n rb b (known.within (map_value it.values) it.valid whole).1 also)
 
 -- flags of a name fit where the values are included
 flags_included : (extensions : Extensions) (fa fb : Fields) (ta tb : OpenTag) (n : Text) (ra rb : Bool) (a b : Ty) → Inclusion extensions fa fb ta tb → HasField fa n ra a → HasField fb n rb b → IsTrue rb → IsTrue ra
@@ -131,22 +138,22 @@ required_listed extensions fa fb ta tb n b known also =
 -- the names of the first record are those of a closed second
 closed_names : (extensions : Extensions) (fa fb : Fields) (ta : OpenTag) → Inclusion extensions fa fb ta ClosedAttributes → Included (field_names fa) (field_names fb)
 closed_names extensions fa fb ta known n among =
-    let it = sample extensions fa n known.first known.formed known.lives in
+    let it = sample extensions fa n known.first known.formed known.texts known.lives in
     let own = HasField-named fa n among in
     let value = inhabitant extensions own.1 (AreWellFormed-of fa n own.0 own.1 known.formed own.2) (AreInhabited-of extensions fa n own.0 own.1 known.lives own.2) in
     let whole = with_value extensions fa ta n value.0 it known.first
-    (λ r t there. subst (Has extensions value.0) (HasField-once fa n own.0 r own.1 t known.first own.2 there).1 value.1)
+    (λ r t there. subst (Has extensions value.0) (HasField-once fa n own.0 r own.1 t known.first own.2 there).1 value.2)
     (more_listed extensions fa ta n value.0 it among) in
-    (known.within (map_value (entry n value.0 it.values)) whole).0 n (Contains-cons n (entry_names it.values) n (inl refl))
+    (known.within (map_value (entry n value.0 it.values)) (sample_is_value extensions fa n value.0 it (known.texts n among) value.1) whole).0 n (Contains-cons n (entry_names it.values) n (inl refl))
 
 -- an open record doesn't have its values in a closed one
 open_isnt_closed : (extensions : Extensions) (fa fb : Fields) → ¬ Inclusion extensions fa fb OpenAttributes ClosedAttributes
 open_isnt_closed extensions fa fb known =
     let fresh = fresh_text (field_names fa) (field_names fb) in
-    let it = sample extensions fa fresh.0 known.first known.formed known.lives in
+    let it = sample extensions fa fresh.0 known.first known.formed known.texts known.lives in
     let whole = with_value extensions fa OpenAttributes fresh.0 (truth_value true) it known.first
     (λ r t there. absurd (fresh.1 (HasField-name fa fresh.0 r t there))) tt in
-    fresh.2 ((known.within (map_value (entry fresh.0 (truth_value true) it.values)) whole).0 fresh.0 (Contains-cons fresh.0 (entry_names it.values) fresh.0 (inl refl)))
+    fresh.2 ((known.within (map_value (entry fresh.0 (truth_value true) it.values)) (sample_is_value extensions fa fresh.0 (truth_value true) it fresh.3 tt) whole).0 fresh.0 (Contains-cons fresh.0 (entry_names it.values) fresh.0 (inl refl)))
 
 -- tags fit where the values are included
 tags_included : (extensions : Extensions) (fa fb : Fields) (ta tb : OpenTag) → Inclusion extensions fa fb ta tb → OpennessBelow ta tb
@@ -165,10 +172,10 @@ truths_included : (extensions : Extensions) (known other : BoolType) → ValuesI
 truths_included extensions known AnyBool within = inl refl
 truths_included extensions True True within = inr refl
 truths_included extensions False False within = inr refl
-truths_included extensions AnyBool True within = absurd (let e : false ≡ true = within (truth_value false) tt in cc)
-truths_included extensions AnyBool False within = absurd (let e : true ≡ false = within (truth_value true) tt in cc)
-truths_included extensions True False within = absurd (let e : true ≡ false = within (truth_value true) refl in cc)
-truths_included extensions False True within = absurd (let e : false ≡ true = within (truth_value false) refl in cc)
+truths_included extensions AnyBool True within = absurd (let e : false ≡ true = within (truth_value false) tt tt in cc)
+truths_included extensions AnyBool False within = absurd (let e : true ≡ false = within (truth_value true) tt tt in cc)
+truths_included extensions True False within = absurd (let e : true ≡ false = within (truth_value true) tt refl in cc)
+truths_included extensions False True within = absurd (let e : false ≡ true = within (truth_value false) tt refl in cc)
 
 -- an extension type that is included is the same
 extensions_included : (extensions : Extensions) (a b : PlainName) (function : PlainName) (args : Trees) → Gives extensions function args a → Gives extensions function args b → a ≡ b
@@ -184,42 +191,42 @@ mutual
   included_below extensions b never formed lives within lists = elim lives [ ]
   included_below extensions (truth other) (truth known) formed lives within lists = truths_included extensions known other within
   included_below extensions b (truth known) formed lives within lists =
-      (let it = truth_sample known in elim (within (truth_value it.0) it.1) [ ])
+      (let it = truth_sample known in elim (within (truth_value it.0) tt it.1) [ ])
   included_below extensions long long formed lives within lists = tt
-  included_below extensions b long formed lives within lists = elim (within (number_value (pos 0)) tt) [ ]
+  included_below extensions b long formed lives within lists = elim (within (number_value (pos 0)) zero_is_value tt) [ ]
   included_below extensions text text formed lives within lists = tt
-  included_below extensions b text formed lives within lists = elim (within (text_value []) tt) [ ]
+  included_below extensions b text formed lives within lists = elim (within (text_value []) IsText-nil tt) [ ]
   included_below extensions any_entity any_entity formed lives within lists = tt
   included_below extensions (union_of names) any_entity formed lives within lists =
-      (let fresh = fresh_name names in absurd (fresh.1 (within (uid_value (record { ty = fresh.0; eid = [] })) tt)))
+      (let fresh = fresh_name names in absurd (fresh.1 (within (uid_value (record { ty = fresh.0; eid = [] })) (uid_is_value fresh.0 fresh.2) tt)))
   included_below extensions b any_entity formed lives within lists =
-      elim (within (uid_value (record { ty = record { base = []; path = [] }; eid = [] })) tt) [ ]
+      elim (within (uid_value (record { ty = stretch_name 0; eid = [] })) (uid_is_value (stretch_name 0) (IsName-stretch 0)) tt) [ ]
   included_below extensions any_entity (union_of names) formed lives within lists = tt
   included_below extensions (union_of others) (union_of names) formed lives within lists =
-      λ name among. within (uid_value (record { ty = name; eid = [] })) among
+      λ name among. within (uid_value (record { ty = name; eid = [] })) (uid_is_value name (formed.2 name among)) among
   included_below extensions b (union_of names) formed lives within lists =
-      (let it = some_name names formed.0 in elim (within (uid_value (record { ty = it.0; eid = [] })) it.1) [ ])
+      (let it = some_name names formed.0 in elim (within (uid_value (record { ty = it.0; eid = [] })) (uid_is_value it.0 (formed.2 it.0 it.1)) it.1) [ ])
   included_below extensions any_set any_set formed lives within lists = tt
   included_below extensions (set_of b) any_set formed lives within lists =
-      (let it = other_value extensions b in absurd (it.1 (within (set_value (tree it.0 no_tree)) tt).0))
-  included_below extensions b any_set formed lives within lists = elim (within (set_value no_tree) tt) [ ]
+      (let it = other_value extensions b in absurd (it.2 (within (set_value (tree it.0 no_tree)) (it.1, tt) tt).0))
+  included_below extensions b any_set formed lives within lists = elim (within (set_value no_tree) tt tt) [ ]
   included_below extensions any_set (set_of a) formed lives within lists = tt
   included_below extensions (set_of b) (set_of a) formed lives within lists =
       included_below extensions b a formed lives (elements_included extensions a b within) lists
-  included_below extensions b (set_of a) formed lives within lists = elim (within (set_value no_tree) tt) [ ]
+  included_below extensions b (set_of a) formed lives within lists = elim (within (set_value no_tree) tt tt) [ ]
   included_below extensions (record_of fb tb) (record_of fa ta) formed lives within lists =
-      let known : Inclusion extensions fa fb ta tb = record { first = formed.0; formed = formed.1; lives = lives; within = within } in (
+      let known : Inclusion extensions fa fb ta tb = record { first = formed.0; formed = formed.1; texts = formed.2; lives = lives; within = within } in (
         tags_included extensions fa fb ta tb known,
         names_included extensions fa fb ta tb known,
         fields_below extensions fb fa fb ta tb known (λ n r t has. has) lists.0 lists.1,
       )
   included_below extensions b (record_of fa ta) formed lives within lists =
-      (let it = record_value extensions fa ta formed.0 formed.1 lives in elim (within (map_value it.0) it.1) [ ])
-  included_below extensions (extension_of other) (extension_of name) formed (call_value function args, gives) within lists =
-      extensions_included extensions name other function args gives (within (call_value function args) gives)
-  included_below extensions b (extension_of name) formed (call_value function args, gives) within lists =
-      elim (within (call_value function args) gives) [ ]
-  included_below extensions b (extension_of name) formed (value, gives) within lists = elim gives [ ]
+      (let it = record_value extensions fa ta formed.0 formed.1 formed.2 lives in elim (within (map_value it.0) it.1 it.2) [ ])
+  included_below extensions (extension_of other) (extension_of name) formed (call_value function args, real, gives) within lists =
+      extensions_included extensions name other function args gives (within (call_value function args) real gives)
+  included_below extensions b (extension_of name) formed (call_value function args, real, gives) within lists =
+      elim (within (call_value function args) real gives) [ ]
+  included_below extensions b (extension_of name) formed (value, real, gives) within lists = elim gives [ ]
 
   -- its attributes are below those of the other
   fields_below : (extensions : Extensions) (part fa fb : Fields) (ta tb : OpenTag) → Inclusion extensions fa fb ta tb → FieldsWithin part fb → Included (field_names fb) (field_names fa) → FieldsListNames fa part → FieldsBelow Permissive fa part
@@ -270,7 +277,7 @@ mutual
   included_lists extensions (set_of a) (set_of b) formed lives all within =
       included_lists extensions a b formed lives all (elements_included extensions a b within)
   included_lists extensions (record_of fa ta) (record_of fb tb) formed lives all within =
-      let known : Inclusion extensions fa fb ta tb = record { first = formed.0; formed = formed.1; lives = lives; within = within } in (
+      let known : Inclusion extensions fa fb ta tb = record { first = formed.0; formed = formed.1; texts = formed.2; lives = lives; within = within } in (
         (λ n among.
             (let found = HasField-named fb n among in
             let needed = FieldsRequireAll-of fb n found.0 found.1 all found.2 in
@@ -291,14 +298,14 @@ mutual
 
 -- permissive subtyping of inhabited types is inclusion of values and of names
 pub inclusion_and_names : SubtypingIsInclusionAndNames
-inclusion_and_names extensions a b first second lives also = (
-  λ below. ((λ value has. HasBy-above (Gives extensions) value Permissive a b has below), below_lists a b first below),
+inclusion_and_names a b first second extensions lives also = (
+  λ below. ((λ value real has. HasBy-above (Gives extensions) value Permissive a b has below), below_lists a b first below),
   λ both. included_below extensions b a first lives both.0 both.1,
 )
 
 -- permissive subtyping of stated types is inclusion of values
 pub inclusion : SubtypingIsInclusion
-inclusion extensions a b first second stated also = (
-  λ below value has. HasBy-above (Gives extensions) value Permissive a b has below,
+inclusion a b first second extensions stated also = (
+  λ below value real has. HasBy-above (Gives extensions) value Permissive a b has below,
   λ within. included_below extensions b a first stated.0 within (included_lists extensions a b first stated.0 also.1 within),
 )

@@ -32,7 +32,9 @@ NamesBelow _ _ lower upper = Included (field_names lower) (field_names upper)
 
 abbrev mutual
   -- one type is below another: `Never` below all, a truth value below any, a set below a set of more and below the
-  -- any-set, a record below one that asks no more, an entity below a union with its types, and each type below itself
+  -- any-set, a record below one of which it has each attribute, with a type below and a flag that fits, and no further
+  -- name but where that one is open and the mode permissive, an entity below a union with its types, and each type
+  -- below itself
   pub Below : ValidationMode → Ty → Ty → Type 0
   Below mode never upper = Unit {0}
   Below mode (truth lower) (truth upper) = (upper ≡ AnyBool) ⊎ (lower ≡ upper)

@@ -4,7 +4,6 @@ use Rattle.cedar_below.specs.Text.{Text}
 use Rattle.cedar_rules.specs.Fields.{field_names}
 use Rattle.cedar_rules.specs.Below.{HasField}
 use Rattle.cedar_rules.specs.Ty.{Ty, truth, long, text, any_entity, union_of, any_set, set_of, record_of, extension_of, Fields, end, field}
-use Rattle.cedar_rules.specs.declared.open_tag.OpenTag.{OpenTag}
 use Rattle.cedar_rules.specs.declared.open_tag.OpenTag.TheVariants.{OpenAttributes}
 
 -- one of the attributes has that name, that flag and that core type

@@ -16,7 +16,7 @@ abbrev pub IsAscending : Fields → Type 0
 IsAscending fields = IsStrictlySortedBy text_cmp (field_names fields)
 
 -- what the last of some pairs with that name gives
-abbrev pub last_named : Text → List (Text × (Bool × Ty)) → Option (Bool × Ty)
+abbrev pub last_named : {A : Type 0} → Text → List (Text × A) → Option A
 last_named name [] = None
 last_named name (item ∷ rest) = option_or (last_named name rest) (if bytes_eq name item.0 then Some item.1 else None)
 

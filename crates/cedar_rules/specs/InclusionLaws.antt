@@ -1,4 +1,5 @@
 use Rattle.std.specs.Prelude.{◌↔◌, Bool}
+use Rattle.cedar_below.specs.IsValue.{IsValue}
 use Rattle.cedar_below.specs.Lists.{Included}
 use Rattle.cedar_below.specs.Tree.{Tree}
 use Rattle.cedar_below.specs.declared.extension.Extensions.{Extensions}
@@ -12,7 +13,7 @@ use Rattle.cedar_rules.specs.WellFormed.{IsWellFormed}
 
 -- each value of the one type is a value of the other
 abbrev pub ValuesIncluded : Extensions → Ty → Ty → Type 0
-ValuesIncluded extensions lower upper = (value : Tree) → Has extensions value lower → Has extensions value upper
+ValuesIncluded extensions lower upper = (value : Tree) → IsValue value → Has extensions value lower → Has extensions value upper
 
 abbrev mutual
   -- the lower type lists the upper's names: at each place that both have, each name of the upper record is one of the
@@ -30,15 +31,23 @@ abbrev mutual
       ((own_required : Bool) (own : Ty) → HasField lower name own_required own → ListsNames own ty)
       × FieldsListNames lower upper
 
+-- of two types, if they are stated, permissive subtyping is inclusion of values
+abbrev pub SubtypingIsInclusionOf : Ty → Ty → Type 0
+SubtypingIsInclusionOf a b =
+    (extensions : Extensions) → IsStated extensions a → IsStated extensions b
+    → Below Permissive a b ↔ ValuesIncluded extensions a b
+
+-- of two types, if they are inhabited throughout, permissive subtyping is inclusion of values where the lower type lists
+-- the upper's names
+abbrev pub SubtypingIsInclusionAndNamesOf : Ty → Ty → Type 0
+SubtypingIsInclusionAndNamesOf a b =
+    (extensions : Extensions) → IsInhabited extensions a → IsInhabited extensions b
+    → Below Permissive a b ↔ (ValuesIncluded extensions a b × ListsNames a b)
+
 -- on stated types, permissive subtyping is inclusion of values
 abbrev pub SubtypingIsInclusion : Type 0
-SubtypingIsInclusion =
-    (extensions : Extensions) (a b : Ty) → IsWellFormed a → IsWellFormed b
-    → IsStated extensions a → IsStated extensions b → Below Permissive a b ↔ ValuesIncluded extensions a b
+SubtypingIsInclusion = (a b : Ty) → IsWellFormed a → IsWellFormed b → SubtypingIsInclusionOf a b
 
 -- with optional attributes too, it is inclusion of values where the lower type lists the upper's names
 abbrev pub SubtypingIsInclusionAndNames : Type 0
-SubtypingIsInclusionAndNames =
-    (extensions : Extensions) (a b : Ty) → IsWellFormed a → IsWellFormed b
-    → IsInhabited extensions a → IsInhabited extensions b
-    → Below Permissive a b ↔ (ValuesIncluded extensions a b × ListsNames a b)
+SubtypingIsInclusionAndNames = (a b : Ty) → IsWellFormed a → IsWellFormed b → SubtypingIsInclusionAndNamesOf a b

@@ -17,6 +17,7 @@ pub mod JoinAnswer
 pub mod JoinLaws
 pub mod LubHelp
 pub mod OpenTag
+pub mod Order
 pub mod OwnBound
 pub mod ReduceLaws
 pub mod StandsIn

@@ -1,4 +1,5 @@
 use Rattle.std.specs.Prelude.{IsTrue}
+use Rattle.cedar_below.specs.IsValue.{IsValue}
 use Rattle.cedar_below.specs.Tree.{Tree}
 use Rattle.cedar_below.specs.declared.extension.Extensions.{Extensions}
 use Rattle.cedar_rules.specs.Has.{Has}
@@ -10,7 +11,7 @@ abbrev mutual
   IsInhabited extensions never = ⊥
   IsInhabited extensions (set_of ty) = IsInhabited extensions ty
   IsInhabited extensions (record_of fields openness) = AreInhabited extensions fields
-  IsInhabited extensions (extension_of name) = (value : Tree) × Has extensions value (extension_of name)
+  IsInhabited extensions (extension_of name) = (value : Tree) × IsValue value × Has extensions value (extension_of name)
   IsInhabited extensions _ = Unit {0}
 
   -- the type of each attribute is inhabited throughout

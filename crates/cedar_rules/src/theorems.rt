@@ -8,6 +8,7 @@ ghost use Rattle.cedar_below.specs.declared.validation_mode.ValidationMode.TheVa
 ghost use Rattle.cedar_rules.specs.Agree.{Agree};
 ghost use Rattle.cedar_rules.specs.Below.{Below};
 ghost use Rattle.cedar_rules.specs.Clean.{CleanIsWithoutAnySet};
+ghost use Rattle.cedar_rules.specs.CompareLaws.{ComparesBy};
 ghost use Rattle.cedar_rules.specs.CoreOf.{CoreIsLackedExactly};
 ghost use Rattle.cedar_rules.specs.Disjoint.{DisjointTypesShareNoValue};
 ghost use Rattle.cedar_rules.specs.Has.{Has, MayHave};
@@ -15,10 +16,15 @@ ghost use Rattle.cedar_rules.specs.InclusionLaws.{SubtypingIsInclusion, Subtypin
 ghost use Rattle.cedar_rules.specs.JoinLaws.{CleanBoundsAreOwn, OwnBoundsOfCleanAreClean, JoinsAreAnswered, JoinsAreGivenExactly};
 ghost use Rattle.cedar_rules.specs.JoinLaws.{JoinsAreUnique, UpperTypesAreJoins, JoinsAreBelowCleanBounds, JoinsOfCleanAreLeastClean};
 ghost use Rattle.cedar_rules.specs.JoinLaws.{JoinsAreCommutative, StrictJoinsArePermissive};
+ghost use Rattle.cedar_rules.specs.Order.{truth_cmp, openness_cmp};
 ghost use Rattle.cedar_rules.specs.ReduceLaws.{ReductionsAreAnswered, EmptyIsReducedToNever};
 ghost use Rattle.cedar_rules.specs.ReduceLaws.{CleanAreReducedToLeastClean, CleanAreReducedInAnyOrder};
 ghost use Rattle.cedar_rules.specs.WellFormed.{IsWellFormed};
 ghost use Rattle.cedar_rules.specs.Ty.{Ty};
+
+use crate::bool_type::BoolType;
+use crate::open_tag::OpenTag;
+use std::hash::Hash;
 
 /// Each type is below itself, in either mode.
 pub fn subtyping_is_reflexive()
@@ -105,4 +111,13 @@ pub fn disjoint_types_share_no_value()
 /// stands in it.
 pub fn core_types_are_lacked_exactly()
     ensures { CoreIsLackedExactly }
+{}
+
+/// Equality, order and hash of what is known of a truth value, and of openness, go by the variants in
+/// the order in which they are written.
+pub fn truths_and_openness_compare_by_variant()
+    ensures truths { ComparesBy (λ (known : BoolType). known) truth_cmp
+        ⟦<BoolType as PartialEq>⟧.eq ⟦<BoolType as Ord>⟧.cmp ⟦<BoolType as Hash>⟧.hash_input }
+    ensures openness { ComparesBy (λ (openness : OpenTag). openness) openness_cmp
+        ⟦<OpenTag as PartialEq>⟧.eq ⟦<OpenTag as Ord>⟧.cmp ⟦<OpenTag as Hash>⟧.hash_input }
 {}

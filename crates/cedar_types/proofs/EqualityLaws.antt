@@ -1,6 +1,5 @@
 -- Types are equal exactly where they stand for the same plain type.
 use Rattle.std.proofs.Common.{◌≡◌, ◌&&◌, Bool, true, false, Some, None, List, [], ◌∷◌, Global, map, refl, ap, sym, subst, ◌∙◌, string_bytes, ℕ, nat_eq, arith}
-use Rattle.std.proofs.lemmas.Bool.{false≢true}
 use Rattle.std.proofs.lemmas.Bool.Decides.{Decides-and, Decides-like}
 use Rattle.std.proofs.lemmas.Simd.{map-map}
 use Rattle.std.specs.Bool.{Decides}
@@ -9,38 +8,20 @@ use Rattle.std.specs.declared.string.String.{String}
 use Rattle.cedar_below.proofs.Names.{name_eq-same}
 use Rattle.cedar_below.proofs.Texts.{text_eq-Decides}
 use Rattle.cedar_below.specs.Text.{Text}
-use Rattle.cedar_types.proofs.CompareLemmas.{ties_from, bool_eq-same, kind_eq-same}
-use Rattle.cedar_rules.specs.CompareLaws.{ComparesBy}
+use Rattle.cedar_rules.proofs.CompareLemmas.{bool_eq-same}
+pub use Rattle.cedar_rules.proofs.CompareLemmas.{none, open_tag-Decides}
+use Rattle.cedar_types.proofs.CompareLemmas.{kind_eq-same}
+use Rattle.cedar_rules.specs.Order.{kind_place}
 use Rattle.cedar_types.specs.Meaning.{ty_of, attribute_of, fields_of, type_step, attribute_step, attributes_step}
-use Rattle.cedar_rules.specs.Ty.{Ty, never, truth, long, text, any_entity, union_of, any_set, set_of, record_of, extension_of, Fields, end, field, fields_from}
+use Rattle.cedar_rules.specs.Ty.{Ty, never, truth, set_of, record_of, extension_of, Fields, end, field, fields_from}
 use Rattle.cedar_types.specs.contracts.attributes.AttributeTypePartialEq.TheImpl as attribute_type_eq
 use Rattle.cedar_types.specs.contracts.attributes.AttributesPartialEq.TheImpl as attributes_eq
-use Rattle.cedar_rules.specs.contracts.open_tag.OpenTagPartialEq.TheImpl as open_tag_eq
-use Rattle.cedar_types.specs.contracts.types.TypeHash.TheImpl as type_hash
-use Rattle.cedar_types.specs.contracts.types.TypeOrd.TheImpl as type_ord
 use Rattle.cedar_types.specs.contracts.types.TypePartialEq.TheImpl as type_eq
-use Rattle.cedar_types.specs.contracts.attributes.AttributesHash.TheImpl as attributes_hash
-use Rattle.cedar_types.specs.contracts.attributes.AttributesOrd.TheImpl as attributes_ord
-use Rattle.cedar_types.specs.contracts.attributes.AttributeTypeHash.TheImpl as attribute_type_hash
-use Rattle.cedar_types.specs.contracts.attributes.AttributeTypeOrd.TheImpl as attribute_type_ord
 use Rattle.cedar_types.specs.declared.attributes.AttributeType.{AttributeType, ind-AttributeType, roll-AttributeType, out-AttributeType, map-AttributeType, fold_out-AttributeType}
 use Rattle.cedar_types.specs.declared.attributes.Attributes.{Attributes, ind-Attributes, roll-Attributes, out-Attributes, roll-out-Attributes, out-roll-Attributes, map-Attributes, fold-roll-Attributes}
 use Rattle.cedar_types.specs.declared.entity_kind.EntityKind.TheVariants as kind
-use Rattle.cedar_rules.specs.declared.open_tag.OpenTag.{OpenTag}
-use Rattle.cedar_rules.specs.declared.open_tag.OpenTag.TheVariants.{OpenAttributes, ClosedAttributes}
 use Rattle.cedar_types.specs.declared.types.Type.{«Type», roll-Type, out-Type, roll-out-Type, ind-Type, map-Type, fold-roll-Type}
 use Rattle.cedar_types.specs.declared.types.Type.TheOpen as layer
-
--- an answer is refused and what it would say fails
-pub none : {P : Type 0} → ¬ P → Decides false P
-none fails = (λ e. absurd (false≢true e), λ holds. absurd (fails holds))
-
--- tests of tags decide whether they are the same
-pub open_tag-Decides : (a b : OpenTag) → Decides ((open_tag_eq.ghosts).eq a b) (a ≡ b)
-open_tag-Decides OpenAttributes OpenAttributes = (λ _. refl, λ _. refl)
-open_tag-Decides OpenAttributes ClosedAttributes = none (λ e. cc)
-open_tag-Decides ClosedAttributes OpenAttributes = none (λ e. cc)
-open_tag-Decides ClosedAttributes ClosedAttributes = (λ _. refl, λ _. refl)
 
 -- tests of flags decide whether they are the same
 flags-Decides : (a b : Bool) → Decides (mathlib.Core.Bool.beq a b) (a ≡ b)
@@ -62,7 +43,7 @@ abbrev pub AreTold : Attributes → Type 0
 AreTold a = (b : Attributes) → Decides ((attributes_eq.ghosts).eq a b) (fields_of a ≡ fields_of b)
 
 -- what one layer stands for
-abbrev folded_layer : layer.Type-F «Type» AttributeType Attributes → Ty
+abbrev pub folded_layer : layer.Type-F «Type» AttributeType Attributes → Ty
 folded_layer it = type_step (map-Type «Type» AttributeType Attributes Ty (Bool × Ty) Fields ty_of attribute_of fields_of it)
 
 -- a layer whose parts are told apart
@@ -70,24 +51,11 @@ abbrev Told : Type 0
 Told = layer.Type-F ((t : «Type») × IsTold t) ((t : AttributeType) × IsToldAttribute t) ((t : Attributes) × AreTold t)
 
 -- the layer without the proofs
-abbrev parts : Told → layer.Type-F «Type» AttributeType Attributes
+abbrev pub parts : Told → layer.Type-F «Type» AttributeType Attributes
 parts y = map-Type ((t : «Type») × IsTold t) ((t : AttributeType) × IsToldAttribute t) ((t : Attributes) × AreTold t) «Type» AttributeType Attributes (λ e. e.0) (λ e. e.0) (λ e. e.0) y
 
--- the kind of a plain type, as a number
-abbrev shape : Ty → ℕ
-shape never = 0
-shape (truth known) = 1
-shape long = 2
-shape text = 3
-shape any_entity = 4
-shape (union_of names) = 4
-shape any_set = 5
-shape (set_of element) = 5
-shape (record_of fields openness) = 6
-shape (extension_of name) = 7
-
 -- the kind of a layer, as a number
-abbrev layer_shape : layer.Type-F «Type» AttributeType Attributes → ℕ
+abbrev pub layer_shape : layer.Type-F «Type» AttributeType Attributes → ℕ
 layer_shape layer.Never = 0
 layer_shape (layer.Bool known) = 1
 layer_shape layer.Long = 2
@@ -98,7 +66,7 @@ layer_shape (layer.Record attrs openness) = 6
 layer_shape (layer.ExtensionType name) = 7
 
 -- what a layer stands for is of its kind
-shape-folded_layer : (x : layer.Type-F «Type» AttributeType Attributes) → shape (folded_layer x) ≡ layer_shape x
+pub shape-folded_layer : (x : layer.Type-F «Type» AttributeType Attributes) → kind_place (folded_layer x) ≡ layer_shape x
 shape-folded_layer layer.Never = refl
 shape-folded_layer (layer.Bool known) = refl
 shape-folded_layer layer.Long = refl
@@ -112,7 +80,7 @@ shape-folded_layer (layer.ExtensionType name) = refl
 
 -- layers that stand for the same are of one kind
 same_shape : (x z : layer.Type-F «Type» AttributeType Attributes) → folded_layer x ≡ folded_layer z → layer_shape x ≡ layer_shape z
-same_shape x z same = sym (shape-folded_layer x) ∙ (ap shape same ∙ shape-folded_layer z)
+same_shape x z same = sym (shape-folded_layer x) ∙ (ap kind_place same ∙ shape-folded_layer z)
 
 -- layers are told apart where their parts are
 layers-Decides : (y : Told) (z : layer.Type-F «Type» AttributeType Attributes) → Decides (type_eq.Laws.unfolded (roll-Type (parts y)) (roll-Type z)) (folded_layer (parts y) ≡ folded_layer z)
@@ -147,15 +115,15 @@ type_told x y is b =
     subst P is (subst Q (roll-out-Type b) whole)
 
 -- an attribute whose type is told apart
-abbrev ToldAttribute : Type 0
+abbrev pub ToldAttribute : Type 0
 ToldAttribute = layer.AttributeType-F ((t : «Type») × IsTold t) ((t : AttributeType) × IsToldAttribute t) ((t : Attributes) × AreTold t)
 
 -- the attribute without the proof
-abbrev attribute_parts : ToldAttribute → layer.AttributeType-F «Type» AttributeType Attributes
+abbrev pub attribute_parts : ToldAttribute → layer.AttributeType-F «Type» AttributeType Attributes
 attribute_parts y = map-AttributeType ((t : «Type») × IsTold t) ((t : AttributeType) × IsToldAttribute t) ((t : Attributes) × AreTold t) «Type» AttributeType Attributes (λ e. e.0) (λ e. e.0) (λ e. e.0) y
 
 -- an attribute stands for its flag and its type
-attribute_of-parts : (a : AttributeType) → attribute_of a ≡ ((out-AttributeType a).is_required, ty_of (out-AttributeType a).attr_type.value)
+pub attribute_of-parts : (a : AttributeType) → attribute_of a ≡ ((out-AttributeType a).is_required, ty_of (out-AttributeType a).attr_type.value)
 attribute_of-parts a = fold_out-AttributeType Ty (Bool × Ty) Fields type_step attribute_step attributes_step a
 
 -- an attribute whose type is told apart is
@@ -178,11 +146,11 @@ abbrev ToldAttributes : Type 0
 ToldAttributes = layer.Attributes-F ((t : «Type») × IsTold t) ((t : AttributeType) × IsToldAttribute t) ((t : Attributes) × AreTold t)
 
 -- the attributes without the proofs
-abbrev attributes_parts : ToldAttributes → layer.Attributes-F «Type» AttributeType Attributes
+abbrev pub attributes_parts : ToldAttributes → layer.Attributes-F «Type» AttributeType Attributes
 attributes_parts y = map-Attributes ((t : «Type») × IsTold t) ((t : AttributeType) × IsToldAttribute t) ((t : Attributes) × AreTold t) «Type» AttributeType Attributes (λ e. e.0) (λ e. e.0) (λ e. e.0) y
 
 -- attributes stand for their entries
-fields_of-rolled : (x : layer.Attributes-F «Type» AttributeType Attributes) → fields_of (roll-Attributes x) ≡ fields_from (map (λ entry. (string_bytes entry.0, attribute_of entry.1)) x.attrs.entries)
+pub fields_of-rolled : (x : layer.Attributes-F «Type» AttributeType Attributes) → fields_of (roll-Attributes x) ≡ fields_from (map (λ entry. (string_bytes entry.0, attribute_of entry.1)) x.attrs.entries)
 fields_of-rolled x =
     fold-roll-Attributes Ty (Bool × Ty) Fields type_step attribute_step attributes_step x ∙ ap fields_from (map-map _ _ _)
 
@@ -202,7 +170,7 @@ rest_fields end = end
 rest_fields (field name required ty rest) = rest
 
 -- what an entry stands for
-abbrev plain_entry : String Global × AttributeType → Text × (Bool × Ty)
+abbrev pub plain_entry : String Global × AttributeType → Text × (Bool × Ty)
 plain_entry entry = (string_bytes entry.0, attribute_of entry.1)
 
 -- the test of two entries
@@ -256,30 +224,3 @@ attributes-Decides a = ind-Attributes IsTold IsToldAttribute AreTold type_told a
 -- two attributes are equal exactly where their flags and their types are
 pub attribute-Decides : (a : AttributeType) → IsToldAttribute a
 attribute-Decides a = ind-AttributeType IsTold IsToldAttribute AreTold type_told attribute_told attributes_told a
-
--- comparisons of types agree
-pub types_compare : ComparesBy ty_of (type_eq.ghosts).eq (type_ord.ghosts).cmp (type_hash.ghosts).hash_input
-types_compare = record {
-  equality = types-Decides;
-  order = type_ord.Laws.total-law;
-  ties = ties_from ty_of (type_eq.ghosts).eq (type_ord.ghosts).cmp types-Decides type_ord.Laws.matches_eq-law;
-  hash = λ a b e. type_hash.Laws.respects_eq-law a b ((types-Decides a b).1 e);
-}
-
--- comparisons of attributes agree
-pub attributes_compare : ComparesBy fields_of (attributes_eq.ghosts).eq (attributes_ord.ghosts).cmp (attributes_hash.ghosts).hash_input
-attributes_compare = record {
-  equality = attributes-Decides;
-  order = attributes_ord.Laws.total-law;
-  ties = ties_from fields_of (attributes_eq.ghosts).eq (attributes_ord.ghosts).cmp attributes-Decides attributes_ord.Laws.matches_eq-law;
-  hash = λ a b e. attributes_hash.Laws.respects_eq-law a b ((attributes-Decides a b).1 e);
-}
-
--- comparisons of one attribute agree
-pub attribute_compare : ComparesBy attribute_of (attribute_type_eq.ghosts).eq (attribute_type_ord.ghosts).cmp (attribute_type_hash.ghosts).hash_input
-attribute_compare = record {
-  equality = attribute-Decides;
-  order = attribute_type_ord.Laws.total-law;
-  ties = ties_from attribute_of (attribute_type_eq.ghosts).eq (attribute_type_ord.ghosts).cmp attribute-Decides attribute_type_ord.Laws.matches_eq-law;
-  hash = λ a b e. attribute_type_hash.Laws.respects_eq-law a b ((attribute-Decides a b).1 e);
-}

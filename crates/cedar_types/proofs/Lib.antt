@@ -2,8 +2,10 @@ pub mod CompareLemmas
 pub mod CopyLemmas
 pub mod EqualityLaws
 pub mod FieldLemmas
+pub mod FormedLemmas
 pub mod MemberLemmas
 pub mod MemberParts
 pub mod MembershipLemmas
 pub mod MergedLemmas
+pub mod OrderLaws
 pub mod UnionLemmas

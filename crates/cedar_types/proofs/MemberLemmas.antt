@@ -1,5 +1,5 @@
 -- Entity types that are searched by equality.
-use Rattle.std.proofs.Common.{◌≡◌, ◌<◌, List, [], ◌∷◌, length, get_or, map, sym, ◌∙◌, subst, refl, arith, Contains}
+use Rattle.std.proofs.Common.{◌≡◌, ◌<◌, List, [], ◌∷◌, length, get_or, map, sym, ◌∙◌, arith, Contains}
 use Rattle.std.proofs.lemmas.List.{get_or-map, length-map}
 use Rattle.std.proofs.lemmas.List.Elements.{Contains-get_or}
 use Rattle.std.specs.Bool.{Decides}
@@ -10,9 +10,6 @@ use Rattle.cedar_below.specs.declared.entity_type.EntityType.{EntityType}
 use Rattle.cedar_below.specs.contracts.entity_type.EntityTypePartialEq.TheImpl as entity_type_eq
 use Rattle.cedar_below.proofs.Lists.{list_any-Contains}
 use Rattle.cedar_below.proofs.Names.{entity_type_eq-same}
-use Rattle.cedar_rules.specs.Fields.{field_names}
-use Rattle.cedar_rules.specs.Ty.{Fields, end, field}
-use Rattle.cedar_below.specs.Lists.{SameItems}
 
 -- whether an entity type equals a given one decides whether the two have one name
 pub eq-Decides : (ty each : EntityType) → Decides ((entity_type_eq.ghosts).eq ty each) (type_name each ≡ type_name ty)

@@ -1,15 +1,11 @@
-use Rattle.std.specs.Prelude.{◌≡◌, Bool, true, if◌then◌else◌, List, [], ◌∷◌, map, Option, Some, None, string_bytes}
-use Rattle.std.specs.Option.{option_or}
-use Rattle.std.specs.Str.{bytes_eq}
-use Rattle.std.specs.List.Sorted.{IsStrictlySortedBy}
+use Rattle.std.specs.Prelude.{Bool, true, List, map, string_bytes}
 use Rattle.std.specs.declared.alloc.Global.{Global}
 use Rattle.std.specs.declared.rc.Rc.{Rc}
 use Rattle.std.specs.declared.string.String.{String}
-use Rattle.cedar_below.specs.Text.{Text, text_cmp}
+use Rattle.cedar_below.specs.Text.{Text}
 use Rattle.cedar_types.specs.Meaning.{ty_of, attribute_of}
-use Rattle.cedar_rules.specs.Ty.{Ty, record_of, Fields, end, field, field_at}
+use Rattle.cedar_rules.specs.Ty.{Ty}
 use Rattle.cedar_types.specs.declared.attributes.AttributeType.{AttributeType}
-use Rattle.cedar_rules.specs.declared.open_tag.OpenTag.{OpenTag}
 use Rattle.cedar_types.specs.declared.types.Type.{«Type»}
 
 -- pairs of a name and an attribute, as plain data

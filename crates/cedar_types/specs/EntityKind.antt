@@ -1,5 +1,3 @@
-use Rattle.std.specs.Prelude.{List, Option, Some, None}
-use Rattle.cedar_below.specs.PlainName.{PlainName}
 use Rattle.cedar_types.specs.EntityLUB.{lub_names}
 use Rattle.cedar_rules.specs.Ty.{Ty, any_entity, union_of}
 use Rattle.cedar_types.specs.declared.entity_kind.EntityKind.{EntityKind}

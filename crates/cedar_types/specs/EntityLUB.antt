@@ -1,4 +1,4 @@
-use Rattle.std.specs.Prelude.{◌⊎◌, ◌↔◌, List, [], ◌∷◌, map, Option, Some, None, Contains}
+use Rattle.std.specs.Prelude.{List, map}
 use Rattle.cedar_below.specs.EntityType.{type_name}
 use Rattle.cedar_below.specs.PlainName.{PlainName}
 use Rattle.cedar_types.specs.declared.entity_lub.EntityLUB.{EntityLUB}

@@ -1,5 +1,6 @@
 pub mod Attributes
 pub mod EntityKind
 pub mod EntityLUB
+pub mod Located
 pub mod Meaning
 pub mod MembershipAnswer

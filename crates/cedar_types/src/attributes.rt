@@ -7,9 +7,11 @@ ghost use Rattle.std.specs.BTreeMap.{keys};
 ghost use Rattle.std.specs.declared.alloc.Global.{Global};
 ghost use Rattle.std.specs.declared.rc.Rc.{Rc};
 ghost use Rattle.std.specs.declared.string.String.{String};
+ghost use Rattle.cedar_below.specs.Text.{Text};
 ghost use Rattle.cedar_below.specs.declared.loc.Loc.{Loc};
 ghost use Rattle.cedar_rules.specs.Fields.{HoldsLast, IsAscending, field_names};
 ghost use Rattle.cedar_types.specs.Attributes.{plain_attributes, plain_required};
+ghost use Rattle.cedar_types.specs.Located.{located, located_at, located_attributes, located_required, KeepsLast};
 ghost use Rattle.cedar_types.specs.Meaning.{ty_of, attribute_of, fields_of, attribute_loc};
 ghost use Rattle.cedar_rules.specs.Ty.{end, field_at, fields_from};
 ghost use Rattle.cedar_types.specs.declared.attributes.AttributeType.{AttributeType};
@@ -54,6 +56,7 @@ impl AttributeType {
     pub fn new(attr_type: Rc<Type>, is_required: bool) -> Self
         ensures attribute { attribute_of result ≡ (is_required, ty_of attr_type.value) }
         ensures loc { attribute_loc result ≡ None }
+        ensures located { located result ≡ record { ty = attr_type.value; required = is_required; loc = None } }
     {
         AttributeType {
             attr_type,
@@ -66,6 +69,7 @@ impl AttributeType {
     pub fn new_with_loc(attr_type: Rc<Type>, is_required: bool, loc: Option<Loc>) -> Self
         ensures attribute { attribute_of result ≡ (is_required, ty_of attr_type.value) }
         ensures loc { attribute_loc result ≡ loc }
+        ensures located { located result ≡ record { ty = attr_type.value; required = is_required; loc = loc } }
     {
         AttributeType {
             attr_type,
@@ -78,6 +82,7 @@ impl AttributeType {
     pub fn required_attribute(attr_type: Rc<Type>) -> Self
         ensures attribute { attribute_of result ≡ (true, ty_of attr_type.value) }
         ensures loc { attribute_loc result ≡ None }
+        ensures located { located result ≡ record { ty = attr_type.value; required = true; loc = None } }
     {
         AttributeType::new(attr_type, true)
     }
@@ -86,6 +91,7 @@ impl AttributeType {
     pub fn optional_attribute(attr_type: Rc<Type>) -> Self
         ensures attribute { attribute_of result ≡ (false, ty_of attr_type.value) }
         ensures loc { attribute_loc result ≡ None }
+        ensures located { located result ≡ record { ty = attr_type.value; required = false; loc = None } }
     {
         AttributeType::new(attr_type, false)
     }
@@ -101,6 +107,7 @@ impl AttributeType {
     pub fn clone(&self) -> M<Self>
         ensures attribute { IfOk result (λ copy. attribute_of copy ≡ attribute_of self.now) }
         ensures loc { IfOk result (λ copy. attribute_loc copy ≡ attribute_loc self.now) }
+        ensures located { IfOk result (λ copy. located copy ≡ located self.now) }
     {
         Ok(AttributeType {
             attr_type: self.attr_type.clone()?,
@@ -126,15 +133,16 @@ impl Attributes {
         self.alloc
     }
 
-    /// The attributes of these names, or want of memory. Of repeated names the last wins. The items
-    /// have to come to an end.
+    /// The attributes of these names, with their locations, or want of memory. Of repeated names the
+    /// last wins. The items have to come to an end.
     pub fn with_attributes<I: IntoIterator<Item = (String, AttributeType)>>(
         alloc: Global,
         items: I,
     ) -> M<Self>
         requires { (it : I.IntoIter) → I.into_iter_gives items it → I.IntoIter.can_next it × IsFinite (I.IntoIter.remaining it) }
         ensures attributes { IfOk result (λ all. (it : I.IntoIter) × (xs : List (String Global × AttributeType))
-            × I.into_iter_gives items it × Drains I.IntoIter.next_gives it xs × HoldsLast (plain_attributes xs) (fields_of all)) }
+            × I.into_iter_gives items it × Drains I.IntoIter.next_gives it xs × HoldsLast (plain_attributes xs) (fields_of all)
+            × KeepsLast (located_attributes xs) all) }
         ensures ascending { IfOk result (λ all. IsAscending (fields_of all)) }
     {
         let mut attrs = BTreeMap::new(alloc);
@@ -152,7 +160,8 @@ impl Attributes {
     ) -> M<Self>
         requires { (it : I.IntoIter) → I.into_iter_gives items it → I.IntoIter.can_next it × IsFinite (I.IntoIter.remaining it) }
         ensures attributes { IfOk result (λ all. (it : I.IntoIter) × (xs : List (String Global × Rc «Type» Global))
-            × I.into_iter_gives items it × Drains I.IntoIter.next_gives it xs × HoldsLast (plain_required xs) (fields_of all)) }
+            × I.into_iter_gives items it × Drains I.IntoIter.next_gives it xs × HoldsLast (plain_required xs) (fields_of all)
+            × KeepsLast (located_required xs) all) }
         ensures ascending { IfOk result (λ all. IsAscending (fields_of all)) }
     {
         let mut attrs = BTreeMap::new(alloc);
@@ -180,14 +189,16 @@ impl Attributes {
 
     /// The attribute of this name, if there is one.
     pub fn get_attr(&self, name: &str) -> Option<&AttributeType>
-        ensures { option_map attribute_of (option_copied result) ≡ field_at name.now (fields_of self.now) }
+        ensures attribute { option_map attribute_of (option_copied result) ≡ field_at name.now (fields_of self.now) }
+        ensures located { option_map located (option_copied result) ≡ located_at name.now self.now }
     {
         self.attrs.get(name)
     }
 
-    /// Equal attributes, or want of memory.
+    /// Equal attributes at the same locations, or want of memory.
     pub fn clone(&self) -> M<Self>
-        ensures { IfOk result (λ copy. fields_of copy ≡ fields_of self.now) }
+        ensures attributes { IfOk result (λ copy. fields_of copy ≡ fields_of self.now) }
+        ensures located { IfOk result (λ copy. (name : Text) → located_at name copy ≡ located_at name self.now) }
     {
         let mut attrs = BTreeMap::new(self.alloc);
         for (name, attribute) in self.attrs.iter() {

@@ -76,7 +76,11 @@ fn all_listed(values: &BTreeMap<String, RestrictedExpr>, attrs: &Attributes) -> 
 }
 
 /// Whether a record has no attribute that isn't listed, but where it is open.
-fn only_listed(values: &BTreeMap<String, RestrictedExpr>, attrs: &Attributes, openness: OpenTag) -> bool
+fn only_listed(
+    values: &BTreeMap<String, RestrictedExpr>,
+    attrs: &Attributes,
+    openness: OpenTag,
+) -> bool
     ensures { IsTrue result ↔ NamesListed (is_open openness) (entry_names (entries_of values.now)) (field_names (fields_of attrs.now)) }
 {
     match openness {

@@ -46,7 +46,12 @@ fn has_names(names: btree_map::Keys<'_, String, AttributeType>, upper: &Attribut
 }
 
 /// Whether a record with the one's names may be below a record with the other's and this openness.
-fn names_fit(lower: &Attributes, upper: &Attributes, openness: OpenTag, mode: ValidationMode) -> bool
+fn names_fit(
+    lower: &Attributes,
+    upper: &Attributes,
+    openness: OpenTag,
+    mode: ValidationMode,
+) -> bool
     ensures fit { IsTrue result ↔ NamesBelow mode openness (fields_of lower.now) (fields_of upper.now) }
     ensures ascending { IsAscending (fields_of lower.now) }
 {

@@ -5,25 +5,36 @@ ghost use Rattle.cedar_below.specs.declared.validation_mode.ValidationMode.{Vali
 ghost use Rattle.cedar_below.specs.declared.validation_mode.ValidationMode.TheVariants as mode;
 ghost use Rattle.cedar_rules.specs.Agree.{Agree};
 ghost use Rattle.cedar_rules.specs.Below.{Below};
-ghost use Rattle.cedar_rules.specs.Fields.{IsAscending};
+ghost use Rattle.cedar_rules.specs.Fields.{IsAscending, field_names};
 ghost use Rattle.cedar_rules.specs.CompareLaws.{ComparesBy};
+ghost use Rattle.cedar_rules.specs.Order.{ty_cmp, fields_cmp, attribute_cmp, union_cmp};
+ghost use Rattle.cedar_rules.specs.InclusionLaws.{SubtypingIsInclusionOf, SubtypingIsInclusionAndNamesOf};
 ghost use Rattle.cedar_types.specs.EntityKind.{kind_ty};
 ghost use Rattle.cedar_types.specs.EntityLUB.{lub_names};
 ghost use Rattle.cedar_types.specs.Meaning.{ty_of, attribute_of, fields_of};
-ghost use Rattle.cedar_rules.specs.WellFormed.{IsWellFormed, AreWellFormed};
+ghost use Rattle.cedar_rules.specs.WellFormed.{IsWellFormed, AreWellFormed, AreTexts};
 
 use crate::attributes::{AttributeType, Attributes};
 use crate::entity_kind::EntityKind;
 use crate::entity_lub::EntityLUB;
 use crate::types::Type;
-use cedar_rules::BoolType;
+use cedar_below::theorems::names_are_of_identifiers;
 use std::hash::Hash;
 
-/// The attributes of a record have ascending names, and each stands for a well-formed plain type.
+/// Each kind of entities stands for a well-formed plain type.
+pub fn kinds_are_well_formed(kind: &EntityKind)
+    ensures { IsWellFormed (kind_ty kind.now) }
+{}
+
+/// The attributes of a record have ascending names, which are texts, and each stands for a well-formed
+/// plain type.
+///
+/// It goes over the attributes, and is there for its contract.
 #[cycle(well_formed)]
-fn attributes_are_well_formed(attrs: &Attributes)
+pub fn attributes_are_well_formed(attrs: &Attributes)
     ensures ascending { IsAscending (fields_of attrs.now) }
     ensures types { AreWellFormed (fields_of attrs.now) }
+    ensures texts { AreTexts (field_names (fields_of attrs.now)) }
 {
     for (_, attribute) in &attrs.attrs {
         types_are_well_formed(&attribute.attr_type);
@@ -43,6 +54,8 @@ pub fn types_are_well_formed(ty: &Type)
             element_type: Some(element),
         } => types_are_well_formed(element),
         Type::Record { attrs, .. } => attributes_are_well_formed(attrs),
+        Type::Entity(kind) => kinds_are_well_formed(kind),
+        Type::ExtensionType { name } => names_are_of_identifiers(name),
         _ => {}
     }
 }
@@ -64,24 +77,32 @@ pub fn strict_subtyping_of_types_is_permissive_and_agrees(a: &Type, b: &Type)
     types_are_well_formed(a);
 }
 
-/// Equality, order and hash of what is known of a truth value, of unions, and of kinds of entities go by
-/// what they stand for.
+/// On types, permissive subtyping is inclusion of values where both are stated; and where they are only
+/// inhabited throughout, it is inclusion of values and of names.
+pub fn permissive_subtyping_of_types_is_inclusion(a: &Type, b: &Type)
+    ensures stated { SubtypingIsInclusionOf (ty_of a.now) (ty_of b.now) }
+    ensures with_optional { SubtypingIsInclusionAndNamesOf (ty_of a.now) (ty_of b.now) }
+{
+    types_are_well_formed(a);
+    types_are_well_formed(b);
+}
+
+/// Equality, order and hash of unions and of kinds of entities go by what they stand for.
 pub fn entity_kinds_compare_by_what_they_stand_for()
-    ensures truths { ComparesBy (λ (known : BoolType). known)
-        ⟦<BoolType as PartialEq>⟧.eq ⟦<BoolType as Ord>⟧.cmp ⟦<BoolType as Hash>⟧.hash_input }
-    ensures unions { ComparesBy lub_names
+    ensures unions { ComparesBy lub_names union_cmp
         ⟦<EntityLUB as PartialEq>⟧.eq ⟦<EntityLUB as Ord>⟧.cmp ⟦<EntityLUB as Hash>⟧.hash_input }
-    ensures kinds { ComparesBy kind_ty
+    ensures kinds { ComparesBy kind_ty ty_cmp
         ⟦<EntityKind as PartialEq>⟧.eq ⟦<EntityKind as Ord>⟧.cmp ⟦<EntityKind as Hash>⟧.hash_input }
 {}
 
 /// Equality, order and hash of types, of attributes and of one attribute go by what they stand for,
-/// whatever their locations.
+/// whatever their locations: types by kind in the order in which the variants are written, and then by
+/// their parts in turn.
 pub fn types_compare_by_what_they_stand_for()
-    ensures types { ComparesBy ty_of
+    ensures types { ComparesBy ty_of ty_cmp
         ⟦<Type as PartialEq>⟧.eq ⟦<Type as Ord>⟧.cmp ⟦<Type as Hash>⟧.hash_input }
-    ensures attributes { ComparesBy fields_of
+    ensures attributes { ComparesBy fields_of fields_cmp
         ⟦<Attributes as PartialEq>⟧.eq ⟦<Attributes as Ord>⟧.cmp ⟦<Attributes as Hash>⟧.hash_input }
-    ensures attribute { ComparesBy attribute_of
+    ensures attribute { ComparesBy attribute_of attribute_cmp
         ⟦<AttributeType as PartialEq>⟧.eq ⟦<AttributeType as Ord>⟧.cmp ⟦<AttributeType as Hash>⟧.hash_input }
 {}

@@ -7,8 +7,10 @@ ghost use Rattle.std.specs.declared.rc.Rc.{Rc};
 ghost use Rattle.std.specs.declared.string.String.{String};
 ghost use Rattle.cedar_below.specs.EntityType.{type_name};
 ghost use Rattle.cedar_below.specs.Name.{plain_name};
-ghost use Rattle.cedar_rules.specs.Fields.{IsRecordOf};
+ghost use Rattle.cedar_below.specs.Text.{Text};
+ghost use Rattle.cedar_rules.specs.Fields.{IsRecordOf, last_named};
 ghost use Rattle.cedar_types.specs.Attributes.{plain_attributes, plain_required};
+ghost use Rattle.cedar_types.specs.Located.{element_of, listed_at, located_attributes};
 ghost use Rattle.cedar_types.specs.Meaning.{ty_of};
 ghost use Rattle.cedar_below.specs.TypeNames.{primitive_words};
 ghost use Rattle.cedar_rules.specs.Ty.{truth, long, text, any_entity, union_of, any_set, set_of, record_of, extension_of, end};
@@ -146,7 +148,8 @@ impl Type {
     ) -> M<Self>
         requires { (it : I.IntoIter) → I.into_iter_gives items it → I.IntoIter.can_next it × IsFinite (I.IntoIter.remaining it) }
         ensures { IfOk result (λ ty. (it : I.IntoIter) × (xs : List (String Global × AttributeType))
-            × I.into_iter_gives items it × Drains I.IntoIter.next_gives it xs × IsRecordOf (plain_attributes xs) open_attributes (ty_of ty)) }
+            × I.into_iter_gives items it × Drains I.IntoIter.next_gives it xs × IsRecordOf (plain_attributes xs) open_attributes (ty_of ty)
+            × ((name : Text) → listed_at name ty ≡ last_named name (located_attributes xs))) }
     {
         Ok(Type::Record {
             attrs: Attributes::with_attributes(alloc, items)?,
@@ -178,9 +181,11 @@ impl Type {
         name == "Bool" || name == "Long" || name == "String"
     }
 
-    /// An equal type, or want of memory.
+    /// An equal type, with the same locations of attributes, or want of memory.
     pub fn clone(&self) -> M<Self>
-        ensures { IfOk result (λ copy. ty_of copy ≡ ty_of self.now) }
+        ensures same { IfOk result (λ copy. ty_of copy ≡ ty_of self.now) }
+        ensures listed { IfOk result (λ copy. (name : Text) → listed_at name copy ≡ listed_at name self.now) }
+        ensures element { IfOk result (λ copy. element_of copy ≡ element_of self.now) }
     {
         Ok(match self {
             Type::Never => Type::Never,
@@ -188,10 +193,12 @@ impl Type {
             Type::Long => Type::Long,
             Type::String => Type::String,
             Type::Entity(kind) => Type::Entity(kind.clone()?),
-            Type::Set { element_type: None } => Type::any_set(),
+            Type::Set { element_type: None } => Type::Set { element_type: None },
             Type::Set {
                 element_type: Some(element),
-            } => Type::set(element.clone()?),
+            } => Type::Set {
+                element_type: Some(element.clone()?),
+            },
             Type::Record {
                 attrs,
                 open_attributes,
@@ -199,7 +206,9 @@ impl Type {
                 attrs: attrs.clone()?,
                 open_attributes: *open_attributes,
             },
-            Type::ExtensionType { name } => Type::extension(name.clone()?),
+            Type::ExtensionType { name } => Type::ExtensionType {
+                name: name.clone()?,
+            },
         })
     }
 }

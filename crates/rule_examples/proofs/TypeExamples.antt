@@ -13,10 +13,10 @@ use Rattle.cedar_rules.specs.Ty.{long}
 
 -- a record without attributes has the one with an optional attribute
 pub inclusion-included : (extensions : Extensions) → ValuesIncluded extensions unit_record optional_y
-inclusion-included extensions (map_value no_entry) has = (Included-none (codes "y" ∷ []), (refl, tt))
-inclusion-included extensions (map_value (entry name value rest)) has =
+inclusion-included extensions (map_value no_entry) real has = (Included-none (codes "y" ∷ []), (refl, tt))
+inclusion-included extensions (map_value (entry name value rest)) real has =
     absurd (omega (arith, (has.0 name (Contains-cons name _ name (inl refl))).1))
-inclusion-included extensions value has = elim has [ ]
+inclusion-included extensions value real has = elim has [ ]
 
 -- but it doesn't list its name
 pub inclusion-unlisted : ¬ ListsNames unit_record optional_y

@@ -24,7 +24,7 @@ subtype::fields_fit-returns-in_default t c =
     let P : List (String Global × AttributeType) → Type 0 = λ entries. FieldsBelow c.args.mode lower (fields_from (plain_attributes entries)) ↔ FieldsBelow c.args.mode lower (fields_of c.args.upper.now) in
     let so_far = subst P c.in-Some.ensures.steps c.loop-name.invariant in
     let none : field_at (string_bytes c.in-Some.name.now) lower ≡ None =
-    ap (λ (name : Text). field_at name lower) (sym c.deref.ensures) ∙ (sym c.get_attr.ensures ∙ ap (λ o. option_map attribute_of (option_copied o)) c.in_default.is) in
+    ap (λ (name : Text). field_at name lower) (sym c.deref.ensures) ∙ (sym c.get_attr.ensures.attribute ∙ ap (λ o. option_map attribute_of (option_copied o)) c.in_default.is) in
     part_fails so_far (HasBelow-none c.args.mode lower (string_bytes c.in-Some.name.now) (attribute_of c.in-Some.attribute.now) c.requires none)
 
 pub subtype::fields_fit-returns-then-not-attribute_fits :
@@ -34,7 +34,7 @@ subtype::fields_fit-returns-then-not-attribute_fits t c =
     let P : List (String Global × AttributeType) → Type 0 = λ entries. FieldsBelow c.args.mode lower (fields_from (plain_attributes entries)) ↔ FieldsBelow c.args.mode lower (fields_of c.args.upper.now) in
     let so_far = subst P c.in-Some.ensures.steps c.loop-name.invariant in
     let found : field_at (string_bytes c.in-Some.name.now) lower ≡ Some (attribute_of c.in-Some-get_attr.own.now) =
-    ap (λ (name : Text). field_at name lower) (sym c.deref.ensures) ∙ (sym c.get_attr.ensures ∙ ap (λ o. option_map attribute_of (option_copied o)) c.in-Some-get_attr.is) in
+    ap (λ (name : Text). field_at name lower) (sym c.deref.ensures) ∙ (sym c.get_attr.ensures.attribute ∙ ap (λ o. option_map attribute_of (option_copied o)) c.in-Some-get_attr.is) in
     let decides = HasBelow-Decides c.args.mode lower (string_bytes c.in-Some.name.now) (attribute_of c.in-Some.attribute.now) _ c.attribute_fits.result c.requires found c.attribute_fits.ensures in
     part_fails so_far (λ has. absurd (let fits = decides.1 has in cc))
 
@@ -44,6 +44,6 @@ subtype::fields_fit-loop-name-preserved t c =
     let P : List (String Global × AttributeType) → Type 0 = λ entries. FieldsBelow c.args.mode lower (fields_from (plain_attributes entries)) ↔ FieldsBelow c.args.mode lower (fields_of c.args.upper.now) in
     let so_far = subst P c.in-Some.ensures.steps c.loop-name.invariant in
     let found : field_at (string_bytes c.in-Some.name.now) lower ≡ Some (attribute_of c.in-Some-get_attr.own.now) =
-    ap (λ (name : Text). field_at name lower) (sym c.deref.ensures) ∙ (sym c.get_attr.ensures ∙ ap (λ o. option_map attribute_of (option_copied o)) c.in-Some-get_attr.is) in
+    ap (λ (name : Text). field_at name lower) (sym c.deref.ensures) ∙ (sym c.get_attr.ensures.attribute ∙ ap (λ o. option_map attribute_of (option_copied o)) c.in-Some-get_attr.is) in
     let decides = HasBelow-Decides c.args.mode lower (string_bytes c.in-Some.name.now) (attribute_of c.in-Some.attribute.now) _ c.attribute_fits.result c.requires found c.attribute_fits.ensures in
     rest_alone so_far (decides.0 c.if-not-attribute_fits.false)

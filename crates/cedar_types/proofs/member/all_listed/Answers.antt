@@ -24,7 +24,7 @@ returns-then-is_none c =
     let upper = fields_of c.args.attrs.now in
     let P : List Text → Type 0 = λ names. Included names (field_names upper) ↔ Included (entry_names (entries_of c.args.values.now)) (field_names upper) in
     let so_far = subst P (ap (map string_bytes) c.in-Some.ensures.steps) c.loop-name.invariant in
-    let found = found-Decides attribute_of c.get_attr.result c.deref.result.now upper c.get_attr.ensures in
+    let found = found-Decides attribute_of c.get_attr.result c.deref.result.now upper c.get_attr.ensures.attribute in
     (λ wrong. absurd cc, λ all. absurd (let there = found.1 (subst (Contains (field_names upper)) (sym c.deref.ensures) (Included-head _ _ _ (so_far.1 all))) in cc))
 
 pub loop-name-preserved : goal.loop-name-preserved
@@ -32,5 +32,5 @@ loop-name-preserved c =
     let upper = fields_of c.args.attrs.now in
     let P : List Text → Type 0 = λ names. Included names (field_names upper) ↔ Included (entry_names (entries_of c.args.values.now)) (field_names upper) in
     let so_far = subst P (ap (map string_bytes) c.in-Some.ensures.steps) c.loop-name.invariant in
-    let found = found-Decides attribute_of c.get_attr.result c.deref.result.now upper c.get_attr.ensures in
+    let found = found-Decides attribute_of c.get_attr.result c.deref.result.now upper c.get_attr.ensures.attribute in
     Included-step _ _ _ so_far (subst (Contains (field_names upper)) c.deref.ensures (found.0 c.if-is_none.ensures))

@@ -7,6 +7,7 @@ use Rattle.cedar_rules.specs.Ty.{Ty, fields_from}
 use Rattle.cedar_rules.specs.WellFormed.{IsWellFormed, AreWellFormed}
 use Rattle.cedar_types.specs.declared.attributes.AttributeType.{AttributeType}
 use Rattle.cedar_types.proofs.FieldLemmas.{fields_of-entries, IsAscending-map}
+use Rattle.cedar_types.proofs.FormedLemmas.{names_are_texts}
 use Rattle.cedar_types.proofs.MemberParts.{attribute_of-parts}
 use Rattle.cedar_types.proofs.theorems.+well_formed.Goals as goal
 
@@ -34,3 +35,6 @@ pub attributes_are_well_formed-returns-clause-types : goal.attributes_are_well_f
 attributes_are_well_formed-returns-clause-types t c =
     let P : List (String Global × AttributeType) → Type 0 = λ entries. AreWellFormed (fields_from (plain_attributes entries)) → AreWellFormed (fields_of c.args.attrs.now) in
     subst P c.in-None.ensures.steps.0 c.loop-attribute.invariant tt
+
+pub attributes_are_well_formed-returns-clause-texts : goal.attributes_are_well_formed-returns-clause-texts
+attributes_are_well_formed-returns-clause-texts t c = names_are_texts c.args.attrs.now

@@ -1,4 +1,4 @@
-use Rattle.cedar_types.proofs.EqualityLaws.{types_compare, attributes_compare, attribute_compare}
+use Rattle.cedar_types.proofs.OrderLaws.{types_compare, attributes_compare, attribute_compare}
 use Rattle.cedar_types.proofs.theorems.types_compare_by_what_they_stand_for.Goals as goal
 
 pub returns-clause-types : goal.returns-clause-types

@@ -1,4 +1,4 @@
-use Rattle.cedar_types.proofs.FieldLemmas.{IsMapOf-insert_attribute, HoldsLast-made, IsAscending-made}
+use Rattle.cedar_types.proofs.FieldLemmas.{IsMapOf-insert_attribute, HoldsLast-made, KeepsLast-made, IsAscending-made}
 use Rattle.cedar_types.proofs.attributes.Attributes.with_attributes.Goals as goal
 
 pub loop-name-preserved-in_ok-insert : goal.loop-name-preserved-in_ok-insert
@@ -15,8 +15,9 @@ returns-clause-attributes g c = (
   c.loop-name.yielded,
   c.into_iter-name-iterator.ensures.into_iter_gives,
   (c.next.new.self, (c.loop-name.name-iterator, c.loop-name.yielded_by, c.in-None.ensures.steps)),
-  HoldsLast-made _ c.loop-name.attrs c.args.alloc c.loop-name.invariant,
+  HoldsLast-made _ _ c.loop-name.attrs c.args.alloc c.loop-name.invariant,
+  KeepsLast-made _ _ c.loop-name.attrs c.args.alloc c.loop-name.invariant,
 )
 
 pub returns-clause-ascending : goal.returns-clause-ascending
-returns-clause-ascending g c = IsAscending-made c.loop-name.attrs c.args.alloc c.loop-name.invariant.ordered
+returns-clause-ascending g c = IsAscending-made c.loop-name.attrs c.args.alloc c.loop-name.invariant.plain.ordered
