@@ -1,0 +1,14 @@
+-- Edges between the nodes of a map, and what a chain of edges reaches.
+use Rattle.std.specs.Prelude.{Bool, IsTrue, IsSomeAnd}
+use Rattle.std.specs.HashMap.{HashMap, get}
+use Rattle.cedar_closure.specs.Chain.{Chain}
+
+module _ {K V S : Type 0} (eq : K → K → Bool) (has_edge : V → K → Bool) where
+  -- a node stands at the first key, and has an edge to the second
+  abbrev pub HasEdge : HashMap K V S → K → K → Type 0
+  HasEdge nodes from to = IsSomeAnd (get eq nodes from) (λ node. IsTrue (has_edge node to))
+
+module _ {K V S : Type 0} (eq : K → K → Bool) (has_edge : V → K → Bool) where
+  -- a chain of one or more edges leads from the first key to the second
+  abbrev pub Reaches : HashMap K V S → K → K → Type 0
+  Reaches nodes from to = Chain (HasEdge eq has_edge nodes) from to

@@ -1,0 +1,7 @@
+//! The closure of edges between nodes: each node gets an edge to all that a chain of edges reaches.
+#![tactic(auto)]
+
+pub use tc_node::TCNode;
+
+mod rows;
+mod tc_node;
