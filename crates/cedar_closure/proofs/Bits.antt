@@ -1,8 +1,8 @@
 -- Lemmas on one bit of a row, and on a row after one word of it, or each, is written.
-use Rattle.std.proofs.Common.{◌≡◌, ◌≢◌, ℕ, zero, suc, ◌+◌, ◌*◌, ◌/◌, ◌%◌, ◌^◌, ◌<◌, min, max, true, false, ◌||◌, eqb, List, length, get_or, set, bit_and, bit_or, w64, sym, ◌∙◌, ap, refl, ⊎_elim, arith, ne_eqb}
+use Rattle.std.proofs.Common.{◌≡◌, ◌≢◌, ℕ, zero, suc, ◌+◌, ◌*◌, ◌/◌, ◌%◌, ◌^◌, ◌<◌, ◌≤◌, min, max, true, false, ◌||◌, eqb, List, length, get_or, set, replicate, [], bit_and, bit_or, w64, sym, ◌∙◌, ap, refl, ⊎_elim, arith, ne_eqb}
 use Rattle.std.specs.Int.{bit_at, trailing_zeros}
-use Rattle.std.proofs.lemmas.List.{get_or-set_same, get_or-set_other}
-use Rattle.std.proofs.lemmas.Bool.{cases_eq, eqb-true}
+use Rattle.std.proofs.lemmas.List.{length-replicate, get_or-replicate, get_or_past, get_or-set_same, get_or-set_other}
+use Rattle.std.proofs.lemmas.Bool.{cases_lt, cases_eq, eqb-true}
 use Rattle.std.proofs.lemmas.Nat.{div-mul-add, mod-mul-add, div-add-mod', mod_below, div_below}
 use Rattle.std.proofs.lemmas.Nat.Bits.{bit_at_and, bit_at_or, bit_at-zero, bit_at-lt, bit_at-trailing_zeros}
 use Rattle.cedar_closure.specs.Row.{has_bit}
@@ -88,3 +88,17 @@ lowest_common a b some fits =
     let small_a : bit_at a place < 2 = bit_at-lt a place in
     let small_b : bit_at b place < 2 = bit_at-lt b place in
     (lowest.0, omega arith, omega arith)
+
+-- no number stands in a row of which every word is 0
+no_bit : (row : List ℕ) → ((k : ℕ) → get_or row k 0 ≡ 0) → (n : ℕ) → has_bit row n ≡ false
+unfolding has_bit
+no_bit row zeros n = ap (λ w. eqb (bit_at w (n % 64)) 1) (zeros (n / 64)) ∙ ap (λ b. eqb b 1) (bit_at-zero (n % 64))
+
+pub has_bit-zeros : (words n : ℕ) → has_bit (replicate words 0) n ≡ false
+has_bit-zeros words n = no_bit (replicate words 0) (λ k. ⊎_elim
+    (λ (within : k < words). get_or-replicate words k 0 0 within)
+    (λ (past : words ≤ k). get_or_past (replicate words 0) k 0 (simp length-replicate past))
+    (cases_lt k words)) n
+
+pub has_bit-nil : (n : ℕ) → has_bit [] n ≡ false
+has_bit-nil n = no_bit [] (λ k. refl) n

@@ -1,1 +1,4 @@
 pub mod Bits
+pub mod Chains
+pub mod Counting
+pub mod Lists

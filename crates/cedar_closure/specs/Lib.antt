@@ -1,3 +1,4 @@
 pub mod Chain
 pub mod Edges
+pub mod Numbered
 pub mod Row

@@ -3,5 +3,6 @@
 
 pub use tc_node::TCNode;
 
+mod closing;
 mod rows;
 mod tc_node;

@@ -1,6 +1,6 @@
 //! Rows of bits, kept in words of 64 bits.
 
-ghost use Rattle.std.specs.Prelude.{◌≡◌, ◌≢◌, ℕ, ◌+◌, ◌*◌, ◌/◌, ◌^◌, ◌<◌, true, false, ◌||◌, length, IfSome, IfNone};
+ghost use Rattle.std.specs.Prelude.{◌≡◌, ◌≢◌, ℕ, ◌+◌, ◌*◌, ◌/◌, ◌^◌, ◌<◌, ◌≤◌, true, false, ◌||◌, length, IfSome, IfNone};
 ghost use Rattle.cedar_closure.specs.Row.{has_bit};
 
 /// Whether the number stands in the row.
@@ -42,7 +42,7 @@ pub(crate) fn join(row: &mut [u64], other: &[u64])
 /// The least number that stands in both rows.
 pub(crate) fn first_common(row: &[u64], other: &[u64]) -> Option<usize>
     requires same_len { length row.now ≡ length other.now }
-    requires small { length row.now < 2 ^ 57 }
+    requires small { length row.now ≤ 2 ^ 57 }
     ensures bound { IfSome result (λ number. number < 64 * length row.now) }
     ensures in_row { IfSome result (λ number. has_bit row.now number ≡ true) }
     ensures in_other { IfSome result (λ number. has_bit other.now number ≡ true) }
