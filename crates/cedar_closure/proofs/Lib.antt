@@ -2,3 +2,4 @@ pub mod Bits
 pub mod Chains
 pub mod Counting
 pub mod Lists
+pub mod Numbers

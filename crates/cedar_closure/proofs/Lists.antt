@@ -1,8 +1,8 @@
 -- Lemmas on the items of a list of lists at a place.
-use Rattle.std.proofs.Common.{◌≡◌, ◌≢◌, ℕ, zero, suc, ◌+◌, ◌<◌, ◌≤◌, List, [], ◌∷◌, ◌++◌, Vec, length, get_or, set, take, drop, refl, arith, ap, ◌∙◌, sym, subst, ⊎_elim}
+use Rattle.std.proofs.Common.{◌≡◌, ◌≢◌, ℕ, zero, suc, ◌+◌, ◌<◌, ◌≤◌, List, [], ◌∷◌, ◌++◌, Vec, length, get_or, set, take, drop, slice_get, Some, refl, arith, ap, ◌∙◌, sym, subst, ⊎_elim}
 use Rattle.std.specs.Vec.{with_items}
 use Rattle.std.proofs.Math.Seq.{take-append_seam}
-use Rattle.std.proofs.lemmas.Bool.{cases_eq}
+use Rattle.std.proofs.lemmas.Bool.{cases_eq, cases_lt}
 use Rattle.cedar_closure.specs.Numbered.{items_at}
 
 module _ {X Z : Type 0} where
@@ -72,3 +72,24 @@ module _ {X Z : Type 0} where
       let before : k < length vs = omega arith in
       subst (P k) (sym (items_at-push_other vs v k before)) (others k before))
       (cases_eq k (length vs))
+
+-- what is left of a list from a place on begins with what stands there
+pub drop_next : {X : Type 0} (xs : List X) (i : ℕ) (x : X) (rest : List X) → drop i xs ≡ x ∷ rest
+    → (i < length xs) × (slice_get xs i ≡ Some x) × (rest ≡ drop (i + 1) xs)
+drop_next [] zero x rest left = absurd (cc)
+drop_next [] (suc i) x rest left = absurd (cc)
+drop_next (y ∷ ys) zero x rest left =
+    let same : y ≡ x = cc in
+    let others : rest ≡ ys = cc in
+    (omega arith, ap Some same, others)
+drop_next (y ∷ ys) (suc i) x rest left =
+    let inner = drop_next ys i x rest left in
+    let within = inner.0 in
+    let onwards : suc (i + 1) ≡ suc i + 1 = omega arith in
+    (omega (arith, within), inner.1, inner.2 ∙ ap (λ n. drop n (y ∷ ys)) onwards)
+
+-- and if nothing is left, the place is past the end
+pub drop_done : {X : Type 0} (xs : List X) (i : ℕ) → drop i xs ≡ [] → length xs ≤ i
+drop_done [] i left = omega arith
+drop_done (y ∷ ys) zero left = absurd (cc)
+drop_done (y ∷ ys) (suc i) left = let inner = drop_done ys i left in omega (arith, inner)

@@ -1,4 +1,5 @@
 pub mod Chain
 pub mod Edges
 pub mod Numbered
+pub mod Numbering
 pub mod Row

@@ -13,7 +13,7 @@ use std::alloc::Global;
 fn close_row(rows: &Vec<Vec<u64>>, row: &mut [u64], from: usize, waiting: &mut [u64]) -> usize
     requires same_row { row.old ≡ items_at rows.now.items from }
     requires same_len { (i : ℕ) → i < vec_len rows.now → length (items_at rows.now.items i) ≡ length waiting.old }
-    requires small { length waiting.old ≤ 2 ^ 57 }
+    requires small { length waiting.old ≤ 2 ^ 58 }
     requires in_range { from < vec_len rows.now }
     requires have_rows { (i : ℕ) → IsTrue (has_bit waiting.old i) → i < vec_len rows.now }
     ensures kept { (k : ℕ) → InRow rows.now.items from k → IsTrue (has_bit row.new k) }
@@ -33,7 +33,7 @@ fn close_row(rows: &Vec<Vec<u64>>, row: &mut [u64], from: usize, waiting: &mut [
 /// Closes each row, and answers how many joins of two rows it made, or want of memory.
 fn close_rows(rows: &mut Vec<Vec<u64>>, leading: &Vec<u64>) -> M<u128>
     requires same_len { (i : ℕ) → i < vec_len rows.old → length (items_at rows.old.items i) ≡ vec_len leading.now }
-    requires small { vec_len leading.now ≤ 2 ^ 57 }
+    requires small { vec_len leading.now ≤ 2 ^ 58 }
     requires few { vec_len rows.old ≤ 64 * vec_len leading.now }
     requires have_rows { (i : ℕ) → IsTrue (has_bit leading.now.items i) → i < vec_len rows.old }
     requires leads { (i j : ℕ) → InRow rows.old.items i j → IsTrue (has_bit leading.now.items i) }
@@ -102,7 +102,6 @@ pub(crate) fn closed_rows(
     columns: usize,
 ) -> M<(Vec<Vec<u64>>, u128)>
     requires few { vec_len targets.now ≤ columns }
-    requires small { columns < 2 ^ 63 }
     requires within { (i j : ℕ) → IsTarget targets.now.items i j → j < columns }
     ensures len { IfOk result (λ closed. vec_len closed.0 ≡ vec_len targets.now) }
     ensures closed { IfOk result (λ closed. (i j : ℕ) → InRow closed.0.items i j ↔ Chain (IsTarget targets.now.items) i j) }

@@ -4,5 +4,7 @@
 pub use tc_node::TCNode;
 
 mod closing;
+mod numbering;
 mod rows;
+mod targets;
 mod tc_node;

@@ -42,7 +42,7 @@ pub(crate) fn join(row: &mut [u64], other: &[u64])
 /// The least number that stands in both rows.
 pub(crate) fn first_common(row: &[u64], other: &[u64]) -> Option<usize>
     requires same_len { length row.now ≡ length other.now }
-    requires small { length row.now ≤ 2 ^ 57 }
+    requires small { length row.now ≤ 2 ^ 58 }
     ensures bound { IfSome result (λ number. number < 64 * length row.now) }
     ensures in_row { IfSome result (λ number. has_bit row.now number ≡ true) }
     ensures in_other { IfSome result (λ number. has_bit other.now number ≡ true) }
