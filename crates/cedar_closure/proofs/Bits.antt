@@ -1,8 +1,8 @@
 -- Lemmas on one bit of a row, and on a row after one word of it, or each, is written.
-use Rattle.std.proofs.Common.{◌≡◌, ◌≢◌, ℕ, zero, suc, ◌+◌, ◌*◌, ◌/◌, ◌%◌, ◌^◌, ◌<◌, ◌≤◌, min, max, true, false, ◌||◌, eqb, List, length, get_or, set, replicate, [], bit_and, bit_or, w64, sym, ◌∙◌, ap, refl, ⊎_elim, arith, ne_eqb}
+use Rattle.std.proofs.Common.{◌≡◌, ◌≢◌, ℕ, zero, suc, ◌+◌, ◌-◌, ◌*◌, ◌/◌, ◌%◌, ◌^◌, ◌<◌, ◌≤◌, min, max, true, false, ◌||◌, eqb, List, length, get_or, set, replicate, [], bit_and, bit_or, w64, sym, ◌∙◌, ap, refl, ⊎_elim, arith, ne_eqb}
 use Rattle.std.specs.Int.{bit_at, trailing_zeros}
 use Rattle.std.proofs.lemmas.List.{length-replicate, get_or-replicate, get_or_past, get_or-set_same, get_or-set_other}
-use Rattle.std.proofs.lemmas.Bool.{cases_lt, cases_eq, eqb-true}
+use Rattle.std.proofs.lemmas.Bool.{both_ways, cases_lt, cases_eq, eqb-true}
 use Rattle.std.proofs.lemmas.Nat.{div-mul-add, mod-mul-add, div-add-mod', mod_below, div_below}
 use Rattle.std.proofs.lemmas.Nat.Bits.{bit_at_and, bit_at_or, bit_at-zero, bit_at-lt, bit_at-trailing_zeros}
 use Rattle.cedar_closure.specs.Row.{has_bit}
@@ -102,3 +102,20 @@ has_bit-zeros words n = no_bit (replicate words 0) (λ k. ⊎_elim
 
 pub has_bit-nil : (n : ℕ) → has_bit [] n ≡ false
 has_bit-nil n = no_bit [] (λ k. refl) n
+
+-- no number of a word that is 0 stands in the row
+pub no_bit_in_word : (row : List ℕ) (i n : ℕ) → get_or row i 0 ≡ 0 → i * 64 ≤ n → n < i * 64 + 64 → has_bit row n ≡ false
+no_bit_in_word row i n none least most =
+    let place : n - i * 64 < 64 = omega arith in
+    let whole : n ≡ i * 64 + (n - i * 64) = omega arith in
+    ap (has_bit row) whole ∙ has_bit_at row i (n - i * 64) place ∙ ap (λ w. eqb (bit_at w (n - i * 64)) 1) none ∙ ap (λ b. eqb b 1) (bit_at-zero (n - i * 64))
+
+-- a number that stands in a row falls into one of its words
+pub bit_below : (row : List ℕ) (n : ℕ) → has_bit row n ≡ true → n < length row * 64
+unfolding has_bit
+bit_below row n stands = ⊎_elim
+    (λ (within : n / 64 < length row). omega (arith, within, mod_below n 64 (omega arith), div-add-mod' n 64))
+    (λ (past : length row ≤ n / 64).
+    let none : has_bit row n ≡ false = ap (λ w. eqb (bit_at w (n % 64)) 1) (get_or_past row (n / 64) 0 past) ∙ ap (λ b. eqb b 1) (bit_at-zero (n % 64)) in
+    absurd (both_ways _ none stands))
+    (cases_lt (n / 64) (length row))

@@ -1,5 +1,6 @@
 pub mod Bits
 pub mod Chains
 pub mod Counting
+pub mod Growing
 pub mod Lists
 pub mod Numbers

@@ -2,6 +2,7 @@
 use Rattle.std.proofs.Common.{◌≡◌, ◌↔◌, ◌⊎◌, ℕ, zero, suc, ◌<◌, Bool, true, false, cond, IsTrue, List, [], ◌∷◌, ◌++◌, length, Option, Some, None, IsSomeAnd, IfSome, slice_get, get_or, HashMap, refl, sym, ◌∙◌, ap, subst, inl, inr, ⊎_elim, arith}
 use Rattle.std.specs.Cmp.{IsEquivalence}
 use Rattle.std.specs.HashMap.{get}
+use Rattle.std.specs.Map.{lookup}
 use Rattle.std.proofs.lemmas.Bool.{both_ways, cases_Bool, cond-true, cond-false}
 use Rattle.std.proofs.lemmas.Option.{MatchOption-at_some, slice_get-get_or, get_or_from_slice_get, none-some, same_Some, slice_get_within}
 use Rattle.std.specs.List.{IsDistinct}
@@ -41,7 +42,25 @@ module _ {K : Type 0} (eq : K → K → Bool) where
   number_cases (x ∷ xs) name key (suc n) stands =
       ⊎_elim (λ before. inl before) (λ last. inr (ap suc last.0, last.1)) (number_cases xs name key n stands)
 
+  -- a key that is equal to the name at a number has it
+  pub numbered_from_name : (names : List K) (name key : K) (n : ℕ) → slice_get names n ≡ Some name → eq key name ≡ true → IsNumbered eq names key n
+  numbered_from_name names name key n found same = subst (λ o. IsSomeAnd o (λ x. IsTrue (eq key x))) (sym found) same
+
+  -- and the other way
+  pub name_from_numbered : (names : List K) (name key : K) (n : ℕ) → slice_get names n ≡ Some name → IsNumbered eq names key n → eq key name ≡ true
+  name_from_numbered names name key n found stands = subst (λ o. IsSomeAnd o (λ x. IsTrue (eq key x))) found stands
+
+-- tests that agree find the same
+lookup_agree : {K X : Type 0} (test other : K → Bool) → ((k : K) → test k ≡ other k) → (es : List (K × X)) → lookup test es ≡ lookup other es
+lookup_agree test other agree [] = refl
+lookup_agree test other agree (e ∷ es) =
+    ap (λ b. cond b (Some e.1) (lookup test es)) (agree e.0) ∙ ap (λ o. cond (other e.0) (Some e.1) o) (lookup_agree test other agree es)
+
 module _ {K : Type 0} {eq : K → K → Bool} (laws : IsEquivalence eq) where
+  -- equal keys find the same
+  pub get_alike : {X S : Type 0} (m : HashMap K X S) (a b : K) → eq a b ≡ true → get eq m a ≡ get eq m b
+  get_alike m a b same = lookup_agree (eq a) (eq b) (λ k. laws.congr a b k same) m.entries
+
   -- equality is transitive
   pub eq_trans : (a b c : K) → eq a b ≡ true → eq b c ≡ true → eq a c ≡ true
   eq_trans a b c first second = laws.congr a b c first ∙ second

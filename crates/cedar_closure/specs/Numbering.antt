@@ -1,6 +1,7 @@
 -- Keys known by numbers: the number of a key is its place in a list of names.
 use Rattle.std.specs.Prelude.{◌≡◌, ◌↔◌, ℕ, Bool, IsTrue, List, Some, IsSomeAnd, slice_get, Contains}
 use Rattle.std.specs.HashMap.{HashMap, get}
+use Rattle.cedar_closure.specs.Row.{has_bit}
 
 module _ {K : Type 0} (eq : K → K → Bool) where
   -- a name that is equal to the key stands at the number
@@ -21,3 +22,8 @@ module _ {K : Type 0} (eq : K → K → Bool) where
   pub record AreNumbersOf (names : List K) (test : K → Bool) (numbers : List ℕ) : Type 0 where
     pub sound : (number : ℕ) → Contains numbers number → (key : K) × IsNumbered eq names key number × IsTrue (test key)
     pub complete : (key : K) → IsTrue (test key) → (number : ℕ) × IsNumbered eq names key number × Contains numbers number
+
+module _ {K : Type 0} (eq : K → K → Bool) where
+  -- the number of the key stands in the row
+  abbrev pub StandsIn : List K → List ℕ → K → Type 0
+  StandsIn names row key = (number : ℕ) × IsTrue (has_bit row number) × IsNumbered eq names key number

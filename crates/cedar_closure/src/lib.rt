@@ -8,3 +8,4 @@ mod numbering;
 mod rows;
 mod targets;
 mod tc_node;
+mod writing;
