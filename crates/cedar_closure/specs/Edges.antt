@@ -27,3 +27,11 @@ module _ {K V : Type 0} (has_edge : V → K → Bool) (is_alike : V → V → Ty
   GrowsAt None (Some new) May = ⊥
   GrowsAt (Some old) None May = ⊥
   GrowsAt (Some old) (Some new) May = GrowsBy has_edge is_alike old new May
+
+module _ {V : Type 0} (is_alike : V → V → Type 0) where
+  -- what stands at a key before and after: two nodes that are alike but for edges, or none
+  abbrev pub AreAlike : Option V → Option V → Type 0
+  AreAlike None None = Unit {0}
+  AreAlike None (Some new) = ⊥
+  AreAlike (Some old) None = ⊥
+  AreAlike (Some old) (Some new) = is_alike old new

@@ -3,3 +3,4 @@ pub mod Edges
 pub mod Numbered
 pub mod Numbering
 pub mod Row
+pub mod TcError

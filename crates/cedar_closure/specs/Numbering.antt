@@ -1,6 +1,7 @@
 -- Keys known by numbers: the number of a key is its place in a list of names.
-use Rattle.std.specs.Prelude.{◌≡◌, ◌↔◌, ℕ, Bool, IsTrue, List, Some, IsSomeAnd, slice_get, Contains}
+use Rattle.std.specs.Prelude.{◌≡◌, ◌↔◌, ℕ, Bool, IsTrue, List, Some, IsSomeAnd, slice_get, Contains, Vec}
 use Rattle.std.specs.HashMap.{HashMap, get}
+use Rattle.cedar_closure.specs.Numbered.{items_at}
 use Rattle.cedar_closure.specs.Row.{has_bit}
 
 module _ {K : Type 0} (eq : K → K → Bool) where
@@ -27,3 +28,8 @@ module _ {K : Type 0} (eq : K → K → Bool) where
   -- the number of the key stands in the row
   abbrev pub StandsIn : List K → List ℕ → K → Type 0
   StandsIn names row key = (number : ℕ) × IsTrue (has_bit row number) × IsNumbered eq names key number
+
+module _ {K : Type 0} (eq : K → K → Bool) where
+  -- the number of the second key stands in the row of the first
+  abbrev pub RowHas : {Z : Type 0} → List K → List (Vec ℕ Z) → K → K → Type 0
+  RowHas names rows from to = (number : ℕ) × IsNumbered eq names from number × StandsIn eq names (items_at rows number) to

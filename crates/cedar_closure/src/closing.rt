@@ -1,11 +1,11 @@
 //! Rows closed under chains: a row comes to hold all that a chain of steps reaches.
 
-ghost use Rattle.std.specs.Prelude.{All, Contains, ◌≡◌, ℕ, ◌+◌, ◌*◌, ◌^◌, ◌<◌, ◌≤◌, length, vec_len, ◌↔◌, IsTrue, IfOk, OnOk};
+ghost use Rattle.std.specs.Prelude.{All, Contains, ◌≡◌, ℕ, ◌+◌, ◌*◌, ◌^◌, ◌<◌, ◌≤◌, length, vec_len, ◌↔◌, IsTrue, IfOk, OnOk, IfSome, IfNone};
 ghost use Rattle.cedar_closure.specs.Chain.{Chain};
 ghost use Rattle.cedar_closure.specs.Numbered.{items_at, InRow, IsTarget};
 ghost use Rattle.cedar_closure.specs.Row.{has_bit};
 
-use crate::rows::{first_common, join, put, remove};
+use crate::rows::{first_common, has, join, put, remove};
 use cedar_below::M;
 use std::alloc::Global;
 
@@ -104,6 +104,8 @@ pub(crate) fn closed_rows(
     requires few { vec_len targets.now ≤ columns }
     requires within { (i j : ℕ) → IsTarget targets.now.items i j → j < columns }
     ensures len { IfOk result (λ closed. vec_len closed.0 ≡ vec_len targets.now) }
+    ensures wide { IfOk result (λ closed. (i : ℕ) → i < vec_len closed.0 → i < 64 * length (items_at closed.0.items i)) }
+    ensures small { IfOk result (λ closed. (i : ℕ) → length (items_at closed.0.items i) ≤ 2 ^ 58) }
     ensures closed { IfOk result (λ closed. (i j : ℕ) → InRow closed.0.items i j ↔ Chain (IsTarget targets.now.items) i j) }
     ensures count { IfOk result (λ closed. closed.1 ≤ vec_len targets.now * vec_len targets.now) }
 {
@@ -112,4 +114,18 @@ pub(crate) fn closed_rows(
     let leading = leading_row(alloc, targets, words)?;
     let joins = close_rows(&mut rows, &leading)?;
     Ok((rows, joins))
+}
+
+/// The least number that stands in its own row.
+pub(crate) fn first_on_cycle(rows: &Vec<Vec<u64>>) -> Option<usize>
+    requires { (i : ℕ) → i < vec_len rows.now → i < 64 * length (items_at rows.now.items i) }
+    ensures found { IfSome result (λ i. InRow rows.now.items i i) }
+    ensures none { IfNone result ((i : ℕ) → ¬ InRow rows.now.items i i) }
+{
+    for i in 0..rows.len() {
+        if has(&rows[i], i) {
+            return Some(i);
+        }
+    }
+    None
 }

@@ -1,7 +1,7 @@
 //! Keys known by numbers.
 
 ghost use Rattle.std.specs.Prelude.{◌≡◌, ◌+◌, ℕ, [], ◌∷◌, ◌++◌, length, vec_len, IsTrue, IfOk, OnOk, IfSome, None, slice_get};
-ghost use Rattle.std.specs.HashMap.{get, keys, hash_map_len};
+ghost use Rattle.std.specs.HashMap.{get, keys, hash_map_len, IsUnique};
 ghost use Rattle.cedar_closure.specs.Numbering.{IsNumbered, AreNumbers, KeepsNumbers};
 
 use crate::tc_node::TCNode;
@@ -59,6 +59,7 @@ pub(crate) fn numbered_keys<K: Eq + Hash + Drop, V: TCNode<K>>(
     nodes: &HashMap<K, V>,
 ) -> M<Numbering<K>>
     ensures numbers { IfOk result (λ numbering. AreNumbers K.eq numbering.names.items numbering.numbers) }
+    ensures unique { IsUnique K.eq nodes.now }
     ensures len { IfOk result (λ numbering. vec_len numbering.names ≡ hash_map_len nodes.now) }
     ensures in_order { IfOk result (λ numbering. (i : ℕ) → IfSome (slice_get (keys nodes.now) i) (λ key. IsNumbered K.eq numbering.names.items key i)) }
 {

@@ -4,7 +4,7 @@ ghost use Rattle.std.specs.Prelude.{◌≡◌, ℕ, ◌+◌, ◌*◌, ◌^◌, �
 ghost use Rattle.std.specs.HashMap.{get, keys, ContainsKey};
 ghost use Rattle.cedar_closure.specs.Edges.{HasEdge, GrowsBy, GrowsAt};
 ghost use Rattle.cedar_closure.specs.Numbered.{items_at, InRow};
-ghost use Rattle.cedar_closure.specs.Numbering.{IsNumbered, StandsIn};
+ghost use Rattle.cedar_closure.specs.Numbering.{IsNumbered, StandsIn, RowHas};
 ghost use Rattle.cedar_closure.specs.Row.{has_bit};
 
 use crate::rows::has;
@@ -90,8 +90,8 @@ pub(crate) fn write_back<K: Eq + Hash + Drop, V: TCNode<K>>(
     requires few { vec_len rows.now ≤ vec_len names.now }
     requires within { (i j : ℕ) → InRow rows.now.items i j → j < vec_len names.now }
     ensures keys { keys nodes.new ≡ keys nodes.old }
-    ensures grows { (key : K) → GrowsAt V.has_edge V.is_alike (get K.eq nodes.old key) (get K.eq nodes.new key) (λ to. (i : ℕ) × IsNumbered K.eq names.now.items key i × StandsIn K.eq names.now.items (items_at rows.now.items i) to) }
-    ensures complete { OnOk result ((i : ℕ) (key to : K) → IsNumbered K.eq names.now.items key i → ContainsKey K.eq nodes.old key → StandsIn K.eq names.now.items (items_at rows.now.items i) to → HasEdge K.eq V.has_edge nodes.new key to) }
+    ensures grows { (key : K) → GrowsAt V.has_edge V.is_alike (get K.eq nodes.old key) (get K.eq nodes.new key) (RowHas K.eq names.now.items rows.now.items key) }
+    ensures complete { OnOk result ((key to : K) → RowHas K.eq names.now.items rows.now.items key to → ContainsKey K.eq nodes.old key → HasEdge K.eq V.has_edge nodes.new key to) }
 {
     for i in 0..rows.len() {
         write_node(nodes, &names[i], &rows[i], names)?;

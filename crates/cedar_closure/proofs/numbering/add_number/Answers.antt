@@ -1,6 +1,5 @@
-use Rattle.std.proofs.Common.{◌≡◌, ℕ, cond, Some, List, ◌∷◌, [], ◌++◌, length, sym, ◌∙◌, ap, subst, arith}
+use Rattle.std.proofs.Common.{◌≡◌, cond, Some, length, ◌∙◌, ap, arith}
 use Rattle.std.specs.HashMap.{get}
-use Rattle.cedar_closure.specs.Numbering.{IsNumbered, AreNumbers, KeepsNumbers}
 use Rattle.cedar_closure.proofs.Numbers.{numbers_added, number_kept, number_added}
 use Rattle.cedar_closure.proofs.numbering.add_number.Goals as goal
 

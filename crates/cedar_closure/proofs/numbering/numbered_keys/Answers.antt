@@ -1,10 +1,10 @@
-use Rattle.std.proofs.Common.{◌≡◌, ◌<◌, ◌≤◌, ◌+◌, ◌∷◌, ℕ, Some, List, length, vec_len, hash_map_len, drop, IfSome, slice_get, sym, ◌∙◌, ap, subst, arith, rules, ⊎_elim}
-use Rattle.std.specs.HashMap.{get, keys}
+use Rattle.std.proofs.Common.{◌≡◌, ◌<◌, ◌≤◌, ◌+◌, Some, length, vec_len, hash_map_len, drop, IfSome, slice_get, sym, ◌∙◌, ap, subst, arith, ⊎_elim}
+use Rattle.std.specs.HashMap.{keys}
 use Rattle.std.specs.Map.Iter.{deref}
 use Rattle.std.proofs.lemmas.Bool.{cases_lt}
 use Rattle.std.proofs.lemmas.Map.Iter.{rest_more, rest_all}
 use Rattle.std.proofs.lemmas.Option.{IfSome_then, MatchOption-from_none, slice_get_past}
-use Rattle.cedar_closure.specs.Numbering.{IsNumbered, AreNumbers, KeepsNumbers}
+use Rattle.cedar_closure.specs.Numbering.{IsNumbered}
 use Rattle.cedar_closure.proofs.Lists.{drop_next, drop_done}
 use Rattle.cedar_closure.proofs.Numbers.{no_number_yet}
 use Rattle.cedar_closure.proofs.numbering.numbered_keys.Goals as goal

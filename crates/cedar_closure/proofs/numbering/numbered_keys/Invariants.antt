@@ -1,4 +1,4 @@
-use Rattle.std.proofs.Common.{◌≡◌, ℕ, ◌<◌, ◌≤◌, vec_len, length, drop, IfSome, slice_get, HashMap}
+use Rattle.std.proofs.Common.{◌≡◌, ℕ, ◌<◌, ◌≤◌, vec_len, length, drop, IfSome, slice_get}
 use Rattle.std.specs.HashMap.{keys}
 use Rattle.cedar_closure.specs.Numbering.{IsNumbered, AreNumbers}
 use Rattle.cedar_closure.proofs.numbering.numbered_keys.Given as goal

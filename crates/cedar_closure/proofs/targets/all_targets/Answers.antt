@@ -1,4 +1,4 @@
-use Rattle.std.proofs.Common.{◌≡◌, ◌<◌, ◌≤◌, ◌+◌, ℕ, List, Some, length, vec_len, hash_map_len, drop, IfSome, slice_get, sym, ◌∙◌, ap, subst, arith, ⊎_elim}
+use Rattle.std.proofs.Common.{◌≡◌, ◌<◌, ◌≤◌, length, vec_len, hash_map_len, drop, IfSome, slice_get, sym, ◌∙◌, ap, subst, arith, ⊎_elim}
 use Rattle.std.specs.HashMap.{values}
 use Rattle.std.specs.Map.Iter.{deref}
 use Rattle.std.proofs.lemmas.Bool.{cases_lt}

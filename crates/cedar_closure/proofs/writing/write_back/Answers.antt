@@ -1,15 +1,15 @@
-use Rattle.std.proofs.Common.{◌≡◌, ◌<◌, ◌≤◌, ◌+◌, ◌^◌, ℕ, Some, IsTrue, IsSome, HashMap, BuildHasherDefault, FoldHasher, length, vec_len, slice_get, sym, ◌∙◌, ap, refl, subst, arith, ⊎_elim}
-use Rattle.std.specs.HashMap.{get, ContainsKey}
+use Rattle.std.proofs.Common.{◌≡◌, ◌<◌, ◌≤◌, ◌^◌, ℕ, Some, IsTrue, HashMap, BuildHasherDefault, FoldHasher, length, slice_get, sym, ◌∙◌, ap, refl, subst, arith, ⊎_elim}
+use Rattle.std.specs.HashMap.{get}
 use Rattle.std.proofs.lemmas.Bool.{cases_lt, both_ways}
 use Rattle.std.proofs.lemmas.Option.{slice_get_read}
-use Rattle.cedar_closure.specs.Edges.{GrowsAt, HasEdge}
+use Rattle.cedar_closure.specs.Edges.{GrowsAt}
 use Rattle.cedar_closure.specs.Numbered.{items_at}
 use Rattle.cedar_closure.specs.Numbering.{IsNumbered, StandsIn}
 use Rattle.cedar_closure.specs.Row.{has_bit}
 use Rattle.cedar_closure.proofs.Bits.{has_bit-nil}
 use Rattle.cedar_closure.proofs.Growing.{grows_at_onwards, grows_at_weaker, edge_kept, some_kept}
 use Rattle.cedar_closure.proofs.Lists.{items_at-read, items_at-past}
-use Rattle.cedar_closure.proofs.Numbers.{numbered_from_name, name_from_numbered, eq_back, number_below}
+use Rattle.cedar_closure.proofs.Numbers.{numbered_from_name, name_from_numbered, eq_back}
 use Rattle.cedar_closure.proofs.writing.write_back.Goals as goal
 use Rattle.cedar_closure.proofs.writing.write_back.Goals.{After-deref}
 
@@ -91,7 +91,11 @@ loop-i-preserved g c =
     }
 
 pub returns-clause-complete : goal.returns-clause-complete
-returns-clause-complete g c = λ i key to numbered has stands. ⊎_elim
+returns-clause-complete g c = λ key to it has.
+    let i = it.0 in
+    let numbered = it.1 in
+    let stands = it.2 in
+    ⊎_elim
     (λ (below : i < c.loop-i.i). c.loop-i.invariant.complete i key to below numbered has stands)
     (λ (above : c.loop-i.i ≤ i).
     let over : length c.args.rows.now.items ≤ i = omega arith in

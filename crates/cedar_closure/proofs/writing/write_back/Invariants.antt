@@ -1,4 +1,4 @@
-use Rattle.std.proofs.Common.{◌≡◌, ℕ, ◌<◌, HashMap}
+use Rattle.std.proofs.Common.{◌≡◌, ℕ, ◌<◌}
 use Rattle.std.specs.HashMap.{get, keys, ContainsKey}
 use Rattle.cedar_closure.specs.Edges.{GrowsAt, HasEdge}
 use Rattle.cedar_closure.specs.Numbered.{items_at}

@@ -1,10 +1,10 @@
-use Rattle.std.proofs.Common.{◌≡◌, true, false, Some, IsTrue, IsSome, cond, HashMap, sym, ◌∙◌, ap, subst, subst₂, is_some, ⊎_elim}
+use Rattle.std.proofs.Common.{◌≡◌, true, false, Some, IsTrue, IsSome, sym, ◌∙◌, ap, subst, subst₂, is_some, ⊎_elim}
 use Rattle.std.specs.HashMap.{get}
 use Rattle.std.proofs.lemmas.Bool.{cases_Bool, cond-true, cond-false}
 use Rattle.cedar_closure.specs.Edges.{GrowsAt}
 use Rattle.cedar_closure.specs.Numbering.{StandsIn}
 use Rattle.cedar_closure.proofs.Growing.{grows_weaker, grows_at_itself}
-use Rattle.cedar_closure.proofs.Numbers.{get_alike, eq_back}
+use Rattle.cedar_closure.proofs.Numbers.{get_alike}
 use Rattle.cedar_closure.proofs.writing.write_node.Goals as goal
 
 pub returns-in-Some-clause-grows : goal.returns-in-Some-clause-grows
