@@ -17,7 +17,8 @@ pub word_of : (n words : ℕ) → n < 64 * words → n / 64 < words
 word_of n words below = div_below n 64 words (omega arith) (omega arith)
 
 -- at the number whose word is written
-pub has_bit-set_same : (row : List ℕ) (n word : ℕ) → n / 64 < length row → has_bit (set row (n / 64) word) n ≡ eqb (bit_at word (n % 64)) 1
+pub has_bit-set_same : (row : List ℕ) (n word : ℕ) → n / 64 < length row → has_bit (set row (n / 64) word) n
+    ≡ eqb (bit_at word (n % 64)) 1
 unfolding has_bit
 has_bit-set_same row n word within = ap (λ w. eqb (bit_at w (n % 64)) 1) (get_or-set_same row (n / 64) word 0 within)
 
@@ -34,7 +35,8 @@ has_bit-set_other row n word within kept k apart =
     ∙ ap (λ w. eqb (bit_at w (k % 64)) 1) (get_or-set_same row (n / 64) word 0 within)
     ∙ ap (λ b. eqb b 1) (kept (k % 64) (mod_below k 64 (omega arith)) other_place)
     ∙ ap (λ w. eqb (bit_at (get_or row w 0) (k % 64)) 1) (sym same))
-    (λ (other : k / 64 ≢ n / 64). ap (λ w. eqb (bit_at w (k % 64)) 1) (get_or-set_other row (n / 64) (k / 64) word 0 other))
+    (λ (other : k / 64 ≢ n / 64). ap (λ w. eqb (bit_at w (k % 64)) 1)
+    (get_or-set_other row (n / 64) (k / 64) word 0 other))
     (cases_eq (k / 64) (n / 64))
 
 -- a bit that is set in either of two words
@@ -59,7 +61,8 @@ has_bit-joined old other new joined n =
     ∙ bit-or (bit_at a (n % 64)) (bit_at b (n % 64)) (bit_at-lt a (n % 64)) (bit_at-lt b (n % 64))
 
 -- the bit at a place of a word of the row
-pub has_bit_at : (row : List ℕ) (i place : ℕ) → place < 64 → has_bit row (i * 64 + place) ≡ eqb (bit_at (get_or row i 0) place) 1
+pub has_bit_at : (row : List ℕ) (i place : ℕ) → place < 64 → has_bit row (i * 64 + place)
+    ≡ eqb (bit_at (get_or row i 0) place) 1
 unfolding has_bit
 has_bit_at row i place small =
     ap (λ w. eqb (bit_at (get_or row w 0) ((i * 64 + place) % 64)) 1) (div-mul-add i 64 place small)
@@ -80,7 +83,8 @@ apart_from_words row other apart n stands =
 
 -- the lowest bit that two words have in common
 pub lowest_common : (a b : ℕ) → bit_and a b ≢ 0 → bit_and a b < 2 ^ 64
-    → (trailing_zeros w64 (bit_and a b) < 64) × (bit_at a (trailing_zeros w64 (bit_and a b)) ≡ 1) × (bit_at b (trailing_zeros w64 (bit_and a b)) ≡ 1)
+    → (trailing_zeros w64 (bit_and a b) < 64) × (bit_at a (trailing_zeros w64 (bit_and a b)) ≡ 1)
+    × (bit_at b (trailing_zeros w64 (bit_and a b)) ≡ 1)
 lowest_common a b some fits =
     let place = trailing_zeros w64 (bit_and a b) in
     let lowest = bit_at-trailing_zeros w64 (bit_and a b) (omega arith) fits in
@@ -108,7 +112,8 @@ pub no_bit_in_word : (row : List ℕ) (i n : ℕ) → get_or row i 0 ≡ 0 → i
 no_bit_in_word row i n none least most =
     let place : n - i * 64 < 64 = omega arith in
     let whole : n ≡ i * 64 + (n - i * 64) = omega arith in
-    ap (has_bit row) whole ∙ has_bit_at row i (n - i * 64) place ∙ ap (λ w. eqb (bit_at w (n - i * 64)) 1) none ∙ ap (λ b. eqb b 1) (bit_at-zero (n - i * 64))
+    ap (has_bit row) whole ∙ has_bit_at row i (n - i * 64) place ∙ ap (λ w. eqb (bit_at w (n - i * 64)) 1) none
+    ∙ ap (λ b. eqb b 1) (bit_at-zero (n - i * 64))
 
 -- a number that stands in a row falls into one of its words
 pub bit_below : (row : List ℕ) (n : ℕ) → has_bit row n ≡ true → n < length row * 64
@@ -116,6 +121,7 @@ unfolding has_bit
 bit_below row n stands = ⊎_elim
     (λ (within : n / 64 < length row). omega (arith, within, mod_below n 64 (omega arith), div-add-mod' n 64))
     (λ (past : length row ≤ n / 64).
-    let none : has_bit row n ≡ false = ap (λ w. eqb (bit_at w (n % 64)) 1) (get_or_past row (n / 64) 0 past) ∙ ap (λ b. eqb b 1) (bit_at-zero (n % 64)) in
+    let none : has_bit row n ≡ false = ap (λ w. eqb (bit_at w (n % 64)) 1) (get_or_past row (n / 64) 0 past)
+    ∙ ap (λ b. eqb b 1) (bit_at-zero (n % 64)) in
     absurd (both_ways _ none stands))
     (cases_lt (n / 64) (length row))

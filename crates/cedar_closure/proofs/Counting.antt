@@ -17,7 +17,8 @@ count_below-le test (suc n) =
     step (test n)
 
 -- tests that agree below the limit pass as many
-count_below-same : (test other : ℕ → Bool) (n : ℕ) → ((k : ℕ) → k < n → other k ≡ test k) → count_below other n ≡ count_below test n
+count_below-same : (test other : ℕ → Bool) (n : ℕ) → ((k : ℕ) → k < n → other k ≡ test k) → count_below other n
+    ≡ count_below test n
 unfolding count_below
 count_below-same test other zero same = refl
 count_below-same test other (suc n) same =
@@ -31,11 +32,13 @@ count_below-removed test other j zero below passes fails same = absurd (omega ar
 count_below-removed test other j (suc n) below passes fails same =
     ⊎_elim
     (λ (here : n ≡ j).
-    let low : count_below other n ≡ count_below test n = count_below-same test other n (λ k less. same k (λ e. omega arith)) in
+    let low : count_below other n ≡ count_below test n =
+    count_below-same test other n (λ k less. same k (λ e. omega arith)) in
     let was : test n ≡ true = ap test here ∙ passes in
     let now : other n ≡ false = ap other here ∙ fails in
     rw (was, now) (omega arith))
     (λ (apart : n ≢ j).
-    let low : count_below other n + 1 ≡ count_below test n = count_below-removed test other j n (omega arith) passes fails same in
+    let low : count_below other n + 1 ≡ count_below test n =
+    count_below-removed test other j n (omega arith) passes fails same in
     rw (same n apart) (omega arith))
     (cases_eq n j)

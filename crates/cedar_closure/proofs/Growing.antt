@@ -40,13 +40,15 @@ module _ {K V : Type 0} (has_edge : V → K → Bool) (is_alike : V → V → Ty
   grows_at_weaker May More weaker (Some v) (Some w) grows = grows_weaker has_edge is_alike May More weaker v w grows
 
   -- one gain after another
-  pub grows_at_onwards : ((a b c : V) → is_alike a b → is_alike b c → is_alike a c) → (May : K → Type 0) (o p q : Option V)
+  pub grows_at_onwards : ((a b c : V) → is_alike a b → is_alike b c → is_alike a c)
+      → (May : K → Type 0) (o p q : Option V)
       → GrowsAt has_edge is_alike o p May → GrowsAt has_edge is_alike p q May → GrowsAt has_edge is_alike o q May
   grows_at_onwards onwards May None None q first second = second
   grows_at_onwards onwards May None (Some v) q first second = elim first [ ]
   grows_at_onwards onwards May (Some u) None q first second = elim first [ ]
   grows_at_onwards onwards May (Some u) (Some v) None first second = elim second [ ]
-  grows_at_onwards onwards May (Some u) (Some v) (Some w) first second = grows_onwards has_edge is_alike onwards May u v w first second
+  grows_at_onwards onwards May (Some u) (Some v) (Some w) first second =
+      grows_onwards has_edge is_alike onwards May u v w first second
 
   -- an edge of what stood at the key stays
   pub edge_kept : (May : K → Type 0) (o p : Option V) (to : K) → GrowsAt has_edge is_alike o p May

@@ -19,7 +19,8 @@ some_with (Some x) P holds = (x, refl, holds)
 -- a chain begins at a node
 pub begins_at_node : {K V S : Type 0} (eq : K → K → Bool) (has_edge : V → K → Bool) (nodes : HashMap K V S) {a b : K}
     → Chain (HasEdge eq has_edge nodes) a b → IsSome (get eq nodes a)
-begins_at_node eq has_edge nodes {a = a} {b = b} (one s) = let it = some_with (get eq nodes a) (λ v. IsTrue (has_edge v b)) s in ap is_some it.1
+begins_at_node eq has_edge nodes {a = a} {b = b} (one s) = let it =
+    some_with (get eq nodes a) (λ v. IsTrue (has_edge v b)) s in ap is_some it.1
 begins_at_node eq has_edge nodes {a = a} (more s rest) = let it = some_with (get eq nodes a) _ s in ap is_some it.1
 
 -- nothing is in the empty list
@@ -30,14 +31,17 @@ module _ {K V S Z : Type 0} {eq : K → K → Bool} (laws : IsEquivalence eq) (h
     (respect : (node : V) (a b : K) → eq a b ≡ true → has_edge node a ≡ has_edge node b)
     (nodes : HashMap K V S) (unique : IsUnique eq nodes) (names : List K) (targets : List (Vec ℕ Z))
     (in_order : (i : ℕ) → IfSome (slice_get (keys nodes) i) (λ key. IsNumbered eq names key i))
-    (are : (i : ℕ) → IfSome (slice_get (values nodes) i) (λ node. AreNumbersOf eq names (has_edge node) (items_at targets i)))
+    (are : (i : ℕ) → IfSome (slice_get (values nodes) i)
+    (λ node. AreNumbersOf eq names (has_edge node) (items_at targets i)))
     (len : length targets ≡ length nodes.entries) where
   -- the key and the targets of the entry at a place
   at_place : (i : ℕ) (key : K) (node : V) → slice_get nodes.entries i ≡ Some (key, node)
       → IsNumbered eq names key i × AreNumbersOf eq names (has_edge node) (items_at targets i)
   at_place i key node found =
-      let at_key : slice_get (keys nodes) i ≡ Some key = slice_get-map (λ e. e.0) nodes.entries i ∙ ap (option_map (λ e. e.0)) found in
-      let at_node : slice_get (values nodes) i ≡ Some node = slice_get-map (λ e. e.1) nodes.entries i ∙ ap (option_map (λ e. e.1)) found in (
+      let at_key : slice_get (keys nodes) i ≡ Some key = slice_get-map (λ e. e.0) nodes.entries i
+      ∙ ap (option_map (λ e. e.0)) found in
+      let at_node : slice_get (values nodes) i ≡ Some node = slice_get-map (λ e. e.1) nodes.entries i
+      ∙ ap (option_map (λ e. e.1)) found in (
         subst (λ o. IfSome o (λ k. IsNumbered eq names k i)) at_key (in_order i),
         subst (λ o. IfSome o (λ v. AreNumbersOf eq names (has_edge v) (items_at targets i))) at_node (are i),
       )
@@ -70,7 +74,8 @@ module _ {K V S Z : Type 0} {eq : K → K → Bool} (laws : IsEquivalence eq) (h
       (it.0, it.1)
 
   -- a step of numbers is a step of the keys that have them
-  pub step_of_numbers : (i j : ℕ) (a b : K) → IsTarget targets i j → IsNumbered eq names a i → IsNumbered eq names b j → HasEdge eq has_edge nodes a b
+  pub step_of_numbers : (i j : ℕ) (a b : K) → IsTarget targets i j → IsNumbered eq names a i → IsNumbered eq names b j
+      → HasEdge eq has_edge nodes a b
   step_of_numbers i j a b edge first last =
       let entry = entry_at i j edge in
       let key = entry.0.0 in
@@ -78,17 +83,20 @@ module _ {K V S Z : Type 0} {eq : K → K → Bool} (laws : IsEquivalence eq) (h
       let here = at_place i key node entry.1 in
       let it = here.1.sound j edge in
       let found : get eq nodes a ≡ Some node =
-      get_alike laws nodes a key (number_same laws names a key i first here.0) ∙ lookup_from_place laws nodes.entries i key node unique entry.1 in
+      get_alike laws nodes a key (number_same laws names a key i first here.0)
+      ∙ lookup_from_place laws nodes.entries i key node unique entry.1 in
       let goes : IsTrue (has_edge node b) = respect node b it.0 (number_same laws names b it.0 j last it.1) ∙ it.2 in
       subst (λ o. IsSomeAnd o (λ v. IsTrue (has_edge v b))) (sym found) goes
 
 -- where each of the keys has the number of its place, there are as many names
-pub names_for_all : {K : Type 0} (eq : K → K → Bool) (keys names : List K) → ((i : ℕ) → IfSome (slice_get keys i) (λ key. IsNumbered eq names key i))
+pub names_for_all : {K : Type 0} (eq : K → K → Bool) (keys names : List K)
+    → ((i : ℕ) → IfSome (slice_get keys i) (λ key. IsNumbered eq names key i))
     → (n : ℕ) → n ≤ length keys → n ≤ length names
 names_for_all eq keys names in_order zero few = omega arith
 names_for_all eq keys names in_order (suc m) few = ⊎_elim
     (λ it.
-    let stands : IsNumbered eq names it.0 m = subst (λ o. IfSome o (λ key. IsNumbered eq names key m)) it.2 (in_order m) in
+    let stands : IsNumbered eq names it.0 m = subst (λ o. IfSome o (λ key. IsNumbered eq names key m)) it.2
+    (in_order m) in
     let below = number_below eq names it.0 m stands in
     omega (arith, below))
     (λ past. absurd (omega (arith, past.0)))

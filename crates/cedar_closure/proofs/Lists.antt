@@ -28,7 +28,8 @@ module _ {X Z : Type 0} where
   items_at-set_same (w ∷ vs) (suc i) v within = items_at-set_same vs i v (omega arith)
 
   -- at another place
-  pub items_at-set_other : (vs : List (Vec X Z)) (i : ℕ) (v : Vec X Z) (k : ℕ) → k ≢ i → items_at (set vs i v) k ≡ items_at vs k
+  pub items_at-set_other : (vs : List (Vec X Z)) (i : ℕ) (v : Vec X Z) (k : ℕ) → k ≢ i → items_at (set vs i v) k
+      ≡ items_at vs k
   unfolding items_at
   items_at-set_other [] i v k apart = refl
   items_at-set_other (w ∷ vs) zero v zero apart = absurd (apart refl)
@@ -43,7 +44,8 @@ module _ {X Z : Type 0} where
   items_at-push_same (w ∷ vs) v = items_at-push_same vs v
 
   -- of the lists before it
-  pub items_at-push_other : (vs : List (Vec X Z)) (v : Vec X Z) (k : ℕ) → k < length vs → items_at (vs ++ v ∷ []) k ≡ items_at vs k
+  pub items_at-push_other : (vs : List (Vec X Z)) (v : Vec X Z) (k : ℕ) → k < length vs → items_at (vs ++ v ∷ []) k
+      ≡ items_at vs k
   unfolding items_at
   items_at-push_other [] v k within = absurd (omega arith)
   items_at-push_other (w ∷ vs) v zero within = refl
@@ -54,20 +56,23 @@ module _ {X Z : Type 0} where
       → ((k : ℕ) → k ≢ i → P k (items_at vs k)) → (k : ℕ) → P k (items_at (set vs i v) k)
   each_after_set P vs i v within here others k =
       ⊎_elim
-      (λ (same : k ≡ i). subst (λ m. P m (items_at (set vs i v) m)) (sym same) (subst (P i) (sym (items_at-set_same vs i v within)) here))
+      (λ (same : k ≡ i). subst (λ m. P m (items_at (set vs i v) m)) (sym same)
+      (subst (P i) (sym (items_at-set_same vs i v within)) here))
       (λ (apart : k ≢ i). subst (P k) (sym (items_at-set_other vs i v k apart)) (others k apart))
       (cases_eq k i)
 
   -- a list that is refilled with as many items has them
   pub items-refilled : (v : Vec X Z) (ws : List X) → length ws ≡ v.len → (with_items v ws).items ≡ ws
-  items-refilled v ws same = ap (λ n. take n (ws ++ drop (length ws) v.items)) (sym same) ∙ take-append_seam ws (drop (length ws) v.items)
+  items-refilled v ws same = ap (λ n. take n (ws ++ drop (length ws) v.items)) (sym same)
+      ∙ take-append_seam ws (drop (length ws) v.items)
 
   -- what holds of the list that was pushed, and of each before it, holds of each
   pub each_after_push : (P : ℕ → List X → Type 0) (vs : List (Vec X Z)) (v : Vec X Z) → P (length vs) v.items
       → ((k : ℕ) → k < length vs → P k (items_at vs k)) → (k : ℕ) → k < length vs + 1 → P k (items_at (vs ++ v ∷ []) k)
   each_after_push P vs v here others k below =
       ⊎_elim
-      (λ (same : k ≡ length vs). subst (λ m. P m (items_at (vs ++ v ∷ []) m)) (sym same) (subst (P (length vs)) (sym (items_at-push_same vs v)) here))
+      (λ (same : k ≡ length vs). subst (λ m. P m (items_at (vs ++ v ∷ []) m)) (sym same)
+      (subst (P (length vs)) (sym (items_at-push_same vs v)) here))
       (λ (apart : k ≢ length vs).
       let before : k < length vs = omega arith in
       subst (P k) (sym (items_at-push_other vs v k before)) (others k before))

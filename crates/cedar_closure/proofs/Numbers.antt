@@ -23,13 +23,15 @@ module _ {K : Type 0} (eq : K → K → Bool) where
   number_below (x ∷ xs) key (suc n) stands = let below = number_below xs key n stands in omega (arith, below)
 
   -- with one more name, each number stays
-  pub number_kept : (names : List K) (name key : K) (n : ℕ) → IsNumbered eq names key n → IsNumbered eq (names ++ name ∷ []) key n
+  pub number_kept : (names : List K) (name key : K) (n : ℕ) → IsNumbered eq names key n
+      → IsNumbered eq (names ++ name ∷ []) key n
   number_kept [] name key n stands = elim stands [ ]
   number_kept (x ∷ xs) name key zero stands = stands
   number_kept (x ∷ xs) name key (suc n) stands = number_kept xs name key n stands
 
   -- and the new name has the next
-  pub number_added : (names : List K) (name key : K) → eq key name ≡ true → IsNumbered eq (names ++ name ∷ []) key (length names)
+  pub number_added : (names : List K) (name key : K) → eq key name ≡ true
+      → IsNumbered eq (names ++ name ∷ []) key (length names)
   number_added [] name key same = same
   number_added (x ∷ xs) name key same = number_added xs name key same
 
@@ -43,18 +45,22 @@ module _ {K : Type 0} (eq : K → K → Bool) where
       ⊎_elim (λ before. inl before) (λ last. inr (ap suc last.0, last.1)) (number_cases xs name key n stands)
 
   -- a key that is equal to the name at a number has it
-  pub numbered_from_name : (names : List K) (name key : K) (n : ℕ) → slice_get names n ≡ Some name → eq key name ≡ true → IsNumbered eq names key n
+  pub numbered_from_name : (names : List K) (name key : K) (n : ℕ) → slice_get names n ≡ Some name → eq key name
+      ≡ true → IsNumbered eq names key n
   numbered_from_name names name key n found same = subst (λ o. IsSomeAnd o (λ x. IsTrue (eq key x))) (sym found) same
 
   -- and the other way
-  pub name_from_numbered : (names : List K) (name key : K) (n : ℕ) → slice_get names n ≡ Some name → IsNumbered eq names key n → eq key name ≡ true
+  pub name_from_numbered : (names : List K) (name key : K) (n : ℕ) → slice_get names n ≡ Some name
+      → IsNumbered eq names key n → eq key name ≡ true
   name_from_numbered names name key n found stands = subst (λ o. IsSomeAnd o (λ x. IsTrue (eq key x))) found stands
 
 -- tests that agree find the same
-lookup_agree : {K X : Type 0} (test other : K → Bool) → ((k : K) → test k ≡ other k) → (es : List (K × X)) → lookup test es ≡ lookup other es
+lookup_agree : {K X : Type 0} (test other : K → Bool) → ((k : K) → test k ≡ other k) → (es : List (K × X))
+    → lookup test es ≡ lookup other es
 lookup_agree test other agree [] = refl
 lookup_agree test other agree (e ∷ es) =
-    ap (λ b. cond b (Some e.1) (lookup test es)) (agree e.0) ∙ ap (λ o. cond (other e.0) (Some e.1) o) (lookup_agree test other agree es)
+    ap (λ b. cond b (Some e.1) (lookup test es)) (agree e.0)
+    ∙ ap (λ o. cond (other e.0) (Some e.1) o) (lookup_agree test other agree es)
 
 module _ {K : Type 0} {eq : K → K → Bool} (laws : IsEquivalence eq) where
   -- equal keys find the same
@@ -70,7 +76,8 @@ module _ {K : Type 0} {eq : K → K → Bool} (laws : IsEquivalence eq) where
   eq_back a b same = laws.symm b a ∙ same
 
   -- equal keys have the same number
-  pub number_alike : (names : List K) (a b : K) (n : ℕ) → eq a b ≡ true → IsNumbered eq names b n → IsNumbered eq names a n
+  pub number_alike : (names : List K) (a b : K) (n : ℕ) → eq a b ≡ true → IsNumbered eq names b n
+      → IsNumbered eq names a n
   number_alike [] a b n same stands = elim stands [ ]
   number_alike (x ∷ xs) a b zero same stands = eq_trans a b x same stands
   number_alike (x ∷ xs) a b (suc n) same stands = number_alike xs a b n same stands
@@ -84,7 +91,8 @@ module _ {K : Type 0} {eq : K → K → Bool} (laws : IsEquivalence eq) where
   -- where the map finds the numbers, each key has one
   pub one_number : {S : Type 0} (names : List K) (numbers : HashMap K ℕ S) → AreNumbers eq names numbers
       → (key : K) (i j : ℕ) → IsNumbered eq names key i → IsNumbered eq names key j → i ≡ j
-  one_number names numbers agree key i j first second = same_Some i j (sym ((agree key i).1 first) ∙ (agree key j).1 second)
+  one_number names numbers agree key i j first second =
+      same_Some i j (sym ((agree key i).1 first) ∙ (agree key j).1 second)
 
   -- the map and the names after a new key has the next number
   pub numbers_added : {S : Type 0} (names : List K) (old new : HashMap K ℕ S) (key copy name : K)
@@ -94,11 +102,13 @@ module _ {K : Type 0} {eq : K → K → Bool} (laws : IsEquivalence eq) where
   numbers_added names old new key copy name agree absent copied named updated q m = (
     λ found. ⊎_elim
         (λ (same : eq copy q ≡ true).
-        let last : length names ≡ m = same_Some (length names) m (sym (cond-true (eq copy q) (Some (length names)) (get eq old q) same) ∙ sym (updated q) ∙ found) in
+        let last : length names ≡ m = same_Some (length names) m
+        (sym (cond-true (eq copy q) (Some (length names)) (get eq old q) same) ∙ sym (updated q) ∙ found) in
         let alike : eq q name ≡ true = eq_trans q key name (eq_back key q (eq_trans key copy q copied same)) named in
         subst (IsNumbered eq (names ++ name ∷ []) q) last (number_added eq names name q alike))
         (λ (apart : eq copy q ≡ false).
-        let before : get eq old q ≡ Some m = sym (cond-false (eq copy q) (Some (length names)) (get eq old q) apart) ∙ sym (updated q) ∙ found in
+        let before : get eq old q ≡ Some m = sym (cond-false (eq copy q) (Some (length names)) (get eq old q) apart)
+        ∙ sym (updated q) ∙ found in
         number_kept eq names name q m ((agree q m).0 before))
         (cases_Bool (eq copy q)),
     λ stands. ⊎_elim
@@ -110,7 +120,8 @@ module _ {K : Type 0} {eq : K → K → Bool} (laws : IsEquivalence eq) where
         updated q ∙ cond-false (eq copy q) (Some (length names)) (get eq old q) apart ∙ (agree q m).1 before)
         (cases_Bool (eq copy q)))
         (λ last.
-        let same : eq copy q ≡ true = eq_trans copy key q (eq_back key copy copied) (eq_trans key name q named (eq_back q name last.1)) in
+        let same : eq copy q ≡ true = eq_trans copy key q (eq_back key copy copied)
+        (eq_trans key name q named (eq_back q name last.1)) in
         updated q ∙ cond-true (eq copy q) (Some (length names)) (get eq old q) same ∙ ap Some (sym last.0))
         (number_cases eq names name q m stands),
   )
@@ -125,7 +136,8 @@ numbers_of_kept eq old new test numbers kept are = record {
 
 -- a key that stands further on among distinct keys than all that have names has no number
 module _ {K : Type 0} {eq : K → K → Bool} (laws : IsEquivalence eq) where
-  pub no_number_yet : {S : Type 0} (keys names : List K) (numbers : HashMap K ℕ S) (key : K) → AreNumbers eq names numbers → IsDistinct eq keys
+  pub no_number_yet : {S : Type 0} (keys names : List K) (numbers : HashMap K ℕ S) (key : K)
+      → AreNumbers eq names numbers → IsDistinct eq keys
       → slice_get keys (length names) ≡ Some key
       → ((i : ℕ) → i < length names → IfSome (slice_get keys i) (λ k. IsNumbered eq names k i))
       → get eq numbers key ≡ None
@@ -136,9 +148,11 @@ module _ {K : Type 0} {eq : K → K → Bool} (laws : IsEquivalence eq) where
       let within : length names < length keys = slice_get_within keys (length names) key here in
       let place : m < length keys = omega (arith, below, within) in
       let other = get_or keys m key in
-      let named : IsNumbered eq names other m = MatchOption-at_some _ _ other (slice_get-get_or keys m key place) (before m below) in
+      let named : IsNumbered eq names other m = MatchOption-at_some _ _ other (slice_get-get_or keys m key place)
+      (before m below) in
       let alike : eq other key ≡ true = number_same laws names other key m named stands in
-      let apart : eq other (get_or keys (length names) key) ≡ false = apart_from_distinct eq keys m (length names) key distinct below within in
+      let apart : eq other (get_or keys (length names) key)
+      ≡ false = apart_from_distinct eq keys m (length names) key distinct below within in
       both_ways _ (ap (eq other) (sym (get_or_from_slice_get keys (length names) key key here)) ∙ apart) alike)
 
 -- A relation N of keys and numbers, steps E of keys and steps S of numbers

@@ -18,7 +18,8 @@ fn close_row(rows: &Vec<Vec<u64>>, row: &mut [u64], from: usize, waiting: &mut [
     requires have_rows { (i : ℕ) → IsTrue (has_bit waiting.old i) → i < vec_len rows.now }
     ensures kept { (k : ℕ) → InRow rows.now.items from k → IsTrue (has_bit row.new k) }
     ensures sound { (k : ℕ) → IsTrue (has_bit row.new k) → Chain (InRow rows.now.items) from k }
-    ensures closed { (j k : ℕ) → IsTrue (has_bit waiting.old j) → IsTrue (has_bit row.new j) → InRow rows.now.items j k → IsTrue (has_bit row.new k) }
+    ensures closed { (j k : ℕ) → IsTrue (has_bit waiting.old j) → IsTrue (has_bit row.new j)
+        → InRow rows.now.items j k → IsTrue (has_bit row.new k) }
     ensures count { result ≤ vec_len rows.now }
 {
     let mut joins = 0;
@@ -106,7 +107,8 @@ pub(crate) fn closed_rows(
     ensures len { IfOk result (λ closed. vec_len closed.0 ≡ vec_len targets.now) }
     ensures wide { IfOk result (λ closed. (i : ℕ) → i < vec_len closed.0 → i < 64 * length (items_at closed.0.items i)) }
     ensures small { IfOk result (λ closed. (i : ℕ) → length (items_at closed.0.items i) ≤ 2 ^ 58) }
-    ensures closed { IfOk result (λ closed. (i j : ℕ) → InRow closed.0.items i j ↔ Chain (IsTarget targets.now.items) i j) }
+    ensures closed { IfOk result (λ closed. (i j : ℕ)
+        → InRow closed.0.items i j ↔ Chain (IsTarget targets.now.items) i j) }
     ensures count { IfOk result (λ closed. closed.1 ≤ vec_len targets.now * vec_len targets.now) }
 {
     let words = columns / 64 + 1;

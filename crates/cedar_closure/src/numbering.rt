@@ -61,7 +61,8 @@ pub(crate) fn numbered_keys<K: Eq + Hash + Drop, V: TCNode<K>>(
     ensures numbers { IfOk result (λ numbering. AreNumbers K.eq numbering.names.items numbering.numbers) }
     ensures unique { IsUnique K.eq nodes.now }
     ensures len { IfOk result (λ numbering. vec_len numbering.names ≡ hash_map_len nodes.now) }
-    ensures in_order { IfOk result (λ numbering. (i : ℕ) → IfSome (slice_get (keys nodes.now) i) (λ key. IsNumbered K.eq numbering.names.items key i)) }
+    ensures in_order { IfOk result (λ numbering. (i : ℕ)
+        → IfSome (slice_get (keys nodes.now) i) (λ key. IsNumbered K.eq numbering.names.items key i)) }
 {
     let mut numbering = Numbering {
         names: Vec::new(alloc),

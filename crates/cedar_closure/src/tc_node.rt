@@ -29,7 +29,8 @@ pub trait TCNode<K: Eq + Hash> {
     /// Adds an edge to the key and changes nothing else, or want of memory, after which the node has
     /// the edges it had.
     fn add_edge_to(&mut self, key: K) -> M<()>
-        ensures added { OnOk result ((other : K) → has_edge self.new other ≡ (K.eq key other || has_edge self.old other)) }
+        ensures added { OnOk result ((other : K) → has_edge self.new other
+            ≡ (K.eq key other || has_edge self.old other)) }
         ensures err { OnErr result ((other : K) → has_edge self.new other ≡ has_edge self.old other) }
         ensures alike { is_alike self.old self.new };
 

@@ -35,7 +35,9 @@ fn add_word<K: Eq + Hash + Drop, V: TCNode<K>>(
     requires small { length row.now ≤ 2 ^ 58 }
     requires within { (number : ℕ) → IsTrue (has_bit row.now number) → number < vec_len names.now }
     ensures grows { GrowsBy V.has_edge V.is_alike node.old node.new (StandsIn K.eq names.now.items row.now) }
-    ensures complete { OnOk result ((number : ℕ) (to : K) → word * 64 ≤ number → number < word * 64 + 64 → IsTrue (has_bit row.now number) → IsNumbered K.eq names.now.items to number → IsTrue (V.has_edge node.new to)) }
+    ensures complete { OnOk result ((number : ℕ) (to : K) → word * 64 ≤ number → number < word * 64 + 64
+        → IsTrue (has_bit row.now number) → IsNumbered K.eq names.now.items to number
+        → IsTrue (V.has_edge node.new to)) }
 {
     for place in 0..64 {
         let number = word * 64 + place;
@@ -51,7 +53,8 @@ fn add_edges<K: Eq + Hash + Drop, V: TCNode<K>>(node: &mut V, row: &[u64], names
     requires small { length row.now ≤ 2 ^ 58 }
     requires within { (number : ℕ) → IsTrue (has_bit row.now number) → number < vec_len names.now }
     ensures grows { GrowsBy V.has_edge V.is_alike node.old node.new (StandsIn K.eq names.now.items row.now) }
-    ensures complete { OnOk result ((to : K) → StandsIn K.eq names.now.items row.now to → IsTrue (V.has_edge node.new to)) }
+    ensures complete { OnOk result ((to : K) → StandsIn K.eq names.now.items row.now to
+        → IsTrue (V.has_edge node.new to)) }
 {
     for word in 0..row.len() {
         if row[word] != 0 {
@@ -71,8 +74,10 @@ fn write_node<K: Eq + Hash + Drop, V: TCNode<K>>(
     requires small { length row.now ≤ 2 ^ 58 }
     requires within { (number : ℕ) → IsTrue (has_bit row.now number) → number < vec_len names.now }
     ensures keys { keys nodes.new ≡ keys nodes.old }
-    ensures grows { (key : K) → GrowsAt V.has_edge V.is_alike (get K.eq nodes.old key) (get K.eq nodes.new key) (λ to. IsTrue (K.eq name.now key) × StandsIn K.eq names.now.items row.now to) }
-    ensures complete { OnOk result ((key to : K) → IsTrue (K.eq name.now key) → ContainsKey K.eq nodes.old key → StandsIn K.eq names.now.items row.now to → HasEdge K.eq V.has_edge nodes.new key to) }
+    ensures grows { (key : K) → GrowsAt V.has_edge V.is_alike (get K.eq nodes.old key) (get K.eq nodes.new key)
+        (λ to. IsTrue (K.eq name.now key) × StandsIn K.eq names.now.items row.now to) }
+    ensures complete { OnOk result ((key to : K) → IsTrue (K.eq name.now key) → ContainsKey K.eq nodes.old key
+        → StandsIn K.eq names.now.items row.now to → HasEdge K.eq V.has_edge nodes.new key to) }
 {
     match nodes.get_mut(name) {
         Some(node) => add_edges(node, row, names),
@@ -90,8 +95,10 @@ pub(crate) fn write_back<K: Eq + Hash + Drop, V: TCNode<K>>(
     requires few { vec_len rows.now ≤ vec_len names.now }
     requires within { (i j : ℕ) → InRow rows.now.items i j → j < vec_len names.now }
     ensures keys { keys nodes.new ≡ keys nodes.old }
-    ensures grows { (key : K) → GrowsAt V.has_edge V.is_alike (get K.eq nodes.old key) (get K.eq nodes.new key) (RowHas K.eq names.now.items rows.now.items key) }
-    ensures complete { OnOk result ((key to : K) → RowHas K.eq names.now.items rows.now.items key to → ContainsKey K.eq nodes.old key → HasEdge K.eq V.has_edge nodes.new key to) }
+    ensures grows { (key : K) → GrowsAt V.has_edge V.is_alike (get K.eq nodes.old key) (get K.eq nodes.new key)
+        (RowHas K.eq names.now.items rows.now.items key) }
+    ensures complete { OnOk result ((key to : K) → RowHas K.eq names.now.items rows.now.items key to
+        → ContainsKey K.eq nodes.old key → HasEdge K.eq V.has_edge nodes.new key to) }
 {
     for i in 0..rows.len() {
         write_node(nodes, &names[i], &rows[i], names)?;

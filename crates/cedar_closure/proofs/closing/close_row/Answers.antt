@@ -21,9 +21,11 @@ read c =
     ∙ sym (items_at-read c.args.rows.now.items c.in-Some.next c.index.result.now within)
 
 -- the number that was found no longer waits
-fewer : (c : After-deref) → count_below (has_bit c.remove.new.row) (vec_len c.args.rows.now) + 1 ≡ count_below (has_bit c.loop-next.waiting) (vec_len c.args.rows.now)
+fewer : (c : After-deref) → count_below (has_bit c.remove.new.row) (vec_len c.args.rows.now) + 1
+    ≡ count_below (has_bit c.loop-next.waiting) (vec_len c.args.rows.now)
 fewer c =
-    count_below-removed (has_bit c.loop-next.waiting) (has_bit c.remove.new.row) c.in-Some.next (vec_len c.args.rows.now) (has_row c)
+    count_below-removed (has_bit c.loop-next.waiting) (has_bit c.remove.new.row) c.in-Some.next
+    (vec_len c.args.rows.now) (has_row c)
     c.in-Some.ensures.in_other c.remove.ensures.gone c.remove.ensures.others
 
 pub loop-next-init : goal.loop-next-init
@@ -37,8 +39,10 @@ loop-next-init c = record {
 
 pub join-requires : goal.join-requires
 join-requires c =
-    let own : length c.args.row.now ≡ length c.args.waiting.now = ap length c.requires.same_row ∙ c.requires.same_len c.args.from c.requires.in_range in
-    let other : length c.deref.result.now ≡ length c.args.waiting.now = ap length (read c) ∙ c.requires.same_len c.in-Some.next (has_row c) in
+    let own : length c.args.row.now ≡ length c.args.waiting.now = ap length c.requires.same_row
+    ∙ c.requires.same_len c.args.from c.requires.in_range in
+    let other : length c.deref.result.now ≡ length c.args.waiting.now = ap length (read c)
+    ∙ c.requires.same_len c.in-Some.next (has_row c) in
     omega (arith, own, other, c.loop-next.auto.row)
 
 pub loop-next-smaller : goal.loop-next-smaller
@@ -60,12 +64,15 @@ loop-next-preserved c =
           joined (old.sound next c.in-Some.ensures.in_row) (one (ap (λ r. has_bit r k) (sym (read d)) ∙ came)))
           (or_cases _ _ (sym (c.join.ensures k) ∙ stands));
       waits = λ k stands. ⊎_elim
-          (λ (same : k ≡ next). absurd (both_ways _ c.remove.ensures.gone (ap (has_bit c.remove.new.row) (sym same) ∙ stands)))
+          (λ (same : k ≡ next). absurd (both_ways _ c.remove.ensures.gone (ap (has_bit c.remove.new.row) (sym same)
+          ∙ stands)))
           (λ (apart : k ≢ next). old.waits k (sym (c.remove.ensures.others k apart) ∙ stands))
           (cases_eq k next);
       closed = λ j k waited gone edge. ⊎_elim
-          (λ (same : j ≡ next). c.join.ensures k ∙ or_right _ _ (ap (λ r. has_bit r k) (read d) ∙ ap (λ i. has_bit (items_at rows i) k) (sym same) ∙ edge))
-          (λ (apart : j ≢ next). c.join.ensures k ∙ or_left _ _ (old.closed j k waited (sym (c.remove.ensures.others j apart) ∙ gone) edge))
+          (λ (same : j ≡ next). c.join.ensures k ∙ or_right _ _ (ap (λ r. has_bit r k) (read d)
+          ∙ ap (λ i. has_bit (items_at rows i) k) (sym same) ∙ edge))
+          (λ (apart : j ≢ next). c.join.ensures k ∙ or_left _ _
+          (old.closed j k waited (sym (c.remove.ensures.others j apart) ∙ gone) edge))
           (cases_eq j next);
       count = let less = fewer d in omega (arith, less, old.count);
     }

@@ -46,10 +46,13 @@ written : (c : After-drop-waiting) → (with_items c.in_ok-row.row c.close_row.n
 written c = items-refilled c.in_ok-row.row c.close_row.new.row (c.close_row.auto.row ∙ c.deref_mut.ensures.len)
 
 -- it holds all that a chain reaches from its number
-closes : (c : After-drop-waiting) (j : ℕ) → Chain (InRow c.args.rows.now.items) c.loop-i.i j → IsTrue (has_bit c.close_row.new.row j)
+closes : (c : After-drop-waiting) (j : ℕ) → Chain (InRow c.args.rows.now.items) c.loop-i.i j
+    → IsTrue (has_bit c.close_row.new.row j)
 closes c j chain = held_after (λ k. IsTrue (has_bit c.close_row.new.row k)) c.loop-i.i
     (λ l edge. c.close_row.ensures.kept l (c.loop-i.invariant.kept c.loop-i.i l edge))
-    (λ k l stands edge. c.close_row.ensures.closed k l (ap (λ r. has_bit r k) (waits (goal.at.loop-i-preserved c).After-deref_mut-in-loop-i) ∙ c.requires.leads k l edge) stands
+    (λ k l stands edge. c.close_row.ensures.closed k l
+    (ap (λ r. has_bit r k) (waits (goal.at.loop-i-preserved c).After-deref_mut-in-loop-i)
+    ∙ c.requires.leads k l edge) stands
     (c.loop-i.invariant.kept k l edge))
     chain
 
@@ -63,7 +66,8 @@ loop-i-preserved c =
     let within : i < length rows = omega arith in
     record {
       len = old.len;
-      same_len = λ k below. each_after_set (λ m xs. m < vec_len c.loop-i.rows → length xs ≡ vec_len c.args.leading.now) rows i v within
+      same_len = λ k below. each_after_set (λ m xs. m < vec_len c.loop-i.rows → length xs
+          ≡ vec_len c.args.leading.now) rows i v within
           (λ less. ap length (written c) ∙ c.close_row.auto.row
           ∙ ap length (begins (goal.at.loop-i-preserved c).After-deref_mut-in-loop-i) ∙ old.same_len i less)
           (λ m _ less. old.same_len m less) k below;
@@ -73,7 +77,8 @@ loop-i-preserved c =
       sound = λ k j. each_after_set (λ m xs. IsTrue (has_bit xs j) → Chain (InRow start) m j) rows i v within
           (λ stands. refined old.sound (c.close_row.ensures.sound j (ap (λ r. has_bit r j) (sym (written c)) ∙ stands)))
           (λ m _ edge. old.sound m j edge) k;
-      closed = λ k j below chain. each_after_set (λ m xs. m < i + 1 → Chain (InRow start) m j → IsTrue (has_bit xs j)) rows i v within
+      closed = λ k j below chain. each_after_set (λ m xs. m < i + 1 → Chain (InRow start) m j
+          → IsTrue (has_bit xs j)) rows i v within
           (λ _ reached. ap (λ r. has_bit r j) (written c) ∙ closes c j reached)
           (λ m apart less reached. old.closed m j (omega arith) reached) k below chain;
       count = let most = c.close_row.ensures.count in omega (arith, most, old.count, old.len);

@@ -9,12 +9,15 @@ pub direct_rows-requires : goal.direct_rows-requires
 direct_rows-requires c = λ i j edge. let below = c.requires.within i j edge in omega (arith, below)
 
 pub close_rows-requires-clause-leads : goal.close_rows-requires-clause-leads
-close_rows-requires-clause-leads c = λ i j edge. c.in_ok-leading.ensures.leads i j ((c.in_ok-rows.ensures.same_steps i j).0 edge)
+close_rows-requires-clause-leads c = λ i j edge. c.in_ok-leading.ensures.leads i j
+    ((c.in_ok-rows.ensures.same_steps i j).0 edge)
 
 pub returns-clause-closed : goal.returns-clause-closed
 returns-clause-closed c = λ i j. (
-  λ edge. refined (λ k l step. one ((c.in_ok-rows.ensures.same_steps k l).0 step)) ((c.in_ok-joins.ensures.closed i j).0 edge),
-  λ chain. (c.in_ok-joins.ensures.closed i j).1 (refined (λ k l step. one ((c.in_ok-rows.ensures.same_steps k l).1 step)) chain),
+  λ edge. refined (λ k l step. one ((c.in_ok-rows.ensures.same_steps k l).0 step))
+      ((c.in_ok-joins.ensures.closed i j).0 edge),
+  λ chain. (c.in_ok-joins.ensures.closed i j).1 (refined
+      (λ k l step. one ((c.in_ok-rows.ensures.same_steps k l).1 step)) chain),
 )
 
 pub returns-clause-small : goal.returns-clause-small

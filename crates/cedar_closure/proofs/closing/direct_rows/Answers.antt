@@ -35,9 +35,11 @@ loop-numbers-preserved c =
     let row = c.in_ok-row_of.field-0 in
     let pushed = c.in_ok-push.ensures.items in
     let place : length rows ≡ c.loop-numbers.numbers-index = omega (arith, old.len, c.loop-numbers.rows.ok.0) in
-    let targets : c.deref.result.now ≡ items_at all (length rows) = read (goal.at.loop-numbers-preserved c).After-deref ∙ ap (items_at all) (sym place) in
+    let targets : c.deref.result.now ≡ items_at all (length rows) =
+    read (goal.at.loop-numbers-preserved c).After-deref ∙ ap (items_at all) (sym place) in
     let before : (k : ℕ) → k < length rows → k < vec_len c.loop-numbers.rows = λ k less. omega arith in
-    let after : (k : ℕ) → k < vec_len c.push.new.self → k < length rows + 1 = λ k less. omega (arith, c.in_ok-push.ensures.len) in
+    let after : (k : ℕ) → k < vec_len c.push.new.self → k < length rows + 1 =
+    λ k less. omega (arith, c.in_ok-push.ensures.len) in
     record {
       len = omega (arith, c.in_ok-push.ensures.len, old.len);
       same_len = λ k below. rw pushed (each_after_push (λ m xs. length xs ≡ c.args.words) rows row
@@ -55,7 +57,8 @@ returns-clause-same_steps c = λ i j. ⊎_elim
     let rows = c.loop-numbers.rows.items in
     let all = c.args.targets.now.items in
     let no_row : items_at rows i ≡ [] = items_at-past rows i (omega arith) in
-    let no_targets : items_at all i ≡ [] = items_at-past all i (omega (arith, ap length c.deref-numbers-items.ensures.value)) in (
+    let no_targets : items_at all i ≡ [] = items_at-past all i
+    (omega (arith, ap length c.deref-numbers-items.ensures.value)) in (
       λ edge. absurd (both_ways _ (ap (λ r. has_bit r j) no_row ∙ has_bit-nil j) edge),
       λ edge. absurd (none_in_nil j (subst (λ xs. Contains xs j) no_targets edge)),
     ))

@@ -24,7 +24,8 @@ within c = omega (arith, c.loop-i-test.true, ap length c.deref-numbers-items.ens
 read : (c : Joined-not-is_empty) → c.numbers-item.result.items ≡ items_at c.args.targets.now.items c.loop-i.i
 read c =
     let all = c.args.targets.now.items in
-    ap (λ v. v.items) (c.numbers-item.is ∙ ap (λ vs. get_or vs c.loop-i.i c.numbers-item.result) c.deref-numbers-items.ensures.value)
+    ap (λ v. v.items) (c.numbers-item.is ∙ ap (λ vs. get_or vs c.loop-i.i c.numbers-item.result)
+    c.deref-numbers-items.ensures.value)
     ∙ sym (items_at-read all c.loop-i.i c.numbers-item.result (within c))
 
 -- where each number of the row stood before or is this turn's, and this turn's stands if it has a target, the turn is done
@@ -40,7 +41,8 @@ step c row comes kept here = (
       (λ same. omega (arith, within c))
       (comes i stands),
   λ i j below edge. ⊎_elim
-      (λ (same : i ≡ c.loop-i.i). subst (λ k. IsTrue (has_bit row k)) (sym same) (here j (subst (λ k. IsTarget c.args.targets.now.items k j) same edge)))
+      (λ (same : i ≡ c.loop-i.i). subst (λ k. IsTrue (has_bit row k)) (sym same)
+      (here j (subst (λ k. IsTarget c.args.targets.now.items k j) same edge)))
       (λ (apart : i ≢ c.loop-i.i). kept i (c.loop-i.invariant.leads i j (omega arith) edge))
       (cases_eq i c.loop-i.i),
 )
@@ -51,8 +53,10 @@ loop-i-preserved c = elim c.if-not-is_empty.branch [
       let written : c.if-not-is_empty.row.items ≡ w.put.new.row =
       ap (λ v. v.items) w.row-is ∙ items-refilled c.loop-i.row w.put.new.row (w.put.auto.row ∙ w.deref_mut.ensures.len) in
       let others : (n : ℕ) → n ≢ c.loop-i.i → has_bit c.if-not-is_empty.row.items n ≡ has_bit c.loop-i.row.items n =
-      λ n apart. ap (λ r. has_bit r n) written ∙ w.put.ensures.others n apart ∙ ap (λ r. has_bit r n) w.deref_mut.ensures.value in
-      let here : has_bit c.if-not-is_empty.row.items c.loop-i.i ≡ true = ap (λ r. has_bit r c.loop-i.i) written ∙ w.put.ensures.stands in
+      λ n apart. ap (λ r. has_bit r n) written ∙ w.put.ensures.others n apart
+      ∙ ap (λ r. has_bit r n) w.deref_mut.ensures.value in
+      let here : has_bit c.if-not-is_empty.row.items c.loop-i.i ≡ true = ap (λ r. has_bit r c.loop-i.i) written
+      ∙ w.put.ensures.stands in
       let done = step c c.if-not-is_empty.row.items
       (λ i stands. ⊎_elim
       (λ (same : i ≡ c.loop-i.i). inr same)

@@ -29,7 +29,8 @@ loop-number-preserved c =
     record {
       len = old.len;
       sound = λ n stands. ⊎_elim
-          (λ (same : n ≡ number). subst (Contains numbers) (sym same) (Contains-get_or numbers place 0 c.loop-number-test.true))
+          (λ (same : n ≡ number). subst (Contains numbers) (sym same)
+          (Contains-get_or numbers place 0 c.loop-number-test.true))
           (λ (apart : n ≢ number). old.sound n (sym (others n apart) ∙ sym (ap (λ r. has_bit r n) written) ∙ stands))
           (cases_eq n number);
       stands = λ k below. ap (λ r. has_bit r (get_or numbers k 0)) written ∙ ⊎_elim

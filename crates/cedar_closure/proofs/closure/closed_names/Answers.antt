@@ -13,8 +13,10 @@ use Rattle.cedar_closure.proofs.closure.closed_names.Goals.{In_ok-targets, In_ok
 
 -- each key of the map has the number of its place
 in_order : (g : _) (c : In_ok-targets g) (i : ℕ)
-    → IfSome (slice_get (keys c.args.nodes.now) i) (λ key. IsNumbered g.K.PartialEq.eq c.all_targets.new.numbering.names.items key i)
-in_order g c i = IfSome_then (slice_get (keys c.args.nodes.now) i) (c.in_ok-numbering.ensures.in_order i) (λ key stands. c.in_ok-targets.ensures.kept key i stands)
+    → IfSome (slice_get (keys c.args.nodes.now) i)
+    (λ key. IsNumbered g.K.PartialEq.eq c.all_targets.new.numbering.names.items key i)
+in_order g c i = IfSome_then (slice_get (keys c.args.nodes.now) i) (c.in_ok-numbering.ensures.in_order i)
+    (λ key stands. c.in_ok-targets.ensures.kept key i stands)
 
 -- as many targets as entries
 len : (g : _) (c : In_ok-targets g) → length c.in_ok-targets.targets.items ≡ length c.args.nodes.now.entries
@@ -23,11 +25,14 @@ len g c = let same = c.in_ok-targets.ensures.len in omega (arith, same, c.in_ok-
 -- each target is the number of a key
 named : (g : _) (c : In_ok-targets g) (i j : ℕ) → IsTarget c.in_ok-targets.targets.items i j
     → (b : g.row.K.Denot) × IsNumbered g.K.PartialEq.eq c.all_targets.new.numbering.names.items b j
-named g c = target_named g.met.K.Eq.laws g.V.TCNode.has_edge g.met.V.TCNode.edges_respect_eq c.args.nodes.now c.in_ok-numbering.ensures.unique
-    c.all_targets.new.numbering.names.items c.in_ok-targets.targets.items (in_order g c) c.in_ok-targets.ensures.targets (len g c)
+named g c = target_named g.met.K.Eq.laws g.V.TCNode.has_edge g.met.V.TCNode.edges_respect_eq c.args.nodes.now
+    c.in_ok-numbering.ensures.unique
+    c.all_targets.new.numbering.names.items c.in_ok-targets.targets.items
+    (in_order g c) c.in_ok-targets.ensures.targets (len g c)
 
 -- each target is below the number of names
-below : (g : _) (c : In_ok-targets g) (i j : ℕ) → IsTarget c.in_ok-targets.targets.items i j → j < vec_len c.all_targets.new.numbering.names
+below : (g : _) (c : In_ok-targets g) (i j : ℕ) → IsTarget c.in_ok-targets.targets.items i j
+    → j < vec_len c.all_targets.new.numbering.names
 below g c i j edge =
     let it = named g c i j edge in
     let under = number_below g.K.PartialEq.eq c.all_targets.new.numbering.names.items it.0 j it.1 in
@@ -61,7 +66,8 @@ returns-clause-few g c =
 pub returns-clause-within : goal.returns-clause-within
 returns-clause-within g c = λ i j stands.
     let d = (goal.at.returns-clause-within g c).In_ok-targets in
-    held_after (λ k. k < vec_len c.all_targets.new.numbering.names) i (λ k edge. below g d i k edge) (λ k l _ edge. below g d k l edge)
+    held_after (λ k. k < vec_len c.all_targets.new.numbering.names) i (λ k edge. below g d i k edge)
+    (λ k l _ edge. below g d k l edge)
     ((c.in_ok-rows.ensures.closed i j).0 stands)
 
 pub returns-clause-sound : goal.returns-clause-sound
@@ -70,8 +76,10 @@ returns-clause-sound g c = λ from to it.
     let eq = g.K.PartialEq.eq in
     let names = c.all_targets.new.numbering.names.items in
     let targets = c.in_ok-targets.targets.items in
-    keys_from_numbers (IsNumbered eq names) (HasEdge eq g.V.TCNode.has_edge c.args.nodes.now) (IsTarget targets) (named g d)
-    (step_of_numbers g.met.K.Eq.laws g.V.TCNode.has_edge g.met.V.TCNode.edges_respect_eq c.args.nodes.now c.in_ok-numbering.ensures.unique names targets
+    keys_from_numbers (IsNumbered eq names) (HasEdge eq g.V.TCNode.has_edge c.args.nodes.now) (IsTarget targets)
+    (named g d)
+    (step_of_numbers g.met.K.Eq.laws g.V.TCNode.has_edge g.met.V.TCNode.edges_respect_eq c.args.nodes.now
+    c.in_ok-numbering.ensures.unique names targets
     (in_order g d) c.in_ok-targets.ensures.targets (len g d))
     ((c.in_ok-rows.ensures.closed it.0 it.2.0).0 it.2.1) from to it.1 it.2.2
 
@@ -83,7 +91,8 @@ returns-clause-complete g c = λ from to chain.
     let targets = c.in_ok-targets.targets.items in
     let it = numbers_from_keys (IsNumbered eq names) (HasEdge eq g.V.TCNode.has_edge c.args.nodes.now) (IsTarget targets)
     (one_number g.met.K.Eq.laws names c.all_targets.new.numbering.numbers c.in_ok-targets.ensures.numbers)
-    (step_of_keys g.met.K.Eq.laws g.V.TCNode.has_edge g.met.V.TCNode.edges_respect_eq c.args.nodes.now c.in_ok-numbering.ensures.unique names targets
+    (step_of_keys g.met.K.Eq.laws g.V.TCNode.has_edge g.met.V.TCNode.edges_respect_eq c.args.nodes.now
+    c.in_ok-numbering.ensures.unique names targets
     (in_order g d) c.in_ok-targets.ensures.targets (len g d))
     chain in
     (it.0, it.2, (it.1, (c.in_ok-rows.ensures.closed it.0 it.1).1 it.4, it.3))

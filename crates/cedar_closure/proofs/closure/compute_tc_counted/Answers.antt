@@ -22,7 +22,8 @@ returns-in-Some-clause-fault g c =
     let itself = c.in-Some.ensures.found in
     let below = c.in_ok-names.ensures.within number number itself in
     let within : number < length names.items = omega (arith, below, names.ok.0) in
-    let found : slice_get names.items number ≡ Some key = slice_get_read names.items (length names.items) number key refl within c.swap_remove.ensures.value in
+    let found : slice_get names.items number ≡ Some key =
+    slice_get_read names.items (length names.items) number key refl within c.swap_remove.ensures.value in
     let numbered = numbered_from_name g.K.PartialEq.eq names.items key key number found (g.met.K.Eq.laws.refl key) in
     (c.if-enforce_dag.true, c.in_ok-names.ensures.sound key key (number, numbered, (number, itself, numbered)))
 
@@ -30,15 +31,19 @@ pub returns-in_err-write_back-clause-sound : goal.returns-in_err-write_back-clau
 returns-in_err-write_back-clause-sound g c = λ from to edge. ⊎_elim
     (λ before. one before)
     (λ may. c.in_ok-names.ensures.sound from to may)
-    (edge_sound g.V.TCNode.has_edge g.V.TCNode.is_alike (RowHas g.K.PartialEq.eq c.in_ok-names.field-0.names.items c.in_ok-names.field-0.rows.items from)
-    (get g.K.PartialEq.eq c.args.nodes.now from) (get g.K.PartialEq.eq c.write_back.new.nodes from) to (c.in_err-write_back.ensures.grows from) edge)
+    (edge_sound g.V.TCNode.has_edge g.V.TCNode.is_alike
+    (RowHas g.K.PartialEq.eq c.in_ok-names.field-0.names.items c.in_ok-names.field-0.rows.items from)
+    (get g.K.PartialEq.eq c.args.nodes.now from) (get g.K.PartialEq.eq c.write_back.new.nodes from) to
+    (c.in_err-write_back.ensures.grows from) edge)
 
 pub returns-clause-sound : goal.returns-clause-sound
 returns-clause-sound g c = λ from to edge. ⊎_elim
     (λ before. one before)
     (λ may. c.in_ok-names.ensures.sound from to may)
-    (edge_sound g.V.TCNode.has_edge g.V.TCNode.is_alike (RowHas g.K.PartialEq.eq c.in_ok-names.field-0.names.items c.in_ok-names.field-0.rows.items from)
-    (get g.K.PartialEq.eq c.args.nodes.now from) (get g.K.PartialEq.eq c.write_back.new.nodes from) to (c.in_ok-write_back.ensures.grows from) edge)
+    (edge_sound g.V.TCNode.has_edge g.V.TCNode.is_alike
+    (RowHas g.K.PartialEq.eq c.in_ok-names.field-0.names.items c.in_ok-names.field-0.rows.items from)
+    (get g.K.PartialEq.eq c.args.nodes.now from) (get g.K.PartialEq.eq c.write_back.new.nodes from) to
+    (c.in_ok-write_back.ensures.grows from) edge)
 
 pub returns-clause-complete : goal.returns-clause-complete
 returns-clause-complete g c = λ from to chain.

@@ -16,7 +16,8 @@ next_key : (g : _) (c : In-Some g) → (vec_len c.loop-key.numbering.names < len
     × (c.next.new.self ≡ drop (vec_len c.loop-key.numbering.names + 1) (keys c.args.nodes.now))
 next_key g c =
     drop_next (keys c.args.nodes.now) (vec_len c.loop-key.numbering.names) c.in-Some.key.now c.next.new.self
-    (sym c.loop-key.invariant.rest ∙ rest_more deref c.loop-key.key-iterator c.next.new.self c.next.result c.in-Some.key c.in-Some.is c.next.ensures.steps)
+    (sym c.loop-key.invariant.rest ∙ rest_more deref c.loop-key.key-iterator c.next.new.self c.next.result
+    c.in-Some.key c.in-Some.is c.next.ensures.steps)
 
 pub add_number-requires-clause-absent : goal.add_number-requires-clause-absent
 add_number-requires-clause-absent g c =
@@ -24,7 +25,8 @@ add_number-requires-clause-absent g c =
     let names = c.loop-key.numbering.names in
     let old = c.loop-key.invariant in
     let len : vec_len names ≡ length names.items = omega (arith, names.ok.0) in
-    no_number_yet g.met.K.Eq.laws all names.items c.loop-key.numbering.numbers c.in-Some.key.now old.numbers c.keys-key-items.ensures.unique
+    no_number_yet g.met.K.Eq.laws all names.items c.loop-key.numbering.numbers c.in-Some.key.now old.numbers
+    c.keys-key-items.ensures.unique
     (ap (slice_get all) (sym len) ∙ (next_key g (goal.at.add_number-requires-clause-absent g c).In-Some).1)
     (λ i below. old.in_order i (omega (arith, below, len)))
 
@@ -43,12 +45,14 @@ loop-key-preserved g c =
       rest = here.2 ∙ ap (λ n. drop n all) (sym more);
       bound = omega (arith, within, more);
       in_order = λ i below. ⊎_elim
-          (λ (earlier : i < vec_len before). IfSome_then (slice_get all i) (old.in_order i earlier) (λ key stands. c.in_ok-add_number.ensures.kept key i stands))
+          (λ (earlier : i < vec_len before). IfSome_then (slice_get all i) (old.in_order i earlier)
+          (λ key stands. c.in_ok-add_number.ensures.kept key i stands))
           (λ (last : vec_len before ≤ i).
           let same : i ≡ vec_len before = omega (arith, below, more, last) in
           let found : slice_get all i ≡ Some c.in-Some.key.now = ap (slice_get all) same ∙ here.1 in
           let stands : IsNumbered eq after.items c.in-Some.key.now i =
-          subst (IsNumbered eq after.items c.in-Some.key.now) (c.in_ok-add_number.ensures.number ∙ sym same) c.in_ok-add_number.ensures.numbered in
+          subst (IsNumbered eq after.items c.in-Some.key.now) (c.in_ok-add_number.ensures.number
+          ∙ sym same) c.in_ok-add_number.ensures.numbered in
           subst (λ o. IfSome o (λ key. IsNumbered eq after.items key i)) (sym found) stands)
           (cases_lt i (vec_len before));
     }
@@ -57,12 +61,14 @@ loop-key-preserved g c =
 complete : (g : _) (c : goal.In-None g) → length (keys c.args.nodes.now) ≤ vec_len c.loop-key.numbering.names
 complete g c =
     drop_done (keys c.args.nodes.now) (vec_len c.loop-key.numbering.names)
-    (sym c.loop-key.invariant.rest ∙ rest_all deref c.loop-key.key-iterator c.next.new.self c.next.result c.in-None.is c.next.ensures.steps)
+    (sym c.loop-key.invariant.rest ∙ rest_all deref c.loop-key.key-iterator c.next.new.self c.next.result c.in-None.is
+    c.next.ensures.steps)
 
 pub returns-clause-len : goal.returns-clause-len
 returns-clause-len g c =
     let least = complete g c in
-    let len : length (keys c.args.nodes.now) ≡ hash_map_len c.args.nodes.now = ap length (sym c.keys-key-items.ensures.rest) ∙ c.keys-key-items.ensures.len in
+    let len : length (keys c.args.nodes.now) ≡ hash_map_len c.args.nodes.now =
+    ap length (sym c.keys-key-items.ensures.rest) ∙ c.keys-key-items.ensures.len in
     let most = c.loop-key.invariant.bound in
     omega (arith, least, most, len)
 
@@ -71,6 +77,7 @@ returns-clause-in_order g c = λ i. ⊎_elim
     (λ (below : i < vec_len c.loop-key.numbering.names). c.loop-key.invariant.in_order i below)
     (λ (above : vec_len c.loop-key.numbering.names ≤ i).
     let least = complete g c in
-    MatchOption-from_none (slice_get (keys c.args.nodes.now) i) (λ key. IsNumbered g.K.PartialEq.eq c.loop-key.numbering.names.items key i)
+    MatchOption-from_none (slice_get (keys c.args.nodes.now) i)
+    (λ key. IsNumbered g.K.PartialEq.eq c.loop-key.numbering.names.items key i)
     (slice_get_past (keys c.args.nodes.now) i (omega (arith, least, above))))
     (cases_lt i (vec_len c.loop-key.numbering.names))

@@ -8,5 +8,6 @@ invariant-loop-key g l = record {
   numbers : AreNumbers g.K.PartialEq.eq l.numbering.names.items l.numbering.numbers;
   rest : l.key-iterator ≡ drop (vec_len l.numbering.names) (keys l.nodes);
   bound : vec_len l.numbering.names ≤ length (keys l.nodes);
-  in_order : (i : ℕ) → i < vec_len l.numbering.names → IfSome (slice_get (keys l.nodes) i) (λ key. IsNumbered g.K.PartialEq.eq l.numbering.names.items key i);
+  in_order : (i : ℕ) → i < vec_len l.numbering.names
+      → IfSome (slice_get (keys l.nodes) i) (λ key. IsNumbered g.K.PartialEq.eq l.numbering.names.items key i);
 }

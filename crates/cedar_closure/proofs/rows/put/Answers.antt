@@ -9,7 +9,8 @@ returns-clause-stands c =
     let n = c.args.number in
     let word = get_or c.args.row.now (n / 64) 0 in
     let within : n % 64 < 64 = mod_below n 64 (omega arith) in
-    has_bit-set_same c.args.row.now n (bit_or word (1 * 2 ^ (n % 64) % 2 ^ 64)) (word_of n (length c.args.row.now) c.requires)
+    has_bit-set_same c.args.row.now n (bit_or word (1 * 2 ^ (n % 64) % 2 ^ 64))
+    (word_of n (length c.args.row.now) c.requires)
     ∙ eq-eqb _ 1 (bit_at_set_same w64 word (n % 64) within)
 
 pub returns-clause-others : goal.returns-clause-others
@@ -17,5 +18,6 @@ returns-clause-others c =
     let n = c.args.number in
     let word = get_or c.args.row.now (n / 64) 0 in
     let within : n % 64 < 64 = mod_below n 64 (omega arith) in
-    has_bit-set_other c.args.row.now n (bit_or word (1 * 2 ^ (n % 64) % 2 ^ 64)) (word_of n (length c.args.row.now) c.requires)
+    has_bit-set_other c.args.row.now n (bit_or word (1 * 2 ^ (n % 64) % 2 ^ 64))
+    (word_of n (length c.args.row.now) c.requires)
     (λ place _ apart. bit_at_set_other w64 word (n % 64) within place apart)

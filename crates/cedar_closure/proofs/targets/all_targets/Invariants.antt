@@ -11,5 +11,6 @@ invariant-loop-node g l = record {
   rest : l.node-iterator ≡ drop (vec_len l.targets) (values l.nodes);
   bound : vec_len l.targets ≤ length (values l.nodes);
   targets : (i : ℕ) → i < vec_len l.targets → IfSome (slice_get (values l.nodes) i)
-      (λ node. AreNumbersOf g.K.PartialEq.eq l.numbering.names.items (g.V.TCNode.has_edge node) (items_at l.targets.items i));
+      (λ node. AreNumbersOf g.K.PartialEq.eq l.numbering.names.items (g.V.TCNode.has_edge node)
+      (items_at l.targets.items i));
 }

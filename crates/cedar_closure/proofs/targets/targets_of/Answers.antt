@@ -20,7 +20,8 @@ loop-target-preserved g c =
     let numbered = c.in_ok-number_of.ensures.numbered in
     let pushed = c.in_ok-push.ensures.items in
     let turn : c.loop-target.target-iterator ≡ target ∷ c.next.new.self =
-    rest_more deref c.loop-target.target-iterator c.next.new.self c.next.result c.in-Some.target c.in-Some.is c.next.ensures.steps in
+    rest_more deref c.loop-target.target-iterator c.next.new.self c.next.result c.in-Some.target c.in-Some.is
+    c.next.ensures.steps in
     let here = old.rest target (ap (list_any (eq target)) turn ∙ or_left _ _ (g.met.K.Eq.laws.refl target)) in
     record {
       numbers = c.in_ok-number_of.ensures.numbers;
@@ -30,10 +31,20 @@ loop-target-preserved g c =
           (λ (last : number ≡ n). (target, subst (IsNumbered eq names target) last numbered, here))
           (Contains-push_cases targets number n (subst (λ xs. Contains xs n) pushed inside));
       complete = λ key edge. ⊎_elim
-          (λ it. inl (it.0, kept key it.0 it.1, subst (λ xs. Contains xs it.0) (sym pushed) (Contains-append_left targets (number ∷ []) it.0 it.2)))
+          (λ it. inl (
+            it.0,
+            kept key it.0 it.1,
+            subst (λ xs. Contains xs it.0) (sym pushed)
+                (Contains-append_left targets (number ∷ []) it.0 it.2),
+          ))
           (λ (waits : list_any (eq key) c.loop-target.target-iterator ≡ true). ⊎_elim
           (λ (same : eq key target ≡ true).
-          inl (number, number_alike g.met.K.Eq.laws names key target number same numbered, subst (λ xs. Contains xs number) (sym pushed) (Contains-push targets number)))
+          inl (
+            number,
+            number_alike g.met.K.Eq.laws names key target number same numbered,
+            subst
+                (λ xs. Contains xs number) (sym pushed) (Contains-push targets number),
+          ))
           (λ later. inr later)
           (or_cases _ _ (sym (ap (list_any (eq key)) turn) ∙ waits)))
           (old.complete key edge);

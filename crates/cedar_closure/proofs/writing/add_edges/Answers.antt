@@ -21,7 +21,8 @@ loop-word-preserved g c =
           let step = w.in_ok-add_word.ensures in
           record {
             grows = subst (λ n. GrowsBy edge alike c.args.node.now n (StandsIn eq names row)) (sym w.node-is)
-                (grows_onwards edge alike g.met.V.TCNode.alike_onwards (StandsIn eq names row) c.args.node.now c.loop-word.node w.add_word.new.node old.grows step.grows);
+                (grows_onwards edge alike g.met.V.TCNode.alike_onwards (StandsIn eq names row) c.args.node.now
+                c.loop-word.node w.add_word.new.node old.grows step.grows);
             complete = λ number to most there numbered. subst (λ n. IsTrue (edge n to)) (sym w.node-is) (⊎_elim
                 (λ (before : number < word * 64). step.grows.old_stay to (old.complete number to before there numbered))
                 (λ (from : word * 64 ≤ number). step.complete number to from (omega arith) there numbered)
@@ -32,7 +33,8 @@ loop-word-preserved g c =
             grows = subst (λ n. GrowsBy edge alike c.args.node.now n (StandsIn eq names row)) (sym w.node-is) old.grows;
             complete = λ number to most there numbered. subst (λ n. IsTrue (edge n to)) (sym w.node-is) (⊎_elim
                 (λ (before : number < word * 64). old.complete number to before there numbered)
-                (λ (from : word * 64 ≤ number). absurd (both_ways _ (no_bit_in_word row word number w.if-row-word-ne0.false from (omega arith)) there))
+                (λ (from : word * 64 ≤ number). absurd
+                (both_ways _ (no_bit_in_word row word number w.if-row-word-ne0.false from (omega arith)) there))
                 (cases_lt number (word * 64)));
           }
     ]

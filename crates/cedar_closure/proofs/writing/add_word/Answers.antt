@@ -24,16 +24,21 @@ loop-place-preserved g c =
           let stands : has_bit row here ≡ true = sym c.has.ensures ∙ w.if-has.true in
           let below = c.requires.within here stands in
           let within : here < length names = omega (arith, below, c.args.names.now.ok.0) in
-          let found : slice_get names here ≡ Some name = slice_get_read names (length names) here name refl within w.index.ensures in
+          let found : slice_get names here ≡ Some name =
+          slice_get_read names (length names) here name refl within w.index.ensures in
           let step = w.in_ok-add_edge.ensures in
           record {
             grows = subst (λ n. GrowsBy edge alike c.args.node.now n (StandsIn eq names row)) (sym w.node-is)
-                (grows_onwards edge alike g.met.V.TCNode.alike_onwards (StandsIn eq names row) c.args.node.now c.loop-place.node w.add_edge.new.node old.grows
-                (grows_weaker edge alike (λ to. IsTrue (eq to name)) (StandsIn eq names row) (λ to same. (here, stands, numbered_from_name eq names name to here found same))
+                (grows_onwards edge alike g.met.V.TCNode.alike_onwards (StandsIn eq names row) c.args.node.now
+                c.loop-place.node w.add_edge.new.node old.grows
+                (grows_weaker edge alike (λ to. IsTrue (eq to name)) (StandsIn eq names row)
+                (λ to same. (here, stands, numbered_from_name eq names name to here found same))
                 c.loop-place.node w.add_edge.new.node step.grows));
             complete = λ number to least most there numbered. subst (λ n. IsTrue (edge n to)) (sym w.node-is) (⊎_elim
-                (λ (same : number ≡ here). step.complete to (name_from_numbered eq names name to here found (subst (IsNumbered eq names to) same numbered)))
-                (λ (apart : number ≢ here). step.grows.old_stay to (old.complete number to least (omega arith) there numbered))
+                (λ (same : number ≡ here). step.complete to
+                (name_from_numbered eq names name to here found (subst (IsNumbered eq names to) same numbered)))
+                (λ (apart : number ≢ here). step.grows.old_stay to
+                (old.complete number to least (omega arith) there numbered))
                 (cases_eq number here));
           }
       | else-has w ↦

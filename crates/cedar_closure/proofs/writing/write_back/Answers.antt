@@ -25,11 +25,13 @@ found : (g : _) (c : After-deref g) → slice_get c.args.names.now.items c.loop-
 found g c =
     let few = c.requires.few in
     let within : c.loop-i.i < length c.args.names.now.items = omega (arith, few) in
-    slice_get_read c.args.names.now.items (length c.args.names.now.items) c.loop-i.i c.index.result.now refl within c.index.ensures
+    slice_get_read c.args.names.now.items (length c.args.names.now.items) c.loop-i.i c.index.result.now refl within
+    c.index.ensures
 
 -- where the edges of a key may go
 May : (g : _) (c : After-deref g) → g.row.K.Denot → g.row.K.Denot → Type 0
-May g c key to = (i : ℕ) × IsNumbered g.K.PartialEq.eq c.args.names.now.items key i × StandsIn g.K.PartialEq.eq c.args.names.now.items (items_at c.args.rows.now.items i) to
+May g c key to = (i : ℕ) × IsNumbered g.K.PartialEq.eq c.args.names.now.items key i
+    × StandsIn g.K.PartialEq.eq c.args.names.now.items (items_at c.args.rows.now.items i) to
 
 pub write_node-requires-clause-small : goal.write_node-requires-clause-small
 write_node-requires-clause-small g c = subst (λ xs. length xs ≤ 2 ^ 58) (sym (read g c)) (c.requires.small c.loop-i.i)
@@ -40,9 +42,12 @@ write_node-requires-clause-within g c = λ number stands.
 
 -- one node written makes each node grow as it may
 onwards : (g : _) (c : After-deref g) (new : HashMap g.row.K.Denot g.row.V.Denot (BuildHasherDefault FoldHasher))
-    → ((key : _) → GrowsAt g.V.TCNode.has_edge g.V.TCNode.is_alike (get g.K.PartialEq.eq c.loop-i.nodes key) (get g.K.PartialEq.eq new key)
-    (λ to. IsTrue (g.K.PartialEq.eq c.index.result.now key) × StandsIn g.K.PartialEq.eq c.args.names.now.items c.deref.result.now to))
-    → (key : _) → GrowsAt g.V.TCNode.has_edge g.V.TCNode.is_alike (get g.K.PartialEq.eq c.args.nodes.now key) (get g.K.PartialEq.eq new key) (May g c key)
+    → ((key : _) → GrowsAt g.V.TCNode.has_edge g.V.TCNode.is_alike (get g.K.PartialEq.eq c.loop-i.nodes key)
+    (get g.K.PartialEq.eq new key)
+    (λ to. IsTrue (g.K.PartialEq.eq c.index.result.now key)
+    × StandsIn g.K.PartialEq.eq c.args.names.now.items c.deref.result.now to))
+    → (key : _) → GrowsAt g.V.TCNode.has_edge g.V.TCNode.is_alike (get g.K.PartialEq.eq c.args.nodes.now key)
+    (get g.K.PartialEq.eq new key) (May g c key)
 unfolding May
 onwards g c new step key =
     let eq = g.K.PartialEq.eq in
@@ -50,7 +55,8 @@ onwards g c new step key =
     let alike = g.V.TCNode.is_alike in
     let names = c.args.names.now.items in
     let name = c.index.result.now in
-    grows_at_onwards edge alike g.met.V.TCNode.alike_onwards (May g c key) (get eq c.args.nodes.now key) (get eq c.loop-i.nodes key) (get eq new key) (c.loop-i.invariant.grows key)
+    grows_at_onwards edge alike g.met.V.TCNode.alike_onwards (May g c key) (get eq c.args.nodes.now key)
+    (get eq c.loop-i.nodes key) (get eq new key) (c.loop-i.invariant.grows key)
     (grows_at_weaker edge alike (λ to. IsTrue (eq name key) × StandsIn eq names c.deref.result.now to) (May g c key)
     (λ to may. (
       c.loop-i.i,
@@ -62,7 +68,8 @@ onwards g c new step key =
 pub returns-in_err-write_node-clause-grows : goal.returns-in_err-write_node-clause-grows
 unfolding May
 returns-in_err-write_node-clause-grows g c =
-    onwards g (goal.at.returns-in_err-write_node-clause-grows g c).After-deref c.write_node.new.nodes c.in_err-write_node.ensures.grows
+    onwards g (goal.at.returns-in_err-write_node-clause-grows g c).After-deref c.write_node.new.nodes
+    c.in_err-write_node.ensures.grows
 
 pub loop-i-preserved : goal.loop-i-preserved
 unfolding May
@@ -80,11 +87,14 @@ loop-i-preserved g c =
       complete = λ i key to below numbered has stands. ⊎_elim
           (λ (before : i < c.loop-i.i).
           edge_kept edge alike (λ q. IsTrue (eq c.index.result.now key) × StandsIn eq names c.deref.result.now q)
-          (get eq c.loop-i.nodes key) (get eq c.write_node.new.nodes key) to (step.grows key) (old.complete i key to before numbered has stands))
+          (get eq c.loop-i.nodes key) (get eq c.write_node.new.nodes key) to (step.grows key)
+          (old.complete i key to before numbered has stands))
           (λ (from : c.loop-i.i ≤ i).
           let same : i ≡ c.loop-i.i = omega arith in
-          let alike_name = name_from_numbered eq names c.index.result.now key c.loop-i.i (found g here) (subst (IsNumbered eq names key) same numbered) in
-          let has_now = some_kept edge alike (May g here key) (get eq c.args.nodes.now key) (get eq c.loop-i.nodes key) (old.grows key) has in
+          let alike_name = name_from_numbered eq names c.index.result.now key c.loop-i.i (found g here)
+          (subst (IsNumbered eq names key) same numbered) in
+          let has_now = some_kept edge alike (May g here key) (get eq c.args.nodes.now key)
+          (get eq c.loop-i.nodes key) (old.grows key) has in
           step.complete key to (eq_back g.met.K.Eq.laws key c.index.result.now alike_name) has_now
           (subst (λ row. StandsIn eq names row to) (ap (items_at c.args.rows.now.items) same ∙ sym (read g here)) stands))
           (cases_lt i c.loop-i.i);

@@ -23,11 +23,14 @@ returns-in-Some-clause-grows g c = λ key.
     ⊎_elim
     (λ (same : eq name key ≡ true).
     let old : Some c.in-Some.node.now ≡ get eq before key = sym found ∙ get_alike g.met.K.Eq.laws before name key same in
-    let new : Some node ≡ get eq after key = sym (updated ∙ cond-true (eq name key) (Some node) (get eq before key) same) in
+    let new : Some node ≡ get eq after key = sym (updated
+    ∙ cond-true (eq name key) (Some node) (get eq before key) same) in
     subst₂ (λ o p. GrowsAt edge alike o p (λ to. IsTrue (eq name key) × stands to)) old new
-    (grows_weaker edge alike stands (λ to. IsTrue (eq name key) × stands to) (λ to there. (same, there)) c.in-Some.node.now node c.add_edges.ensures.grows))
+    (grows_weaker edge alike stands (λ to. IsTrue (eq name key) × stands to)
+    (λ to there. (same, there)) c.in-Some.node.now node c.add_edges.ensures.grows))
     (λ (apart : eq name key ≡ false).
-    let new : get eq before key ≡ get eq after key = sym (updated ∙ cond-false (eq name key) (Some node) (get eq before key) apart) in
+    let new : get eq before key ≡ get eq after key =
+    sym (updated ∙ cond-false (eq name key) (Some node) (get eq before key) apart) in
     subst (λ p. GrowsAt edge alike (get eq before key) p (λ to. IsTrue (eq name key) × stands to)) new
     (grows_at_itself edge alike g.met.V.TCNode.alike_itself (λ to. IsTrue (eq name key) × stands to) (get eq before key)))
     (cases_Bool (eq name key))
