@@ -1,0 +1,6 @@
+pub mod Chain
+pub mod Edges
+pub mod Numbered
+pub mod Numbering
+pub mod Row
+pub mod TcError
