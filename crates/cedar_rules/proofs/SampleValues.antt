@@ -1,5 +1,5 @@
 -- Values of inhabited types, and of records with a chosen attribute.
-use Rattle.std.proofs.Common.{◌≡◌, ◌≢◌, inl, inr, ⊎_elim, Bool, true, false, refl, sym, subst, ◌∙◌, ℕ, zero, suc, ◌+◌, ◌≤◌, pos, length, List, [], ◌∷◌, Option, Some, None, Contains, arith}
+use Rattle.std.proofs.Common.{◌≡◌, ◌≢◌, inl, inr, ⊎_elim, Bool, true, false, refl, sym, subst, ◌∙◌, ℕ, suc, ◌+◌, ◌≤◌, pos, length, List, [], ◌∷◌, Option, Some, None, Contains, arith}
 use Rattle.std.proofs.lemmas.Slice.Eq.{bytes_eq-Decides}
 use Rattle.std.proofs.Math.Facts.{sfits_lit}
 use Rattle.std.specs.Str.{bytes_eq}

@@ -6,7 +6,7 @@ use Rattle.cedar_below.specs.CoreTy.{core_extension}
 use Rattle.cedar_below.specs.CoreSchemaType.{result_type}
 use Rattle.cedar_below.specs.Fits.{EntryFits, Gives, NamesListed}
 use Rattle.cedar_below.proofs.ValueLemmas.{stretch_name, IsText-nil, IsName-stretch}
-use Rattle.cedar_below.specs.IsValue.{IsText, IsName, IsValue}
+use Rattle.cedar_below.specs.IsValue.{IsText, IsValue}
 use Rattle.cedar_below.specs.Lists.{Included}
 use Rattle.cedar_below.specs.PlainName.{PlainName}
 use Rattle.cedar_below.specs.Text.{Text}
