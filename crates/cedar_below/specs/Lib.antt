@@ -1,3 +1,4 @@
+pub mod Chain
 pub mod CoreSchemaType
 pub mod CoreTy
 pub mod Eid

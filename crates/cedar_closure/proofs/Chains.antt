@@ -1,5 +1,5 @@
 -- Chains of steps: one after another, over other steps, and what every chain keeps.
-use Rattle.cedar_closure.specs.Chain.{Chain, one, more}
+use Rattle.cedar_below.specs.Chain.{Chain, one, more}
 
 module _ {A : Type 0} {Step : A → A → Type 0} where
   -- one chain after another

@@ -4,7 +4,7 @@ use Rattle.std.specs.Cmp.{IsEquivalence}
 use Rattle.std.specs.HashMap.{get, keys, values, IsUnique}
 use Rattle.std.proofs.lemmas.Map.Entries.{place_from_lookup, lookup_from_place}
 use Rattle.std.proofs.lemmas.Option.{slice_get-map, slice_get_cases}
-use Rattle.cedar_closure.specs.Chain.{Chain, one, more}
+use Rattle.cedar_below.specs.Chain.{Chain, one, more}
 use Rattle.cedar_closure.specs.Edges.{HasEdge}
 use Rattle.cedar_closure.specs.Numbered.{items_at, IsTarget}
 use Rattle.cedar_closure.specs.Numbering.{IsNumbered, AreNumbersOf}

@@ -1,4 +1,3 @@
-pub mod Chain
 pub mod Edges
 pub mod Numbered
 pub mod Numbering

@@ -26,10 +26,10 @@ module _ {K : Type 0} (eq : K → K → Bool) where
 
 module _ {K : Type 0} (eq : K → K → Bool) where
   -- the number of the key stands in the row
-  abbrev pub StandsIn : List K → List ℕ → K → Type 0
-  StandsIn names row key = (number : ℕ) × IsTrue (has_bit row number) × IsNumbered eq names key number
+  abbrev pub StandsInRow : List K → List ℕ → K → Type 0
+  StandsInRow names row key = (number : ℕ) × IsTrue (has_bit row number) × IsNumbered eq names key number
 
 module _ {K : Type 0} (eq : K → K → Bool) where
   -- the number of the second key stands in the row of the first
   abbrev pub RowHas : {Z : Type 0} → List K → List (Vec ℕ Z) → K → K → Type 0
-  RowHas names rows from to = (number : ℕ) × IsNumbered eq names from number × StandsIn eq names (items_at rows number) to
+  RowHas names rows from to = (number : ℕ) × IsNumbered eq names from number × StandsInRow eq names (items_at rows number) to

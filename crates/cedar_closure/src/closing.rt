@@ -1,7 +1,7 @@
 //! Rows closed under chains: a row comes to hold all that a chain of steps reaches.
 
 ghost use Rattle.std.specs.Prelude.{All, Contains, ◌≡◌, ℕ, ◌+◌, ◌*◌, ◌^◌, ◌<◌, ◌≤◌, length, vec_len, ◌↔◌, IsTrue, IfOk, OnOk, IfSome, IfNone};
-ghost use Rattle.cedar_closure.specs.Chain.{Chain};
+ghost use Rattle.cedar_below.specs.Chain.{Chain};
 ghost use Rattle.cedar_closure.specs.Numbered.{items_at, InRow, IsTarget};
 ghost use Rattle.cedar_closure.specs.Row.{has_bit};
 

@@ -4,7 +4,7 @@ ghost use Rattle.std.specs.Prelude.{◌≡◌, ℕ, ◌*◌, ◌^◌, ◌<◌, �
 ghost use Rattle.std.specs.HashMap.{get, keys, hash_map_len};
 ghost use Rattle.cedar_closure.specs.Edges.{HasEdge, Reaches, AreAlike};
 ghost use Rattle.cedar_closure.specs.Numbered.{items_at, InRow};
-ghost use Rattle.cedar_closure.specs.TcError.{IsFault};
+ghost use Rattle.cedar_closure.specs.TcError.{IsRefusal};
 ghost use Rattle.cedar_closure.specs.Numbering.{IsNumbered, RowHas};
 
 use crate::closing::{closed_rows, first_on_cycle};
@@ -73,7 +73,7 @@ pub fn compute_tc_counted<K: Eq + Hash + Drop, V: TCNode<K>>(
     ensures complete { OnOk result ((from to : K) → Reaches K.eq V.has_edge nodes.old from to
         → HasEdge K.eq V.has_edge nodes.new from to) }
     ensures acyclic { OnOk result (IsTrue enforce_dag → (key : K) → ¬ Reaches K.eq V.has_edge nodes.old key key) }
-    ensures fault { IfErr result (IsFault (Reaches K.eq V.has_edge nodes.old) enforce_dag) }
+    ensures fault { IfErr result (IsRefusal (Reaches K.eq V.has_edge nodes.old) enforce_dag) }
     ensures count { IfOk result (λ joins. joins ≤ hash_map_len nodes.old * hash_map_len nodes.old) }
 {
     let Closed {
@@ -110,7 +110,7 @@ pub fn compute_tc<K: Eq + Hash + Drop, V: TCNode<K>>(
     ensures complete { OnOk result ((from to : K) → Reaches K.eq V.has_edge nodes.old from to
         → HasEdge K.eq V.has_edge nodes.new from to) }
     ensures acyclic { OnOk result (IsTrue enforce_dag → (key : K) → ¬ Reaches K.eq V.has_edge nodes.old key key) }
-    ensures fault { IfErr result (IsFault (Reaches K.eq V.has_edge nodes.old) enforce_dag) }
+    ensures fault { IfErr result (IsRefusal (Reaches K.eq V.has_edge nodes.old) enforce_dag) }
 {
     compute_tc_counted(alloc, nodes, enforce_dag)?;
     Ok(())

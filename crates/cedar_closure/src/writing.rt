@@ -4,7 +4,7 @@ ghost use Rattle.std.specs.Prelude.{◌≡◌, ℕ, ◌+◌, ◌*◌, ◌^◌, �
 ghost use Rattle.std.specs.HashMap.{get, keys, ContainsKey};
 ghost use Rattle.cedar_closure.specs.Edges.{HasEdge, GrowsBy, GrowsAt};
 ghost use Rattle.cedar_closure.specs.Numbered.{items_at, InRow};
-ghost use Rattle.cedar_closure.specs.Numbering.{IsNumbered, StandsIn, RowHas};
+ghost use Rattle.cedar_closure.specs.Numbering.{IsNumbered, StandsInRow, RowHas};
 ghost use Rattle.cedar_closure.specs.Row.{has_bit};
 
 use crate::rows::has;
@@ -34,7 +34,7 @@ fn add_word<K: Eq + Hash + Drop, V: TCNode<K>>(
     requires in_row { word < length row.now }
     requires small { length row.now ≤ 2 ^ 58 }
     requires within { (number : ℕ) → IsTrue (has_bit row.now number) → number < vec_len names.now }
-    ensures grows { GrowsBy V.has_edge V.is_alike node.old node.new (StandsIn K.eq names.now.items row.now) }
+    ensures grows { GrowsBy V.has_edge V.is_alike node.old node.new (StandsInRow K.eq names.now.items row.now) }
     ensures complete { OnOk result ((number : ℕ) (to : K) → word * 64 ≤ number → number < word * 64 + 64
         → IsTrue (has_bit row.now number) → IsNumbered K.eq names.now.items to number
         → IsTrue (V.has_edge node.new to)) }
@@ -52,8 +52,8 @@ fn add_word<K: Eq + Hash + Drop, V: TCNode<K>>(
 fn add_edges<K: Eq + Hash + Drop, V: TCNode<K>>(node: &mut V, row: &[u64], names: &Vec<K>) -> M<()>
     requires small { length row.now ≤ 2 ^ 58 }
     requires within { (number : ℕ) → IsTrue (has_bit row.now number) → number < vec_len names.now }
-    ensures grows { GrowsBy V.has_edge V.is_alike node.old node.new (StandsIn K.eq names.now.items row.now) }
-    ensures complete { OnOk result ((to : K) → StandsIn K.eq names.now.items row.now to
+    ensures grows { GrowsBy V.has_edge V.is_alike node.old node.new (StandsInRow K.eq names.now.items row.now) }
+    ensures complete { OnOk result ((to : K) → StandsInRow K.eq names.now.items row.now to
         → IsTrue (V.has_edge node.new to)) }
 {
     for word in 0..row.len() {
@@ -75,9 +75,9 @@ fn write_node<K: Eq + Hash + Drop, V: TCNode<K>>(
     requires within { (number : ℕ) → IsTrue (has_bit row.now number) → number < vec_len names.now }
     ensures keys { keys nodes.new ≡ keys nodes.old }
     ensures grows { (key : K) → GrowsAt V.has_edge V.is_alike (get K.eq nodes.old key) (get K.eq nodes.new key)
-        (λ to. IsTrue (K.eq name.now key) × StandsIn K.eq names.now.items row.now to) }
+        (λ to. IsTrue (K.eq name.now key) × StandsInRow K.eq names.now.items row.now to) }
     ensures complete { OnOk result ((key to : K) → IsTrue (K.eq name.now key) → ContainsKey K.eq nodes.old key
-        → StandsIn K.eq names.now.items row.now to → HasEdge K.eq V.has_edge nodes.new key to) }
+        → StandsInRow K.eq names.now.items row.now to → HasEdge K.eq V.has_edge nodes.new key to) }
 {
     match nodes.get_mut(name) {
         Some(node) => add_edges(node, row, names),

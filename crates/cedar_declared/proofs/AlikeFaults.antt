@@ -26,7 +26,7 @@ use Rattle.cedar_declared.proofs.MentionLemmas.{ties}
 use Rattle.cedar_declared.proofs.OccurrenceLemmas.{Contains-image}
 use Rattle.cedar_declared.proofs.ResolutionLemmas.{IsFirst-like}
 use Rattle.cedar_declared.specs.Bag.{Bag, common_in, entity_in, action_in, declared_name, declared_uid, declared_common, declared_entities, declared_actions, declared_types, action_uids, built_ins, defined_names}
-use Rattle.cedar_declared.specs.Chain.{Chain, one}
+use Rattle.cedar_below.specs.Chain.{Chain, one}
 use Rattle.cedar_declared.specs.Counted.{CountsInEntity, CountsInRequests, CountsIn, IsCounted, entity_parents, IsPrincipalOrResource, IsEntityPlace, IsPlaced, HasToResolve}
 use Rattle.cedar_declared.specs.Descent.{NamesAction, NamesNoAction, HasParent, HasParentAction, IsDescendant, IsDescendantAction}
 use Rattle.cedar_declared.specs.Fault.{Fault, action_attributes, open_record, undeclared_entity_types, type_not_defined, action_not_defined, type_shadowing, action_shadowing, duplicate_entity_type, duplicate_common_type, duplicate_action, action_cycle, common_type_cycle, action_entity_type, shape_not_record, context_not_record, unknown_extension_type, reserved_name, external_below_enumerated}

@@ -1,5 +1,5 @@
 -- Chains of steps.
-use Rattle.cedar_declared.specs.Chain.{Chain, one, more}
+use Rattle.cedar_below.specs.Chain.{Chain, one, more}
 
 -- a chain begins with a step
 pub first_step : {A : Type 0} (Step : A → A → Type 0) (a b : A) → Chain Step a b → (c : A) × Step a c

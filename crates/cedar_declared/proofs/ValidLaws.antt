@@ -19,7 +19,7 @@ use Rattle.cedar_declared.proofs.MentionLemmas.{mentions_entity, known_written, 
 use Rattle.cedar_declared.proofs.ResolutionLemmas.{first_defined, names_no_common}
 use Rattle.cedar_declared.proofs.OccurrenceLemmas.{Contains-image, value_once}
 use Rattle.cedar_declared.specs.Bag.{Bag, declared_common, declared_entities, declared_actions, declared_types, action_uids, defined_names}
-use Rattle.cedar_declared.specs.Chain.{Chain}
+use Rattle.cedar_below.specs.Chain.{Chain}
 use Rattle.cedar_declared.specs.Counted.{CountsIn, IsCounted, IsPlaced, PlacesFit, CountsInEntity, CountsInRequests, entity_parents, IsPrincipalOrResource, IsEntityPlace}
 use Rattle.cedar_declared.specs.DeclaredSchema.{IsDeclaredSchema, IsDeclaredActionKind, IsDeclaredKind, AreDeclaredTags}
 use Rattle.cedar_declared.specs.Defined.{ResolvesTo}

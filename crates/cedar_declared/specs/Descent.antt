@@ -6,7 +6,7 @@ use Rattle.cedar_names.specs.ActionBody.{ActionBody}
 use Rattle.cedar_names.specs.EntityBody.{EntityBody}
 use Rattle.cedar_names.specs.Reference.{Reference, ActionReference}
 use Rattle.cedar_declared.specs.Bag.{Bag, declared_entities, declared_actions, action_uids, defined_names}
-use Rattle.cedar_declared.specs.Chain.{Chain}
+use Rattle.cedar_below.specs.Chain.{Chain}
 use Rattle.cedar_declared.specs.Counted.{entity_parents}
 use Rattle.cedar_declared.specs.Defined.{ResolvesTo}
 use Rattle.cedar_declared.specs.Occurrences.{IsFirst}

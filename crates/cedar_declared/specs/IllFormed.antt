@@ -12,7 +12,7 @@ use Rattle.cedar_names.specs.EntityBody.{EntityBody, standard, enumerated, exter
 use Rattle.cedar_names.specs.Expr.{Expr}
 use Rattle.cedar_names.specs.Reference.{Reference, ActionReference}
 use Rattle.cedar_declared.specs.Bag.{Bag, declared_common, declared_entities, declared_actions, declared_types, action_uids, built_ins, defined_names}
-use Rattle.cedar_declared.specs.Chain.{Chain}
+use Rattle.cedar_below.specs.Chain.{Chain}
 use Rattle.cedar_declared.specs.Counted.{IsCounted, IsPlaced, HasToResolve}
 use Rattle.cedar_declared.specs.Defined.{Defined, IsCommon, ResolvesTo, IsUnresolved}
 use Rattle.cedar_declared.specs.Descent.{NamesNoAction, IsDescendant, IsDescendantAction}

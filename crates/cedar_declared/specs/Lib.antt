@@ -1,6 +1,5 @@
 pub mod Admits
 pub mod Bag
-pub mod Chain
 pub mod Counted
 pub mod DeclaredSchema
 pub mod Defined

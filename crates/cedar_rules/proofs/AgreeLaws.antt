@@ -42,14 +42,16 @@ mutual
       ((own.0, own.1, own.2, (λ needed. own.3 ∙ needed), Below-permissive own.1 ty own.4), FieldsBelow-permissive a rest h.1)
 
 -- the type of an attribute is well formed
-pub AreWellFormed-of : (fields : Fields) (name : Text) (required : Bool) (ty : Ty) → AreWellFormed fields → HasField fields name required ty → IsWellFormed ty
+pub AreWellFormed-of : (fields : Fields) (name : Text) (required : Bool) (ty : Ty) → AreWellFormed fields
+    → HasField fields name required ty → IsWellFormed ty
 AreWellFormed-of end name required ty formed has = absurd has
 AreWellFormed-of (field other flag of rest) name required ty formed (inl same) = subst IsWellFormed same.2 formed.0
 AreWellFormed-of (field other flag of rest) name required ty formed (inr there) =
     AreWellFormed-of rest name required ty formed.1 there
 
 -- a record whose names ascend has one attribute of a name
-pub HasField-once : (fields : Fields) (name : Text) (required flag : Bool) (ty of : Ty) → IsAscending fields → HasField fields name required ty → HasField fields name flag of → (required ≡ flag) × (ty ≡ of)
+pub HasField-once : (fields : Fields) (name : Text) (required flag : Bool) (ty of : Ty) → IsAscending fields
+    → HasField fields name required ty → HasField fields name flag of → (required ≡ flag) × (ty ≡ of)
 HasField-once fields name required flag ty of ascending has also =
     let first : field_at name fields ≡ Some (required, ty) = found-HasField name fields required ty ascending has in
     let second : field_at name fields ≡ Some (flag, of) = found-HasField name fields flag of ascending also in
@@ -74,8 +76,11 @@ mutual
   FieldsAgree-strict a (field name required ty rest) ascending formed h =
       let own = h.0 in (
         (λ flag of has.
-            (let same = HasField-once a name flag own.0 of own.1 ascending has own.2 in
-            (same.0 ∙ own.3, Agree-strict of ty (AreWellFormed-of a name flag of formed has) (subst (λ t. Below Strict t ty) (sym same.1) own.4)))),
+            (let same = HasField-once a name flag own.0 of own.1 ascending has own.2 in (
+              same.0 ∙ own.3,
+              Agree-strict of ty (AreWellFormed-of a name flag of formed has)
+                  (subst (λ t. Below Strict t ty) (sym same.1) own.4),
+            ))),
         FieldsAgree-strict a rest ascending formed h.1,
       )
 

@@ -43,7 +43,8 @@ pub first_is_upper : (mode : ValidationMode) (a b : Ty) → Below mode b a → I
 first_is_upper mode a b below formed = given mode a b a (upper_is_join mode b a below).1 formed
 
 -- what is above two different truth values is any
-any_truth : (mode : ValidationMode) (first second : BoolType) (bound : Ty) → first ≢ second → Below mode (truth first) bound → Below mode (truth second) bound → Below mode (truth AnyBool) bound
+any_truth : (mode : ValidationMode) (first second : BoolType) (bound : Ty) → first ≢ second
+    → Below mode (truth first) bound → Below mode (truth second) bound → Below mode (truth AnyBool) bound
 any_truth mode first second (truth known) differ h k =
     inl (⊎_elim (λ e. e) (λ same. ⊎_elim (λ e. e) (λ also. absurd (differ (same ∙ sym also))) k) h)
 any_truth mode first second bound differ h k = elim h [ ]
@@ -148,7 +149,8 @@ includes_some (name ∷ rest) all some within =
     λ e. omega (arith, (subst (Included (name ∷ rest)) e within name (Contains-cons name rest name (inl refl))).1)
 
 -- unions have an answer in permissive mode
-pub unions_answered : (a b : List PlainName) → IsWellFormed (union_of a) → IsWellFormed (union_of b) → IsAnswered Permissive (union_of a) (union_of b)
+pub unions_answered : (a b : List PlainName) → IsWellFormed (union_of a) → IsWellFormed (union_of b)
+    → IsAnswered Permissive (union_of a) (union_of b)
 unions_answered a b first second =
     let both = merge name_cmp name_cmp-total name_cmp-Equal a b second.1 in
     given Permissive (union_of a) (union_of b) (union_of both.all)
@@ -158,16 +160,19 @@ unions_answered a b first second =
       (λ name among. ⊎_elim (first.2 name) (second.2 name) (both.only name among)),
     )
   where
-    below : (both : Merged name_cmp a b) (bound : Ty) → IsOwnBound Permissive (union_of a) (union_of b) bound → Below Permissive (union_of both.all) bound
+    below : (both : Merged name_cmp a b) (bound : Ty) → IsOwnBound Permissive (union_of a) (union_of b) bound
+        → Below Permissive (union_of both.all) bound
     below both any_entity own = tt
     below both (union_of names) own = λ name among. ⊎_elim (own.0.0 name) (own.0.1.0 name) (both.only name among)
     below both bound own = elim own.0.0 [ ]
 
 -- unions have an answer in strict mode
-pub strict_unions_answered : (a b : List PlainName) → IsWellFormed (union_of a) → IsWellFormed (union_of b) → IsAnswered Strict (union_of a) (union_of b)
+pub strict_unions_answered : (a b : List PlainName) → IsWellFormed (union_of a) → IsWellFormed (union_of b)
+    → IsAnswered Strict (union_of a) (union_of b)
 strict_unions_answered a b first second =
     ⊎_elim
-    (λ both. second_is_upper Strict (union_of a) (union_of b) (Included-same name_cmp name_cmp-total a b first.1 second.1 both.0 both.1) second)
+    (λ both. second_is_upper Strict (union_of a) (union_of b)
+    (Included-same name_cmp name_cmp-total a b first.1 second.1 both.0 both.1) second)
     (λ differ. refused Strict (union_of a) (union_of b) help.EntityType (no_bound differ) refl)
     (decide_both (decide_included decide_names a b) (decide_included decide_names b a))
   where

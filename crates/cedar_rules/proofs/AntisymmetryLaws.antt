@@ -37,7 +37,8 @@ not_itself R total x y same less =
     apart R total x x again again
 
 -- lists that ascend and include each other are the same
-pub Included-same : {B : Type 0} (R : B → B → Ordering) → IsTotalOrder R → (xs ys : List B) → IsStrictlySortedBy R xs → IsStrictlySortedBy R ys → Included xs ys → Included ys xs → xs ≡ ys
+pub Included-same : {B : Type 0} (R : B → B → Ordering) → IsTotalOrder R → (xs ys : List B) → IsStrictlySortedBy R xs
+    → IsStrictlySortedBy R ys → Included xs ys → Included ys xs → xs ≡ ys
 unfolding IsStrictlySortedBy
 Included-same R total [] [] first second forth back = refl
 Included-same R total [] (y ∷ ys) first second forth back =
@@ -45,14 +46,21 @@ Included-same R total [] (y ∷ ys) first second forth back =
 Included-same R total (x ∷ xs) [] first second forth back =
     absurd (omega (arith, (forth x (Contains-cons x xs x (inl refl))).1))
 Included-same {B = B} R total (x ∷ xs) (y ∷ ys) first second forth back =
-    let above_first = λ (z : B) (among : Contains xs z). All-contains (λ z. R x z ≡ Less) xs z (All-from_recursion (λ z. R x z ≡ Less) xs first.0) among in
-    let above_second = λ (z : B) (among : Contains ys z). All-contains (λ z. R y z ≡ Less) ys z (All-from_recursion (λ z. R y z ≡ Less) ys second.0) among in
+    let above_first = λ (z : B) (among : Contains xs z). All-contains (λ z. R x z ≡ Less) xs z
+    (All-from_recursion (λ z. R x z ≡ Less) xs first.0) among in
+    let above_second = λ (z : B) (among : Contains ys z). All-contains (λ z. R y z ≡ Less) ys z
+    (All-from_recursion (λ z. R y z ≡ Less) ys second.0) among in
     let same : x ≡ y =
-    ⊎_elim (λ e. sym e) (λ there. ⊎_elim (λ e. e) (λ also. absurd (apart R total x y (above_first y also) (above_second x there))) (Contains-cons_cases x xs y (back y (Contains-cons y ys y (inl refl))))) (Contains-cons_cases y ys x (forth x (Contains-cons x xs x (inl refl)))) in
+    ⊎_elim (λ e. sym e) (λ there. ⊎_elim (λ e. e) (λ also. absurd
+    (apart R total x y (above_first y also) (above_second x there)))
+    (Contains-cons_cases x xs y (back y (Contains-cons y ys y (inl refl)))))
+    (Contains-cons_cases y ys x (forth x (Contains-cons x xs x (inl refl)))) in
     let rest : xs ≡ ys =
     Included-same R total xs ys first.1 second.1
-    (λ z among. ⊎_elim (λ e. absurd (not_itself R total x z (same ∙ e) (above_first z among))) (λ there. there) (Contains-cons_cases y ys z (forth z (Contains-cons x xs z (inr among)))))
-    (λ z among. ⊎_elim (λ e. absurd (not_itself R total y z (sym same ∙ e) (above_second z among))) (λ there. there) (Contains-cons_cases x xs z (back z (Contains-cons y ys z (inr among))))) in
+    (λ z among. ⊎_elim (λ e. absurd (not_itself R total x z (same ∙ e) (above_first z among))) (λ there. there)
+    (Contains-cons_cases y ys z (forth z (Contains-cons x xs z (inr among)))))
+    (λ z among. ⊎_elim (λ e. absurd (not_itself R total y z (sym same ∙ e) (above_second z among))) (λ there. there)
+    (Contains-cons_cases x xs z (back z (Contains-cons y ys z (inr among))))) in
     λ i. same i ∷ rest i
 
 -- records whose names ascend and that have each other's attributes are the same
@@ -62,14 +70,20 @@ Fields-same end end first second forth back = refl
 Fields-same end (field k s u bs) first second forth back = absurd (back k s u (inl (refl, refl, refl)))
 Fields-same (field n r t front) end first second forth back = absurd (forth n r t (inl (refl, refl, refl)))
 Fields-same (field n r t front) (field k s u bs) first second forth back =
-    let above_first = λ (m : Text) (q : Bool) (v : Ty) (has : HasField front m q v). HasField-all (λ z. text_cmp n z ≡ Less) m front q v has first.0 in
-    let above_second = λ (m : Text) (q : Bool) (v : Ty) (has : HasField bs m q v). HasField-all (λ z. text_cmp k z ≡ Less) m bs q v has second.0 in
+    let above_first = λ (m : Text) (q : Bool) (v : Ty) (has : HasField front m q v). HasField-all
+    (λ z. text_cmp n z ≡ Less) m front q v has first.0 in
+    let above_second = λ (m : Text) (q : Bool) (v : Ty) (has : HasField bs m q v). HasField-all
+    (λ z. text_cmp k z ≡ Less) m bs q v has second.0 in
     let heads : (n ≡ k) × (r ≡ s) × (t ≡ u) =
-    ⊎_elim (λ e. (sym e.0, sym e.1, sym e.2)) (λ there. ⊎_elim (λ e. e) (λ also. absurd (apart text_cmp text_cmp-total n k (above_first k s u also) (above_second n r t there))) (back k s u (inl (refl, refl, refl)))) (forth n r t (inl (refl, refl, refl))) in
+    ⊎_elim (λ e. (sym e.0, sym e.1, sym e.2)) (λ there. ⊎_elim (λ e. e)
+    (λ also. absurd (apart text_cmp text_cmp-total n k (above_first k s u also) (above_second n r t there)))
+    (back k s u (inl (refl, refl, refl)))) (forth n r t (inl (refl, refl, refl))) in
     let rest : front ≡ bs =
     Fields-same front bs first.1 second.1
-    (λ m q v has. ⊎_elim (λ e. absurd (not_itself text_cmp text_cmp-total n m (heads.0 ∙ e.0) (above_first m q v has))) (λ there. there) (forth m q v (inr has)))
-    (λ m q v has. ⊎_elim (λ e. absurd (not_itself text_cmp text_cmp-total k m (sym heads.0 ∙ e.0) (above_second m q v has))) (λ there. there) (back m q v (inr has))) in
+    (λ m q v has. ⊎_elim (λ e. absurd (not_itself text_cmp text_cmp-total n m (heads.0 ∙ e.0) (above_first m q v has)))
+    (λ there. there) (forth m q v (inr has)))
+    (λ m q v has. ⊎_elim (λ e. absurd (not_itself text_cmp text_cmp-total k m (sym heads.0 ∙ e.0)
+    (above_second m q v has))) (λ there. there) (back m q v (inr has))) in
     λ i. field (heads.0 i) (heads.1 i) (heads.2 i) (rest i)
 
 -- flags that fit below each other are the same
@@ -122,7 +136,8 @@ mutual
   Below-same mode a b first second h k = elim h [ ]
 
   -- of records below each other the one has the other's attributes
-  FieldsWithin-below : (mode : ValidationMode) (a b rest : Fields) → IsAscending a → IsAscending b → AreWellFormed a → AreWellFormed rest → FieldsWithin rest b → FieldsBelow mode a rest → FieldsBelow mode b a → FieldsWithin rest a
+  FieldsWithin-below : (mode : ValidationMode) (a b rest : Fields) → IsAscending a → IsAscending b → AreWellFormed a
+      → AreWellFormed rest → FieldsWithin rest b → FieldsBelow mode a rest → FieldsBelow mode b a → FieldsWithin rest a
   FieldsWithin-below mode a b end first second formed also within h k name required ty has = absurd has
   FieldsWithin-below mode a b (field other flag of rest) first second formed also within h k name required ty (inl same) =
       let own = h.0 in
@@ -130,7 +145,8 @@ mutual
       let once = HasField-once b other above.0 flag above.1 of second above.2 (within other flag of (inl (refl, refl, refl))) in
       let flags : own.0 ≡ flag = FlagsBelow-same mode own.0 flag own.3 (subst (λ r. FlagsBelow mode r own.0) once.0 above.3) in
       let types : own.1 ≡ of =
-      Below-same mode own.1 of (AreWellFormed-of a other own.0 own.1 formed own.2) also.0 own.4 (subst (λ t. Below mode t own.1) once.1 above.4) in
+      Below-same mode own.1 of (AreWellFormed-of a other own.0 own.1 formed own.2) also.0 own.4
+      (subst (λ t. Below mode t own.1) once.1 above.4) in
       subst (λ n. HasField a n required ty) same.0
       (subst (λ r. HasField a other r ty) (flags ∙ same.1) (subst (λ t. HasField a other own.0 t) (types ∙ same.2) own.2))
   FieldsWithin-below mode a b (field other flag of rest) first second formed also within h k name required ty (inr there) =

@@ -40,7 +40,9 @@ abbrev pub HasOnly : Fields → Text → Ty → Type 0
 HasOnly fields name ty = (required : Bool) (of : Ty) → HasField fields name required of → of ≡ ty
 
 -- no attribute of a record above two others has a name at which their types are apart
-pub unnamed : (mode : ValidationMode) (a b fields : Fields) (name : Text) (first second : Ty) → HasOnly a name first → HasOnly b name second → AreApart mode first second → FieldsBelow mode a fields → FieldsBelow mode b fields → (required : Bool) (ty : Ty) → ¬ HasField fields name required ty
+pub unnamed : (mode : ValidationMode) (a b fields : Fields) (name : Text) (first second : Ty) → HasOnly a name first
+    → HasOnly b name second → AreApart mode first second → FieldsBelow mode a fields → FieldsBelow mode b fields
+    → (required : Bool) (ty : Ty) → ¬ HasField fields name required ty
 unnamed mode a b fields name first second one other apart h k required ty has =
     let own = HasBelow-of mode a fields name required ty h has in
     let also = HasBelow-of mode b fields name required ty k has in
@@ -51,10 +53,12 @@ unnamed mode a b fields name first second one other apart h k required ty has =
 -- a record has one attribute of a name, required and of that type, and beside it one of another name at most
 abbrev pub IsPair : Fields → Text → Text → Ty → Ty → Type 0
 IsPair fields kept dropped ty other =
-    (name : Text) (required : Bool) (of : Ty) → HasField fields name required of → ((kept ≡ name) × (required ≡ true) × (of ≡ ty)) ⊎ ((dropped ≡ name) × (of ≡ other))
+    (name : Text) (required : Bool) (of : Ty) → HasField fields name required of
+    → ((kept ≡ name) × (required ≡ true) × (of ≡ ty)) ⊎ ((dropped ≡ name) × (of ≡ other))
 
 -- what a pair has at the second name
-pub IsPair-other : (fields : Fields) (kept dropped : Text) (ty other : Ty) → ¬ (kept ≡ dropped) → IsPair fields kept dropped ty other → HasOnly fields dropped other
+pub IsPair-other : (fields : Fields) (kept dropped : Text) (ty other : Ty) → ¬ (kept ≡ dropped)
+    → IsPair fields kept dropped ty other → HasOnly fields dropped other
 IsPair-other fields kept dropped ty other differ pair required of has =
     ⊎_elim (λ same. absurd (differ same.0)) (λ same. same.1) (pair dropped required of has)
 

@@ -25,7 +25,9 @@ is_eq-Equal Equal e = refl
 is_eq-Equal Greater e = absurd cc
 
 -- an order that agrees with equality ties exactly where two stand for the same
-pub ties_from : {A P : Type 0} (stands_for : A → P) (eq : A → A → Bool) (cmp : A → A → Ordering) → ((a b : A) → IsTrue (eq a b) ↔ (stands_for a ≡ stands_for b)) → ((a b : A) → eq a b ≡ is_eq (cmp a b)) → (a b : A) → (cmp a b ≡ Equal) ↔ (stands_for a ≡ stands_for b)
+pub ties_from : {A P : Type 0} (stands_for : A → P) (eq : A → A → Bool) (cmp : A → A → Ordering)
+    → ((a b : A) → IsTrue (eq a b) ↔ (stands_for a ≡ stands_for b)) → ((a b : A) → eq a b ≡ is_eq (cmp a b)) → (a b : A)
+    → (cmp a b ≡ Equal) ↔ (stands_for a ≡ stands_for b)
 ties_from stands_for eq cmp same matches a b =
     (λ e. (same a b).0 (matches a b ∙ ap is_eq e), λ e. is_eq-Equal (cmp a b) (sym (matches a b) ∙ (same a b).1 e))
 
@@ -72,7 +74,8 @@ open_tag_cmp-is ClosedAttributes OpenAttributes = refl
 open_tag_cmp-is ClosedAttributes ClosedAttributes = refl
 
 -- comparisons of truth values agree
-pub truths_compare : ComparesBy (λ (known : BoolType). known) truth_cmp (bool_eq.ghosts).eq (bool_ord.ghosts).cmp (bool_hash.ghosts).hash_input
+pub truths_compare : ComparesBy (λ (known : BoolType). known) truth_cmp (bool_eq.ghosts).eq (bool_ord.ghosts).cmp
+    (bool_hash.ghosts).hash_input
 truths_compare = record {
   equality = bool_eq-same;
   order = bool_cmp-is;
@@ -82,11 +85,13 @@ truths_compare = record {
 }
 
 -- comparisons of openness agree
-pub openness_compare : ComparesBy (λ (openness : OpenTag). openness) openness_cmp (open_tag_eq.ghosts).eq (open_tag_ord.ghosts).cmp (open_tag_hash.ghosts).hash_input
+pub openness_compare : ComparesBy (λ (openness : OpenTag). openness) openness_cmp (open_tag_eq.ghosts).eq
+    (open_tag_ord.ghosts).cmp (open_tag_hash.ghosts).hash_input
 openness_compare = record {
   equality = open_tag-Decides;
   order = open_tag_cmp-is;
   total = open_tag_ord.Laws.total-law;
-  ties = ties_from (λ openness. openness) (open_tag_eq.ghosts).eq (open_tag_ord.ghosts).cmp open_tag-Decides open_tag_ord.Laws.matches_eq-law;
+  ties = ties_from (λ openness. openness) (open_tag_eq.ghosts).eq
+      (open_tag_ord.ghosts).cmp open_tag-Decides open_tag_ord.Laws.matches_eq-law;
   hash = λ a b e. open_tag_hash.Laws.respects_eq-law a b ((open_tag-Decides a b).1 e);
 }

@@ -46,7 +46,8 @@ mutual
   lacked_fields end e = absurd cc
   lacked_fields (field name required ty rest) e =
       ⊎_elim (λ none. inl (lacked ty none)) (λ none. inr (lacked_fields rest none))
-      (unzipped (core_of ty) (core_fields rest) (unmapped (λ both. core_field name required both.0 both.1) (option_zip (core_of ty) (core_fields rest)) e))
+      (unzipped (core_of ty) (core_fields rest) (unmapped (λ both. core_field name required both.0 both.1)
+      (option_zip (core_of ty) (core_fields rest)) e))
 
 mutual
   -- where one that lacks a core type stands in a type, it has none
@@ -66,7 +67,8 @@ mutual
   lacking_fields end stands = elim stands [ ]
   lacking_fields (field name required ty rest) stands =
       ap (option_map (λ both. core_field name required both.0 both.1))
-      (⊎_elim (λ here. zip-first (core_of ty) (core_fields rest) (lacking ty here)) (λ there. zip-second (core_of ty) (core_fields rest) (lacking_fields rest there)) stands)
+      (⊎_elim (λ here. zip-first (core_of ty) (core_fields rest) (lacking ty here))
+      (λ there. zip-second (core_of ty) (core_fields rest) (lacking_fields rest there)) stands)
 
 -- a type has no core type exactly where one that lacks it stands in it
 pub core_lacked : CoreIsLackedExactly

@@ -77,7 +77,8 @@ pub record Merged {B : Type 0} (R : B → B → Ordering) (xs ys : List B) : Typ
   pub only : (x : B) → Contains all x → Contains xs x ⊎ Contains ys x
 
 -- one value is merged into a list that ascends
-insert_one : {B : Type 0} (R : B → B → Ordering) → IsTotalOrder R → ((x y : B) → (R x y ≡ Equal) ↔ (x ≡ y)) → (x : B) (ys : List B) → IsStrictlySortedBy R ys → Merged R (x ∷ []) ys
+insert_one : {B : Type 0} (R : B → B → Ordering) → IsTotalOrder R → ((x y : B) → (R x y ≡ Equal) ↔ (x ≡ y))
+    → (x : B) (ys : List B) → IsStrictlySortedBy R ys → Merged R (x ∷ []) ys
 unfolding IsStrictlySortedBy
 insert_one R total ties x [] ascending = record {
   all = x ∷ [];
@@ -97,7 +98,8 @@ insert_one {B = B} R total ties x (y ∷ ys) ascending = from_order (R x y) refl
       );
       first = Included-cons x [] (x ∷ y ∷ ys) (Contains-cons x (y ∷ ys) x (inl refl)) (Included-none (x ∷ y ∷ ys));
       second = λ z among. Contains-cons x (y ∷ ys) z (inr among);
-      only = λ z among. ⊎_elim (λ same. inl (Contains-cons x [] z (inl same))) (λ there. inr there) (Contains-cons_cases x (y ∷ ys) z among);
+      only = λ z among. ⊎_elim (λ same. inl (Contains-cons x [] z (inl same))) (λ there. inr there)
+          (Contains-cons_cases x (y ∷ ys) z among);
     }
     from_order Equal e rest = record {
       all = y ∷ ys;
@@ -113,13 +115,15 @@ insert_one {B = B} R total ties x (y ∷ ys) ascending = from_order (R x y) refl
           ascending = (
             each_of (λ z. R y z ≡ Less) rest.all
                 (λ z among. ⊎_elim
-                (λ new. ⊎_elim (λ same. subst (λ w. R y w ≡ Less) same below) (λ none. absurd (omega (arith, none.1))) (Contains-cons_cases x [] z new))
+                (λ new. ⊎_elim (λ same. subst (λ w. R y w ≡ Less) same below) (λ none. absurd (omega (arith, none.1)))
+                (Contains-cons_cases x [] z new))
                 (λ old. of_each (λ z. R y z ≡ Less) ys ascending.0 z old)
                 (rest.only z among)),
             rest.ascending,
           );
           first = λ z among. Contains-cons y rest.all z (inr (rest.first z among));
-          second = Included-cons y ys (y ∷ rest.all) (Contains-cons y rest.all y (inl refl)) (λ z among. Contains-cons y rest.all z (inr (rest.second z among)));
+          second = Included-cons y ys (y ∷ rest.all) (Contains-cons y rest.all y (inl refl))
+              (λ z among. Contains-cons y rest.all z (inr (rest.second z among)));
           only = λ z among. ⊎_elim
               (λ same. inr (Contains-cons y ys z (inl same)))
               (λ there. ⊎_elim (λ new. inl new) (λ old. inr (Contains-cons y ys z (inr old))) (rest.only z there))
@@ -127,7 +131,8 @@ insert_one {B = B} R total ties x (y ∷ ys) ascending = from_order (R x y) refl
         }
 
 -- lists are merged, where the second ascends
-pub merge : {B : Type 0} (R : B → B → Ordering) → IsTotalOrder R → ((x y : B) → (R x y ≡ Equal) ↔ (x ≡ y)) → (xs ys : List B) → IsStrictlySortedBy R ys → Merged R xs ys
+pub merge : {B : Type 0} (R : B → B → Ordering) → IsTotalOrder R → ((x y : B) → (R x y ≡ Equal) ↔ (x ≡ y))
+    → (xs ys : List B) → IsStrictlySortedBy R ys → Merged R xs ys
 merge R total ties [] ys ascending =
     record { all = ys; ascending = ascending; first = Included-none ys; second = λ z among. among; only = λ z among. inr among }
 merge R total ties (x ∷ xs) ys ascending =
@@ -139,13 +144,16 @@ merge R total ties (x ∷ xs) ys ascending =
       first = Included-cons x xs more.all (more.first x (Contains-cons x [] x (inl refl))) (λ z among. more.second z (rest.first z among));
       second = λ z among. more.second z (rest.second z among);
       only = λ z among. ⊎_elim
-          (λ new. ⊎_elim (λ same. inl (Contains-cons x xs z (inl same))) (λ none. absurd (omega (arith, none.1))) (Contains-cons_cases x [] z new))
+          (λ new. ⊎_elim (λ same. inl (Contains-cons x xs z (inl same))) (λ none. absurd (omega (arith, none.1)))
+          (Contains-cons_cases x [] z new))
           (λ old. ⊎_elim (λ there. inl (Contains-cons x xs z (inr there))) (λ there. inr there) (rest.only z old))
           (more.only z among);
     }
 
 -- values that ascend and are among as many are all of them
-pub all_among : {B : Type 0} (R : B → B → Ordering) → IsTotalOrder R → ((x y : B) → (R x y ≡ Equal) ↔ (x ≡ y)) → (xs ys : List B) → IsStrictlySortedBy R xs → IsStrictlySortedBy R ys → Included xs ys → (length xs ≤ length ys) × (length xs ≡ length ys → Included ys xs)
+pub all_among : {B : Type 0} (R : B → B → Ordering) → IsTotalOrder R → ((x y : B) → (R x y ≡ Equal) ↔ (x ≡ y))
+    → (xs ys : List B) → IsStrictlySortedBy R xs → IsStrictlySortedBy R ys → Included xs ys → (length xs ≤ length ys)
+    × (length xs ≡ length ys → Included ys xs)
 unfolding IsStrictlySortedBy
 all_among R total ties [] [] first second within = (omega arith, λ _. Included-none [])
 all_among R total ties [] (y ∷ ys) first second within = (omega arith, λ e. absurd (omega (arith, e)))
@@ -153,8 +161,11 @@ all_among R total ties (x ∷ xs) [] first second within = absurd (omega (arith,
 all_among {B = B} R total ties (x ∷ xs) (y ∷ ys) first second within =
     ⊎_elim
     (λ same.
-    (let rest = all_among R total ties xs ys first.1 second.1 (later same) in
-    (omega (arith, rest.0), λ e. Included-cons y ys (x ∷ xs) (Contains-cons x xs y (inl (sym same))) (λ z among. Contains-cons x xs z (inr (rest.1 (omega (arith, e)) z among))))))
+    (let rest = all_among R total ties xs ys first.1 second.1 (later same) in (
+      omega (arith, rest.0),
+      λ e. Included-cons y ys (x ∷ xs) (Contains-cons x xs y (inl (sym same)))
+          (λ z among. Contains-cons x xs z (inr (rest.1 (omega (arith, e)) z among))),
+    )))
     (λ there.
     (let rest = all_among R total ties (x ∷ xs) ys first second.1 (skipped there) in
     (omega (arith, rest.0), λ e. absurd (omega (arith, rest.0, e)))))
@@ -173,6 +184,7 @@ all_among {B = B} R total ties (x ∷ xs) (y ∷ ys) first second within =
     skipped : Contains ys x → Included (x ∷ xs) ys
     skipped there = Included-cons x xs ys there
         (λ z among. ⊎_elim
-        (λ e. absurd (irreflexive y z e (total.trans y x z (of_each (λ z. R y z ≡ Less) ys second.0 x there) (of_each (λ z. R x z ≡ Less) xs first.0 z among))))
+        (λ e. absurd (irreflexive y z e (total.trans y x z (of_each (λ z. R y z ≡ Less) ys second.0 x there)
+        (of_each (λ z. R x z ≡ Less) xs first.0 z among))))
         (λ there. there)
         (Contains-cons_cases y ys z (Included-tail x xs (y ∷ ys) within z among)))

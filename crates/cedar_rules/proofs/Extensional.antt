@@ -34,7 +34,8 @@ field_at-below name (field other required ty rest) below =
     rw (unequal name other below.0) (field_at-below name rest below.1)
 
 -- the first attribute is found under its name
-field_at-here : (name : Text) (required : Bool) (ty : Ty) (rest : Fields) → field_at name (field name required ty rest) ≡ Some (required, ty)
+field_at-here : (name : Text) (required : Bool) (ty : Ty) (rest : Fields)
+    → field_at name (field name required ty rest) ≡ Some (required, ty)
 field_at-here name required ty rest = rw (nat_list_eq_equiv.refl name)
 
 -- a name below one that is below each of the names is below each of them
@@ -44,12 +45,14 @@ below_each-trans a b (field other required ty rest) below each =
     (nat_list_cmp_total.trans a b other below each.0, below_each-trans a b rest below each.1)
 
 -- the names after the first one are above it
-pub first_below : (name : Text) (required : Bool) (ty : Ty) (rest : Fields) → IsAscending (field name required ty rest) → IsBelowEach name rest
+pub first_below : (name : Text) (required : Bool) (ty : Ty) (rest : Fields) → IsAscending (field name required ty rest)
+    → IsBelowEach name rest
 unfolding IsStrictlySortedBy
 first_below name required ty rest ascending = ascending.0
 
 -- the names after the first one ascend
-pub rest_ascending : (name : Text) (required : Bool) (ty : Ty) (rest : Fields) → IsAscending (field name required ty rest) → IsAscending rest
+pub rest_ascending : (name : Text) (required : Bool) (ty : Ty) (rest : Fields)
+    → IsAscending (field name required ty rest) → IsAscending rest
 unfolding IsStrictlySortedBy
 rest_ascending name required ty rest ascending = ascending.1
 
@@ -66,24 +69,38 @@ same_attribute : (attribute other : Bool × Ty) → Some attribute ≡ Some othe
 same_attribute attribute other same = cc
 
 -- where the first name is below the other's first, the two don't hold the same
-below_differs : (name other : Text) (required required' : Bool) (ty ty' : Ty) (rest rest' : Fields) → IsAscending (field other required' ty' rest') → text_cmp name other ≡ Less → ¬ HoldSame (field name required ty rest) (field other required' ty' rest')
+below_differs : (name other : Text) (required required' : Bool) (ty ty' : Ty) (rest rest' : Fields)
+    → IsAscending (field other required' ty' rest') → text_cmp name other ≡ Less
+    → ¬ HoldSame (field name required ty rest) (field other required' ty' rest')
 below_differs name other required required' ty ty' rest rest' ascending below same =
-    let absent : field_at name (field other required' ty' rest') ≡ None = field_at-below name (field other required' ty' rest') (below, below_each-trans name other rest' below (first_below other required' ty' rest' ascending)) in
+    let absent : field_at name (field other required' ty' rest') ≡ None =
+    field_at-below name (field other required' ty' rest')
+    (below, below_each-trans name other rest' below (first_below other required' ty' rest' ascending)) in
     let here : field_at name (field name required ty rest) ≡ Some (required, ty) = field_at-here name required ty rest in
     found_attribute (required, ty) (sym here ∙ (same name ∙ absent))
 
 -- where two begin with one name, the rests hold the same
-rests_same : (name : Text) (required required' : Bool) (ty ty' : Ty) (rest rest' : Fields) → IsAscending (field name required ty rest) → IsAscending (field name required' ty' rest') → HoldSame (field name required ty rest) (field name required' ty' rest') → HoldSame rest rest'
+rests_same : (name : Text) (required required' : Bool) (ty ty' : Ty) (rest rest' : Fields)
+    → IsAscending (field name required ty rest) → IsAscending (field name required' ty' rest')
+    → HoldSame (field name required ty rest) (field name required' ty' rest') → HoldSame rest rest'
 rests_same name required required' ty ty' rest rest' ascending ascending' same each =
     let P : Bool → Type 0 = λ b. bytes_eq each name ≡ b → field_at each rest ≡ field_at each rest' in
-    let equal : P true = λ is. subst (λ (t : Text). field_at t rest ≡ field_at t rest') (sym ((bytes_eq-Decides each name).0 is)) (field_at-below name rest (first_below name required ty rest ascending) ∙ sym (field_at-below name rest' (first_below name required' ty' rest' ascending'))) in
-    let other : P false = λ isn't. let h : (if bytes_eq each name then Some (required, ty) else field_at each rest) ≡ (if bytes_eq each name then Some (required', ty') else field_at each rest') = same each in rw isn't at h in
+    let equal : P true = λ is. subst (λ (t : Text). field_at t rest ≡ field_at t rest')
+    (sym ((bytes_eq-Decides each name).0 is)) (field_at-below name rest
+    (first_below name required ty rest ascending) ∙ sym
+    (field_at-below name rest' (first_below name required' ty' rest' ascending'))) in
+    let other : P false = λ isn't. let h : (if bytes_eq each name then Some (required, ty) else field_at each rest)
+    ≡ (if bytes_eq each name then Some (required', ty') else field_at each rest') = same each in rw isn't at h in
     elim (bytes_eq each name) as P [ true ↦ equal | false ↦ other ] refl
 
 -- two that begin with one name and hold the same are equal if their rests are
-joined : (name : Text) (required required' : Bool) (ty ty' : Ty) (rest rest' : Fields) → IsAscending (field name required ty rest) → IsAscending (field name required' ty' rest') → HoldSame (field name required ty rest) (field name required' ty' rest') → (HoldSame rest rest' → rest ≡ rest') → field name required ty rest ≡ field name required' ty' rest'
+joined : (name : Text) (required required' : Bool) (ty ty' : Ty) (rest rest' : Fields)
+    → IsAscending (field name required ty rest) → IsAscending (field name required' ty' rest')
+    → HoldSame (field name required ty rest) (field name required' ty' rest') → (HoldSame rest rest' → rest ≡ rest')
+    → field name required ty rest ≡ field name required' ty' rest'
 joined name required required' ty ty' rest rest' ascending ascending' same tails =
-    let firsts = same_attribute (required, ty) (required', ty') (sym (field_at-here name required ty rest) ∙ (same name ∙ field_at-here name required' ty' rest')) in
+    let firsts = same_attribute (required, ty) (required', ty') (sym (field_at-here name required ty rest)
+    ∙ (same name ∙ field_at-here name required' ty' rest')) in
     ap (λ first. field name first.0 first.1 rest) firsts
     ∙ ap (λ tail. field name required' ty' tail) (tails (rests_same name required required' ty ty' rest rest' ascending ascending' same))
 
@@ -97,24 +114,34 @@ same-ascending (field name required ty rest) end ascending ascending' same =
 same-ascending (field name required ty rest) (field other required' ty' rest') ascending ascending' same =
     let P : Ordering → Type 0 = λ o. text_cmp name other ≡ o → field name required ty rest ≡ field other required' ty' rest' in
     let below : P Less = λ is. absurd (below_differs name other required required' ty ty' rest rest' ascending' is same) in
-    let above : P Greater = λ is. absurd (below_differs other name required' required ty' ty rest' rest ascending (nat_list_cmp_total.antisymm other name ∙ ap ordering_reverse is) (λ each. sym (same each))) in
-    let Q : Text → Type 0 = λ t. IsAscending (field t required' ty' rest') → HoldSame (field name required ty rest) (field t required' ty' rest') → field name required ty rest ≡ field t required' ty' rest' in
-    let tails : HoldSame rest rest' → rest ≡ rest' = same-ascending rest rest' (rest_ascending name required ty rest ascending) (rest_ascending other required' ty' rest' ascending') in
-    let equal : P Equal = λ is. subst Q ((text_cmp-Equal name other).0 is) (λ ascends holds. joined name required required' ty ty' rest rest' ascending ascends holds tails) ascending' same in
+    let above : P Greater = λ is. absurd (below_differs other name required' required ty' ty rest' rest ascending
+    (nat_list_cmp_total.antisymm other name ∙ ap ordering_reverse is) (λ each. sym (same each))) in
+    let Q : Text → Type 0 = λ t. IsAscending (field t required' ty' rest')
+    → HoldSame (field name required ty rest) (field t required' ty' rest')
+    → field name required ty rest ≡ field t required' ty' rest' in
+    let tails : HoldSame rest rest' → rest ≡ rest' = same-ascending rest rest'
+    (rest_ascending name required ty rest ascending) (rest_ascending other required' ty' rest' ascending') in
+    let equal : P Equal = λ is. subst Q ((text_cmp-Equal name other).0 is)
+    (λ ascends holds. joined name required required' ty ty' rest rest' ascending ascends holds tails) ascending' same in
     elim (text_cmp name other) as P [ Less ↦ below | Equal ↦ equal | Greater ↦ above ] refl
 
 -- where the names of some pairs ascend, the last of a name is its only one
-last_named-ascending : (name : Text) (items : List (Text × (Bool × Ty))) → IsAscending (fields_from items) → last_named name items ≡ field_at name (fields_from items)
+last_named-ascending : (name : Text) (items : List (Text × (Bool × Ty))) → IsAscending (fields_from items)
+    → last_named name items ≡ field_at name (fields_from items)
 last_named-ascending name [] ascending = refl
 last_named-ascending name (item ∷ rest) ascending =
     let below = first_below item.0 item.1.0 item.1.1 (fields_from rest) ascending in
     let tail = last_named-ascending name rest (rest_ascending item.0 item.1.0 item.1.1 (fields_from rest) ascending) in
-    let P : Bool → Type 0 = λ b. bytes_eq name item.0 ≡ b → option_or (last_named name rest) (if b then Some item.1 else None) ≡ (if b then Some item.1 else field_at name (fields_from rest)) in
-    let equal : P true = λ is. ap (λ found. option_or found (Some item.1)) (tail ∙ subst (λ (t : Text). field_at t (fields_from rest) ≡ None) (sym ((bytes_eq-Decides name item.0).0 is)) (field_at-below item.0 (fields_from rest) below)) in
+    let P : Bool → Type 0 = λ b. bytes_eq name item.0 ≡ b → option_or (last_named name rest)
+    (if b then Some item.1 else None) ≡ (if b then Some item.1 else field_at name (fields_from rest)) in
+    let equal : P true = λ is. ap (λ found. option_or found (Some item.1)) (tail
+    ∙ subst (λ (t : Text). field_at t (fields_from rest) ≡ None) (sym ((bytes_eq-Decides name item.0).0 is))
+    (field_at-below item.0 (fields_from rest) below)) in
     let other : P false = λ isn't. option_or-None (last_named name rest) ∙ tail in
     elim (bytes_eq name item.0) as P [ true ↦ equal | false ↦ other ] refl
 
 -- attributes in order that hold the last of pairs in order are those of the pairs
-pub fields_from-HoldsLast : (items : List (Text × (Bool × Ty))) (fields : Fields) → IsAscending (fields_from items) → IsAscending fields → HoldsLast items fields → fields ≡ fields_from items
+pub fields_from-HoldsLast : (items : List (Text × (Bool × Ty))) (fields : Fields) → IsAscending (fields_from items)
+    → IsAscending fields → HoldsLast items fields → fields ≡ fields_from items
 fields_from-HoldsLast items fields in_order ascending holds =
     same-ascending fields (fields_from items) ascending in_order (λ name. holds name ∙ last_named-ascending name items in_order)

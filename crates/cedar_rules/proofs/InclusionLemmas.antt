@@ -16,7 +16,8 @@ pub field_at-Decides : (name : Text) (fields : Fields) → Decides (is_some (fie
 field_at-Decides name end = (λ e. absurd cc, λ among. absurd (omega (arith, among.1)))
 field_at-Decides name (field other required ty rest) =
     let same = bytes_eq-Decides name other in
-    let either = chosen (bytes_eq name other) (required, ty) (field_at name rest) (name ≡ other) (Contains (field_names rest) name) same (field_at-Decides name rest) in (
+    let either = chosen (bytes_eq name other) (required, ty) (field_at name rest) (name ≡ other)
+    (Contains (field_names rest) name) same (field_at-Decides name rest) in (
       λ e. Contains-cons other (field_names rest) name (⊎_elim (λ s. inl (sym s)) (λ there. inr there) (either.0 e)),
       λ among. either.1 (⊎_elim (λ s. inl (sym s)) (λ there. inr there) (Contains-cons_cases other (field_names rest) name among)),
     )
@@ -27,7 +28,8 @@ is_some-read f None = refl
 is_some-read f (Some x) = refl
 
 -- whether an attribute is found decides whether its name is among the names
-pub found-Decides : {A : Type 0} (f : A → Bool × Ty) (found : Option (Bor A)) (name : Text) (fields : Fields) → option_map f (option_copied found) ≡ field_at name fields → Decides (is_some found) (Contains (field_names fields) name)
+pub found-Decides : {A : Type 0} (f : A → Bool × Ty) (found : Option (Bor A)) (name : Text) (fields : Fields)
+    → option_map f (option_copied found) ≡ field_at name fields → Decides (is_some found) (Contains (field_names fields) name)
 found-Decides f found name fields e =
     let P : Bool → Type 0 = λ there. Decides there (Contains (field_names fields) name) in
     subst P (sym (ap is_some e) ∙ is_some-read f found) (field_at-Decides name fields)

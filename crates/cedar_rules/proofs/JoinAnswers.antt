@@ -83,12 +83,15 @@ strict_is_permissive a b join first second least = (
     by_answer (Err given, none, formed) bound own = absurd (none.0 (join, least.0))
 
 -- well-formed types joined in turn from a well-formed start have an answer
-reduced_from : (mode : ValidationMode) (start : Ty) (tys : List Ty) → IsWellFormed start → AllByRecursion IsWellFormed tys → (answer : JoinAnswer) × IsReduceAnswer mode start tys answer × IfOk answer IsWellFormed
+reduced_from : (mode : ValidationMode) (start : Ty) (tys : List Ty) → IsWellFormed start
+    → AllByRecursion IsWellFormed tys → (answer : JoinAnswer) × IsReduceAnswer mode start tys answer × IfOk answer IsWellFormed
 reduced_from mode start [] formed all = (Ok start, refl, formed)
 reduced_from mode start (ty ∷ rest) formed all =
     by_answer (answered mode start ty formed all.0) (λ join joined. reduced_from mode join rest joined all.1)
   where
-    by_answer : IsAnswered mode start ty → ((join : Ty) → IsWellFormed join → (answer : JoinAnswer) × IsReduceAnswer mode join rest answer × IfOk answer IsWellFormed) → (answer : JoinAnswer) × IsReduceAnswer mode start (ty ∷ rest) answer × IfOk answer IsWellFormed
+    by_answer : IsAnswered mode start ty → ((join : Ty) → IsWellFormed join → (answer : JoinAnswer)
+        × IsReduceAnswer mode join rest answer × IfOk answer IsWellFormed) → (answer : JoinAnswer)
+        × IsReduceAnswer mode start (ty ∷ rest) answer × IfOk answer IsWellFormed
     by_answer (Ok join, least, joined) rest_answered =
         let more = rest_answered join joined in
         (more.0, inl (join, least, more.1), more.2)

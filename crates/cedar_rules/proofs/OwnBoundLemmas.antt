@@ -37,7 +37,8 @@ mutual
   IsClean-within Among ty clean within = tt
 
   -- attributes whose types lie within clean types are clean
-  AreClean-within : (Among : Ty → Type 0) (fields : Fields) → ((of : Ty) → Among of → IsClean of) → FieldsLieWithin Among fields → AreClean fields
+  AreClean-within : (Among : Ty → Type 0) (fields : Fields) → ((of : Ty) → Among of → IsClean of)
+      → FieldsLieWithin Among fields → AreClean fields
   AreClean-within Among end clean within = tt
   AreClean-within Among (field name required ty rest) clean within = (
     IsClean-within (IsNamedIn Among name) ty
@@ -56,7 +57,8 @@ mutual
   LiesWithin-more Among More ty more within = tt
 
   -- attributes whose types lie within some types lie within more
-  FieldsLieWithin-more : (Among More : Ty → Type 0) (fields : Fields) → ((of : Ty) → Among of → More of) → FieldsLieWithin Among fields → FieldsLieWithin More fields
+  FieldsLieWithin-more : (Among More : Ty → Type 0) (fields : Fields) → ((of : Ty) → Among of → More of)
+      → FieldsLieWithin Among fields → FieldsLieWithin More fields
   FieldsLieWithin-more Among More end more within = tt
   FieldsLieWithin-more Among More (field name required ty rest) more within = (
     LiesWithin-more (IsNamedIn Among name) (IsNamedIn More name) ty
@@ -75,7 +77,9 @@ mutual
   LiesWithin-among Among ty among = tt
 
   -- the attributes of a record lie within types that have it
-  FieldsLieWithin-among : (Among : Ty → Type 0) (fields : Fields) → ((name : Text) (required : Bool) (ty : Ty) → HasField fields name required ty → IsNamedIn Among name ty) → FieldsLieWithin Among fields
+  FieldsLieWithin-among : (Among : Ty → Type 0) (fields : Fields)
+      → ((name : Text) (required : Bool) (ty : Ty) → HasField fields name required ty → IsNamedIn Among name ty)
+      → FieldsLieWithin Among fields
   FieldsLieWithin-among Among end among = tt
   FieldsLieWithin-among Among (field name required ty rest) among = (
     LiesWithin-among (IsNamedIn Among name) ty (among name required ty (inl (refl, refl, refl))),

@@ -34,13 +34,15 @@ pub decide_texts : (a b : Text) → IsDecided (a ≡ b)
 decide_texts = decide_same text_cmp text_cmp-Equal
 
 -- what holds of each attribute's name holds of all names
-all_names : (P : Text → Type 0) (fields : Fields) → ((name : Text) (required : Bool) (ty : Ty) → HasField fields name required ty → P name) → AllByRecursion P (field_names fields)
+all_names : (P : Text → Type 0) (fields : Fields) → ((name : Text) (required : Bool) (ty : Ty)
+    → HasField fields name required ty → P name) → AllByRecursion P (field_names fields)
 all_names P end each = tt
 all_names P (field name required ty rest) each =
     (each name required ty (inl (refl, refl, refl)), all_names P rest (λ n r t has. each n r t (inr has)))
 
 -- an attribute of the join: both records have it, its type is the least own bound there, and its flag fits
-pub record IsJoined (mode : ValidationMode) (flags : Bool → Bool → Bool → Type 0) (fa fb : Fields) (name : Text) (required : Bool) (ty : Ty) : Type 0 where
+pub record IsJoined (mode : ValidationMode) (flags : Bool → Bool → Bool → Type 0) (fa fb : Fields) (name : Text)
+    (required : Bool) (ty : Ty) : Type 0 where
   pub first_flag : Bool
   pub second_flag : Bool
   pub first : Ty
@@ -51,7 +53,9 @@ pub record IsJoined (mode : ValidationMode) (flags : Bool → Bool → Bool → 
   pub flag : flags first_flag second_flag required
 
 -- an attribute of the join with the rest of a record is one with the record
-pub in_more : (mode : ValidationMode) (flags : Bool → Bool → Bool → Type 0) (rest fb : Fields) (name : Text) (required : Bool) (ty : Ty) (n : Text) (r : Bool) (t : Ty) → IsJoined mode flags rest fb n r t → IsJoined mode flags (field name required ty rest) fb n r t
+pub in_more : (mode : ValidationMode) (flags : Bool → Bool → Bool → Type 0) (rest fb : Fields) (name : Text)
+    (required : Bool) (ty : Ty) (n : Text) (r : Bool) (t : Ty) → IsJoined mode flags rest fb n r t
+    → IsJoined mode flags (field name required ty rest) fb n r t
 in_more mode flags rest fb name required ty n r t it = record {
   first_flag = it.first_flag;
   second_flag = it.second_flag;
@@ -64,7 +68,10 @@ in_more mode flags rest fb name required ty n r t it = record {
 }
 
 -- attributes of a join ascend where those of the record do
-pub joined_ascending : (mode : ValidationMode) (flags : Bool → Bool → Bool → Type 0) (name : Text) (required flag : Bool) (ty of : Ty) (rest fb fj : Fields) → IsAscending (field name required ty rest) → IsAscending fj → ((n : Text) (r : Bool) (t : Ty) → HasField fj n r t → IsJoined mode flags rest fb n r t) → IsAscending (field name flag of fj)
+pub joined_ascending : (mode : ValidationMode) (flags : Bool → Bool → Bool → Type 0) (name : Text)
+    (required flag : Bool) (ty of : Ty) (rest fb fj : Fields) → IsAscending (field name required ty rest)
+    → IsAscending fj → ((n : Text) (r : Bool) (t : Ty) → HasField fj n r t → IsJoined mode flags rest fb n r t)
+    → IsAscending (field name flag of fj)
 unfolding IsStrictlySortedBy
 joined_ascending mode flags name required flag ty of rest fb fj ascending own each = (
   all_names (λ n. text_cmp name n ≡ Less) fj
@@ -93,27 +100,34 @@ pub record PermissiveJoin (fa fb : Fields) : Type 0 where
   pub fields : Fields
   pub ascending : IsAscending fields
   pub formed : AreWellFormed fields
-  pub sound : (name : Text) (required : Bool) (ty : Ty) → HasField fields name required ty → IsJoined Permissive BothRequire fa fb name required ty
-  pub complete : (name : Text) (ra rb : Bool) (a b : Ty) → HasField fa name ra a → HasField fb name rb b → HaveOwnBound Permissive a b → (required : Bool) × (ty : Ty) × HasField fields name required ty
+  pub sound : (name : Text) (required : Bool) (ty : Ty) → HasField fields name required ty
+      → IsJoined Permissive BothRequire fa fb name required ty
+  pub complete : (name : Text) (ra rb : Bool) (a b : Ty) → HasField fa name ra a → HasField fb name rb b
+      → HaveOwnBound Permissive a b → (required : Bool) × (ty : Ty) × HasField fields name required ty
 
 -- an attribute without a join is dropped
-drop_one : (name : Text) (required : Bool) (ty : Ty) (rest fb : Fields) → PermissiveJoin rest fb → ((rb : Bool) (b : Ty) → HasField fb name rb b → ¬ HaveOwnBound Permissive ty b) → PermissiveJoin (field name required ty rest) fb
+drop_one : (name : Text) (required : Bool) (ty : Ty) (rest fb : Fields) → PermissiveJoin rest fb
+    → ((rb : Bool) (b : Ty) → HasField fb name rb b → ¬ HaveOwnBound Permissive ty b) → PermissiveJoin (field name required ty rest) fb
 drop_one name required ty rest fb before none = record {
   fields = before.fields;
   ascending = before.ascending;
   formed = before.formed;
   sound = λ n r t has. in_more Permissive BothRequire rest fb name required ty n r t (before.sound n r t has);
   complete = λ n ra rb a b has also own. ⊎_elim
-      (λ same. absurd (none rb b (subst (λ m. HasField fb m rb b) (sym same.0) also) (subst (λ z. HaveOwnBound Permissive z b) (sym same.2) own)))
+      (λ same. absurd (none rb b (subst (λ m. HasField fb m rb b) (sym same.0) also)
+      (subst (λ z. HaveOwnBound Permissive z b) (sym same.2) own)))
       (λ there. before.complete n ra rb a b there also own)
       has;
 }
 
 -- an attribute with a join is kept
-keep_one : (name : Text) (required flag : Bool) (ty of join : Ty) (rest fb : Fields) → IsAscending (field name required ty rest) → PermissiveJoin rest fb → HasField fb name flag of → IsLeastOwnBound Permissive ty of join → IsWellFormed join → PermissiveJoin (field name required ty rest) fb
+keep_one : (name : Text) (required flag : Bool) (ty of join : Ty) (rest fb : Fields)
+    → IsAscending (field name required ty rest) → PermissiveJoin rest fb → HasField fb name flag of
+    → IsLeastOwnBound Permissive ty of join → IsWellFormed join → PermissiveJoin (field name required ty rest) fb
 keep_one name required flag ty of join rest fb ascending before has least formed = record {
   fields = field name (required && flag) join before.fields;
-  ascending = joined_ascending Permissive BothRequire name required (required && flag) ty join rest fb before.fields ascending before.ascending before.sound;
+  ascending = joined_ascending Permissive BothRequire name required
+      (required && flag) ty join rest fb before.fields ascending before.ascending before.sound;
   formed = (formed, before.formed);
   sound = λ n r t there. ⊎_elim
       (λ same. subst (λ m. IsJoined Permissive BothRequire (field name required ty rest) fb m r t) same.0
@@ -153,7 +167,8 @@ permissive_join (field name required ty rest) fb ascending second answers =
     (λ absent. drop_one name required ty rest fb before (λ rb b has own. absent (HasField-name fb name rb b has)))
     (decide_among decide_texts (field_names fb) name)
   where
-    by_answer : PermissiveJoin rest fb → (flag : Bool) (of : Ty) → HasField fb name flag of → IsAnswered Permissive ty of → PermissiveJoin (field name required ty rest) fb
+    by_answer : PermissiveJoin rest fb → (flag : Bool) (of : Ty) → HasField fb name flag of
+        → IsAnswered Permissive ty of → PermissiveJoin (field name required ty rest) fb
     by_answer before flag of has (Ok join, least, formed) = keep_one name required flag ty of join rest fb ascending before has least formed
     by_answer before flag of has (Err it, none, formed) =
         drop_one name required ty rest fb before
@@ -172,24 +187,30 @@ decide_closed ClosedAttributes = inl refl
 -- the permissive join is closed exactly where both records are and no name is dropped
 abbrev NothingDropped : Fields → Fields → Fields → OpenTag → OpenTag → Type 0
 NothingDropped fa fb fj ta tb =
-    ((ta ≡ ClosedAttributes) × (tb ≡ ClosedAttributes)) × (Included (field_names fa) (field_names fj) × Included (field_names fb) (field_names fj))
+    ((ta ≡ ClosedAttributes) × (tb ≡ ClosedAttributes)) × (Included (field_names fa) (field_names fj)
+    × Included (field_names fb) (field_names fj))
 
 -- the permissive join with a openness that fits is an own bound
-permissive_own : (fa fb : Fields) (ta tb openness : OpenTag) (it : PermissiveJoin fa fb) → OpennessBelow ta openness → OpennessBelow tb openness → NamesBelow Permissive openness fa it.fields → NamesBelow Permissive openness fb it.fields → IsOwnBound Permissive (record_of fa ta) (record_of fb tb) (record_of it.fields openness)
+permissive_own : (fa fb : Fields) (ta tb openness : OpenTag) (it : PermissiveJoin fa fb) → OpennessBelow ta openness
+    → OpennessBelow tb openness → NamesBelow Permissive openness fa it.fields
+    → NamesBelow Permissive openness fb it.fields → IsOwnBound Permissive (record_of fa ta) (record_of fb tb)
+    (record_of it.fields openness)
 permissive_own fa fb ta tb openness it h k names also = (
   (
     (
       h,
       names,
       FieldsBelow-from Permissive fa it.fields
-          (λ n r t has. (let part = it.sound n r t has in (part.first_flag, part.first, part.in_first, (λ needed. (part.flag.0 needed).0), part.least.0.0.0))),
+          (λ n r t has. (let part = it.sound n r t has in
+          (part.first_flag, part.first, part.in_first, (λ needed. (part.flag.0 needed).0), part.least.0.0.0))),
     ),
     (
       (
         k,
         also,
         FieldsBelow-from Permissive fb it.fields
-            (λ n r t has. (let part = it.sound n r t has in (part.second_flag, part.second, part.in_second, (λ needed. (part.flag.0 needed).1), part.least.0.0.1.0))),
+            (λ n r t has. (let part = it.sound n r t has in
+            (part.second_flag, part.second, part.in_second, (λ needed. (part.flag.0 needed).1), part.least.0.0.1.0))),
       ),
       tt,
     ),
@@ -200,7 +221,8 @@ permissive_own fa fb ta tb openness it h k names also = (
 )
 
 -- the attributes of the permissive join are below those of each own bound
-permissive_fields : (fa fb fc : Fields) (ta tb tc : OpenTag) (it : PermissiveJoin fa fb) → IsAscending fa → IsAscending fb → IsOwnBound Permissive (record_of fa ta) (record_of fb tb) (record_of fc tc) → FieldsBelow Permissive it.fields fc
+permissive_fields : (fa fb fc : Fields) (ta tb tc : OpenTag) (it : PermissiveJoin fa fb) → IsAscending fa
+    → IsAscending fb → IsOwnBound Permissive (record_of fa ta) (record_of fb tb) (record_of fc tc) → FieldsBelow Permissive it.fields fc
 permissive_fields fa fb fc ta tb tc it first second own =
     FieldsBelow-from Permissive it.fields fc
     (λ n r t has.
@@ -219,7 +241,8 @@ permissive_fields fa fb fc ta tb tc it first second own =
       found.1,
       found.2,
       (λ needed. part.flag.1 (sym same.0 ∙ one.3 needed, sym alike.0 ∙ other.3 needed)),
-      part.least.1 t (subst (λ z. IsOwnBound Permissive z part.second t) same.1 (subst (λ z. IsOwnBound Permissive one.1 z t) alike.1 bound)),
+      part.least.1 t (subst (λ z. IsOwnBound Permissive z part.second t) same.1
+          (subst (λ z. IsOwnBound Permissive one.1 z t) alike.1 bound)),
     )))
 
 -- the names of the permissive join are those of the first record
@@ -230,18 +253,23 @@ permissive_names fa fb it name among =
     HasField-name fa name part.first_flag part.first part.in_first
 
 -- names that fit below a closed record are its own
-names_closed : (openness : OpenTag) (fa fc : Fields) → openness ≡ ClosedAttributes → NamesBelow Permissive openness fa fc → Included (field_names fa) (field_names fc)
+names_closed : (openness : OpenTag) (fa fc : Fields) → openness ≡ ClosedAttributes
+    → NamesBelow Permissive openness fa fc → Included (field_names fa) (field_names fc)
 names_closed openness fa fc e names = subst (λ g. NamesBelow Permissive g fa fc) e names
 
 -- the permissive join is below each own bound
-permissive_least : (fa fb : Fields) (ta tb openness : OpenTag) (it : PermissiveJoin fa fb) → IsAscending fa → IsAscending fb → (NothingDropped fa fb it.fields ta tb → OpennessBelow openness ClosedAttributes)
+permissive_least : (fa fb : Fields) (ta tb openness : OpenTag) (it : PermissiveJoin fa fb) → IsAscending fa
+    → IsAscending fb → (NothingDropped fa fb it.fields ta tb → OpennessBelow openness ClosedAttributes)
     → (bound : Ty) → IsOwnBound Permissive (record_of fa ta) (record_of fb tb) bound → Below Permissive (record_of it.fields openness) bound
 permissive_least fa fb ta tb openness it first second closed (record_of fc tc) own =
     let fields = permissive_fields fa fb fc ta tb tc it first second own in
     let back = FieldsBelow-names Permissive it.fields fc fields in (
       tag_below openness tc (λ e. closed (
         (closed_tag ta (subst (OpennessBelow ta) e own.0.0.0), closed_tag tb (subst (OpennessBelow tb) e own.0.1.0.0)),
-        ((λ n among. back n (names_closed tc fa fc e own.0.0.1 n among)), (λ n among. back n (names_closed tc fb fc e own.0.1.0.1 n among))),
+        (
+          (λ n among. back n (names_closed tc fa fc e own.0.0.1 n among)),
+          (λ n among. back n (names_closed tc fb fc e own.0.1.0.1 n among)),
+        ),
       )),
       names_below tc it.fields fa fc (permissive_names fa fb it) own.0.0.1,
       fields,
@@ -254,7 +282,8 @@ below_open OpenAttributes = tt
 below_open ClosedAttributes = tt
 
 -- records have an answer in permissive mode
-pub permissive_records_answered : (fa fb : Fields) (ta tb : OpenTag) → IsAscending fa → IsAscending fb → AreTexts (field_names fa) → AreAnswered Permissive fa fb → IsAnswered Permissive (record_of fa ta) (record_of fb tb)
+pub permissive_records_answered : (fa fb : Fields) (ta tb : OpenTag) → IsAscending fa → IsAscending fb
+    → AreTexts (field_names fa) → AreAnswered Permissive fa fb → IsAnswered Permissive (record_of fa ta) (record_of fb tb)
 permissive_records_answered fa fb ta tb first second texts answers =
     let it = permissive_join fa fb first second answers in
     let names : AreTexts (field_names it.fields) = λ name among.
@@ -263,7 +292,8 @@ permissive_records_answered fa fb ta tb first second texts answers =
     texts name (HasField-name fa name part.first_flag part.first part.in_first)) in
     ⊎_elim
     (λ all. given Permissive (record_of fa ta) (record_of fb tb) (record_of it.fields ClosedAttributes) (
-      permissive_own fa fb ta tb ClosedAttributes it (subst (λ g. OpennessBelow g ClosedAttributes) (sym all.0.0) tt) (subst (λ g. OpennessBelow g ClosedAttributes) (sym all.0.1) tt) all.1.0 all.1.1,
+      permissive_own fa fb ta tb ClosedAttributes it (subst (λ g. OpennessBelow g ClosedAttributes) (sym all.0.0) tt)
+          (subst (λ g. OpennessBelow g ClosedAttributes) (sym all.0.1) tt) all.1.0 all.1.1,
       permissive_least fa fb ta tb ClosedAttributes it first second (λ _. tt),
     )
     (it.ascending, it.formed, names))
@@ -272,4 +302,6 @@ permissive_records_answered fa fb ta tb first second texts answers =
       permissive_least fa fb ta tb OpenAttributes it first second (λ all. absurd (none all)),
     )
     (it.ascending, it.formed, names))
-    (decide_both (decide_both (decide_closed ta) (decide_closed tb)) (decide_both (decide_included decide_texts (field_names fa) (field_names it.fields)) (decide_included decide_texts (field_names fb) (field_names it.fields))))
+    (decide_both (decide_both (decide_closed ta) (decide_closed tb))
+    (decide_both (decide_included decide_texts (field_names fa) (field_names it.fields))
+    (decide_included decide_texts (field_names fb) (field_names it.fields))))

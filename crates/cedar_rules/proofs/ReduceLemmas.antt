@@ -17,20 +17,29 @@ use Rattle.cedar_rules.specs.Ty.{Ty, never}
 use Rattle.cedar_rules.specs.WellFormed.{IsWellFormed}
 
 -- an answer is the least of some bounds where it is that of the same bounds said otherwise
-IsLeastAnswer-same : (mode : ValidationMode) (Bounds Others : Ty → Type 0) (answer : JoinAnswer) → ((bound : Ty) → Bounds bound → Others bound) → ((bound : Ty) → Others bound → Bounds bound) → IsLeastAnswer mode Bounds answer → IsLeastAnswer mode Others answer
+IsLeastAnswer-same : (mode : ValidationMode) (Bounds Others : Ty → Type 0) (answer : JoinAnswer)
+    → ((bound : Ty) → Bounds bound → Others bound) → ((bound : Ty) → Others bound → Bounds bound)
+    → IsLeastAnswer mode Bounds answer → IsLeastAnswer mode Others answer
 IsLeastAnswer-same mode Bounds Others (Ok least) forth back right =
     (forth least right.0, λ bound other. right.1 bound (back bound other))
 IsLeastAnswer-same mode Bounds Others (Err given) forth back right = λ bound other. right bound (back bound other)
 
 -- clean types that are reduced from a clean start give their and its least clean bound
-reduce_from : (mode : ValidationMode) (start : Ty) (tys : List Ty) (answer : JoinAnswer) → IsClean start → AllByRecursion IsClean tys → IsReduceAnswer mode start tys answer → IsLeastAnswer mode (IsCleanBound mode (start ∷ tys)) answer
+reduce_from : (mode : ValidationMode) (start : Ty) (tys : List Ty) (answer : JoinAnswer) → IsClean start
+    → AllByRecursion IsClean tys → IsReduceAnswer mode start tys answer → IsLeastAnswer mode (IsCleanBound mode (start ∷ tys)) answer
 reduce_from mode start [] answer clean all is =
     subst (IsLeastAnswer mode (IsCleanBound mode (start ∷ []))) (sym is)
     (((Below-itself mode start, tt), clean), λ bound own. own.0.0)
 reduce_from mode start (ty ∷ rest) answer clean all (inl (join, right, more)) =
     let join_clean = own_is_clean mode start ty join clean all.0 right.0 in
     IsLeastAnswer-same mode (IsCleanBound mode (join ∷ rest)) (IsCleanBound mode (start ∷ ty ∷ rest)) answer
-    (λ bound own. ((Below-trans mode start join bound right.0.0.0 own.0.0, (Below-trans mode ty join bound right.0.0.1.0 own.0.0, own.0.1)), own.1))
+    (λ bound own. (
+      (
+        Below-trans mode start join bound right.0.0.0 own.0.0,
+        (Below-trans mode ty join bound right.0.0.1.0 own.0.0, own.0.1),
+      ),
+      own.1,
+    ))
     (λ bound own. ((right.1 bound (clean_is_own mode start ty bound ((own.0.0, (own.0.1.0, tt)), own.1)), own.0.1.1), own.1))
     (reduce_from mode join rest answer join_clean all.1 more)
 reduce_from mode start (ty ∷ rest) answer clean all (inr (given, right, is)) =
@@ -56,7 +65,9 @@ AllByRecursion-included P tys (ty ∷ rest) within all = (
 )
 
 -- least clean bounds of the same types are the same
-same_answer : (mode : ValidationMode) (tys others : List Ty) (join : Ty) (answer : JoinAnswer) → Included tys others → Included others tys → IsLeastAnswer mode (IsCleanBound mode tys) (Ok join) → IsLeastAnswer mode (IsCleanBound mode others) answer → IsWellFormed join → IfOk answer IsWellFormed → answer ≡ Ok join
+same_answer : (mode : ValidationMode) (tys others : List Ty) (join : Ty) (answer : JoinAnswer) → Included tys others
+    → Included others tys → IsLeastAnswer mode (IsCleanBound mode tys) (Ok join)
+    → IsLeastAnswer mode (IsCleanBound mode others) answer → IsWellFormed join → IfOk answer IsWellFormed → answer ≡ Ok join
 same_answer mode tys others join (Ok other) forth back first second formed also =
     let up : IsCleanBound mode tys other =
     (AllByRecursion-included (λ ty. Below mode ty other) others tys forth second.0.0, second.0.1) in

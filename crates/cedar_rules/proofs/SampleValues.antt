@@ -33,7 +33,9 @@ use Rattle.cedar_rules.specs.declared.open_tag.OpenTag.{OpenTag}
 use Rattle.cedar_rules.specs.declared.open_tag.OpenTag.TheVariants.{OpenAttributes, ClosedAttributes}
 
 -- a record is a value of a type if each listed attribute fits
-pub HasFields-from : (calls : PlainName → Trees → PlainName → Type 0) (values : Entries) (fields : Fields) → ((n : Text) (r : Bool) (t : Ty) → HasField fields n r t → EntryFits (λ value. HasBy calls value t) r (entry_at n values)) → HasFieldsBy calls values fields
+pub HasFields-from : (calls : PlainName → Trees → PlainName → Type 0) (values : Entries) (fields : Fields)
+    → ((n : Text) (r : Bool) (t : Ty) → HasField fields n r t
+    → EntryFits (λ value. HasBy calls value t) r (entry_at n values)) → HasFieldsBy calls values fields
 HasFields-from calls values end each = tt
 HasFields-from calls values (field name required ty rest) each =
     (each name required ty (inl (refl, refl, refl)), HasFields-from calls values rest (λ n r t has. each n r t (inr has)))
@@ -91,8 +93,10 @@ pub fresh_text : (names others : List Text) → (n : Text) × ¬ Contains names 
 fresh_text names others =
     let k = suc (total (λ name. name) names + total (λ name. name) others) in (
       stretch k,
-      (λ among. (let less = within_total (λ name. name) names (stretch k) among in let long_enough = length-stretch k in omega (arith, less, long_enough))),
-      (λ among. (let less = within_total (λ name. name) others (stretch k) among in let long_enough = length-stretch k in omega (arith, less, long_enough))),
+      (λ among. (let less = within_total (λ name. name) names (stretch k) among in let long_enough = length-stretch k in
+          omega (arith, less, long_enough))),
+      (λ among. (let less = within_total (λ name. name) others (stretch k) among in let long_enough =
+          length-stretch k in omega (arith, less, long_enough))),
       IsText-stretch k,
     )
 
@@ -101,7 +105,8 @@ pub fresh_name : (names : List PlainName) → (name : PlainName) × ¬ Contains 
 fresh_name names =
     let k = total (λ (name : PlainName). name.base) names in (
       stretch_name k,
-      (λ among. (let less = within_total (λ (name : PlainName). name.base) names (stretch_name k) among in let long_enough = length-stretch (suc k) in omega (arith, less, long_enough))),
+      (λ among. (let less = within_total (λ (name : PlainName). name.base) names (stretch_name k) among in
+          let long_enough = length-stretch (suc k) in omega (arith, less, long_enough))),
       IsName-stretch k,
     )
 
@@ -123,7 +128,8 @@ below_isn't name (field other required ty rest) below among =
     (Contains-cons_cases other (field_names rest) name among)
 
 -- a name isn't one of those after it, where they ascend
-pub first_absent : (name : Text) (required : Bool) (ty : Ty) (rest : Fields) → IsAscending (field name required ty rest) → ¬ Contains (field_names rest) name
+pub first_absent : (name : Text) (required : Bool) (ty : Ty) (rest : Fields) → IsAscending (field name required ty rest)
+    → ¬ Contains (field_names rest) name
 first_absent name required ty rest ascending = below_isn't name rest (first_below name required ty rest ascending)
 
 -- a value of what is known of a truth value
@@ -138,7 +144,8 @@ some_name [] some = absurd (some refl)
 some_name (name ∷ rest) some = (name, Contains-cons name rest name (inl refl))
 
 -- a record whose names are listed has only listed names
-pub only_listed : (openness : OpenTag) (values : Entries) (fields : Fields) → Included (entry_names values) (field_names fields) → NamesListed (is_open openness) (entry_names values) (field_names fields)
+pub only_listed : (openness : OpenTag) (values : Entries) (fields : Fields)
+    → Included (entry_names values) (field_names fields) → NamesListed (is_open openness) (entry_names values) (field_names fields)
 only_listed OpenAttributes values fields listed = tt
 only_listed ClosedAttributes values fields listed = listed
 
@@ -148,10 +155,12 @@ pub record Sample (extensions : Extensions) (fields : Fields) (without : Text) :
   pub listed : Included (entry_names values) (field_names fields)
   pub absent : ¬ Contains (entry_names values) without
   pub valid : AreEntries values
-  pub has : (n : Text) (r : Bool) (t : Ty) → HasField fields n r t → n ≢ without → (value : Tree) × (entry_at n values ≡ Some value) × Has extensions value t
+  pub has : (n : Text) (r : Bool) (t : Ty) → HasField fields n r t → n ≢ without → (value : Tree)
+      × (entry_at n values ≡ Some value) × Has extensions value t
 
 -- an attribute of the name is left out
-leave_out : (extensions : Extensions) (name without : Text) (required : Bool) (ty : Ty) (rest : Fields) → name ≡ without → Sample extensions rest without → Sample extensions (field name required ty rest) without
+leave_out : (extensions : Extensions) (name without : Text) (required : Bool) (ty : Ty) (rest : Fields) → name ≡ without
+    → Sample extensions rest without → Sample extensions (field name required ty rest) without
 leave_out extensions name without required ty rest same before = record {
   values = before.values;
   listed = λ n among. Contains-cons name (field_names rest) n (inr (before.listed n among));
@@ -161,7 +170,9 @@ leave_out extensions name without required ty rest same before = record {
 }
 
 -- an attribute of another name gets a value
-put_in : (extensions : Extensions) (name without : Text) (required : Bool) (ty : Ty) (rest : Fields) (value : Tree) → IsAscending (field name required ty rest) → IsText name → name ≢ without → IsValue value → Has extensions value ty → Sample extensions rest without → Sample extensions (field name required ty rest) without
+put_in : (extensions : Extensions) (name without : Text) (required : Bool) (ty : Ty) (rest : Fields) (value : Tree)
+    → IsAscending (field name required ty rest) → IsText name → name ≢ without → IsValue value → Has extensions value ty
+    → Sample extensions rest without → Sample extensions (field name required ty rest) without
 put_in extensions name without required ty rest value ascending named differ real holds before = record {
   values = entry name value before.values;
   listed = Included-cons name (entry_names before.values) (name ∷ field_names rest) (Contains-cons name (field_names rest) name (inl refl))
@@ -184,12 +195,14 @@ put_in extensions name without required ty rest value ascending named differ rea
 
 mutual
   -- an inhabited type has a value
-  pub inhabitant : (extensions : Extensions) (ty : Ty) → IsWellFormed ty → IsInhabited extensions ty → (value : Tree) × IsValue value × Has extensions value ty
+  pub inhabitant : (extensions : Extensions) (ty : Ty) → IsWellFormed ty → IsInhabited extensions ty → (value : Tree)
+      × IsValue value × Has extensions value ty
   inhabitant extensions never formed lives = elim lives [ ]
   inhabitant extensions (truth known) formed lives = (let it = truth_sample known in (truth_value it.0, tt, it.1))
   inhabitant extensions long formed lives = (number_value (pos 0), zero_is_value, tt)
   inhabitant extensions text formed lives = (text_value [], IsText-nil, tt)
-  inhabitant extensions any_entity formed lives = (uid_value (record { ty = stretch_name 0; eid = [] }), uid_is_value (stretch_name 0) (IsName-stretch 0), tt)
+  inhabitant extensions any_entity formed lives =
+      (uid_value (record { ty = stretch_name 0; eid = [] }), uid_is_value (stretch_name 0) (IsName-stretch 0), tt)
   inhabitant extensions (union_of names) formed lives =
       (let it = some_name names formed.0 in (uid_value (record { ty = it.0; eid = [] }), uid_is_value it.0 (formed.2 it.0 it.1), it.1))
   inhabitant extensions any_set formed lives = (set_value no_tree, tt, tt)
@@ -202,14 +215,16 @@ mutual
         (
           only_listed openness it.values fields it.listed,
           HasFields-from (Gives extensions) it.values fields
-              (λ n r t has. (let found = it.has n r t has (λ same. fresh.1 (subst (Contains (field_names fields)) same (HasField-name fields n r t has))) in
+              (λ n r t has. (let found =
+              it.has n r t has (λ same. fresh.1 (subst (Contains (field_names fields)) same (HasField-name fields n r t has))) in
               fits_some (λ value. Has extensions value t) r (entry_at n it.values) found.0 found.1 found.2)),
         ),
       )
   inhabitant extensions (extension_of name) formed lives = lives
 
   -- inhabited attributes have values
-  pub sample : (extensions : Extensions) (fields : Fields) (without : Text) → IsAscending fields → AreWellFormed fields → AreTexts (field_names fields) → AreInhabited extensions fields → Sample extensions fields without
+  pub sample : (extensions : Extensions) (fields : Fields) (without : Text) → IsAscending fields → AreWellFormed fields
+      → AreTexts (field_names fields) → AreInhabited extensions fields → Sample extensions fields without
   sample extensions end without ascending formed texts lives = record {
     values = no_entry;
     listed = Included-none [];
@@ -218,9 +233,11 @@ mutual
     has = λ n r t has differ. absurd has;
   }
   sample extensions (field name required ty rest) without ascending formed texts lives =
-      let before = sample extensions rest without (rest_ascending name required ty rest ascending) formed.1 (λ n among. texts n (Contains-cons name (field_names rest) n (inr among))) lives.1 in
+      let before = sample extensions rest without (rest_ascending name required ty rest ascending) formed.1
+      (λ n among. texts n (Contains-cons name (field_names rest) n (inr among))) lives.1 in
       let value = inhabitant extensions ty formed.0 lives.0 in
       ⊎_elim
       (λ same. leave_out extensions name without required ty rest same before)
-      (λ differ. put_in extensions name without required ty rest value.0 ascending (texts name (Contains-cons name (field_names rest) name (inl refl))) differ value.1 value.2 before)
+      (λ differ. put_in extensions name without required ty rest value.0 ascending
+      (texts name (Contains-cons name (field_names rest) name (inl refl))) differ value.1 value.2 before)
       (decide_texts name without)

@@ -33,7 +33,8 @@ pub record StrictJoin (fa fb : Fields) : Type 0 where
   pub fields : Fields
   pub ascending : IsAscending fields
   pub formed : AreWellFormed fields
-  pub sound : (name : Text) (required : Bool) (ty : Ty) → HasField fields name required ty → IsJoined Strict SameFlags fa fb name required ty
+  pub sound : (name : Text) (required : Bool) (ty : Ty) → HasField fields name required ty
+      → IsJoined Strict SameFlags fa fb name required ty
   pub complete : (name : Text) (required : Bool) (ty : Ty) → HasField fa name required ty → Contains (field_names fields) name
 
 -- two records have a strict join, or a help is found at a name
@@ -41,10 +42,13 @@ abbrev IsTried : Fields → Fields → Type 0
 IsTried fa fb = StrictJoin fa fb ⊎ ((it : LubHelp) × IsHelpAtName fa fb it)
 
 -- an attribute with a join is kept
-keep_one : (name : Text) (required : Bool) (ty of join : Ty) (rest fb : Fields) → IsAscending (field name required ty rest) → StrictJoin rest fb → HasField fb name required of → IsLeastOwnBound Strict ty of join → IsWellFormed join → StrictJoin (field name required ty rest) fb
+keep_one : (name : Text) (required : Bool) (ty of join : Ty) (rest fb : Fields)
+    → IsAscending (field name required ty rest) → StrictJoin rest fb → HasField fb name required of
+    → IsLeastOwnBound Strict ty of join → IsWellFormed join → StrictJoin (field name required ty rest) fb
 keep_one name required ty of join rest fb ascending before has least formed = record {
   fields = field name required join before.fields;
-  ascending = joined_ascending Strict SameFlags name required required ty join rest fb before.fields ascending before.ascending before.sound;
+  ascending = joined_ascending Strict SameFlags name required required ty join rest fb before.fields ascending
+      before.ascending before.sound;
   formed = (formed, before.formed);
   sound = λ n r t there. ⊎_elim
       (λ same. subst (λ m. IsJoined Strict SameFlags (field name required ty rest) fb m r t) same.0
@@ -87,16 +91,19 @@ try_strict (field name required ty rest) fb ascending answers =
     (λ found. inr (found.0, inr (inr found.1)))
     (try_strict rest fb (rest_ascending name required ty rest ascending) answers.1)
   where
-    by_answer : StrictJoin rest fb → (flag : Bool) (of : Ty) → HasField fb name flag of → IsAnswered Strict ty of → IsTried (field name required ty rest) fb
+    by_answer : StrictJoin rest fb → (flag : Bool) (of : Ty) → HasField fb name flag of → IsAnswered Strict ty of
+        → IsTried (field name required ty rest) fb
     by_answer before flag of has (Ok join, least, formed) =
         ⊎_elim
-        (λ same. inl (keep_one name required ty of join rest fb ascending before (subst (λ q. HasField fb name q of) (sym same) has) least formed))
+        (λ same. inl (keep_one name required ty of join rest fb ascending before
+        (subst (λ q. HasField fb name q of) (sym same) has) least formed))
         (λ differ. inr (help.AttributeQualifier, inr (inl (flag, of, has, inl ((join, least.0), differ, refl)))))
         (decide_flags required flag)
     by_answer before flag of has (Err it, none, formed) = inr (it, inr (inl (flag, of, has, inr none)))
 
 -- where a help is found at a name of two records, they have no own bound
-help_refuses : (part fa fb : Fields) (ta tb : OpenTag) (it : LubHelp) → IsAscending fa → IsAscending fb → FieldsWithin part fa → IsHelpAtName part fb it → ¬ HaveOwnBound Strict (record_of fa ta) (record_of fb tb)
+help_refuses : (part fa fb : Fields) (ta tb : OpenTag) (it : LubHelp) → IsAscending fa → IsAscending fb
+    → FieldsWithin part fa → IsHelpAtName part fb it → ¬ HaveOwnBound Strict (record_of fa ta) (record_of fb tb)
 help_refuses end fa fb ta tb it first second within found own = found
 help_refuses (field name required ty rest) fa fb ta tb it first second within (inl lacks) (record_of fc tc, own) =
     let mine = HasField-name fa name required ty (within name required ty (inl (refl, refl, refl))) in
@@ -148,7 +155,9 @@ either_below OpenAttributes tb tc h k = h
 either_below ClosedAttributes tb tc h k = k
 
 -- a strict join of records with the same names is their least own bound
-strict_least : (fa fb : Fields) (ta tb : OpenTag) (it : StrictJoin fa fb) → IsAscending fa → IsAscending fb → Included (field_names fb) (field_names fa) → IsLeastOwnBound Strict (record_of fa ta) (record_of fb tb) (record_of it.fields (either_tag ta tb))
+strict_least : (fa fb : Fields) (ta tb : OpenTag) (it : StrictJoin fa fb) → IsAscending fa → IsAscending fb
+    → Included (field_names fb) (field_names fa) → IsLeastOwnBound Strict (record_of fa ta) (record_of fb tb)
+    (record_of it.fields (either_tag ta tb))
 strict_least fa fb ta tb it first second names = (
   (
     (
@@ -163,7 +172,8 @@ strict_least fa fb ta tb it first second names = (
           second_below ta tb,
           (λ n among. kept n (names n among)),
           FieldsBelow-from Strict fb it.fields
-              (λ n r t has. (let part = it.sound n r t has in (part.second_flag, part.second, part.in_second, part.flag.1, part.least.0.0.1.0))),
+              (λ n r t has. (let part = it.sound n r t has in
+              (part.second_flag, part.second, part.in_second, part.flag.1, part.least.0.0.1.0))),
         ),
         tt,
       ),
@@ -178,7 +188,8 @@ strict_least fa fb ta tb it first second names = (
     kept : Included (field_names fa) (field_names it.fields)
     kept n among = let found = HasField-named fa n among in it.complete n found.0 found.1 found.2
 
-    below : (bound : Ty) → IsOwnBound Strict (record_of fa ta) (record_of fb tb) bound → Below Strict (record_of it.fields (either_tag ta tb)) bound
+    below : (bound : Ty) → IsOwnBound Strict (record_of fa ta) (record_of fb tb) bound
+        → Below Strict (record_of it.fields (either_tag ta tb)) bound
     below (record_of fc tc) own = (
       either_below ta tb tc own.0.0.0 own.0.1.0.0,
       (λ n among. (let found = HasField-named it.fields n among in
@@ -207,7 +218,8 @@ strict_least fa fb ta tb it first second names = (
     below bound own = elim own.0.0 [ ]
 
 -- records with an own bound in strict mode have the same names
-same_names : (fa fb : Fields) (ta tb : OpenTag) → IsAscending fa → IsAscending fb → HaveOwnBound Strict (record_of fa ta) (record_of fb tb) → field_names fa ≡ field_names fb
+same_names : (fa fb : Fields) (ta tb : OpenTag) → IsAscending fa → IsAscending fb
+    → HaveOwnBound Strict (record_of fa ta) (record_of fb tb) → field_names fa ≡ field_names fb
 same_names fa fb ta tb first second (record_of fc tc, own) =
     Included-same text_cmp text_cmp-total (field_names fa) (field_names fb) first second
     (λ n among. FieldsBelow-names Strict fb fc own.0.1.0.2 n (own.0.0.1 n among))
@@ -223,7 +235,8 @@ decide_lengths m n = from_test (nat_eq m n) refl
     from_test false e = inr (eqb-false m n e)
 
 -- records have an answer in strict mode
-pub strict_records_answered : (fa fb : Fields) (ta tb : OpenTag) → IsAscending fa → IsAscending fb → AreTexts (field_names fa) → AreAnswered Strict fa fb → IsAnswered Strict (record_of fa ta) (record_of fb tb)
+pub strict_records_answered : (fa fb : Fields) (ta tb : OpenTag) → IsAscending fa → IsAscending fb
+    → AreTexts (field_names fa) → AreAnswered Strict fa fb → IsAnswered Strict (record_of fa ta) (record_of fb tb)
 strict_records_answered fa fb ta tb first second texts answers =
     ⊎_elim
     (λ like. ⊎_elim

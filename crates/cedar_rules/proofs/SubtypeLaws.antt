@@ -57,8 +57,12 @@ mutual
   Below-itself Permissive (union_of names) = λ name among. among
   Below-itself mode any_set = tt
   Below-itself mode (set_of ty) = Below-itself mode ty
-  Below-itself mode (record_of fields openness) =
-      (OpennessBelow-itself openness, NamesBelow-itself mode openness fields, FieldsBelow-within mode fields fields (λ name required ty has. has))
+  Below-itself mode (record_of fields openness) = (
+    OpennessBelow-itself openness,
+    NamesBelow-itself mode openness fields,
+    FieldsBelow-within mode fields fields
+        (λ name required ty has. has),
+  )
   Below-itself mode (extension_of name) = refl
 
   -- a record is below another if it has its attributes
@@ -70,7 +74,9 @@ mutual
   )
 
 -- what is below an attribute of a record that has it
-pub HasBelow-of : (mode : ValidationMode) (lower upper : Fields) (name : Text) (required : Bool) (ty : Ty) → FieldsBelow mode lower upper → HasField upper name required ty → (own_required : Bool) × (own : Ty) × HasField lower name own_required own × FlagsBelow mode own_required required × Below mode own ty
+pub HasBelow-of : (mode : ValidationMode) (lower upper : Fields) (name : Text) (required : Bool) (ty : Ty)
+    → FieldsBelow mode lower upper → HasField upper name required ty → (own_required : Bool) × (own : Ty)
+    × HasField lower name own_required own × FlagsBelow mode own_required required × Below mode own ty
 HasBelow-of mode lower end name required ty below has = absurd has
 HasBelow-of mode lower (field other flag of rest) name required ty below (inl same) =
     let found = below.0 in
@@ -80,26 +86,33 @@ HasBelow-of mode lower (field other flag of rest) name required ty below (inr th
     HasBelow-of mode lower rest name required ty below.1 there
 
 -- the name of an attribute is among the names
-pub HasField-name : (fields : Fields) (name : Text) (required : Bool) (ty : Ty) → HasField fields name required ty → Contains (field_names fields) name
+pub HasField-name : (fields : Fields) (name : Text) (required : Bool) (ty : Ty) → HasField fields name required ty
+    → Contains (field_names fields) name
 HasField-name end name required ty has = absurd has
 HasField-name (field other flag of rest) name required ty (inl same) = Contains-cons other (field_names rest) name (inl same.0)
 HasField-name (field other flag of rest) name required ty (inr there) =
     Contains-cons other (field_names rest) name (inr (HasField-name rest name required ty there))
 
 -- a name among the names is that of an attribute
-pub HasField-named : (fields : Fields) (name : Text) → Contains (field_names fields) name → (required : Bool) × (ty : Ty) × HasField fields name required ty
+pub HasField-named : (fields : Fields) (name : Text) → Contains (field_names fields) name → (required : Bool)
+    × (ty : Ty) × HasField fields name required ty
 HasField-named end name among = absurd (omega (arith, among.1))
 HasField-named (field other flag of rest) name among =
-    ⊎_elim (λ same. (flag, of, inl (same, refl, refl))) (λ there. (let found = HasField-named rest name there in (found.0, found.1, inr found.2))) (Contains-cons_cases other (field_names rest) name among)
+    ⊎_elim (λ same. (flag, of, inl (same, refl, refl))) (λ there. (let found = HasField-named rest name there in
+    (found.0, found.1, inr found.2))) (Contains-cons_cases other (field_names rest) name among)
 
 -- the names of an upper record are among those of a lower one
-pub FieldsBelow-names : (mode : ValidationMode) (lower upper : Fields) → FieldsBelow mode lower upper → Included (field_names upper) (field_names lower)
+pub FieldsBelow-names : (mode : ValidationMode) (lower upper : Fields) → FieldsBelow mode lower upper
+    → Included (field_names upper) (field_names lower)
 FieldsBelow-names mode lower end below = Included-none (field_names lower)
 FieldsBelow-names mode lower (field name required ty rest) below =
-    Included-cons name (field_names rest) (field_names lower) (HasField-name lower name _ _ below.0.2) (FieldsBelow-names mode lower rest below.1)
+    Included-cons name (field_names rest) (field_names lower) (HasField-name lower name _ _ below.0.2)
+    (FieldsBelow-names mode lower rest below.1)
 
 -- the names of records below one another in turn
-NamesBelow-trans : (mode : ValidationMode) (openness upper_openness : OpenTag) (a b c : Fields) → OpennessBelow openness upper_openness → NamesBelow mode openness a b → NamesBelow mode upper_openness b c → NamesBelow mode upper_openness a c
+NamesBelow-trans : (mode : ValidationMode) (openness upper_openness : OpenTag) (a b c : Fields)
+    → OpennessBelow openness upper_openness → NamesBelow mode openness a b → NamesBelow mode upper_openness b c
+    → NamesBelow mode upper_openness a c
 NamesBelow-trans Strict OpenAttributes OpenAttributes a b c tags h k = λ name among. k name (h name among)
 NamesBelow-trans Strict OpenAttributes ClosedAttributes a b c tags h k = λ name among. k name (h name among)
 NamesBelow-trans Strict ClosedAttributes OpenAttributes a b c tags h k = λ name among. k name (h name among)
@@ -131,8 +144,12 @@ mutual
   Below-trans mode (set_of a) (set_of b) any_set h k = tt
   Below-trans mode (set_of a) (set_of b) (set_of c) h k = Below-trans mode a b c h k
   Below-trans mode (set_of a) (set_of b) c h k = elim k [ ]
-  Below-trans mode (record_of a openness) (record_of b middle_tag) (record_of c upper_openness) h k =
-      (OpennessBelow-trans openness middle_tag upper_openness h.0 k.0, NamesBelow-trans mode middle_tag upper_openness a b c k.0 h.1 k.1, FieldsBelow-trans mode a b c h.2 k.2)
+  Below-trans mode (record_of a openness) (record_of b middle_tag) (record_of c upper_openness) h k = (
+    OpennessBelow-trans openness middle_tag upper_openness h.0 k.0,
+    NamesBelow-trans mode middle_tag upper_openness a
+        b c k.0 h.1 k.1,
+    FieldsBelow-trans mode a b c h.2 k.2,
+  )
   Below-trans mode (record_of a openness) (record_of b middle_tag) c h k = elim k [ ]
   Below-trans mode (extension_of a) (extension_of b) (extension_of c) h k = h ∙ k
   Below-trans mode (extension_of a) (extension_of b) c h k = elim k [ ]
@@ -143,5 +160,14 @@ mutual
   FieldsBelow-trans mode a b end h k = tt
   FieldsBelow-trans mode a b (field name required ty rest) h k =
       let middle = k.0 in
-      let lower = HasBelow-of mode a b name middle.0 middle.1 h middle.2 in
-      ((lower.0, lower.1, lower.2, FlagsBelow-trans mode lower.0 middle.0 required lower.3 middle.3, Below-trans mode lower.1 middle.1 ty lower.4 middle.4), FieldsBelow-trans mode a b rest h k.1)
+      let lower = HasBelow-of mode a b name middle.0 middle.1 h middle.2 in (
+        (
+          lower.0,
+          lower.1,
+          lower.2,
+          FlagsBelow-trans mode lower.0 middle.0 required lower.3 middle.3,
+          Below-trans mode
+              lower.1 middle.1 ty lower.4 middle.4,
+        ),
+        FieldsBelow-trans mode a b rest h k.1,
+      )

@@ -17,7 +17,8 @@ use Rattle.cedar_rules.specs.Below.{HasField, FlagsBelow, Below, AttributeBelow}
 use Rattle.cedar_rules.specs.Ty.{Ty, Fields, end, field, field_at}
 
 -- where a test decides whether two elements give the same, the test of lists decides whether they give the same lists
-pub pointwise-map_Decides : {X B : Type 0} (f : X → B) (test : X → X → Bool) → ((x y : X) → Decides (test x y) (f x ≡ f y)) → (xs ys : List X) → Decides (pointwise test xs ys) (map f xs ≡ map f ys)
+pub pointwise-map_Decides : {X B : Type 0} (f : X → B) (test : X → X → Bool)
+    → ((x y : X) → Decides (test x y) (f x ≡ f y)) → (xs ys : List X) → Decides (pointwise test xs ys) (map f xs ≡ map f ys)
 pointwise-map_Decides f test same [] [] = (λ _. refl, λ _. refl)
 pointwise-map_Decides f test same [] (y ∷ ys) = (λ e. absurd cc, λ e. absurd cc)
 pointwise-map_Decides f test same (x ∷ xs) [] = (λ e. absurd cc, λ e. absurd cc)
@@ -29,7 +30,9 @@ pointwise-map_Decides f test same (x ∷ xs) (y ∷ ys) =
     (Decides-and _ _ (same x y) (pointwise-map_Decides f test same xs ys))
 
 -- what a choice between an attribute and the rest gives
-HasField-chosen : (b : Bool) (name other : Text) (required : Bool) (ty : Ty) (rest : Fields) (own : Bool × Ty) → (b ≡ true → name ≡ other) → (field_at name rest ≡ Some own → HasField rest name own.0 own.1) → (if b then Some (required, ty) else field_at name rest) ≡ Some own → HasField (field other required ty rest) name own.0 own.1
+HasField-chosen : (b : Bool) (name other : Text) (required : Bool) (ty : Ty) (rest : Fields) (own : Bool × Ty)
+    → (b ≡ true → name ≡ other) → (field_at name rest ≡ Some own → HasField rest name own.0 own.1)
+    → (if b then Some (required, ty) else field_at name rest) ≡ Some own → HasField (field other required ty rest) name own.0 own.1
 HasField-chosen true name other required ty rest own same before e =
     let pair : (required, ty) ≡ own = cc in
     inl (sym (same refl), ap (λ (p : Bool × Ty). p.0) pair, ap (λ (p : Bool × Ty). p.1) pair)
@@ -42,7 +45,8 @@ HasField-found name (field other required ty rest) own e =
     HasField-chosen (bytes_eq name other) name other required ty rest own (bytes_eq-Decides name other).0 (HasField-found name rest own) e
 
 -- what holds of each name holds of an attribute's
-pub HasField-all : (P : Text → Type 0) (name : Text) (fields : Fields) (required : Bool) (ty : Ty) → HasField fields name required ty → AllByRecursion P (field_names fields) → P name
+pub HasField-all : (P : Text → Type 0) (name : Text) (fields : Fields) (required : Bool) (ty : Ty)
+    → HasField fields name required ty → AllByRecursion P (field_names fields) → P name
 HasField-all P name end required ty has all = absurd has
 HasField-all P name (field other flag of rest) required ty (inl same) all = subst P same.0 all.0
 HasField-all P name (field other flag of rest) required ty (inr there) all = HasField-all P name rest required ty there all.1
@@ -66,7 +70,8 @@ chosen_first true x y made = refl
 chosen_first false x y made = absurd cc
 
 -- where the names ascend, each attribute is found
-pub found-HasField : (name : Text) (fields : Fields) (required : Bool) (ty : Ty) → IsAscending fields → HasField fields name required ty → field_at name fields ≡ Some (required, ty)
+pub found-HasField : (name : Text) (fields : Fields) (required : Bool) (ty : Ty) → IsAscending fields
+    → HasField fields name required ty → field_at name fields ≡ Some (required, ty)
 unfolding IsStrictlySortedBy
 found-HasField name end required ty ascending has = absurd has
 found-HasField name (field other flag of rest) required ty ascending (inl same) =
@@ -83,7 +88,9 @@ HasBelow mode lower name required ty =
     (own_required : Bool) × (own : Ty) × HasField lower name own_required own × FlagsBelow mode own_required required × Below mode own ty
 
 -- whether the attribute that is found is below decides whether there is one below
-pub HasBelow-Decides : (mode : ValidationMode) (lower : Fields) (name : Text) (upper own : Bool × Ty) (b : Bool) → IsAscending lower → field_at name lower ≡ Some own → Decides b (AttributeBelow mode own upper) → Decides b (HasBelow mode lower name upper.0 upper.1)
+pub HasBelow-Decides : (mode : ValidationMode) (lower : Fields) (name : Text) (upper own : Bool × Ty) (b : Bool)
+    → IsAscending lower → field_at name lower ≡ Some own → Decides b (AttributeBelow mode own upper)
+    → Decides b (HasBelow mode lower name upper.0 upper.1)
 HasBelow-Decides mode lower name upper own b ascending found decides = (
   λ e. let below = decides.0 e in (own.0, own.1, HasField-found name lower own found, below.0, below.1),
   λ has. let again : field_at name lower ≡ Some (has.0, has.1) = found-HasField name lower has.0 has.1 ascending has.2 in
@@ -92,7 +99,8 @@ HasBelow-Decides mode lower name upper own b ascending found decides = (
 )
 
 -- where no attribute is found there is none below
-pub HasBelow-none : (mode : ValidationMode) (lower : Fields) (name : Text) (upper : Bool × Ty) → IsAscending lower → field_at name lower ≡ None → ¬ HasBelow mode lower name upper.0 upper.1
+pub HasBelow-none : (mode : ValidationMode) (lower : Fields) (name : Text) (upper : Bool × Ty) → IsAscending lower
+    → field_at name lower ≡ None → ¬ HasBelow mode lower name upper.0 upper.1
 HasBelow-none mode lower name upper ascending none has =
     let again : field_at name lower ≡ Some (has.0, has.1) = found-HasField name lower has.0 has.1 ascending has.2 in
     cc

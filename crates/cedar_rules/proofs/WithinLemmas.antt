@@ -17,19 +17,24 @@ use Rattle.cedar_rules.specs.Ty.{Ty, set_of, record_of, Fields, end, field}
 use Rattle.cedar_rules.specs.declared.open_tag.OpenTag.{OpenTag}
 
 -- attributes are below others if there is one below each of those
-pub FieldsBelow-from : (mode : ValidationMode) (lower upper : Fields) → ((name : Text) (required : Bool) (ty : Ty) → HasField upper name required ty → HasBelow mode lower name required ty) → FieldsBelow mode lower upper
+pub FieldsBelow-from : (mode : ValidationMode) (lower upper : Fields)
+    → ((name : Text) (required : Bool) (ty : Ty) → HasField upper name required ty
+    → HasBelow mode lower name required ty) → FieldsBelow mode lower upper
 FieldsBelow-from mode lower end each = tt
 FieldsBelow-from mode lower (field name required ty rest) each =
     (each name required ty (inl (refl, refl, refl)), FieldsBelow-from mode lower rest (λ n r t has. each n r t (inr has)))
 
 -- attributes lie within some types if the type of each does
-pub FieldsLieWithin-from : (Among : Ty → Type 0) (fields : Fields) → ((name : Text) (required : Bool) (ty : Ty) → HasField fields name required ty → LiesWithin (IsNamedIn Among name) ty) → FieldsLieWithin Among fields
+pub FieldsLieWithin-from : (Among : Ty → Type 0) (fields : Fields)
+    → ((name : Text) (required : Bool) (ty : Ty) → HasField fields name required ty
+    → LiesWithin (IsNamedIn Among name) ty) → FieldsLieWithin Among fields
 FieldsLieWithin-from Among end each = tt
 FieldsLieWithin-from Among (field name required ty rest) each =
     (each name required ty (inl (refl, refl, refl)), FieldsLieWithin-from Among rest (λ n r t has. each n r t (inr has)))
 
 -- of attributes that lie within some types the type of each does
-pub FieldsLieWithin-of : (Among : Ty → Type 0) (fields : Fields) (name : Text) (required : Bool) (ty : Ty) → FieldsLieWithin Among fields → HasField fields name required ty → LiesWithin (IsNamedIn Among name) ty
+pub FieldsLieWithin-of : (Among : Ty → Type 0) (fields : Fields) (name : Text) (required : Bool) (ty : Ty)
+    → FieldsLieWithin Among fields → HasField fields name required ty → LiesWithin (IsNamedIn Among name) ty
 FieldsLieWithin-of Among end name required ty within has = absurd has
 FieldsLieWithin-of Among (field other flag of rest) name required ty within (inl same) =
     subst (λ n. LiesWithin (IsNamedIn Among n) ty) same.0 (subst (LiesWithin (IsNamedIn Among other)) same.2 within.0)
@@ -37,16 +42,21 @@ FieldsLieWithin-of Among (field other flag of rest) name required ty within (inr
     FieldsLieWithin-of Among rest name required ty within.1 there
 
 -- what lies within the types of a name of two records lies within the two types that they have there
-pub within_both : (fa fb : Fields) (ta tb : OpenTag) (name : Text) (ra rb : Bool) (a b ty : Ty) → IsAscending fa → IsAscending fb → HasField fa name ra a → HasField fb name rb b → LiesWithin (IsNamedIn (IsEither (record_of fa ta) (record_of fb tb)) name) ty → LiesWithin (IsEither a b) ty
+pub within_both : (fa fb : Fields) (ta tb : OpenTag) (name : Text) (ra rb : Bool) (a b ty : Ty) → IsAscending fa
+    → IsAscending fb → HasField fa name ra a → HasField fb name rb b
+    → LiesWithin (IsNamedIn (IsEither (record_of fa ta) (record_of fb tb)) name) ty → LiesWithin (IsEither a b) ty
 within_both fa fb ta tb name ra rb a b ty first second has also =
     LiesWithin-more (IsNamedIn (IsEither (record_of fa ta) (record_of fb tb)) name) (IsEither a b) ty
     (λ of named. ⊎_elim
-    (λ e. inl (let same : named.0 ≡ fa = cc in (HasField-once fa name named.2 ra of a first (subst (λ f. HasField f name named.2 of) same named.4) has).1))
-    (λ e. inr (let same : named.0 ≡ fb = cc in (HasField-once fb name named.2 rb of b second (subst (λ f. HasField f name named.2 of) same named.4) also).1))
+    (λ e. inl (let same : named.0 ≡ fa = cc in
+    (HasField-once fa name named.2 ra of a first (subst (λ f. HasField f name named.2 of) same named.4) has).1))
+    (λ e. inr (let same : named.0 ≡ fb = cc in
+    (HasField-once fb name named.2 rb of b second (subst (λ f. HasField f name named.2 of) same named.4) also).1))
     named.3)
 
 -- what lies within the two types that two records have at a name lies within their types of that name
-pub within_named : (fa fb : Fields) (ta tb : OpenTag) (name : Text) (ra rb : Bool) (a b ty : Ty) → HasField fa name ra a → HasField fb name rb b → LiesWithin (IsEither a b) ty → LiesWithin (IsNamedIn (IsEither (record_of fa ta) (record_of fb tb)) name) ty
+pub within_named : (fa fb : Fields) (ta tb : OpenTag) (name : Text) (ra rb : Bool) (a b ty : Ty) → HasField fa name ra a
+    → HasField fb name rb b → LiesWithin (IsEither a b) ty → LiesWithin (IsNamedIn (IsEither (record_of fa ta) (record_of fb tb)) name) ty
 within_named fa fb ta tb name ra rb a b ty has also =
     LiesWithin-more (IsEither a b) (IsNamedIn (IsEither (record_of fa ta) (record_of fb tb)) name) ty
     (λ of either. ⊎_elim
@@ -77,7 +87,8 @@ replaced_names name ty end = refl
 replaced_names name ty (field other required of rest) = λ i. other ∷ replaced_names name ty rest i
 
 -- what the first attribute becomes
-replaced_first : (b : Bool) (name other n : Text) (flag r : Bool) (ty of t : Ty) (rest : Fields) → (b ≡ true → name ≡ other) → other ≡ n → flag ≡ r → (if b then ty else of) ≡ t
+replaced_first : (b : Bool) (name other n : Text) (flag r : Bool) (ty of t : Ty) (rest : Fields)
+    → (b ≡ true → name ≡ other) → other ≡ n → flag ≡ r → (if b then ty else of) ≡ t
     → ((name ≡ n) × (ty ≡ t) × ((own : Ty) × HasField (field other flag of rest) n r own)) ⊎ HasField (field other flag of rest) n r t
 replaced_first true name other n flag r ty of t rest equal same alike e = inl (equal refl ∙ same, e, (of, inl (same, alike, refl)))
 replaced_first false name other n flag r ty of t rest equal same alike e = inr (inl (same, alike, e))
@@ -92,14 +103,16 @@ replaced_has name ty (field other flag of rest) n r t (inr there) =
     ⊎_elim (λ new. inl (new.0, new.1, (new.2.0, inr new.2.1))) (λ old. inr (inr old)) (replaced_has name ty rest n r t there)
 
 -- the new type stands in the place of an old one of that name
-pub has_replaced : (name : Text) (ty : Ty) (fields : Fields) (r : Bool) (own : Ty) → HasField fields name r own → HasField (replaced name ty fields) name r ty
+pub has_replaced : (name : Text) (ty : Ty) (fields : Fields) (r : Bool) (own : Ty) → HasField fields name r own
+    → HasField (replaced name ty fields) name r ty
 has_replaced name ty end r own has = absurd has
 has_replaced name ty (field other flag of rest) r own (inl same) =
     inl (same.0, same.1, chosen_first (bytes_eq name other) ty of ((bytes_eq-Decides name other).1 (sym same.0)))
 has_replaced name ty (field other flag of rest) r own (inr there) = inr (has_replaced name ty rest r own there)
 
 -- a record stays above another as a type at a name becomes another above the other's
-replaced_above : (fa fj : Fields) (name : Text) (ra : Bool) (a ty : Ty) → IsAscending fa → HasField fa name ra a → Below Strict a ty → FieldsBelow Strict fa fj → FieldsBelow Strict fa (replaced name ty fj)
+replaced_above : (fa fj : Fields) (name : Text) (ra : Bool) (a ty : Ty) → IsAscending fa → HasField fa name ra a
+    → Below Strict a ty → FieldsBelow Strict fa fj → FieldsBelow Strict fa (replaced name ty fj)
 replaced_above fa fj name ra a ty ascending has below h =
     FieldsBelow-from Strict fa (replaced name ty fj)
     (λ n r t there. ⊎_elim
@@ -111,7 +124,8 @@ replaced_above fa fj name ra a ty ascending has below h =
     (replaced_has name ty fj n r t there))
 
 -- the type at a name of a least own bound of two records is the least own bound of the types there, in strict mode
-pub least_at_name : (fa fb fj : Fields) (ta tb tj : OpenTag) (name : Text) (ra rb rj : Bool) (a b join : Ty) → IsAscending fa → IsAscending fb → IsAscending fj → HasField fa name ra a → HasField fb name rb b → HasField fj name rj join
+pub least_at_name : (fa fb fj : Fields) (ta tb tj : OpenTag) (name : Text) (ra rb rj : Bool) (a b join : Ty)
+    → IsAscending fa → IsAscending fb → IsAscending fj → HasField fa name ra a → HasField fb name rb b → HasField fj name rj join
     → IsLeastOwnBound Strict (record_of fa ta) (record_of fb tb) (record_of fj tj) → IsLeastOwnBound Strict a b join
 least_at_name fa fb fj ta tb tj name ra rb rj a b join first second third has also there least =
     let lower = HasBelow-of Strict fa fj name rj join least.0.0.0.2 there in
@@ -132,7 +146,8 @@ least_at_name fa fb fj ta tb tj name ra rb rj a b join first second third has al
     other_names_same : (bound : Ty) → Included (field_names fb) (field_names (replaced name bound fj))
     other_names_same bound = subst (Included (field_names fb)) (sym (replaced_names name bound fj)) least.0.0.1.0.1
 
-    own_bound : (bound : Ty) → IsOwnBound Strict a b bound → IsOwnBound Strict (record_of fa ta) (record_of fb tb) (record_of (replaced name bound fj) tj)
+    own_bound : (bound : Ty) → IsOwnBound Strict a b bound → IsOwnBound Strict (record_of fa ta) (record_of fb tb)
+        (record_of (replaced name bound fj) tj)
     own_bound bound own = (
       (
         (least.0.0.0.0, names_same bound, replaced_above fa fj name ra a bound first has own.0.0 least.0.0.0.2),

@@ -33,7 +33,8 @@ abbrev mutual
   IsConsistent (record_of fields openness) (core_record core open_attrs) =
       FieldsAreConsistent fields core
       × AreOptionalBeyond (λ name required. (ty : Ty) × HasField fields name required ty) (core_names core) (open_attrs ≡ true)
-      × AreOptionalBeyond (λ name required. (of : CoreTy) × HasCoreField core name required of) (field_names fields) (openness ≡ OpenAttributes)
+      × AreOptionalBeyond (λ name required. (of : CoreTy) × HasCoreField core name required of) (field_names fields)
+      (openness ≡ OpenAttributes)
   IsConsistent _ _ = ⊥
 
   -- the attributes of a name that both have are of consistent types

@@ -52,7 +52,8 @@ Told = layer.Type-F ((t : «Type») × IsTold t) ((t : AttributeType) × IsToldA
 
 -- the layer without the proofs
 abbrev pub parts : Told → layer.Type-F «Type» AttributeType Attributes
-parts y = map-Type ((t : «Type») × IsTold t) ((t : AttributeType) × IsToldAttribute t) ((t : Attributes) × AreTold t) «Type» AttributeType Attributes (λ e. e.0) (λ e. e.0) (λ e. e.0) y
+parts y = map-Type ((t : «Type») × IsTold t) ((t : AttributeType) × IsToldAttribute t) ((t : Attributes)
+    × AreTold t) «Type» AttributeType Attributes (λ e. e.0) (λ e. e.0) (λ e. e.0) y
 
 -- the kind of a layer, as a number
 abbrev pub layer_shape : layer.Type-F «Type» AttributeType Attributes → ℕ
@@ -83,7 +84,8 @@ same_shape : (x z : layer.Type-F «Type» AttributeType Attributes) → folded_l
 same_shape x z same = sym (shape-folded_layer x) ∙ (ap kind_place same ∙ shape-folded_layer z)
 
 -- layers are told apart where their parts are
-layers-Decides : (y : Told) (z : layer.Type-F «Type» AttributeType Attributes) → Decides (type_eq.Laws.unfolded (roll-Type (parts y)) (roll-Type z)) (folded_layer (parts y) ≡ folded_layer z)
+layers-Decides : (y : Told) (z : layer.Type-F «Type» AttributeType Attributes)
+    → Decides (type_eq.Laws.unfolded (roll-Type (parts y)) (roll-Type z)) (folded_layer (parts y) ≡ folded_layer z)
 unfolding out-Type denote.Hole.Carrier.out roll-Type denote.Hole.Carrier.roll
 layers-Decides layer.Never layer.Never = (λ _. refl, λ _. refl)
 layers-Decides (layer.Bool a) (layer.Bool b) = Decides-like _ (ap truth) (λ e. cc) (bool_eq-same a b)
@@ -110,7 +112,8 @@ type_told x y is b =
     (let first = fold-roll-Type Ty (Bool × Ty) Fields type_step attribute_step attributes_step (parts y) in
     let second = fold-roll-Type Ty (Bool × Ty) Fields type_step attribute_step attributes_step z in
     Decides-like _ (λ e. first ∙ (e ∙ sym second)) (λ e. sym first ∙ (e ∙ second)) rolled) in
-    let P : layer.Type-F «Type» AttributeType Attributes → Type 0 = λ each. Decides ((type_eq.ghosts).eq (roll-Type each) b) (ty_of (roll-Type each) ≡ ty_of b) in
+    let P : layer.Type-F «Type» AttributeType Attributes → Type 0 =
+    λ each. Decides ((type_eq.ghosts).eq (roll-Type each) b) (ty_of (roll-Type each) ≡ ty_of b) in
     let Q : «Type» → Type 0 = λ each. Decides ((type_eq.ghosts).eq (roll-Type (parts y)) each) (ty_of (roll-Type (parts y)) ≡ ty_of each) in
     subst P is (subst Q (roll-out-Type b) whole)
 
@@ -120,17 +123,21 @@ ToldAttribute = layer.AttributeType-F ((t : «Type») × IsTold t) ((t : Attribu
 
 -- the attribute without the proof
 abbrev pub attribute_parts : ToldAttribute → layer.AttributeType-F «Type» AttributeType Attributes
-attribute_parts y = map-AttributeType ((t : «Type») × IsTold t) ((t : AttributeType) × IsToldAttribute t) ((t : Attributes) × AreTold t) «Type» AttributeType Attributes (λ e. e.0) (λ e. e.0) (λ e. e.0) y
+attribute_parts y = map-AttributeType ((t : «Type») × IsTold t) ((t : AttributeType) × IsToldAttribute t)
+    ((t : Attributes) × AreTold t) «Type» AttributeType Attributes (λ e. e.0) (λ e. e.0) (λ e. e.0) y
 
 -- an attribute stands for its flag and its type
-pub attribute_of-parts : (a : AttributeType) → attribute_of a ≡ ((out-AttributeType a).is_required, ty_of (out-AttributeType a).attr_type.value)
+pub attribute_of-parts : (a : AttributeType) → attribute_of a
+    ≡ ((out-AttributeType a).is_required, ty_of (out-AttributeType a).attr_type.value)
 attribute_of-parts a = fold_out-AttributeType Ty (Bool × Ty) Fields type_step attribute_step attributes_step a
 
 -- an attribute whose type is told apart is
-attribute_told : (x : layer.AttributeType-F «Type» AttributeType Attributes) (y : ToldAttribute) → attribute_parts y ≡ x → IsToldAttribute (roll-AttributeType x)
+attribute_told : (x : layer.AttributeType-F «Type» AttributeType Attributes) (y : ToldAttribute) → attribute_parts y ≡ x
+    → IsToldAttribute (roll-AttributeType x)
 attribute_told x y is b =
     let a = roll-AttributeType (attribute_parts y) in
-    let parts_told = Decides-and _ _ (y.attr_type.value.1 (out-AttributeType b).attr_type.value) (flags-Decides y.is_required (out-AttributeType b).is_required) in
+    let parts_told = Decides-and _ _ (y.attr_type.value.1 (out-AttributeType b).attr_type.value)
+    (flags-Decides y.is_required (out-AttributeType b).is_required) in
     let D : Bool → Type 0 = λ answer. Decides answer (attribute_of a ≡ attribute_of b) in
     let whole : D ((attribute_type_eq.ghosts).eq a b) =
     subst D (sym (attribute_type_eq.Laws.is a b))
@@ -138,7 +145,9 @@ attribute_told x y is b =
     (λ both. attribute_of-parts a ∙ ((λ i. (both.1 i, both.0 i)) ∙ sym (attribute_of-parts b)))
     (λ e. let same = sym (attribute_of-parts a) ∙ (e ∙ attribute_of-parts b) in (ap (λ pair. pair.1) same, ap (λ pair. pair.0) same))
     parts_told) in
-    let P : layer.AttributeType-F «Type» AttributeType Attributes → Type 0 = λ each. Decides ((attribute_type_eq.ghosts).eq (roll-AttributeType each) b) (attribute_of (roll-AttributeType each) ≡ attribute_of b) in
+    let P : layer.AttributeType-F «Type» AttributeType Attributes → Type 0 =
+    λ each. Decides ((attribute_type_eq.ghosts).eq (roll-AttributeType each) b)
+    (attribute_of (roll-AttributeType each) ≡ attribute_of b) in
     subst P is whole
 
 -- attributes whose types are told apart
@@ -147,10 +156,12 @@ ToldAttributes = layer.Attributes-F ((t : «Type») × IsTold t) ((t : Attribute
 
 -- the attributes without the proofs
 abbrev pub attributes_parts : ToldAttributes → layer.Attributes-F «Type» AttributeType Attributes
-attributes_parts y = map-Attributes ((t : «Type») × IsTold t) ((t : AttributeType) × IsToldAttribute t) ((t : Attributes) × AreTold t) «Type» AttributeType Attributes (λ e. e.0) (λ e. e.0) (λ e. e.0) y
+attributes_parts y = map-Attributes ((t : «Type») × IsTold t) ((t : AttributeType) × IsToldAttribute t)
+    ((t : Attributes) × AreTold t) «Type» AttributeType Attributes (λ e. e.0) (λ e. e.0) (λ e. e.0) y
 
 -- attributes stand for their entries
-pub fields_of-rolled : (x : layer.Attributes-F «Type» AttributeType Attributes) → fields_of (roll-Attributes x) ≡ fields_from (map (λ entry. (string_bytes entry.0, attribute_of entry.1)) x.attrs.entries)
+pub fields_of-rolled : (x : layer.Attributes-F «Type» AttributeType Attributes)
+    → fields_of (roll-Attributes x) ≡ fields_from (map (λ entry. (string_bytes entry.0, attribute_of entry.1)) x.attrs.entries)
 fields_of-rolled x =
     fold-roll-Attributes Ty (Bool × Ty) Fields type_step attribute_step attributes_step x ∙ ap fields_from (map-map _ _ _)
 
@@ -178,7 +189,9 @@ abbrev same_entry : String Global × AttributeType → String Global × Attribut
 same_entry p q = pointwise nat_eq (string_bytes p.0) (string_bytes q.0) && (attribute_type_eq.ghosts).eq p.1 q.1
 
 -- entries are equal exactly where they stand for the same attributes
-entries-Decides : (xs : List (String Global × ((t : AttributeType) × IsToldAttribute t))) (ys : List (String Global × AttributeType)) → Decides (pointwise same_entry (map (λ e. (e.0, e.1.0)) xs) ys) (fields_from (map plain_entry (map (λ e. (e.0, e.1.0)) xs)) ≡ fields_from (map plain_entry ys))
+entries-Decides : (xs : List (String Global × ((t : AttributeType) × IsToldAttribute t)))
+    (ys : List (String Global × AttributeType)) → Decides (pointwise same_entry (map (λ e. (e.0, e.1.0)) xs) ys)
+    (fields_from (map plain_entry (map (λ e. (e.0, e.1.0)) xs)) ≡ fields_from (map plain_entry ys))
 entries-Decides [] [] = (λ _. refl, λ _. refl)
 entries-Decides [] (y ∷ ys) = none (λ e. cc)
 entries-Decides (x ∷ xs) [] = none (λ e. cc)
@@ -189,17 +202,22 @@ entries-Decides (x ∷ xs) (y ∷ ys) =
     (Decides-and _ _ (Decides-and _ _ (text_eq-Decides (string_bytes x.0) (string_bytes y.0)) (x.1.1 y.1)) (entries-Decides xs ys))
 
 -- the test of attributes compares their entries
-compares_entries : (x z : layer.Attributes-F «Type» AttributeType Attributes) → attributes_eq.Laws.unfolded (roll-Attributes x) (roll-Attributes z) ≡ pointwise same_entry x.attrs.entries z.attrs.entries
+compares_entries : (x z : layer.Attributes-F «Type» AttributeType Attributes)
+    → attributes_eq.Laws.unfolded (roll-Attributes x) (roll-Attributes z) ≡ pointwise same_entry x.attrs.entries z.attrs.entries
 compares_entries x z i = pointwise same_entry (out-roll-Attributes x i).attrs.entries (out-roll-Attributes z i).attrs.entries
 
 -- attributes are equal exactly where their entries stand for the same
-rolled-Decides : (y : ToldAttributes) (z : layer.Attributes-F «Type» AttributeType Attributes) → Decides (attributes_eq.Laws.unfolded (roll-Attributes (attributes_parts y)) (roll-Attributes z)) (fields_from (map plain_entry (attributes_parts y).attrs.entries) ≡ fields_from (map plain_entry z.attrs.entries))
+rolled-Decides : (y : ToldAttributes) (z : layer.Attributes-F «Type» AttributeType Attributes)
+    → Decides (attributes_eq.Laws.unfolded (roll-Attributes (attributes_parts y)) (roll-Attributes z))
+    (fields_from (map plain_entry (attributes_parts y).attrs.entries) ≡ fields_from (map plain_entry z.attrs.entries))
 rolled-Decides y z =
-    let D : Bool → Type 0 = λ answer. Decides answer (fields_from (map plain_entry (attributes_parts y).attrs.entries) ≡ fields_from (map plain_entry z.attrs.entries)) in
+    let D : Bool → Type 0 = λ answer. Decides answer (fields_from (map plain_entry (attributes_parts y).attrs.entries)
+    ≡ fields_from (map plain_entry z.attrs.entries)) in
     subst D (sym (compares_entries (attributes_parts y) z)) (entries-Decides y.attrs.entries z.attrs.entries)
 
 -- attributes whose types are told apart are
-attributes_told : (x : layer.Attributes-F «Type» AttributeType Attributes) (y : ToldAttributes) → attributes_parts y ≡ x → AreTold (roll-Attributes x)
+attributes_told : (x : layer.Attributes-F «Type» AttributeType Attributes) (y : ToldAttributes) → attributes_parts y ≡ x
+    → AreTold (roll-Attributes x)
 attributes_told x y is b =
     let z = out-Attributes b in
     let a = roll-Attributes (attributes_parts y) in
@@ -209,7 +227,8 @@ attributes_told x y is b =
     let whole : D ((attributes_eq.ghosts).eq a (roll-Attributes z)) =
     subst D (sym (attributes_eq.Laws.is a (roll-Attributes z)))
     (Decides-like _ (λ e. first ∙ (e ∙ sym second)) (λ e. sym first ∙ (e ∙ second)) (rolled-Decides y z)) in
-    let P : layer.Attributes-F «Type» AttributeType Attributes → Type 0 = λ each. Decides ((attributes_eq.ghosts).eq (roll-Attributes each) b) (fields_of (roll-Attributes each) ≡ fields_of b) in
+    let P : layer.Attributes-F «Type» AttributeType Attributes → Type 0 =
+    λ each. Decides ((attributes_eq.ghosts).eq (roll-Attributes each) b) (fields_of (roll-Attributes each) ≡ fields_of b) in
     let Q : Attributes → Type 0 = λ each. Decides ((attributes_eq.ghosts).eq a each) (fields_of a ≡ fields_of each) in
     subst P is (subst Q (roll-out-Attributes b) whole)
 

@@ -17,11 +17,13 @@ eq-Decides ty each =
     (λ equal. sym ((entity_type_eq-same ty each).0 equal), λ same. (entity_type_eq-same ty each).1 (sym same))
 
 -- a search among entity types by equality decides whether the name is among theirs
-pub list_any-names : (ty : EntityType) (types : List EntityType) → Decides (list_any ((entity_type_eq.ghosts).eq ty) types) (Contains (map type_name types) (type_name ty))
+pub list_any-names : (ty : EntityType) (types : List EntityType)
+    → Decides (list_any ((entity_type_eq.ghosts).eq ty) types) (Contains (map type_name types) (type_name ty))
 list_any-names ty types = list_any-Contains type_name (type_name ty) _ (eq-Decides ty) types
 
 -- a name of a list of entity types is that of one of them
-pub Contains-named : (types : List EntityType) (name : PlainName) → Contains (map type_name types) name → (ty : EntityType) × Contains types ty × (type_name ty ≡ name)
+pub Contains-named : (types : List EntityType) (name : PlainName) → Contains (map type_name types) name
+    → (ty : EntityType) × Contains types ty × (type_name ty ≡ name)
 Contains-named [] name among = absurd (omega (arith, among.1))
 Contains-named (ty ∷ types) name among =
     let first : EntityType = ty in

@@ -35,7 +35,8 @@ pub record IsBoth (first second both : Answer) : Type 0 where
 
 -- an answer is right so far: what is left decides about the whole where the answer isn't no, and the fault is one of
 -- the whole
-pub record IsMembershipSoFar (so_far : Answer) (H U : Type 0) (M : PlainName → Type 0) (Whole MayWhole : Type 0) (Meeting : PlainName → Type 0) : Type 0 where
+pub record IsMembershipSoFar (so_far : Answer) (H U : Type 0) (M : PlainName → Type 0) (Whole MayWhole : Type 0)
+    (Meeting : PlainName → Type 0) : Type 0 where
   pub yes : so_far ≡ Ok true → H → Whole
   pub parts : Whole → (so_far ≡ Ok true) × H
   pub no : so_far ≡ Ok false → ¬ MayWhole
@@ -57,30 +58,38 @@ IsMembershipSoFar-none H U M = record {
 }
 
 -- what holds of the one error of an answer
-IfErr-of : (answer : Answer) (P : ExtensionFunctionLookupError → Type 0) (error : ExtensionFunctionLookupError) → answer ≡ Err error → IfErr answer P → P error
+IfErr-of : (answer : Answer) (P : ExtensionFunctionLookupError → Type 0) (error : ExtensionFunctionLookupError)
+    → answer ≡ Err error → IfErr answer P → P error
 IfErr-of answer P error is holds =
     let Q : Answer → Type 0 = λ given. IfErr given P in
     subst Q is holds
 
 -- an answer that holds in a weaker form
-IfErr-weaker : (answer : Answer) (P Q : ExtensionFunctionLookupError → Type 0) → ((error : ExtensionFunctionLookupError) → P error → Q error) → IfErr answer P → IfErr answer Q
+IfErr-weaker : (answer : Answer) (P Q : ExtensionFunctionLookupError → Type 0)
+    → ((error : ExtensionFunctionLookupError) → P error → Q error) → IfErr answer P → IfErr answer Q
 IfErr-weaker (Ok b) P Q weaker holds = tt
 IfErr-weaker (Err error) P Q weaker holds = weaker error holds
 
 -- one more part is answered
-pub IsMembershipSoFar-more : (so_far b next : Answer) (H K U V : Type 0) (M N : PlainName → Type 0) (Whole MayWhole : Type 0) (Meeting : PlainName → Type 0) → IsBoth so_far b next → IsMembershipSoFar so_far (H × K) (U × V) (λ f. M f ⊎ N f) Whole MayWhole Meeting → IsMembership b H U M → IsMembershipSoFar next K V N Whole MayWhole Meeting
+pub IsMembershipSoFar-more : (so_far b next : Answer) (H K U V : Type 0) (M N : PlainName → Type 0)
+    (Whole MayWhole : Type 0) (Meeting : PlainName → Type 0) → IsBoth so_far b next
+    → IsMembershipSoFar so_far (H × K) (U × V) (λ f. M f ⊎ N f) Whole MayWhole Meeting → IsMembership b H U M
+    → IsMembershipSoFar next K V N Whole MayWhole Meeting
 IsMembershipSoFar-more so_far b next H K U V M N Whole MayWhole Meeting both before right = record {
   yes = λ e k. (let parts = both.yes.0 e in before.yes parts.0 (right.yes.0 parts.1, k));
   parts = λ whole. (let parts = before.parts whole in (both.yes.1 (parts.0, right.yes.1 parts.1.0), parts.1.1));
   no = λ e may. ⊎_elim (λ first. before.no first may) (λ second. right.no.0 second (before.may may).0) (both.no.0 e);
   may = λ may. (before.may may).1;
-  undecided = λ open_still never v. open_still (both.no.1 (inr (right.no.1 (λ u. before.undecided (λ first. open_still (both.no.1 (inl first))) never (u, v)))));
-  fault = IfErr-weaker next _ _ (λ error either. ⊎_elim (λ first. IfErr-of so_far _ error first before.fault) (λ second. before.meets (plain_name error.name.now) (inl (IfErr-of b _ error second right.fault))) either) both.fault;
+  undecided = λ open_still never v. open_still
+      (both.no.1 (inr (right.no.1 (λ u. before.undecided (λ first. open_still (both.no.1 (inl first))) never (u, v)))));
+  fault = IfErr-weaker next _ _ (λ error either. ⊎_elim (λ first. IfErr-of so_far _ error first before.fault)
+      (λ second. before.meets (plain_name error.name.now) (inl (IfErr-of b _ error second right.fault))) either) both.fault;
   meets = λ unknown n. before.meets unknown (inr n);
 }
 
 -- at last nothing is left
-pub IsMembershipSoFar-all : (so_far : Answer) (M : PlainName → Type 0) (Whole MayWhole : Type 0) (Meeting : PlainName → Type 0) → IsMembershipSoFar so_far (Unit {0}) (Unit {0}) M Whole MayWhole Meeting → IsMembership so_far Whole MayWhole Meeting
+pub IsMembershipSoFar-all : (so_far : Answer) (M : PlainName → Type 0) (Whole MayWhole : Type 0) (Meeting : PlainName
+    → Type 0) → IsMembershipSoFar so_far (Unit {0}) (Unit {0}) M Whole MayWhole Meeting → IsMembership so_far Whole MayWhole Meeting
 IsMembershipSoFar-all so_far M Whole MayWhole Meeting before = record {
   yes = (λ e. before.yes e tt, λ whole. (before.parts whole).0);
   no = (before.no, λ never. decided so_far (λ open_still. before.undecided open_still never tt));
@@ -93,25 +102,36 @@ IsMembershipSoFar-all so_far M Whole MayWhole Meeting before = record {
     decided (Err error) open_still = absurd (open_still (λ e. cc))
 
 -- a known call: its test decides whether it gives the value, and it has a function
-pub IsMembership-known : (extensions : Extensions) (name : PlainName) (args : Trees) (ty : PlainName) (function : ExtensionFunction) (b : Bool) → function_named extensions name ≡ Some function → Decides b ((result_type function ≡ Some (core_extension ty)) × ArgumentsFit extensions args (argument_types function)) → IsMembership (Ok b) (Gives extensions name args ty) (MayGive extensions name args ty) (λ unknown. (name ≡ unknown) × IsUnknown extensions unknown)
+pub IsMembership-known : (extensions : Extensions) (name : PlainName) (args : Trees) (ty : PlainName)
+    (function : ExtensionFunction) (b : Bool) → function_named extensions name ≡ Some function
+    → Decides b ((result_type function ≡ Some (core_extension ty))
+    × ArgumentsFit extensions args (argument_types function))
+    → IsMembership (Ok b) (Gives extensions name args ty) (MayGive extensions name args ty)
+    (λ unknown. (name ≡ unknown) × IsUnknown extensions unknown)
 IsMembership-known extensions name args ty function b known decides =
     let given : Decides b (Gives extensions name args ty) = (
       λ e. (let both = decides.0 e in (function, known, both.0, both.1)),
       λ gives. (let same : gives.0 ≡ function = (let found = gives.1 in cc) in
-          decides.1 (subst (λ (f : ExtensionFunction). (result_type f ≡ Some (core_extension ty)) × ArgumentsFit extensions args (argument_types f)) same (gives.2, gives.3))),
+          decides.1 (subst (λ (f : ExtensionFunction). (result_type f ≡ Some (core_extension ty))
+          × ArgumentsFit extensions args (argument_types f)) same (gives.2, gives.3))),
     ) in
     let may : Decides b (MayGive extensions name args ty) = (
       λ e. inl (given.0 e),
       λ either. ⊎_elim given.1 (λ unknown. absurd (let found : function_named extensions name ≡ None = unknown in cc)) either,
     ) in
     let right = IsMembership-test b (Gives extensions name args ty) (λ unknown. (name ≡ unknown) × IsUnknown extensions unknown) given in
-    let right_may = IsMembership-test b (MayGive extensions name args ty) (λ unknown. (name ≡ unknown) × IsUnknown extensions unknown) may in
+    let right_may = IsMembership-test b (MayGive extensions name args ty) (λ unknown. (name ≡ unknown)
+    × IsUnknown extensions unknown) may in
     record { yes = right.yes; no = right_may.no; fault = tt }
 
 -- an unknown call meets its function, and may give anything
-pub IsMembership-unknown : (extensions : Extensions) (name : PlainName) (args : Trees) (ty : PlainName) (answer : Answer) (error : ExtensionFunctionLookupError) → answer ≡ Err error → plain_name error.name.now ≡ name → function_named extensions name ≡ None → IsMembership answer (Gives extensions name args ty) (MayGive extensions name args ty) (λ unknown. (name ≡ unknown) × IsUnknown extensions unknown)
+pub IsMembership-unknown : (extensions : Extensions) (name : PlainName) (args : Trees) (ty : PlainName)
+    (answer : Answer) (error : ExtensionFunctionLookupError) → answer ≡ Err error → plain_name error.name.now ≡ name
+    → function_named extensions name ≡ None → IsMembership answer (Gives extensions name args ty)
+    (MayGive extensions name args ty) (λ unknown. (name ≡ unknown) × IsUnknown extensions unknown)
 IsMembership-unknown extensions name args ty answer error is same none =
-    let P : Answer → Type 0 = λ given. IsMembership given (Gives extensions name args ty) (MayGive extensions name args ty) (λ unknown. (name ≡ unknown) × IsUnknown extensions unknown) in
+    let P : Answer → Type 0 = λ given. IsMembership given (Gives extensions name args ty)
+    (MayGive extensions name args ty) (λ unknown. (name ≡ unknown) × IsUnknown extensions unknown) in
     subst P (sym is)
     (record {
       yes = (λ e. absurd cc, λ gives. absurd (let found = gives.1 in cc));

@@ -45,7 +45,8 @@ Placed = layer.Type-F ((t : «Type») × IsPlaced t) ((t : AttributeType) × IsP
 
 -- the layer without the proofs
 abbrev parts : Placed → layer.Type-F «Type» AttributeType Attributes
-parts y = map-Type ((t : «Type») × IsPlaced t) ((t : AttributeType) × IsPlacedAttribute t) ((t : Attributes) × ArePlaced t) «Type» AttributeType Attributes (λ e. e.0) (λ e. e.0) (λ e. e.0) y
+parts y = map-Type ((t : «Type») × IsPlaced t) ((t : AttributeType) × IsPlacedAttribute t) ((t : Attributes)
+    × ArePlaced t) «Type» AttributeType Attributes (λ e. e.0) (λ e. e.0) (λ e. e.0) y
 
 -- types of two kinds are ordered by their kinds
 ty_cmp-apart : (a b : Ty) → kind_place a ≢ kind_place b → ty_cmp a b ≡ nat_cmp (kind_place a) (kind_place b)
@@ -61,13 +62,15 @@ ty_cmp-apart (extension_of a) (extension_of b) apart = absurd (apart refl)
 ty_cmp-apart a b apart = refl
 
 -- layers of two kinds are ordered by their kinds
-folded-apart : (x z : layer.Type-F «Type» AttributeType Attributes) → layer_shape x ≢ layer_shape z → nat_cmp (layer_shape x) (layer_shape z) ≡ ty_cmp (folded_layer x) (folded_layer z)
+folded-apart : (x z : layer.Type-F «Type» AttributeType Attributes) → layer_shape x ≢ layer_shape z
+    → nat_cmp (layer_shape x) (layer_shape z) ≡ ty_cmp (folded_layer x) (folded_layer z)
 folded-apart x z apart =
     (λ i. nat_cmp (sym (shape-folded_layer x) i) (sym (shape-folded_layer z) i))
     ∙ sym (ty_cmp-apart (folded_layer x) (folded_layer z) (λ e. apart (sym (shape-folded_layer x) ∙ (e ∙ shape-folded_layer z))))
 
 -- layers are ordered as what they stand for where their parts are
-layers-placed : (y : Placed) (z : layer.Type-F «Type» AttributeType Attributes) → type_ord.Laws.unfolded (roll-Type (parts y)) (roll-Type z) ≡ ty_cmp (folded_layer (parts y)) (folded_layer z)
+layers-placed : (y : Placed) (z : layer.Type-F «Type» AttributeType Attributes)
+    → type_ord.Laws.unfolded (roll-Type (parts y)) (roll-Type z) ≡ ty_cmp (folded_layer (parts y)) (folded_layer z)
 unfolding out-Type denote.Hole.Carrier.out roll-Type denote.Hole.Carrier.roll
 layers-placed layer.Never layer.Never = refl
 layers-placed (layer.Bool a) (layer.Bool b) = bool_cmp-is a b
@@ -90,20 +93,25 @@ type_placed x y is b =
     let second = fold-roll-Type Ty (Bool × Ty) Fields type_step attribute_step attributes_step z in
     let whole : (type_ord.ghosts).cmp (roll-Type (parts y)) (roll-Type z) ≡ ty_cmp (ty_of (roll-Type (parts y))) (ty_of (roll-Type z)) =
     type_ord.Laws.is (roll-Type (parts y)) (roll-Type z) ∙ (layers-placed y z ∙ (λ i. ty_cmp (sym first i) (sym second i))) in
-    let P : layer.Type-F «Type» AttributeType Attributes → Type 0 = λ each. (type_ord.ghosts).cmp (roll-Type each) b ≡ ty_cmp (ty_of (roll-Type each)) (ty_of b) in
-    let Q : «Type» → Type 0 = λ each. (type_ord.ghosts).cmp (roll-Type (parts y)) each ≡ ty_cmp (ty_of (roll-Type (parts y))) (ty_of each) in
+    let P : layer.Type-F «Type» AttributeType Attributes → Type 0 =
+    λ each. (type_ord.ghosts).cmp (roll-Type each) b ≡ ty_cmp (ty_of (roll-Type each)) (ty_of b) in
+    let Q : «Type» → Type 0 = λ each. (type_ord.ghosts).cmp (roll-Type (parts y)) each
+    ≡ ty_cmp (ty_of (roll-Type (parts y))) (ty_of each) in
     subst P is (subst Q (roll-out-Type b) whole)
 
 -- an attribute whose type is ordered as what it stands for
 abbrev PlacedAttribute : Type 0
-PlacedAttribute = layer.AttributeType-F ((t : «Type») × IsPlaced t) ((t : AttributeType) × IsPlacedAttribute t) ((t : Attributes) × ArePlaced t)
+PlacedAttribute = layer.AttributeType-F ((t : «Type») × IsPlaced t) ((t : AttributeType) × IsPlacedAttribute t)
+    ((t : Attributes) × ArePlaced t)
 
 -- the attribute without the proof
 abbrev attribute_parts : PlacedAttribute → layer.AttributeType-F «Type» AttributeType Attributes
-attribute_parts y = map-AttributeType ((t : «Type») × IsPlaced t) ((t : AttributeType) × IsPlacedAttribute t) ((t : Attributes) × ArePlaced t) «Type» AttributeType Attributes (λ e. e.0) (λ e. e.0) (λ e. e.0) y
+attribute_parts y = map-AttributeType ((t : «Type») × IsPlaced t) ((t : AttributeType) × IsPlacedAttribute t)
+    ((t : Attributes) × ArePlaced t) «Type» AttributeType Attributes (λ e. e.0) (λ e. e.0) (λ e. e.0) y
 
 -- an attribute whose type is ordered as what it stands for is
-attribute_placed : (x : layer.AttributeType-F «Type» AttributeType Attributes) (y : PlacedAttribute) → attribute_parts y ≡ x → IsPlacedAttribute (roll-AttributeType x)
+attribute_placed : (x : layer.AttributeType-F «Type» AttributeType Attributes) (y : PlacedAttribute)
+    → attribute_parts y ≡ x → IsPlacedAttribute (roll-AttributeType x)
 attribute_placed x y is b =
     let a = roll-AttributeType (attribute_parts y) in
     let other = out-AttributeType b in
@@ -111,23 +119,29 @@ attribute_placed x y is b =
     attribute_type_ord.Laws.is a b
     ∙ ((λ i. ordering_then (y.attr_type.value.1 other.attr_type.value i) (bool_cmp y.is_required other.is_required))
     ∙ (λ i. attribute_cmp (sym (attribute_of-parts a) i) (sym (attribute_of-parts b) i))) in
-    let P : layer.AttributeType-F «Type» AttributeType Attributes → Type 0 = λ each. (attribute_type_ord.ghosts).cmp (roll-AttributeType each) b ≡ attribute_cmp (attribute_of (roll-AttributeType each)) (attribute_of b) in
+    let P : layer.AttributeType-F «Type» AttributeType Attributes → Type 0 =
+    λ each. (attribute_type_ord.ghosts).cmp (roll-AttributeType each) b
+    ≡ attribute_cmp (attribute_of (roll-AttributeType each)) (attribute_of b) in
     subst P is whole
 
 -- attributes whose types are ordered as what they stand for
 abbrev PlacedAttributes : Type 0
-PlacedAttributes = layer.Attributes-F ((t : «Type») × IsPlaced t) ((t : AttributeType) × IsPlacedAttribute t) ((t : Attributes) × ArePlaced t)
+PlacedAttributes = layer.Attributes-F ((t : «Type») × IsPlaced t) ((t : AttributeType) × IsPlacedAttribute t)
+    ((t : Attributes) × ArePlaced t)
 
 -- the attributes without the proofs
 abbrev attributes_parts : PlacedAttributes → layer.Attributes-F «Type» AttributeType Attributes
-attributes_parts y = map-Attributes ((t : «Type») × IsPlaced t) ((t : AttributeType) × IsPlacedAttribute t) ((t : Attributes) × ArePlaced t) «Type» AttributeType Attributes (λ e. e.0) (λ e. e.0) (λ e. e.0) y
+attributes_parts y = map-Attributes ((t : «Type») × IsPlaced t) ((t : AttributeType) × IsPlacedAttribute t)
+    ((t : Attributes) × ArePlaced t) «Type» AttributeType Attributes (λ e. e.0) (λ e. e.0) (λ e. e.0) y
 
 -- the order of two entries
 abbrev entry_cmp : String Global × AttributeType → String Global × AttributeType → Ordering
 entry_cmp p q = ordering_then (text_cmp (string_bytes p.0) (string_bytes q.0)) ((attribute_type_ord.ghosts).cmp p.1 q.1)
 
 -- entries are ordered as the attributes that they stand for
-entries-placed : (xs : List (String Global × ((t : AttributeType) × IsPlacedAttribute t))) (ys : List (String Global × AttributeType)) → slice_cmp entry_cmp (map (λ e. (e.0, e.1.0)) xs) ys ≡ fields_cmp (fields_from (map plain_entry (map (λ e. (e.0, e.1.0)) xs))) (fields_from (map plain_entry ys))
+entries-placed : (xs : List (String Global × ((t : AttributeType) × IsPlacedAttribute t)))
+    (ys : List (String Global × AttributeType)) → slice_cmp entry_cmp (map (λ e. (e.0, e.1.0)) xs) ys
+    ≡ fields_cmp (fields_from (map plain_entry (map (λ e. (e.0, e.1.0)) xs))) (fields_from (map plain_entry ys))
 entries-placed [] [] = refl
 entries-placed [] (y ∷ ys) = refl
 entries-placed (x ∷ xs) [] = refl
@@ -135,11 +149,13 @@ entries-placed (x ∷ xs) (y ∷ ys) = λ i.
     ordering_then (ordering_then (text_cmp (string_bytes x.0) (string_bytes y.0)) (x.1.1 y.1 i)) (entries-placed xs ys i)
 
 -- the order of attributes compares their entries
-compares_entries : (x z : layer.Attributes-F «Type» AttributeType Attributes) → attributes_ord.Laws.unfolded (roll-Attributes x) (roll-Attributes z) ≡ slice_cmp entry_cmp x.attrs.entries z.attrs.entries
+compares_entries : (x z : layer.Attributes-F «Type» AttributeType Attributes)
+    → attributes_ord.Laws.unfolded (roll-Attributes x) (roll-Attributes z) ≡ slice_cmp entry_cmp x.attrs.entries z.attrs.entries
 compares_entries x z i = slice_cmp entry_cmp (out-roll-Attributes x i).attrs.entries (out-roll-Attributes z i).attrs.entries
 
 -- attributes whose types are ordered as what they stand for are
-attributes_placed : (x : layer.Attributes-F «Type» AttributeType Attributes) (y : PlacedAttributes) → attributes_parts y ≡ x → ArePlaced (roll-Attributes x)
+attributes_placed : (x : layer.Attributes-F «Type» AttributeType Attributes) (y : PlacedAttributes)
+    → attributes_parts y ≡ x → ArePlaced (roll-Attributes x)
 attributes_placed x y is b =
     let z = out-Attributes b in
     let a = roll-Attributes (attributes_parts y) in
@@ -148,7 +164,8 @@ attributes_placed x y is b =
     ∙ (compares_entries (attributes_parts y) z
     ∙ (entries-placed y.attrs.entries z.attrs.entries
     ∙ (λ i. fields_cmp (sym (fields_of-rolled (attributes_parts y)) i) (sym (fields_of-rolled z) i)))) in
-    let P : layer.Attributes-F «Type» AttributeType Attributes → Type 0 = λ each. (attributes_ord.ghosts).cmp (roll-Attributes each) b ≡ fields_cmp (fields_of (roll-Attributes each)) (fields_of b) in
+    let P : layer.Attributes-F «Type» AttributeType Attributes → Type 0 =
+    λ each. (attributes_ord.ghosts).cmp (roll-Attributes each) b ≡ fields_cmp (fields_of (roll-Attributes each)) (fields_of b) in
     let Q : Attributes → Type 0 = λ each. (attributes_ord.ghosts).cmp a each ≡ fields_cmp (fields_of a) (fields_of each) in
     subst P is (subst Q (roll-out-Attributes b) whole)
 
@@ -163,7 +180,8 @@ types_compare = record {
 }
 
 -- comparisons of attributes agree
-pub attributes_compare : ComparesBy fields_of fields_cmp (attributes_eq.ghosts).eq (attributes_ord.ghosts).cmp (attributes_hash.ghosts).hash_input
+pub attributes_compare : ComparesBy fields_of fields_cmp (attributes_eq.ghosts).eq (attributes_ord.ghosts).cmp
+    (attributes_hash.ghosts).hash_input
 attributes_compare = record {
   equality = attributes-Decides;
   order = λ a. ind-Attributes IsPlaced IsPlacedAttribute ArePlaced type_placed attribute_placed attributes_placed a;
@@ -173,11 +191,13 @@ attributes_compare = record {
 }
 
 -- comparisons of one attribute agree
-pub attribute_compare : ComparesBy attribute_of attribute_cmp (attribute_type_eq.ghosts).eq (attribute_type_ord.ghosts).cmp (attribute_type_hash.ghosts).hash_input
+pub attribute_compare : ComparesBy attribute_of attribute_cmp (attribute_type_eq.ghosts).eq
+    (attribute_type_ord.ghosts).cmp (attribute_type_hash.ghosts).hash_input
 attribute_compare = record {
   equality = attribute-Decides;
   order = λ a. ind-AttributeType IsPlaced IsPlacedAttribute ArePlaced type_placed attribute_placed attributes_placed a;
   total = attribute_type_ord.Laws.total-law;
-  ties = ties_from attribute_of (attribute_type_eq.ghosts).eq (attribute_type_ord.ghosts).cmp attribute-Decides attribute_type_ord.Laws.matches_eq-law;
+  ties = ties_from attribute_of (attribute_type_eq.ghosts).eq
+      (attribute_type_ord.ghosts).cmp attribute-Decides attribute_type_ord.Laws.matches_eq-law;
   hash = λ a b e. attribute_type_hash.Laws.respects_eq-law a b ((attribute-Decides a b).1 e);
 }

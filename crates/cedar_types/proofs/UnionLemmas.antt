@@ -14,13 +14,16 @@ unfolding IsStrictlySortedBy
 IsStrictlySortedBy-one name = (tt, tt)
 
 -- one more name that isn't among the others keeps the lists apart
-pub AreDisjoint-push : (names others : List PlainName) (name : PlainName) → AreDisjoint names others → ¬ Contains others name → AreDisjoint (names ++ name ∷ []) others
+pub AreDisjoint-push : (names others : List PlainName) (name : PlainName) → AreDisjoint names others
+    → ¬ Contains others name → AreDisjoint (names ++ name ∷ []) others
 AreDisjoint-push names others name apart absent each among also =
     let P : PlainName → Type 0 = Contains others in
     ⊎_elim (λ before. apart each before also) (λ same. absent (subst P (sym same) also)) (Contains-push_cases names name each among)
 
 -- one more entity type that isn't among the others keeps the lists apart
-pub AreDisjoint-more : (types : List EntityType) (others : List PlainName) (i : ℕ) (ty : EntityType) → i < length types → ty ≡ get_or types i ty → AreDisjoint (map type_name (take i types)) others → ¬ Contains others (type_name ty) → AreDisjoint (map type_name (take (i + 1) types)) others
+pub AreDisjoint-more : (types : List EntityType) (others : List PlainName) (i : ℕ) (ty : EntityType) → i < length types
+    → ty ≡ get_or types i ty → AreDisjoint (map type_name (take i types)) others → ¬ Contains others (type_name ty)
+    → AreDisjoint (map type_name (take (i + 1) types)) others
 AreDisjoint-more types others i ty below is apart absent =
     let P : List PlainName → Type 0 = λ names. AreDisjoint names others in
     subst P
@@ -28,6 +31,7 @@ AreDisjoint-more types others i ty below is apart absent =
     (AreDisjoint-push (map type_name (take i types)) others (type_name ty) apart absent)
 
 -- an entity type at a place of the list is among its names
-pub Contains-names : (types : List EntityType) (i : ℕ) (ty : EntityType) → i < length types → ty ≡ get_or types i ty → Contains (map type_name types) (type_name ty)
+pub Contains-names : (types : List EntityType) (i : ℕ) (ty : EntityType) → i < length types → ty ≡ get_or types i ty
+    → Contains (map type_name types) (type_name ty)
 Contains-names types i ty below is =
     (i, rw length-map below, get_or-map type_name types i ty (type_name ty) below ∙ ap type_name (sym is))

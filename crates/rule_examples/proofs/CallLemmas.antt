@@ -10,7 +10,8 @@ use Rattle.cedar_below.specs.declared.extension.Extensions.{Extensions}
 use Rattle.rule_examples.specs.TakesText.{TakesText}
 
 -- a function that takes a text gives a value where its first argument is one
-pub Gives-text : (extensions : Extensions) (name ty : PlainName) (word : Text) (rest : Trees) → TakesText extensions name ty → Gives extensions name (tree (text_value word) rest) ty
+pub Gives-text : (extensions : Extensions) (name ty : PlainName) (word : Text) (rest : Trees)
+    → TakesText extensions name ty → Gives extensions name (tree (text_value word) rest) ty
 Gives-text extensions name ty word rest takes =
     let P : List CoreTy → Type 0 = ArgumentsFit extensions (tree (text_value word) rest) in
     (takes.0, takes.1, takes.2, subst P (sym takes.3) (tt, ArgumentsFit-no_types extensions [] rest refl))

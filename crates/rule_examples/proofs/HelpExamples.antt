@@ -57,7 +57,17 @@ helps-flags =
 pub helps-types : IsJoinAnswer Strict bar_and_false bar_and_text (Err help.None)
 helps-types = (
   records_join-strict,
-  inr (refl, inr (inr (inr (inl (true, text, inr (inl (refl, refl, refl)), inr ((λ own. AreApart-truth_text Strict False own.0 own.1.0.0 own.1.0.1.0), refl)))))),
+  inr (
+    refl,
+    inr (inr (inr
+        (inl (
+          true,
+          text,
+          inr (inl (refl, refl, refl)),
+          inr
+              ((λ own. AreApart-truth_text Strict False own.0 own.1.0.0 own.1.0.1.0), refl),
+        )))),
+  ),
 )
 
 -- with the any-set first, sets of unlike elements are reduced to it

@@ -57,21 +57,25 @@ pub sets_join-with_any : (mode : ValidationMode) → IsLeastOwnBound mode any_se
 sets_join-with_any mode = (((tt, (tt, tt)), inl refl), λ bound own. own.0.0)
 
 -- two pairs that differ at the second name have the open record of the first, in permissive mode
-dropped_least : (a b : Fields) (kept dropped : _) (first second : Ty) → ¬ (kept ≡ dropped) → IsPair a kept dropped long first → IsPair b kept dropped long second
+dropped_least : (a b : Fields) (kept dropped : _) (first second : Ty) → ¬ (kept ≡ dropped)
+    → IsPair a kept dropped long first → IsPair b kept dropped long second
     → Contains (field_names a) dropped → AreApart Permissive first second
     → (bound : Ty) → Below Permissive (record_of a ClosedAttributes) bound → Below Permissive (record_of b ClosedAttributes) bound
     → Below Permissive (record_of (field kept true long end) OpenAttributes) bound
 dropped_least a b kept dropped first second differ pair other among apart (record_of fields OpenAttributes) h k =
-    let none = unnamed Permissive a b fields dropped first second (IsPair-other a kept dropped long first differ pair) (IsPair-other b kept dropped long second differ other) apart h.2 k.2 in
+    let none = unnamed Permissive a b fields dropped first second (IsPair-other a kept dropped long first differ pair)
+    (IsPair-other b kept dropped long second differ other) apart h.2 k.2 in
     (tt, tt, kept_below a fields fields kept dropped long first pair (λ n r t has. has) none h.2)
 dropped_least a b kept dropped first second differ pair other among apart (record_of fields ClosedAttributes) h k =
-    let none = unnamed Permissive a b fields dropped first second (IsPair-other a kept dropped long first differ pair) (IsPair-other b kept dropped long second differ other) apart h.2 k.2 in
+    let none = unnamed Permissive a b fields dropped first second (IsPair-other a kept dropped long first differ pair)
+    (IsPair-other b kept dropped long second differ other) apart h.2 k.2 in
     let found = HasField-named fields dropped (h.1 dropped among) in
     absurd (none found.0 found.1 found.2)
 dropped_least a b kept dropped first second differ pair other among apart bound h k = elim h [ ]
 
 -- a bound of two records, in strict mode, has every name of theirs, and so none where the types at a name are apart
-strict_apart : (a b : Fields) (dropped : _) (first second : Ty) → HasOnly a dropped first → HasOnly b dropped second → Contains (field_names a) dropped → AreApart Strict first second
+strict_apart : (a b : Fields) (dropped : _) (first second : Ty) → HasOnly a dropped first → HasOnly b dropped second
+    → Contains (field_names a) dropped → AreApart Strict first second
     → (bound : Ty) → Below Strict (record_of a ClosedAttributes) bound → ¬ Below Strict (record_of b ClosedAttributes) bound
 strict_apart a b dropped first second one other among apart (record_of fields openness) h k =
     let found = HasField-named fields dropped (h.1 dropped among) in

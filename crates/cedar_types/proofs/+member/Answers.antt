@@ -25,20 +25,37 @@ member::elements_have-loop-value-init t c = IsMembershipSoFar-none _ _ _
 
 pub member::elements_have-loop-value-preserved : goal.member::elements_have-loop-value-preserved
 member::elements_have-loop-value-preserved t c =
-    let right : IsMembershipFor c.args.extensions.now (tree_of c.value-item.result) (ty_of c.args.ty.now) c.typecheck_restricted_expr.result = record { yes = c.typecheck_restricted_expr.ensures.has; no = c.typecheck_restricted_expr.ensures.lacks; fault = c.typecheck_restricted_expr.ensures.fault } in
-    ElementsSoFar-more c.args.extensions.now (ty_of c.args.ty.now) c.args.values.now c.loop-value.value-index c.value-item.result c.loop-value.so_far c.typecheck_restricted_expr.result c.both-so_far.result c.loop-value-test.true c.value-item.is (record { yes = c.both-so_far.ensures.yes; no = c.both-so_far.ensures.no; fault = c.both-so_far.ensures.fault }) right c.loop-value.invariant
+    let right : IsMembershipFor c.args.extensions.now (tree_of c.value-item.result)
+    (ty_of c.args.ty.now) c.typecheck_restricted_expr.result =
+    record {
+      yes = c.typecheck_restricted_expr.ensures.has;
+      no =
+          c.typecheck_restricted_expr.ensures.lacks;
+      fault = c.typecheck_restricted_expr.ensures.fault;
+    } in
+    ElementsSoFar-more c.args.extensions.now (ty_of c.args.ty.now) c.args.values.now c.loop-value.value-index
+    c.value-item.result c.loop-value.so_far c.typecheck_restricted_expr.result c.both-so_far.result
+    c.loop-value-test.true c.value-item.is (record {
+      yes = c.both-so_far.ensures.yes;
+      no =
+          c.both-so_far.ensures.no;
+      fault = c.both-so_far.ensures.fault;
+    }) right c.loop-value.invariant
 
 pub member::elements_have-returns : goal.member::elements_have-returns
 member::elements_have-returns t c =
-    let P : List RestrictedExpr → Type 0 = λ rest. ElementsSoFar c.args.extensions.now (ty_of c.args.ty.now) (trees_of c.args.values.now) (trees_of rest) c.loop-value.so_far in
+    let P : List RestrictedExpr → Type 0 = λ rest. ElementsSoFar c.args.extensions.now (ty_of c.args.ty.now)
+    (trees_of c.args.values.now) (trees_of rest) c.loop-value.so_far in
     IsMembershipSoFar-all c.loop-value.so_far _ _ _ _
     (subst P (drop_of_length-le c.args.values.now c.loop-value-test.false) c.loop-value.invariant)
 
 pub member::fields_have-loop-name-init : goal.member::fields_have-loop-name-init
 member::fields_have-loop-name-init t c =
-    let P : Fields → Type 0 = λ rest. FieldsSoFar c.args.extensions.now (entries_of c.args.values.now) (fields_of c.args.attrs.now) rest (Ok true) in
+    let P : Fields → Type 0 = λ rest. FieldsSoFar c.args.extensions.now (entries_of c.args.values.now)
+    (fields_of c.args.attrs.now) rest (Ok true) in
     subst P
-    (fields_of-entries c.args.attrs.now ∙ ap (λ entries. fields_from (plain_attributes entries)) (sym c.into_iter-name-iterator.ensures.into_iter_gives.0))
+    (fields_of-entries c.args.attrs.now ∙ ap (λ entries. fields_from (plain_attributes entries))
+    (sym c.into_iter-name-iterator.ensures.into_iter_gives.0))
     (IsMembershipSoFar-none _ _ _)
 
 pub member::fields_have-loop-name-preserved : goal.member::fields_have-loop-name-preserved
@@ -47,39 +64,60 @@ member::fields_have-loop-name-preserved t c =
     let values = c.args.values.now in
     let attribute = attribute_of c.in-Some.attribute.now in
     let parts = attribute_of-parts c.in-Some.attribute.now in
-    let P : List (String Global × AttributeType) → Type 0 = λ entries. FieldsSoFar extensions (entries_of values) (fields_of c.args.attrs.now) (fields_from (plain_attributes entries)) c.loop-name.so_far in
+    let P : List (String Global × AttributeType) → Type 0 = λ entries. FieldsSoFar extensions (entries_of values)
+    (fields_of c.args.attrs.now) (fields_from (plain_attributes entries)) c.loop-name.so_far in
     let before = subst P c.in-Some.ensures.steps c.loop-name.invariant in
     let Q : Answer → Type 0 = IsMembershipForEntry extensions (entry_at (string_bytes c.in-Some.name.now) (entries_of values)) attribute in
     let right : Q c.match-get.answer = elim c.match-get.branch [
       | member::fields_have-in-Some-get w ↦ (
           let call = w.typecheck_restricted_expr-answer in
           let R : Ty → Type 0 = λ ty. IsMembershipFor extensions (tree_of w.in-Some-get.value.now) ty call.result in
-          let right : R (ty_of w.deref.result.now) = record { yes = call.ensures.has; no = call.ensures.lacks; fault = call.ensures.fault } in
+          let right : R (ty_of w.deref.result.now) = record {
+            yes = call.ensures.has;
+            no = call.ensures.lacks;
+            fault =
+                call.ensures.fault;
+          } in
           subst Q (sym w.answer-is)
-          (IsMembershipForEntry-Some extensions (string_bytes c.in-Some.name.now) values attribute c.get.result w.in-Some-get.value call.result c.get.ensures.value w.in-Some-get.is (subst R (ap ty_of w.deref.ensures ∙ ap (λ (p : Bool × Ty). p.1) (sym parts)) right))
+          (IsMembershipForEntry-Some extensions (string_bytes c.in-Some.name.now) values attribute c.get.result
+          w.in-Some-get.value call.result c.get.ensures.value w.in-Some-get.is
+          (subst R (ap ty_of w.deref.ensures ∙ ap (λ (p : Bool × Ty). p.1) (sym parts)) right))
           )
-      | member::fields_have-in-None-get w ↦ IsMembershipForEntry-None extensions (string_bytes c.in-Some.name.now) values attribute c.get.result c.match-get.answer c.get.ensures.value w.in-None-get.is (w.answer-is ∙ ap (λ (p : Bool × Ty). Ok (not p.0)) (sym parts))
+      | member::fields_have-in-None-get w ↦ IsMembershipForEntry-None extensions
+          (string_bytes c.in-Some.name.now) values attribute c.get.result c.match-get.answer c.get.ensures.value
+          w.in-None-get.is (w.answer-is ∙ ap (λ (p : Bool × Ty). Ok (not p.0)) (sym parts))
     ] in
-    FieldsSoFar-more extensions (entries_of values) (fields_of c.args.attrs.now) _ (string_bytes c.in-Some.name.now) attribute c.loop-name.so_far c.match-get.answer c.both-so_far.result (record { yes = c.both-so_far.ensures.yes; no = c.both-so_far.ensures.no; fault = c.both-so_far.ensures.fault }) right before
+    FieldsSoFar-more extensions (entries_of values) (fields_of c.args.attrs.now) _
+    (string_bytes c.in-Some.name.now) attribute c.loop-name.so_far c.match-get.answer c.both-so_far.result
+    (record { yes = c.both-so_far.ensures.yes; no = c.both-so_far.ensures.no; fault = c.both-so_far.ensures.fault }) right before
 
 pub member::fields_have-returns : goal.member::fields_have-returns
 member::fields_have-returns t c =
-    let P : List (String Global × AttributeType) → Type 0 = λ entries. FieldsSoFar c.args.extensions.now (entries_of c.args.values.now) (fields_of c.args.attrs.now) (fields_from (plain_attributes entries)) c.loop-name.so_far in
+    let P : List (String Global × AttributeType) → Type 0 = λ entries. FieldsSoFar c.args.extensions.now
+    (entries_of c.args.values.now) (fields_of c.args.attrs.now) (fields_from (plain_attributes entries)) c.loop-name.so_far in
     IsMembershipSoFar-all c.loop-name.so_far _ _ _ _ (subst P c.in-None.ensures.steps.0 c.loop-name.invariant)
 
 pub types::Type::typecheck_restricted_expr-returns-in-Entity-EntityUid : goal.types::Type::typecheck_restricted_expr-returns-in-Entity-EntityUid
 types::Type::typecheck_restricted_expr-returns-in-Entity-EntityUid t c =
     let uid = c.in-Entity-EntityUid.uid in
     let kind = c.in-Entity-EntityUid.kind in
-    let right : IsMembershipFor c.args.extensions.now (tree_of c.args.expr.now) (ty_of c.args.self.now) (Ok c.has_uid.result) = IsMembershipFor-at _ _ _ _ _ _ (ap tree_of c.in-Entity-EntityUid.is-1 ∙ tree_of-uid uid) (ap ty_of c.in-Entity-EntityUid.is-0 ∙ ty_of-entity kind) (IsMembershipFor-uid c.args.extensions.now (uid_of uid) kind c.has_uid.result c.has_uid.ensures) in
+    let right : IsMembershipFor c.args.extensions.now (tree_of c.args.expr.now) (ty_of c.args.self.now)
+    (Ok c.has_uid.result) = IsMembershipFor-at _ _ _ _ _ _ (ap tree_of c.in-Entity-EntityUid.is-1 ∙ tree_of-uid uid)
+    (ap ty_of c.in-Entity-EntityUid.is-0 ∙ ty_of-entity kind)
+    (IsMembershipFor-uid c.args.extensions.now (uid_of uid) kind c.has_uid.result c.has_uid.ensures) in
     record { has = right.yes; lacks = right.no; fault = right.fault }
 
 pub types::Type::typecheck_restricted_expr-returns-in-Some : goal.types::Type::typecheck_restricted_expr-returns-in-Some
 types::Type::typecheck_restricted_expr-returns-in-Some t c =
     let values = c.in-Set-Set.values in
     let element = c.in-Some.element in
-    let P : List RestrictedExpr → Ty → Type 0 = λ items ty. IsMembershipForEach c.args.extensions.now (trees_of items) ty c.elements_have.result in
-    let right : IsMembershipFor c.args.extensions.now (tree_of c.args.expr.now) (ty_of c.args.self.now) c.elements_have.result = IsMembershipFor-at _ _ _ _ _ _ (ap tree_of c.in-Set-Set.is-1 ∙ tree_of-set values) (ap ty_of (c.in-Set-Set.is-0 ∙ ap type.Set c.in-Some.is) ∙ ty_of-set element) (subst (P values.items) (ap ty_of c.deref-in-Some.ensures) (subst (λ items. P items (ty_of c.deref-in-Some.result.now)) c.deref.ensures.value c.elements_have.ensures)) in
+    let P : List RestrictedExpr → Ty → Type 0 = λ items ty. IsMembershipForEach c.args.extensions.now
+    (trees_of items) ty c.elements_have.result in
+    let right : IsMembershipFor c.args.extensions.now (tree_of c.args.expr.now)
+    (ty_of c.args.self.now) c.elements_have.result = IsMembershipFor-at _ _ _ _ _ _ (ap tree_of c.in-Set-Set.is-1
+    ∙ tree_of-set values) (ap ty_of (c.in-Set-Set.is-0 ∙ ap type.Set c.in-Some.is) ∙ ty_of-set element)
+    (subst (P values.items) (ap ty_of c.deref-in-Some.ensures)
+    (subst (λ items. P items (ty_of c.deref-in-Some.result.now)) c.deref.ensures.value c.elements_have.ensures)) in
     record { has = right.yes; lacks = right.no; fault = right.fault }
 
 pub types::Type::typecheck_restricted_expr-returns-then-only_listed : goal.types::Type::typecheck_restricted_expr-returns-then-only_listed
@@ -87,7 +125,12 @@ types::Type::typecheck_restricted_expr-returns-then-only_listed t c =
     let attrs = c.in-Record-Record.attrs in
     let openness = c.in-Record-Record.open_attributes in
     let values = c.in-Record-Record.values in
-    let right : IsMembershipFor c.args.extensions.now (tree_of c.args.expr.now) (ty_of c.args.self.now) c.fields_have.result = IsMembershipFor-at _ _ _ _ _ _ (ap tree_of c.in-Record-Record.is-1 ∙ tree_of-record values) (ap ty_of c.in-Record-Record.is-0 ∙ ty_of-record attrs openness) (IsMembershipFor-listed c.args.extensions.now (entries_of values) (fields_of attrs) openness c.fields_have.result (c.only_listed.ensures.0 c.if-only_listed.true) c.fields_have.ensures) in
+    let right : IsMembershipFor c.args.extensions.now (tree_of c.args.expr.now)
+    (ty_of c.args.self.now) c.fields_have.result = IsMembershipFor-at _ _ _ _ _ _
+    (ap tree_of c.in-Record-Record.is-1 ∙ tree_of-record values) (ap ty_of c.in-Record-Record.is-0
+    ∙ ty_of-record attrs openness) (IsMembershipFor-listed c.args.extensions.now (entries_of values)
+    (fields_of attrs) openness c.fields_have.result
+    (c.only_listed.ensures.0 c.if-only_listed.true) c.fields_have.ensures) in
     record { has = right.yes; lacks = right.no; fault = right.fault }
 
 pub types::Type::typecheck_restricted_expr-returns-else-only_listed : goal.types::Type::typecheck_restricted_expr-returns-else-only_listed
@@ -95,7 +138,11 @@ types::Type::typecheck_restricted_expr-returns-else-only_listed t c =
     let attrs = c.in-Record-Record.attrs in
     let openness = c.in-Record-Record.open_attributes in
     let values = c.in-Record-Record.values in
-    let right : IsMembershipFor c.args.extensions.now (tree_of c.args.expr.now) (ty_of c.args.self.now) (Ok false) = IsMembershipFor-at _ _ _ _ _ _ (ap tree_of c.in-Record-Record.is-1 ∙ tree_of-record values) (ap ty_of c.in-Record-Record.is-0 ∙ ty_of-record attrs openness) (IsMembershipFor-unlisted c.args.extensions.now (entries_of values) (fields_of attrs) openness (λ listed. let e = c.only_listed.ensures.1 listed in cc)) in
+    let right : IsMembershipFor c.args.extensions.now (tree_of c.args.expr.now) (ty_of c.args.self.now) (Ok false) =
+    IsMembershipFor-at _ _ _ _ _ _ (ap tree_of c.in-Record-Record.is-1 ∙ tree_of-record values)
+    (ap ty_of c.in-Record-Record.is-0 ∙ ty_of-record attrs openness)
+    (IsMembershipFor-unlisted c.args.extensions.now (entries_of values) (fields_of attrs) openness
+    (λ listed. let e = c.only_listed.ensures.1 listed in cc)) in
     record { has = right.yes; lacks = right.no; fault = tt }
 
 pub types::Type::typecheck_restricted_expr-returns-in-ExtensionType-ExtensionCall : goal.types::Type::typecheck_restricted_expr-returns-in-ExtensionType-ExtensionCall
@@ -103,6 +150,11 @@ types::Type::typecheck_restricted_expr-returns-in-ExtensionType-ExtensionCall t 
     let name = c.in-ExtensionType-ExtensionCall.name in
     let function = c.in-ExtensionType-ExtensionCall.function in
     let args = c.in-ExtensionType-ExtensionCall.args in
-    let P : List RestrictedExpr → Type 0 = λ items. IsMembershipFor c.args.extensions.now (call_value (plain_name function) (trees_of items)) (extension_of (plain_name name)) c.call_has.result in
-    let right : IsMembershipFor c.args.extensions.now (tree_of c.args.expr.now) (ty_of c.args.self.now) c.call_has.result = IsMembershipFor-at _ _ _ _ _ _ (ap tree_of c.in-ExtensionType-ExtensionCall.is-1 ∙ tree_of-call function args) (ap ty_of c.in-ExtensionType-ExtensionCall.is-0 ∙ ty_of-extension name) (subst P c.deref-in-ExtensionType-ExtensionCall.ensures.value c.call_has.ensures) in
+    let P : List RestrictedExpr → Type 0 = λ items. IsMembershipFor c.args.extensions.now
+    (call_value (plain_name function) (trees_of items)) (extension_of (plain_name name)) c.call_has.result in
+    let right : IsMembershipFor c.args.extensions.now (tree_of c.args.expr.now)
+    (ty_of c.args.self.now) c.call_has.result = IsMembershipFor-at _ _ _ _ _ _
+    (ap tree_of c.in-ExtensionType-ExtensionCall.is-1 ∙ tree_of-call function args)
+    (ap ty_of c.in-ExtensionType-ExtensionCall.is-0 ∙ ty_of-extension name)
+    (subst P c.deref-in-ExtensionType-ExtensionCall.ensures.value c.call_has.ensures) in
     record { has = right.yes; lacks = right.no; fault = right.fault }

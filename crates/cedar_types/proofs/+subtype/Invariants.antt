@@ -19,4 +19,5 @@ decreases-types::Type::is_subtype l = size-Type l.b.now
 
 abbrev pub invariant-subtype::fields_fit-loop-name : goal.invariant-subtype::fields_fit-loop-name
 invariant-subtype::fields_fit-loop-name l =
-    FieldsBelow l.mode (fields_of l.lower) (fields_from (plain_attributes l.name-iterator)) ↔ FieldsBelow l.mode (fields_of l.lower) (fields_of l.upper)
+    FieldsBelow l.mode (fields_of l.lower) (fields_from (plain_attributes l.name-iterator))
+    ↔ FieldsBelow l.mode (fields_of l.lower) (fields_of l.upper)

@@ -1,6 +1,6 @@
 use Rattle.std.proofs.Common.{◌≡◌, ◌≢◌, ◌<◌, ◌+◌, true, length, vec_len, sym, ◌∙◌, ap, arith, ⊎_elim}
 use Rattle.std.proofs.lemmas.Bool.{or_cases, or_left, or_right, cases_eq, both_ways}
-use Rattle.cedar_closure.specs.Chain.{one}
+use Rattle.cedar_below.specs.Chain.{one}
 use Rattle.cedar_closure.specs.Numbered.{items_at}
 use Rattle.cedar_closure.specs.Row.{has_bit}
 use Rattle.cedar_closure.proofs.Chains.{joined}

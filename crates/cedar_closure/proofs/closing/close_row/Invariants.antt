@@ -1,5 +1,5 @@
 use Rattle.std.proofs.Common.{◌≡◌, ℕ, ◌+◌, ◌≤◌, vec_len, IsTrue, false}
-use Rattle.cedar_closure.specs.Chain.{Chain}
+use Rattle.cedar_below.specs.Chain.{Chain}
 use Rattle.cedar_closure.specs.Numbered.{InRow}
 use Rattle.cedar_closure.specs.Row.{has_bit}
 use Rattle.cedar_closure.proofs.Counting.{count_below}

@@ -1,7 +1,7 @@
 use Rattle.std.proofs.Common.{◌≡◌, ◌<◌, ◌+◌, ℕ, length, vec_len, IsTrue, sym, ◌∙◌, ap, arith, rules}
 use Rattle.std.specs.Vec.{with_items}
 use Rattle.std.proofs.lemmas.List.Elements.{same_from_all_zip}
-use Rattle.cedar_closure.specs.Chain.{Chain, one}
+use Rattle.cedar_below.specs.Chain.{Chain, one}
 use Rattle.cedar_closure.specs.Numbered.{items_at, InRow}
 use Rattle.cedar_closure.specs.Row.{has_bit}
 use Rattle.cedar_closure.proofs.Chains.{refined, held_after}

@@ -1,5 +1,5 @@
 use Rattle.std.proofs.Common.{◌≡◌, ℕ, ◌*◌, ◌<◌, ◌≤◌, length, vec_len}
-use Rattle.cedar_closure.specs.Chain.{Chain}
+use Rattle.cedar_below.specs.Chain.{Chain}
 use Rattle.cedar_closure.specs.Numbered.{items_at, InRow}
 use Rattle.cedar_closure.proofs.closing.close_rows.Given as goal
 

@@ -1,7 +1,7 @@
 use Rattle.std.proofs.Common.{◌<◌, ◌≤◌, length, vec_len, ap, arith, ⊎_elim}
 use Rattle.std.proofs.lemmas.Bool.{cases_lt}
 use Rattle.cedar_closure.proofs.Lists.{items_at-past}
-use Rattle.cedar_closure.specs.Chain.{one}
+use Rattle.cedar_below.specs.Chain.{one}
 use Rattle.cedar_closure.proofs.Chains.{refined}
 use Rattle.cedar_closure.proofs.closing.closed_rows.Goals as goal
 

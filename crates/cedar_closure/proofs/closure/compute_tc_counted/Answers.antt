@@ -1,7 +1,7 @@
 use Rattle.std.proofs.Common.{◌≡◌, ◌<◌, Some, length, slice_get, refl, arith, ⊎_elim}
 use Rattle.std.specs.HashMap.{get}
 use Rattle.std.proofs.lemmas.Option.{slice_get_read}
-use Rattle.cedar_closure.specs.Chain.{one}
+use Rattle.cedar_below.specs.Chain.{one}
 use Rattle.cedar_closure.specs.Numbering.{RowHas}
 use Rattle.cedar_closure.proofs.Growing.{edge_sound}
 use Rattle.cedar_closure.proofs.KeyedEdges.{begins_at_node}

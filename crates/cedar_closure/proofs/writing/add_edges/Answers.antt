@@ -1,7 +1,7 @@
 use Rattle.std.proofs.Common.{◌<◌, ◌≤◌, ◌*◌, IsTrue, sym, subst, arith, ⊎_elim}
 use Rattle.std.proofs.lemmas.Bool.{both_ways, cases_lt}
 use Rattle.cedar_closure.specs.Edges.{GrowsBy}
-use Rattle.cedar_closure.specs.Numbering.{StandsIn}
+use Rattle.cedar_closure.specs.Numbering.{StandsInRow}
 use Rattle.cedar_closure.proofs.Bits.{no_bit_in_word, bit_below}
 use Rattle.cedar_closure.proofs.Growing.{grows_onwards}
 use Rattle.cedar_closure.proofs.writing.add_edges.Goals as goal
@@ -20,8 +20,8 @@ loop-word-preserved g c =
       | then-row-word-ne0+in_ok-add_word w ↦
           let step = w.in_ok-add_word.ensures in
           record {
-            grows = subst (λ n. GrowsBy edge alike c.args.node.now n (StandsIn eq names row)) (sym w.node-is)
-                (grows_onwards edge alike g.met.V.TCNode.alike_onwards (StandsIn eq names row) c.args.node.now
+            grows = subst (λ n. GrowsBy edge alike c.args.node.now n (StandsInRow eq names row)) (sym w.node-is)
+                (grows_onwards edge alike g.met.V.TCNode.alike_onwards (StandsInRow eq names row) c.args.node.now
                 c.loop-word.node w.add_word.new.node old.grows step.grows);
             complete = λ number to most there numbered. subst (λ n. IsTrue (edge n to)) (sym w.node-is) (⊎_elim
                 (λ (before : number < word * 64). step.grows.old_stay to (old.complete number to before there numbered))
@@ -30,7 +30,7 @@ loop-word-preserved g c =
           }
       | else-row-word-ne0 w ↦
           record {
-            grows = subst (λ n. GrowsBy edge alike c.args.node.now n (StandsIn eq names row)) (sym w.node-is) old.grows;
+            grows = subst (λ n. GrowsBy edge alike c.args.node.now n (StandsInRow eq names row)) (sym w.node-is) old.grows;
             complete = λ number to most there numbered. subst (λ n. IsTrue (edge n to)) (sym w.node-is) (⊎_elim
                 (λ (before : number < word * 64). old.complete number to before there numbered)
                 (λ (from : word * 64 ≤ number). absurd

@@ -2,7 +2,7 @@ use Rattle.std.proofs.Common.{◌≡◌, ◌≢◌, ◌<◌, ◌+◌, ◌*◌, t
 use Rattle.std.proofs.lemmas.Bool.{cases_eq, both_ways}
 use Rattle.std.proofs.lemmas.Option.{slice_get_read}
 use Rattle.cedar_closure.specs.Edges.{GrowsBy}
-use Rattle.cedar_closure.specs.Numbering.{IsNumbered, StandsIn}
+use Rattle.cedar_closure.specs.Numbering.{IsNumbered, StandsInRow}
 use Rattle.cedar_closure.specs.Row.{has_bit}
 use Rattle.cedar_closure.proofs.Growing.{grows_onwards, grows_weaker}
 use Rattle.cedar_closure.proofs.Numbers.{numbered_from_name, name_from_numbered}
@@ -28,10 +28,10 @@ loop-place-preserved g c =
           slice_get_read names (length names) here name refl within w.index.ensures in
           let step = w.in_ok-add_edge.ensures in
           record {
-            grows = subst (λ n. GrowsBy edge alike c.args.node.now n (StandsIn eq names row)) (sym w.node-is)
-                (grows_onwards edge alike g.met.V.TCNode.alike_onwards (StandsIn eq names row) c.args.node.now
+            grows = subst (λ n. GrowsBy edge alike c.args.node.now n (StandsInRow eq names row)) (sym w.node-is)
+                (grows_onwards edge alike g.met.V.TCNode.alike_onwards (StandsInRow eq names row) c.args.node.now
                 c.loop-place.node w.add_edge.new.node old.grows
-                (grows_weaker edge alike (λ to. IsTrue (eq to name)) (StandsIn eq names row)
+                (grows_weaker edge alike (λ to. IsTrue (eq to name)) (StandsInRow eq names row)
                 (λ to same. (here, stands, numbered_from_name eq names name to here found same))
                 c.loop-place.node w.add_edge.new.node step.grows));
             complete = λ number to least most there numbered. subst (λ n. IsTrue (edge n to)) (sym w.node-is) (⊎_elim
@@ -44,7 +44,7 @@ loop-place-preserved g c =
       | else-has w ↦
           let gone : has_bit row here ≡ false = sym c.has.ensures ∙ w.if-has.false in
           record {
-            grows = subst (λ n. GrowsBy edge alike c.args.node.now n (StandsIn eq names row)) (sym w.node-is) old.grows;
+            grows = subst (λ n. GrowsBy edge alike c.args.node.now n (StandsInRow eq names row)) (sym w.node-is) old.grows;
             complete = λ number to least most there numbered. subst (λ n. IsTrue (edge n to)) (sym w.node-is) (⊎_elim
                 (λ (same : number ≡ here). absurd (both_ways _ gone (ap (has_bit row) (sym same) ∙ there)))
                 (λ (apart : number ≢ here). old.complete number to least (omega arith) there numbered)

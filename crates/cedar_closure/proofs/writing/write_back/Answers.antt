@@ -4,7 +4,7 @@ use Rattle.std.proofs.lemmas.Bool.{cases_lt, both_ways}
 use Rattle.std.proofs.lemmas.Option.{slice_get_read}
 use Rattle.cedar_closure.specs.Edges.{GrowsAt}
 use Rattle.cedar_closure.specs.Numbered.{items_at}
-use Rattle.cedar_closure.specs.Numbering.{IsNumbered, StandsIn}
+use Rattle.cedar_closure.specs.Numbering.{IsNumbered, StandsInRow}
 use Rattle.cedar_closure.specs.Row.{has_bit}
 use Rattle.cedar_closure.proofs.Bits.{has_bit-nil}
 use Rattle.cedar_closure.proofs.Growing.{grows_at_onwards, grows_at_weaker, edge_kept, some_kept}
@@ -31,7 +31,7 @@ found g c =
 -- where the edges of a key may go
 May : (g : _) (c : After-deref g) → g.row.K.Denot → g.row.K.Denot → Type 0
 May g c key to = (i : ℕ) × IsNumbered g.K.PartialEq.eq c.args.names.now.items key i
-    × StandsIn g.K.PartialEq.eq c.args.names.now.items (items_at c.args.rows.now.items i) to
+    × StandsInRow g.K.PartialEq.eq c.args.names.now.items (items_at c.args.rows.now.items i) to
 
 pub write_node-requires-clause-small : goal.write_node-requires-clause-small
 write_node-requires-clause-small g c = subst (λ xs. length xs ≤ 2 ^ 58) (sym (read g c)) (c.requires.small c.loop-i.i)
@@ -45,7 +45,7 @@ onwards : (g : _) (c : After-deref g) (new : HashMap g.row.K.Denot g.row.V.Denot
     → ((key : _) → GrowsAt g.V.TCNode.has_edge g.V.TCNode.is_alike (get g.K.PartialEq.eq c.loop-i.nodes key)
     (get g.K.PartialEq.eq new key)
     (λ to. IsTrue (g.K.PartialEq.eq c.index.result.now key)
-    × StandsIn g.K.PartialEq.eq c.args.names.now.items c.deref.result.now to))
+    × StandsInRow g.K.PartialEq.eq c.args.names.now.items c.deref.result.now to))
     → (key : _) → GrowsAt g.V.TCNode.has_edge g.V.TCNode.is_alike (get g.K.PartialEq.eq c.args.nodes.now key)
     (get g.K.PartialEq.eq new key) (May g c key)
 unfolding May
@@ -57,11 +57,11 @@ onwards g c new step key =
     let name = c.index.result.now in
     grows_at_onwards edge alike g.met.V.TCNode.alike_onwards (May g c key) (get eq c.args.nodes.now key)
     (get eq c.loop-i.nodes key) (get eq new key) (c.loop-i.invariant.grows key)
-    (grows_at_weaker edge alike (λ to. IsTrue (eq name key) × StandsIn eq names c.deref.result.now to) (May g c key)
+    (grows_at_weaker edge alike (λ to. IsTrue (eq name key) × StandsInRow eq names c.deref.result.now to) (May g c key)
     (λ to may. (
       c.loop-i.i,
       numbered_from_name eq names name key c.loop-i.i (found g c) (eq_back g.met.K.Eq.laws name key may.0),
-      subst (λ row. StandsIn eq names row to) (read g c) may.1,
+      subst (λ row. StandsInRow eq names row to) (read g c) may.1,
     ))
     (get eq c.loop-i.nodes key) (get eq new key) (step key))
 
@@ -86,7 +86,7 @@ loop-i-preserved g c =
       grows = onwards g here c.write_node.new.nodes step.grows;
       complete = λ i key to below numbered has stands. ⊎_elim
           (λ (before : i < c.loop-i.i).
-          edge_kept edge alike (λ q. IsTrue (eq c.index.result.now key) × StandsIn eq names c.deref.result.now q)
+          edge_kept edge alike (λ q. IsTrue (eq c.index.result.now key) × StandsInRow eq names c.deref.result.now q)
           (get eq c.loop-i.nodes key) (get eq c.write_node.new.nodes key) to (step.grows key)
           (old.complete i key to before numbered has stands))
           (λ (from : c.loop-i.i ≤ i).
@@ -96,7 +96,7 @@ loop-i-preserved g c =
           let has_now = some_kept edge alike (May g here key) (get eq c.args.nodes.now key)
           (get eq c.loop-i.nodes key) (old.grows key) has in
           step.complete key to (eq_back g.met.K.Eq.laws key c.index.result.now alike_name) has_now
-          (subst (λ row. StandsIn eq names row to) (ap (items_at c.args.rows.now.items) same ∙ sym (read g here)) stands))
+          (subst (λ row. StandsInRow eq names row to) (ap (items_at c.args.rows.now.items) same ∙ sym (read g here)) stands))
           (cases_lt i c.loop-i.i);
     }
 

@@ -2,7 +2,7 @@ use Rattle.std.proofs.Common.{◌≡◌, ℕ, ◌<◌}
 use Rattle.std.specs.HashMap.{get, keys, ContainsKey}
 use Rattle.cedar_closure.specs.Edges.{GrowsAt, HasEdge}
 use Rattle.cedar_closure.specs.Numbered.{items_at}
-use Rattle.cedar_closure.specs.Numbering.{IsNumbered, StandsIn}
+use Rattle.cedar_closure.specs.Numbering.{IsNumbered, StandsInRow}
 use Rattle.cedar_closure.proofs.writing.write_back.Given as goal
 
 abbrev pub invariant-loop-i : goal.invariant-loop-i
@@ -11,9 +11,9 @@ invariant-loop-i g l = record {
   grows : (key : _) → GrowsAt g.V.TCNode.has_edge g.V.TCNode.is_alike (get g.K.PartialEq.eq l.initial.nodes key)
       (get g.K.PartialEq.eq l.nodes key)
       (λ to. (i : ℕ) × IsNumbered g.K.PartialEq.eq l.names.items key i
-      × StandsIn g.K.PartialEq.eq l.names.items (items_at l.rows.items i) to);
+      × StandsInRow g.K.PartialEq.eq l.names.items (items_at l.rows.items i) to);
   complete : (i : ℕ) (key to : _) → i < l.i → IsNumbered g.K.PartialEq.eq l.names.items key i
       → ContainsKey g.K.PartialEq.eq l.initial.nodes key
-      → StandsIn g.K.PartialEq.eq l.names.items (items_at l.rows.items i) to
+      → StandsInRow g.K.PartialEq.eq l.names.items (items_at l.rows.items i) to
       → HasEdge g.K.PartialEq.eq g.V.TCNode.has_edge l.nodes key to;
 }

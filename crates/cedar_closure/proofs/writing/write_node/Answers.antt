@@ -2,7 +2,7 @@ use Rattle.std.proofs.Common.{◌≡◌, true, false, Some, IsTrue, IsSome, sym,
 use Rattle.std.specs.HashMap.{get}
 use Rattle.std.proofs.lemmas.Bool.{cases_Bool, cond-true, cond-false}
 use Rattle.cedar_closure.specs.Edges.{GrowsAt}
-use Rattle.cedar_closure.specs.Numbering.{StandsIn}
+use Rattle.cedar_closure.specs.Numbering.{StandsInRow}
 use Rattle.cedar_closure.proofs.Growing.{grows_weaker, grows_at_itself}
 use Rattle.cedar_closure.proofs.Numbers.{get_alike}
 use Rattle.cedar_closure.proofs.writing.write_node.Goals as goal
@@ -16,7 +16,7 @@ returns-in-Some-clause-grows g c = λ key.
     let before = c.args.nodes.now in
     let node = c.add_edges.new.node in
     let after = c.get_mut.follows.lender node in
-    let stands = StandsIn eq c.args.names.now.items c.args.row.now in
+    let stands = StandsInRow eq c.args.names.now.items c.args.row.now in
     let found : get eq before name ≡ Some c.in-Some.node.now = sym c.in-Some.ensures.value in
     let some : IsSome (get eq before name) = ap is_some found in
     let updated = ((c.get_mut.follows.holds node).3 some).0 key in

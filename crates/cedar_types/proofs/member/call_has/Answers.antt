@@ -11,4 +11,5 @@ returns c =
 pub returns-in_err-known : goal.returns-in_err-known
 returns-in_err-known c =
     let p = err_from_is_err_and c.from_residual.result c.from_residual.ensures.1 in
-    IsMembership-unknown c.args.extensions.now _ _ _ c.from_residual.result c.in_err-known.field-0.0 (p.1 ∙ ap Err p.2) (ap plain_name c.in_err-known.ensures.name) (none_from_some _ c.in_err-known.ensures.known.1)
+    IsMembership-unknown c.args.extensions.now _ _ _ c.from_residual.result c.in_err-known.field-0.0 (p.1 ∙ ap Err p.2)
+    (ap plain_name c.in_err-known.ensures.name) (none_from_some _ c.in_err-known.ensures.known.1)

@@ -20,7 +20,8 @@ attributes_are_well_formed-loop-attribute-init t c =
 
 pub attributes_are_well_formed-loop-attribute-preserved : goal.attributes_are_well_formed-loop-attribute-preserved
 attributes_are_well_formed-loop-attribute-preserved t c =
-    let P : List (String Global × AttributeType) → Type 0 = λ entries. AreWellFormed (fields_from (plain_attributes entries)) → AreWellFormed (fields_of c.args.attrs.now) in
+    let P : List (String Global × AttributeType) → Type 0 = λ entries. AreWellFormed
+    (fields_from (plain_attributes entries)) → AreWellFormed (fields_of c.args.attrs.now) in
     let before = subst P c.in-Some.ensures.steps c.loop-attribute.invariant in
     let parts = attribute_of-parts c.in-Some.attribute.now in
     let type_of : ty_of c.deref.result.now ≡ (attribute_of c.in-Some.attribute.now).1 =
@@ -33,7 +34,8 @@ attributes_are_well_formed-returns-clause-ascending t c =
 
 pub attributes_are_well_formed-returns-clause-types : goal.attributes_are_well_formed-returns-clause-types
 attributes_are_well_formed-returns-clause-types t c =
-    let P : List (String Global × AttributeType) → Type 0 = λ entries. AreWellFormed (fields_from (plain_attributes entries)) → AreWellFormed (fields_of c.args.attrs.now) in
+    let P : List (String Global × AttributeType) → Type 0 = λ entries. AreWellFormed
+    (fields_from (plain_attributes entries)) → AreWellFormed (fields_of c.args.attrs.now) in
     subst P c.in-None.ensures.steps.0 c.loop-attribute.invariant tt
 
 pub attributes_are_well_formed-returns-clause-texts : goal.attributes_are_well_formed-returns-clause-texts

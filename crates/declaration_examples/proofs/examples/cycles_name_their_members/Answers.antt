@@ -6,7 +6,7 @@ use Rattle.cedar_names.specs.declared.json_schema.reference_type.ReferenceType.T
 use Rattle.cedar_declared.proofs.BuiltInLemmas.{refers_declared, unlike_texts}
 use Rattle.cedar_declared.proofs.ChainLemmas.{first_step}
 use Rattle.cedar_declared.specs.Bag.{alias_name, built_in_name, declared_common, defined_names}
-use Rattle.cedar_declared.specs.Chain.{Chain, one, more}
+use Rattle.cedar_below.specs.Chain.{Chain, one, more}
 use Rattle.cedar_declared.specs.IllFormed.{RefersToCommon}
 use Rattle.declaration_examples.specs.Samples.{refer_here, cycle_first, cycle_second, cycle_bag}
 use Rattle.declaration_examples.proofs.examples.cycles_name_their_members.Goals as goal

@@ -2,7 +2,7 @@ use Rattle.std.proofs.Common.{None, false, [], ◌∷◌, refl, inl, inr, arith,
 use Rattle.cedar_names.specs.EntityBody.{standard, external}
 use Rattle.cedar_names.specs.Expr.{record_expr, no_member}
 use Rattle.cedar_names.specs.declared.json_schema.reference_type.ReferenceType.TheVariants.{Entity}
-use Rattle.cedar_declared.specs.Chain.{one, more}
+use Rattle.cedar_below.specs.Chain.{one, more}
 use Rattle.declaration_examples.specs.Samples.{refer_here}
 use Rattle.declaration_examples.proofs.examples.external_types_below_enumerated_ones.Goals as goal
 

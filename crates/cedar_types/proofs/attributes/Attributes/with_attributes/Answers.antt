@@ -3,11 +3,13 @@ use Rattle.cedar_types.proofs.attributes.Attributes.with_attributes.Goals as goa
 
 pub loop-name-preserved-in_ok-insert : goal.loop-name-preserved-in_ok-insert
 loop-name-preserved-in_ok-insert g c =
-    IsMapOf-insert_attribute c.loop-name.yielded c.loop-name.attrs c.insert.new.self c.in-Some.name c.in-Some.attribute c.loop-name.invariant c.in_ok-insert.ensures.updates c.in_ok-insert.ensures.ordered
+    IsMapOf-insert_attribute c.loop-name.yielded c.loop-name.attrs c.insert.new.self c.in-Some.name c.in-Some.attribute
+    c.loop-name.invariant c.in_ok-insert.ensures.updates c.in_ok-insert.ensures.ordered
 
 pub loop-name-preserved : goal.loop-name-preserved
 loop-name-preserved g c =
-    IsMapOf-insert_attribute c.loop-name.yielded c.loop-name.attrs c.insert.new.self c.in-Some.name c.in-Some.attribute c.loop-name.invariant c.in_ok-insert.ensures.updates c.in_ok-insert.ensures.ordered
+    IsMapOf-insert_attribute c.loop-name.yielded c.loop-name.attrs c.insert.new.self c.in-Some.name c.in-Some.attribute
+    c.loop-name.invariant c.in_ok-insert.ensures.updates c.in_ok-insert.ensures.ordered
 
 pub returns-clause-attributes : goal.returns-clause-attributes
 returns-clause-attributes g c = (

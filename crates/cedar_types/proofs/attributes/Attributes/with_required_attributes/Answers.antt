@@ -3,11 +3,15 @@ use Rattle.cedar_types.proofs.attributes.Attributes.with_required_attributes.Goa
 
 pub loop-name-preserved-in_ok-insert : goal.loop-name-preserved-in_ok-insert
 loop-name-preserved-in_ok-insert g c =
-    IsMapOf-insert_required c.loop-name.yielded c.loop-name.attrs c.insert.new.self c.in-Some.name c.in-Some.ty c.required_attribute.result c.required_attribute.ensures.attribute c.required_attribute.ensures.located c.loop-name.invariant c.in_ok-insert.ensures.updates c.in_ok-insert.ensures.ordered
+    IsMapOf-insert_required c.loop-name.yielded c.loop-name.attrs c.insert.new.self c.in-Some.name c.in-Some.ty
+    c.required_attribute.result c.required_attribute.ensures.attribute c.required_attribute.ensures.located
+    c.loop-name.invariant c.in_ok-insert.ensures.updates c.in_ok-insert.ensures.ordered
 
 pub loop-name-preserved : goal.loop-name-preserved
 loop-name-preserved g c =
-    IsMapOf-insert_required c.loop-name.yielded c.loop-name.attrs c.insert.new.self c.in-Some.name c.in-Some.ty c.required_attribute.result c.required_attribute.ensures.attribute c.required_attribute.ensures.located c.loop-name.invariant c.in_ok-insert.ensures.updates c.in_ok-insert.ensures.ordered
+    IsMapOf-insert_required c.loop-name.yielded c.loop-name.attrs c.insert.new.self c.in-Some.name c.in-Some.ty
+    c.required_attribute.result c.required_attribute.ensures.attribute c.required_attribute.ensures.located
+    c.loop-name.invariant c.in_ok-insert.ensures.updates c.in_ok-insert.ensures.ordered
 
 pub returns-clause-attributes : goal.returns-clause-attributes
 returns-clause-attributes g c = (

@@ -9,5 +9,6 @@ pub invariant_of-result-clause-ascending : goal.invariant_of-result-clause-ascen
 invariant_of-result-clause-ascending c =
     let P : List PlainName → Type 0 = IsStrictlySortedBy name_cmp in
     subst P
-    (sym (ap (map type_name) c.in_ok-push.ensures.items ∙ ap (λ types. map type_name (types ++ c.args.ty ∷ [])) c.in_ok-elements.ensures.items))
+    (sym (ap (map type_name) c.in_ok-push.ensures.items ∙ ap
+    (λ types. map type_name (types ++ c.args.ty ∷ [])) c.in_ok-elements.ensures.items))
     (IsStrictlySortedBy-one (type_name c.args.ty))
