@@ -1,5 +1,6 @@
 pub mod Chain
 pub mod Edges
+pub mod Growth
 pub mod Numbered
 pub mod Numbering
 pub mod Row
