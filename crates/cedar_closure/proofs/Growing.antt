@@ -1,6 +1,6 @@
 -- Nodes that gain edges: none, more, and one gain after another.
 use Rattle.std.proofs.Common.{Bool, IsTrue, ◌⊎◌, inl, inr, ⊎_elim, Option, None, Some, IsSome, IsSomeAnd}
-use Rattle.cedar_closure.specs.Edges.{GrowsBy, GrowsAt}
+use Rattle.cedar_closure.specs.Growth.{GrowsBy, GrowsAt}
 
 module _ {K V : Type 0} (has_edge : V → K → Bool) (is_alike : V → V → Type 0) where
   -- a node that is left as it was

@@ -1,5 +1,5 @@
 -- Edges between the nodes of a map, and what a chain of edges reaches.
-use Rattle.std.specs.Prelude.{◌⊎◌, Bool, IsTrue, IsSomeAnd, Option, None, Some}
+use Rattle.std.specs.Prelude.{Bool, IsTrue, IsSomeAnd, Option, None, Some}
 use Rattle.std.specs.HashMap.{HashMap, get}
 use Rattle.cedar_below.specs.Chain.{Chain}
 
@@ -12,21 +12,6 @@ module _ {K V S : Type 0} (eq : K → K → Bool) (has_edge : V → K → Bool) 
   -- a chain of one or more edges leads from the first key to the second
   abbrev pub Reaches : HashMap K V S → K → K → Type 0
   Reaches nodes from to = Chain (HasEdge eq has_edge nodes) from to
-
-module _ {K V : Type 0} (has_edge : V → K → Bool) (is_alike : V → V → Type 0) where
-  -- the new node has each edge of the old, each other edge goes to a key to which one may go, and the two are alike but for edges
-  pub record GrowsBy (old new : V) (May : K → Type 0) : Type 0 where
-    pub old_stay : (to : K) → IsTrue (has_edge old to) → IsTrue (has_edge new to)
-    pub sound : (to : K) → IsTrue (has_edge new to) → IsTrue (has_edge old to) ⊎ May to
-    pub alike : is_alike old new
-
-module _ {K V : Type 0} (has_edge : V → K → Bool) (is_alike : V → V → Type 0) where
-  -- the same of what stands at a key before and after: a node stays a node, and none stays none
-  abbrev pub GrowsAt : Option V → Option V → (K → Type 0) → Type 0
-  GrowsAt None None May = Unit {0}
-  GrowsAt None (Some new) May = ⊥
-  GrowsAt (Some old) None May = ⊥
-  GrowsAt (Some old) (Some new) May = GrowsBy has_edge is_alike old new May
 
 module _ {V : Type 0} (is_alike : V → V → Type 0) where
   -- what stands at a key before and after: two nodes that are alike but for edges, or none

@@ -1,4 +1,5 @@
 pub mod Edges
+pub mod Growth
 pub mod Numbered
 pub mod Numbering
 pub mod Row

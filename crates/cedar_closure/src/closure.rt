@@ -95,7 +95,7 @@ pub fn compute_tc_counted<K: Eq + Hash + Drop, V: TCNode<K>>(
 /// A node is known by its key in the map. An edge to a key that is not in the map leads no further. Each
 /// node stays alike but for its edges. With `enforce_dag` it is refused with `HasCycle` where some node
 /// reaches itself. After `HasCycle`, as after want of memory, each old edge stands and each new one is of
-/// the closure.
+/// the closure. Of keys `Drop` is asked besides `Eq` and `Hash`, since copies of them are let go.
 pub fn compute_tc<K: Eq + Hash + Drop, V: TCNode<K>>(
     alloc: Global,
     nodes: &mut HashMap<K, V>,

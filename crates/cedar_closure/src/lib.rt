@@ -1,4 +1,9 @@
 //! The closure of edges between nodes: each node gets an edge to all that a chain of edges reaches.
+//!
+//! Keys and targets of edges are numbered. Each key has a row of bits, one for each number, in words of 64
+//! bits. A row is joined with each row whose number stands in it, a word at a time, until there is none
+//! left, and what stands in it then is written back as edges. A target without a node has a number and no
+//! row, so it leads no further.
 #![tactic(auto)]
 
 pub use closure::{compute_tc, compute_tc_counted};

@@ -2,7 +2,8 @@
 
 ghost use Rattle.std.specs.Prelude.{◌≡◌, ℕ, ◌+◌, ◌*◌, ◌^◌, ◌<◌, ◌≤◌, length, vec_len, IsTrue, OnOk};
 ghost use Rattle.std.specs.HashMap.{get, keys, ContainsKey};
-ghost use Rattle.cedar_closure.specs.Edges.{HasEdge, GrowsBy, GrowsAt};
+ghost use Rattle.cedar_closure.specs.Edges.{HasEdge};
+ghost use Rattle.cedar_closure.specs.Growth.{GrowsBy, GrowsAt};
 ghost use Rattle.cedar_closure.specs.Numbered.{items_at, InRow};
 ghost use Rattle.cedar_closure.specs.Numbering.{IsNumbered, StandsInRow, RowHas};
 ghost use Rattle.cedar_closure.specs.Row.{has_bit};

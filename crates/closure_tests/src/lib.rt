@@ -1,8 +1,7 @@
 //! Tests of the closure of edges over a small node type.
 #![tactic(auto)]
 
-#[cfg(test)]
-mod member;
+pub mod member;
 #[cfg(test)]
 mod rows;
 #[cfg(test)]

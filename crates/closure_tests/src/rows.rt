@@ -69,9 +69,10 @@ fn an_edge_to_no_node_leads_no_further(rt: HostRuntime) -> Result<(), Fail> {
     assert_eq!(rt; compute_tc_counted(alloc, &mut nodes, true)?, 1);
     assert_eq!(rt; nodes.len(), 2);
     assert_eq!(rt; edges_in_all(&nodes), 3);
-    let Some(first) = nodes.get(&0) else {
+    let Some(first) = nodes.get_mut(&0) else {
         return Err(Fail::from("a node is lost"));
     };
+    first.reset_edges();
     assert!(rt; first.has_edge_to(&9));
     assert_eq!(rt; *first.get_key(), 0);
     Ok(())

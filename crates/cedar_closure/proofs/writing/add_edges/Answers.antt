@@ -1,6 +1,6 @@
 use Rattle.std.proofs.Common.{◌<◌, ◌≤◌, ◌*◌, IsTrue, sym, subst, arith, ⊎_elim}
 use Rattle.std.proofs.lemmas.Bool.{both_ways, cases_lt}
-use Rattle.cedar_closure.specs.Edges.{GrowsBy}
+use Rattle.cedar_closure.specs.Growth.{GrowsBy}
 use Rattle.cedar_closure.specs.Numbering.{StandsInRow}
 use Rattle.cedar_closure.proofs.Bits.{no_bit_in_word, bit_below}
 use Rattle.cedar_closure.proofs.Growing.{grows_onwards}

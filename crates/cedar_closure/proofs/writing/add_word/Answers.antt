@@ -1,7 +1,7 @@
 use Rattle.std.proofs.Common.{◌≡◌, ◌≢◌, ◌<◌, ◌+◌, ◌*◌, true, false, Some, IsTrue, length, slice_get, sym, ◌∙◌, ap, refl, subst, arith, ⊎_elim}
 use Rattle.std.proofs.lemmas.Bool.{cases_eq, both_ways}
 use Rattle.std.proofs.lemmas.Option.{slice_get_read}
-use Rattle.cedar_closure.specs.Edges.{GrowsBy}
+use Rattle.cedar_closure.specs.Growth.{GrowsBy}
 use Rattle.cedar_closure.specs.Numbering.{IsNumbered, StandsInRow}
 use Rattle.cedar_closure.specs.Row.{has_bit}
 use Rattle.cedar_closure.proofs.Growing.{grows_onwards, grows_weaker}

@@ -1,5 +1,5 @@
 use Rattle.std.proofs.Common.{ℕ, ◌+◌, ◌*◌, ◌<◌, ◌≤◌, IsTrue}
-use Rattle.cedar_closure.specs.Edges.{GrowsBy}
+use Rattle.cedar_closure.specs.Growth.{GrowsBy}
 use Rattle.cedar_closure.specs.Numbering.{IsNumbered, StandsInRow}
 use Rattle.cedar_closure.specs.Row.{has_bit}
 use Rattle.cedar_closure.proofs.writing.add_word.Given as goal

@@ -2,7 +2,7 @@ use Rattle.std.proofs.Common.{◌≡◌, ◌<◌, ◌≤◌, ◌^◌, ℕ, Some,
 use Rattle.std.specs.HashMap.{get}
 use Rattle.std.proofs.lemmas.Bool.{cases_lt, both_ways}
 use Rattle.std.proofs.lemmas.Option.{slice_get_read}
-use Rattle.cedar_closure.specs.Edges.{GrowsAt}
+use Rattle.cedar_closure.specs.Growth.{GrowsAt}
 use Rattle.cedar_closure.specs.Numbered.{items_at}
 use Rattle.cedar_closure.specs.Numbering.{IsNumbered, StandsInRow}
 use Rattle.cedar_closure.specs.Row.{has_bit}

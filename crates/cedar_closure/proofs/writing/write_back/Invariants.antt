@@ -1,6 +1,7 @@
 use Rattle.std.proofs.Common.{◌≡◌, ℕ, ◌<◌}
 use Rattle.std.specs.HashMap.{get, keys, ContainsKey}
-use Rattle.cedar_closure.specs.Edges.{GrowsAt, HasEdge}
+use Rattle.cedar_closure.specs.Edges.{HasEdge}
+use Rattle.cedar_closure.specs.Growth.{GrowsAt}
 use Rattle.cedar_closure.specs.Numbered.{items_at}
 use Rattle.cedar_closure.specs.Numbering.{IsNumbered, StandsInRow}
 use Rattle.cedar_closure.proofs.writing.write_back.Given as goal

@@ -1,7 +1,7 @@
 use Rattle.std.proofs.Common.{◌≡◌, true, false, Some, IsTrue, IsSome, sym, ◌∙◌, ap, subst, subst₂, is_some, ⊎_elim}
 use Rattle.std.specs.HashMap.{get}
 use Rattle.std.proofs.lemmas.Bool.{cases_Bool, cond-true, cond-false}
-use Rattle.cedar_closure.specs.Edges.{GrowsAt}
+use Rattle.cedar_closure.specs.Growth.{GrowsAt}
 use Rattle.cedar_closure.specs.Numbering.{StandsInRow}
 use Rattle.cedar_closure.proofs.Growing.{grows_weaker, grows_at_itself}
 use Rattle.cedar_closure.proofs.Numbers.{get_alike}
