@@ -84,8 +84,9 @@ mutual
         members_have_admitted defined
             extensions one rest others,
       )
-  members_have_admitted defined extensions one (admits_there {values = values} {name = name} {required =
-      required} value there admitted rest) (as_member {ty = ty} first others) = (
+  members_have_admitted defined extensions one
+      (admits_there {values = values} {name = name} {required = required} value there admitted rest)
+      (as_member {ty = ty} first others) = (
         entry_of (λ each. Has extensions each ty) required (entry_at name values) value there
             (has_admitted defined extensions one admitted first),
         members_have_admitted defined extensions one rest others,
@@ -145,8 +146,8 @@ mutual
       → MembersWrittenOut defined members fields → (values : Entries) → HasFieldsBy (Gives extensions) values fields
       → AdmitsMembers defined extensions values members
   members_admitted_of defined extensions as_no_member values has = admits_no_member
-  members_admitted_of defined extensions (as_member {name = name} {required = required} {expr = expr} {ty = ty} {rest =
-      rest} first others) values has =
+  members_admitted_of defined extensions
+      (as_member {name = name} {required = required} {expr = expr} {ty = ty} {rest = rest} first others) values has =
       entry_admitted defined extensions values name required expr rest ty (entry_at name values) refl
       (λ value holds. admitted_of defined extensions first value holds) has.0
       (members_admitted_of defined extensions others values has.1)

@@ -401,9 +401,9 @@ module _ (bag other : Bag) (extensions : Extensions) (alike : Alike bag other) w
   fault_there (action_not_defined actions) at_fault =
       (at_fault.0, λ carried among. unknown_parent_there carried (at_fault.1 carried among))
   fault_there (type_shadowing name qualified) at_fault =
-      (type_there name at_fault.0, type_there qualified at_fault.1, at_fault.2, at_fault.3, at_fault.4, at_fault.5)
+      (type_there name at_fault.0, type_there qualified at_fault.1, at_fault.2)
   fault_there (action_shadowing uid qualified) at_fault =
-      (uid_there bag other alike uid at_fault.0, uid_there bag other alike qualified at_fault.1, at_fault.2, at_fault.3, at_fault.4)
+      (uid_there bag other alike uid at_fault.0, uid_there bag other alike qualified at_fault.1, at_fault.2)
   fault_there (duplicate_entity_type name) at_fault = twice_type name at_fault
   fault_there (duplicate_common_type name) at_fault = twice_common name at_fault
   fault_there (duplicate_action uid) at_fault = twice_action uid at_fault

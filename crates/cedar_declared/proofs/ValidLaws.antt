@@ -305,17 +305,8 @@ module _ (bag : Bag) (extensions : Extensions) (schema : PlainSchema) (fit : Typ
     descendants_known = descendant_known;
     requests_known = request_known;
     action_descendants_known = action_descendant_known;
-    no_shadowed_type = λ name qualified first second plain not_plain not_reserved same.
-        well (type_shadowing name qualified, (among_types name first, among_types qualified second, plain, not_plain, not_reserved, same));
-    no_shadowed_action = λ uid qualified first second plain not_plain same.
-        well (
-          action_shadowing uid qualified,
-          (
-            declared_action_uid uid first,
-            declared_action_uid qualified second,
-            plain,
-            not_plain,
-            same,
-          ),
-        );
+    no_shadowed_type = λ name qualified first second shadows.
+        well (type_shadowing name qualified, (among_types name first, among_types qualified second, shadows));
+    no_shadowed_action = λ uid qualified first second shadows.
+        well (action_shadowing uid qualified, (declared_action_uid uid first, declared_action_uid qualified second, shadows));
   }

@@ -2,7 +2,7 @@ use Rattle.std.specs.Prelude.{◌≡◌, ◌≢◌, ◌⊎◌, true, List, [], �
 use Rattle.std.specs.List.Sorted.{IsStrictlySortedBy}
 use Rattle.cedar_below.specs.Extensions.{extension_types}
 use Rattle.cedar_below.specs.Identifier.{reserved_word}
-use Rattle.cedar_below.specs.PlainName.{PlainName, IsUnqualified, IsReserved, IsActionType}
+use Rattle.cedar_below.specs.PlainName.{PlainName, IsUnqualified, IsActionType}
 use Rattle.cedar_below.specs.PlainUid.{PlainUid}
 use Rattle.cedar_below.specs.Text.{Text, text_cmp}
 use Rattle.cedar_below.specs.declared.extension.Extensions.{Extensions}
@@ -19,6 +19,7 @@ use Rattle.cedar_declared.specs.Descent.{NamesNoAction, IsDescendant, IsDescenda
 use Rattle.cedar_declared.specs.Fault.{Fault, action_attributes, open_record, undeclared_entity_types, type_not_defined, action_not_defined, type_shadowing, action_shadowing, duplicate_entity_type, duplicate_common_type, duplicate_action, action_cycle, common_type_cycle, action_entity_type, shape_not_record, context_not_record, unknown_extension_type, reserved_name, external_below_enumerated}
 use Rattle.cedar_declared.specs.Mentions.{HasOpenRecord, MentionsExtension, Refers}
 use Rattle.cedar_declared.specs.Occurrences.{Twice}
+use Rattle.cedar_declared.specs.Shadowing.{ShadowsType, ShadowsAction}
 use Rattle.cedar_declared.specs.WrittenOut.{IsNoRecord}
 
 -- an action of this id is declared with attributes in the namespace
@@ -64,12 +65,10 @@ IsFault bag extensions (action_not_defined actions) =
     (actions ≢ []) × ((carried : Text × Option Reference) → Contains actions carried → HasUnknownParent bag carried)
 -- a type is declared in the empty namespace, and one of the same base name in another that isn't reserved
 IsFault bag extensions (type_shadowing plain qualified) =
-    Contains (declared_types bag) plain × Contains (declared_types bag) qualified
-    × IsUnqualified plain × ¬ IsUnqualified qualified × ¬ IsReserved qualified × (plain.base ≡ qualified.base)
+    Contains (declared_types bag) plain × Contains (declared_types bag) qualified × ShadowsType plain qualified
 -- an action is declared in the empty namespace, and one of the same id in another
 IsFault bag extensions (action_shadowing plain qualified) =
-    Contains (action_uids bag) plain × Contains (action_uids bag) qualified
-    × IsUnqualified plain.ty × ¬ IsUnqualified qualified.ty × (plain.eid ≡ qualified.eid)
+    Contains (action_uids bag) plain × Contains (action_uids bag) qualified × ShadowsAction plain qualified
 -- these are declared twice; a common type also if it is built in
 IsFault bag extensions (duplicate_entity_type name) = Twice (map (λ it. it.0) (declared_entities bag)) name
 IsFault bag extensions (duplicate_common_type name) = Twice (map (λ it. it.0) (declared_common bag ++ built_ins extensions)) name

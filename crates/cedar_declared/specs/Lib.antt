@@ -15,6 +15,7 @@ pub mod PlainSchema
 pub mod SameBag
 pub mod SameSchema
 pub mod SchemaError
+pub mod Shadowing
 pub mod TypeMentions
 pub mod ValidSchema
 pub mod WrittenOut

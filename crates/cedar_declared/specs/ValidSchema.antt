@@ -1,10 +1,11 @@
 use Rattle.std.specs.Prelude.{◌≡◌, ◌⊎◌, map, Some, Contains}
 use Rattle.cedar_below.specs.Extensions.{extension_types}
-use Rattle.cedar_below.specs.PlainName.{PlainName, IsUnqualified, IsReserved, IsActionType}
+use Rattle.cedar_below.specs.PlainName.{PlainName, IsActionType}
 use Rattle.cedar_below.specs.PlainUid.{PlainUid}
 use Rattle.cedar_below.specs.declared.extension.Extensions.{Extensions}
 use Rattle.cedar_below.specs.Chain.{Chain}
 use Rattle.cedar_declared.specs.PlainSchema.{SchemaEntityType, ActionKind, defined_action, external_action, SchemaAction, PlainSchema}
+use Rattle.cedar_declared.specs.Shadowing.{ShadowsType, ShadowsAction}
 use Rattle.cedar_declared.specs.TypeMentions.{MentionsEntity, MentionsExtensionType}
 use Rattle.cedar_declared.specs.EntityTypeKind.{EntityTypeKind, standard_kind, enumerated_kind, external_kind}
 use Rattle.cedar_rules.specs.Ty.{Ty, record_of}
@@ -83,9 +84,9 @@ pub record IsValidSchema (extensions : Extensions) (schema : PlainSchema) : Type
       → IsPrincipalOrResourceOf it.1.kind name → HasEntityType schema name
   pub action_descendants_known : (lower upper : PlainUid) → ListsDescendantAction schema lower upper → HasAction schema lower
   pub no_shadowed_type : (plain qualified : PlainName) → HasEntityType schema plain → HasEntityType schema qualified
-      → IsUnqualified plain → ¬ IsUnqualified qualified → ¬ IsReserved qualified → ¬ (plain.base ≡ qualified.base)
+      → ¬ ShadowsType plain qualified
   pub no_shadowed_action : (plain qualified : PlainUid) → HasAction schema plain → HasAction schema qualified
-      → IsUnqualified plain.ty → ¬ IsUnqualified qualified.ty → ¬ (plain.eid ≡ qualified.eid)
+      → ¬ ShadowsAction plain qualified
 
 -- the descendants are closed: what one or more steps of the listed ones reach is listed, so that to close them changes
 -- nothing

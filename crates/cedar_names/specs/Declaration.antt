@@ -10,7 +10,6 @@ use Rattle.cedar_below.specs.UnreservedId.{unreserved_id_text}
 use Rattle.cedar_below.specs.declared.unreserved_id.UnreservedId.{UnreservedId}
 use Rattle.cedar_names.specs.ActionBody.{ActionBody, action_body}
 use Rattle.cedar_names.specs.CommonTypeId.{common_type_text}
-use Rattle.cedar_names.specs.ConditionalName.{conditional_reference}
 use Rattle.cedar_names.specs.EntityBody.{EntityBody, entity_body}
 use Rattle.cedar_names.specs.Expr.{Expr}
 use Rattle.cedar_names.specs.RawExpr.{raw_reference}
@@ -18,7 +17,6 @@ use Rattle.cedar_names.specs.Reference.{Reference}
 use Rattle.cedar_names.specs.WrittenExpr.{written_type}
 use Rattle.cedar_names.specs.declared.json_schema.action_type.ActionType.{ActionType}
 use Rattle.cedar_names.specs.declared.json_schema.common_type_id.CommonTypeId.{CommonTypeId}
-use Rattle.cedar_names.specs.declared.json_schema.conditional_name.ConditionalName.{ConditionalName}
 use Rattle.cedar_names.specs.declared.json_schema.entity_type.EntityType.{EntityType}
 use Rattle.cedar_names.specs.declared.json_schema.fragment.CommonType.{CommonType}
 use Rattle.cedar_names.specs.declared.json_schema.fragment.Fragment.{Fragment}
@@ -46,8 +44,7 @@ module _ (N : Type 0) (refer : ReferenceType → N → Reference) (namespace : O
       map (λ entry. record {
         namespace = namespace;
         id = common_type_text entry.0;
-        body =
-            common_type (written_type N refer entry.1.ty);
+        body = common_type (written_type N refer entry.1.ty);
       }) entries
 
   -- the declarations of some entity types
@@ -56,8 +53,7 @@ module _ (N : Type 0) (refer : ReferenceType → N → Reference) (namespace : O
       map (λ entry. record {
         namespace = namespace;
         id = unreserved_id_text entry.0;
-        body =
-            entity_type (entity_body N refer entry.1);
+        body = entity_type (entity_body N refer entry.1);
       }) entries
 
   -- the declarations of some actions
@@ -66,8 +62,7 @@ module _ (N : Type 0) (refer : ReferenceType → N → Reference) (namespace : O
       map (λ entry. record {
         namespace = namespace;
         id = string_bytes entry.0;
-        body =
-            action (action_body N refer namespace entry.1);
+        body = action (action_body N refer namespace entry.1);
       }) entries
 
   -- the declarations of a namespace's definition: its common types, its entity types and its actions
@@ -86,15 +81,3 @@ raw_fragment fragment = flat_map (λ entry. raw_declarations (option_map plain_n
 -- the bag of declarations of some fragments whose names are as they were written
 abbrev pub raw_bag : List (Fragment RawName) → List Declaration
 raw_bag fragments = flat_map raw_fragment fragments
-
--- the declarations of a definition whose references know what they may name
-abbrev pub conditional_declarations : Option PlainName → NamespaceDefinition ConditionalName → List Declaration
-conditional_declarations namespace = declarations ConditionalName (λ kind name. conditional_reference name) namespace
-
--- the declarations of a fragment whose references know what they may name
-abbrev pub conditional_fragment : Fragment ConditionalName → List Declaration
-conditional_fragment fragment = flat_map (λ entry. conditional_declarations (option_map plain_name entry.0) entry.1) fragment.0.entries
-
--- the bag of declarations of some fragments whose references know what they may name
-abbrev pub conditional_bag : List (Fragment ConditionalName) → List Declaration
-conditional_bag fragments = flat_map conditional_fragment fragments

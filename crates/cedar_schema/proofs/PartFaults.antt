@@ -212,7 +212,7 @@ module _ (entries : Entries) (extensions : Extensions) (plain : ArePlain entries
       absurd (no_action_in entries (unknown.0, unknown.1) unknown.3)
   entity_fault_of (type_shadowing name qualified) at_fault =
       let P : List PlainName → Type 0 = λ names. Contains names qualified in
-      absurd (at_fault.3 (no_path_here entries qualified (subst P (type_names_here entries) at_fault.1)))
+      absurd (at_fault.2.1 (no_path_here entries qualified (subst P (type_names_here entries) at_fault.1)))
   entity_fault_of (action_shadowing uid qualified) at_fault = absurd (no_action_among (λ it. it.0) entries uid at_fault.0)
   entity_fault_of (duplicate_entity_type name) at_fault =
       let P : Declared → Type 0 = λ declared. Twice (map (λ it. it.0) declared) name in
