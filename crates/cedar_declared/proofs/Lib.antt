@@ -7,6 +7,7 @@ pub mod ChainLemmas
 pub mod CountLemmas
 pub mod DeclarationLemmas
 pub mod DefinedLemmas
+pub mod EnvironmentLaws
 pub mod MentionLemmas
 pub mod OccurrenceLemmas
 pub mod PlacedLemmas

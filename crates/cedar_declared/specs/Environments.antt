@@ -1,12 +1,16 @@
-use Rattle.std.specs.Prelude.{◌≢◌, ◌↔◌, List, AllPairs, Contains}
+use Rattle.std.specs.Prelude.{◌≡◌, ◌≢◌, ◌↔◌, List, AllPairs, Contains}
+use Rattle.cedar_below.specs.Extensions.{extension_types}
 use Rattle.cedar_below.specs.PlainName.{PlainName}
 use Rattle.cedar_below.specs.PlainUid.{PlainUid}
+use Rattle.cedar_below.specs.TypeNames.{TypeNamesFit}
 use Rattle.cedar_below.specs.declared.extension.Extensions.{Extensions}
-use Rattle.cedar_names.specs.ActionBody.{ActionBody, Requests, requests, elsewhere}
 use Rattle.cedar_declared.specs.Bag.{Bag, declared_actions, defined_names}
-use Rattle.cedar_declared.specs.DeclaredSchema.{IsNamedBy}
+use Rattle.cedar_declared.specs.DeclaredSchema.{IsNamedBy, IsDeclaredSchema}
 use Rattle.cedar_declared.specs.Defined.{Defined}
+use Rattle.cedar_declared.specs.IllFormed.{IsIllFormed}
+use Rattle.cedar_declared.specs.PlainSchema.{ActionKind, defined_action, external_action, SchemaAction, PlainSchema}
 use Rattle.cedar_declared.specs.WrittenOut.{WrittenOut}
+use Rattle.cedar_names.specs.ActionBody.{ActionBody, Requests, requests, elsewhere}
 use Rattle.cedar_rules.specs.Ty.{Ty}
 
 -- the types of a request: those of the principal and of the resource, the action, and the type of the context
@@ -16,20 +20,38 @@ pub record Environment : Type 0 where
   pub resource : PlainName
   pub context : Ty
 
--- the environment is of requests that an action is for: one of the principals with one of the resources, and the context
-abbrev pub IsRequest : Defined → Requests → Environment → Type 0
-IsRequest defined (requests principals resources context) it =
+-- the environment is of requests that a kind of action is for: one of its principals with one of its resources, and its
+-- context
+abbrev pub IsRequestOf : ActionKind → Environment → Type 0
+IsRequestOf (defined_action principals resources context) it =
+    Contains principals it.principal × Contains resources it.resource × (context ≡ it.context)
+IsRequestOf external_action it = ⊥
+
+-- the environment is one of the schema: it is of requests that its action is for
+abbrev pub IsEnvironmentOf : PlainSchema → Environment → Type 0
+IsEnvironmentOf schema it =
+    (action : SchemaAction) × Contains schema.actions (it.action, action) × IsRequestOf action.kind it
+
+-- the environments are just those of the schema, each once
+pub record AreEnvironmentsOf (schema : PlainSchema) (environments : List Environment) : Type 0 where
+  pub each : (it : Environment) → Contains environments it ↔ IsEnvironmentOf schema it
+  pub once : AllPairs (λ it other. it ≢ other) environments
+
+-- the environment is of requests that are declared: one of the principals with one of the resources, and the context
+abbrev pub IsDeclaredRequest : Defined → Requests → Environment → Type 0
+IsDeclaredRequest defined (requests principals resources context) it =
     IsNamedBy defined principals it.principal × IsNamedBy defined resources it.resource
     × WrittenOut defined context it.context
-IsRequest defined elsewhere it = ⊥
+IsDeclaredRequest defined elsewhere it = ⊥
 
--- the environment is declared: it is of requests that its action is for
-abbrev pub IsEnvironment : Bag → Extensions → Environment → Type 0
-IsEnvironment bag extensions it =
+-- the environment is declared: it is of the requests that are declared of its action
+abbrev pub IsDeclaredEnvironment : Bag → Extensions → Environment → Type 0
+IsDeclaredEnvironment bag extensions it =
     (body : ActionBody) × Contains (declared_actions bag) (it.action, body)
-    × IsRequest (defined_names bag extensions) body.applies_to it
+    × IsDeclaredRequest (defined_names bag extensions) body.applies_to it
 
--- the environments are just the declared ones, each once
-pub record AreEnvironments (bag : Bag) (extensions : Extensions) (environments : List Environment) : Type 0 where
-  pub declared : (it : Environment) → Contains environments it ↔ IsEnvironment bag extensions it
-  pub once : AllPairs (λ it other. it ≢ other) environments
+-- a law: the environments of the schema that a bag declares which isn't ill-formed are the declared ones
+abbrev pub EnvironmentsAreDeclared : Type 0
+EnvironmentsAreDeclared = (bag : Bag) (extensions : Extensions) → TypeNamesFit (extension_types extensions)
+    → ¬ IsIllFormed bag extensions → (schema : PlainSchema) → IsDeclaredSchema bag extensions schema
+    → (it : Environment) → IsEnvironmentOf schema it ↔ IsDeclaredEnvironment bag extensions it

@@ -11,6 +11,7 @@ ghost use Rattle.cedar_names.specs.declared.json_schema.raw_name.RawName.{RawNam
 ghost use Rattle.cedar_declared.specs.Bag.{Bag, defined_names};
 ghost use Rattle.cedar_declared.specs.Counted.{PlacesFit};
 ghost use Rattle.cedar_declared.specs.EndToEnd.{AdmitsTheSame, BagsDeclareAtMostOneSchema, DeclaredSchemasAreClosed, DeclaredSchemasAreValid, DeclaredTypesHaveTheDeclaredValues, SameBagsDeclareTheSame};
+ghost use Rattle.cedar_declared.specs.Environments.{EnvironmentsAreDeclared};
 ghost use Rattle.cedar_declared.specs.IllFormed.{IsIllFormed};
 ghost use Rattle.cedar_declared.specs.WrittenOut.{WrittenOut};
 ghost use Rattle.cedar_rules.specs.Ty.{Ty};
@@ -58,4 +59,10 @@ pub fn declared_schemas_are_valid()
 /// The references of fragments whose names are as they were written fit their places.
 pub fn raw_references_fit_their_places()
     ensures { (fragments : List (Fragment RawName)) → PlacesFit (raw_bag fragments) }
+{}
+
+/// The environments of the schema that a bag declares, where it isn't ill-formed, are the declared ones:
+/// for each action that is defined each pair of a principal and a resource, with the context.
+pub fn environments_are_declared()
+    ensures { EnvironmentsAreDeclared }
 {}
