@@ -1,24 +1,23 @@
 -- Built-in types and aliases: their names are their own, and what they stand for refers to nothing.
-use Rattle.std.proofs.Common.{◌≡◌, ◌≢◌, ◌⊎◌, ◌||◌, ◌&&◌, zero, suc, Bool, true, false, List, [], ◌∷◌, ◌++◌, None, Some, map, ap, sym, subst, ◌∙◌, refl, inl, inr, ⊎_elim, arith, Contains, All, AllPairs, codes, not}
+use Rattle.std.proofs.Common.{◌≡◌, ◌≢◌, ◌⊎◌, zero, suc, Bool, true, false, List, [], ◌∷◌, ◌++◌, map, ap, sym, subst, ◌∙◌, refl, inl, inr, ⊎_elim, arith, Contains, All, AllPairs, codes, not}
 use Rattle.std.proofs.lemmas.Bool.{false≢true}
-use Rattle.std.proofs.lemmas.List.Elements.{All-contains, All-tail, Contains-append_cases}
+use Rattle.std.proofs.lemmas.List.Elements.{All-contains, All-tail, Contains-append_left, Contains-append_cases}
 use Rattle.std.proofs.lemmas.Slice.Eq.{bytes_eq-Decides}
 use Rattle.std.specs.List.{filter}
-use Rattle.std.specs.Option.{is_none}
+use Rattle.std.specs.Ordering.{is_eq}
 use Rattle.std.specs.Str.{bytes_eq}
-use Rattle.cedar_below.proofs.Lists.{Contains-cons_cases, Contains-preimage}
+use Rattle.cedar_below.proofs.Lists.{Contains-preimage}
 use Rattle.cedar_below.specs.Extensions.{extension_types}
 use Rattle.cedar_below.specs.Identifier.{reserved_word}
-use Rattle.cedar_below.specs.PlainName.{PlainName, IsUnqualified}
+use Rattle.cedar_below.specs.PlainName.{PlainName, name_cmp, IsUnqualified}
 use Rattle.cedar_below.specs.Text.{Text}
 use Rattle.cedar_below.specs.TypeNames.{TypeNamesFit, primitive_words}
 use Rattle.cedar_below.specs.declared.extension.Extensions.{Extensions}
-use Rattle.cedar_names.specs.Declaration.{Declaration, Body, common_type, entity_type, action}
 use Rattle.cedar_names.specs.Expr.{Expr, extension_expr}
-use Rattle.cedar_names.specs.Reference.{Reference, path_within}
-use Rattle.cedar_declared.proofs.OccurrenceLemmas.{Twice-distinct, Twice-append, value_once, Contains-filter}
+use Rattle.cedar_names.specs.Reference.{Reference}
+use Rattle.cedar_declared.proofs.OccurrenceLemmas.{Twice-distinct, Twice-append, value_once, Contains-filter, Contains-image, any_of, name_test}
 use Rattle.cedar_declared.proofs.ResolutionLemmas.{HasOneDefinition}
-use Rattle.cedar_declared.specs.Bag.{Bag, common_in, declared_name, declared_common, is_type, is_declared_here, built_in_types, built_in_name, alias_name, built_ins, aliases, definitions}
+use Rattle.cedar_declared.specs.Bag.{Bag, declared_common, declared_entities, declared_types, is_declared_here, built_in_types, built_in_name, alias_name, built_ins, aliases, definitions}
 use Rattle.cedar_declared.specs.Mentions.{Refers}
 use Rattle.cedar_declared.specs.Occurrences.{Twice}
 
@@ -108,44 +107,18 @@ built_ins_once extensions fit name twice =
     (map (λ it. it.0) (built_in_types extensions)) name (subst P (built_in_names (built_in_types extensions)) twice) in
     built_in_once extensions fit found.0 found.1
 
--- only the empty namespace is before no path
-no_path : (namespace : _) → path_within namespace ≡ [] → namespace ≡ None
-no_path None none = refl
-no_path (Some name) none = absurd (ends name.path name.base none) where
-  ends : (path : List Text) (base : Text) → ¬ (path ++ base ∷ [] ≡ [])
-  ends [] base wrong = cc
-  ends (part ∷ path) base wrong = cc
+-- a name without a path is that of an alias
+plain_alias : (name : PlainName) → IsUnqualified name → alias_name name.base ≡ name
+plain_alias name plain i = record { base = name.base; path = sym plain i }
 
--- what passes three tests, or another, passes
-all_or : (a b c d : Bool) → a ≡ true → b ≡ true → c ≡ true → (a && (b && c) || d) ≡ true
-all_or true true true d first second third = refl
-all_or true true false d first second third = absurd (false≢true third)
-all_or true false c d first second third = absurd (false≢true second)
-all_or false b c d first second third = absurd (false≢true first)
-
--- a common type without a path is declared in the empty namespace
+-- a type without a path is declared in the empty namespace
 declared_plainly : (bag : Bag) (name : PlainName) (body : Expr) → IsUnqualified name
     → Contains (declared_common bag) (name, body) → is_declared_here bag name.base ≡ true
-declared_plainly [] name body plain among = absurd (omega (arith, among.1))
-declared_plainly (it ∷ rest) name body plain among =
-    ⊎_elim (λ here. here_declared it rest name body plain it.body refl here)
-    (λ later. or_later _ (is_declared_here rest name.base) (declared_plainly rest name body plain later))
-    (Contains-append_cases (common_in (declared_name it) it.body) (declared_common rest) (name, body) among)
-  where
-    or_later : (b c : Bool) → c ≡ true → (b || c) ≡ true
-    or_later true c is = refl
-    or_later false c is = is
-
-    here_declared : (it : Declaration) (rest : Bag) (name : PlainName) (body : Expr) → IsUnqualified name → (of : Body)
-        → it.body ≡ of → Contains (common_in (declared_name it) of) (name, body) → is_declared_here (it ∷ rest) name.base ≡ true
-    here_declared it rest name body plain (common_type definition) is here =
-        let named : declared_name it ≡ name = ⊎_elim (λ same. ap (λ each. each.0) same)
-        (λ none. absurd (omega (arith, none.1))) (Contains-cons_cases (declared_name it, definition) [] (name, body) here) in
-        let none : it.namespace ≡ None = no_path it.namespace (ap (λ each. each.path) named ∙ plain) in
-        all_or (is_none it.namespace) (is_type it.body) (bytes_eq name.base it.id) (is_declared_here rest name.base)
-        (ap is_none none) (ap is_type is) ((bytes_eq-Decides name.base it.id).1 (ap (λ each. each.base) (sym named)))
-    here_declared it rest name body plain (entity_type other) is here = absurd (omega (arith, here.1))
-    here_declared it rest name body plain (action other) is here = absurd (omega (arith, here.1))
+declared_plainly bag name body plain among =
+    any_of (λ each. is_eq (name_cmp (alias_name name.base) each)) (declared_types bag) name
+    (Contains-append_left (map (λ it. it.0) (declared_common bag)) (map (λ it. it.0) (declared_entities bag)) name
+    (Contains-image (λ (it : PlainName × Expr). it.0) (declared_common bag) (name, body) among))
+    ((name_test (alias_name name.base) name).1 (plain_alias name plain))
 
 -- an alias stands for what a built-in type does whose base name no type in the empty namespace has
 pub alias_of : (bag : Bag) (extensions : Extensions) (name : PlainName) (body : Expr)

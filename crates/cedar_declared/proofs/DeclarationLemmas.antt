@@ -1,7 +1,6 @@
 -- What a bag declares is so by one of its declarations.
-use Rattle.std.proofs.Common.{sym, subst, ◌≡◌, List, [], ◌∷◌, ap, ◌∙◌, refl, inl, inr, ⊎_elim, arith, Contains}
-use Rattle.std.proofs.lemmas.List.Elements.{Contains-append_left, Contains-append_right, Contains-append_cases}
-use Rattle.std.specs.List.{flat_map}
+use Rattle.std.proofs.Common.{sym, subst, ◌≡◌, [], ◌∷◌, ap, ◌∙◌, refl, inl, inr, ⊎_elim, arith, Contains}
+use Rattle.std.proofs.lemmas.List.Elements.{Contains-append_cases}
 use Rattle.cedar_below.proofs.Lists.{Contains-cons, Contains-cons_cases}
 use Rattle.cedar_below.specs.PlainName.{PlainName}
 use Rattle.cedar_below.specs.PlainUid.{PlainUid}
@@ -9,6 +8,7 @@ use Rattle.cedar_names.specs.ActionBody.{ActionBody}
 use Rattle.cedar_names.specs.Declaration.{Declaration, Body, common_type, entity_type, action}
 use Rattle.cedar_names.specs.EntityBody.{EntityBody}
 use Rattle.cedar_names.specs.Expr.{Expr}
+use Rattle.cedar_declared.proofs.OccurrenceLemmas.{Contains-given}
 use Rattle.cedar_declared.specs.Bag.{Bag, common_in, entity_in, action_in, declared_name, declared_uid, declared_common, declared_entities, declared_actions}
 
 -- an entity type that is declared is so by a declaration of the bag
@@ -82,35 +82,24 @@ common_declaration (it ∷ rest) name definition among =
     found (entity_type other) is here = absurd (omega (arith, here.1))
     found (action other) is here = absurd (omega (arith, here.1))
 
--- what a declaration of the bag gives, the bag declares
-gives : {A : Type 0} (f : Declaration → List A) (bag : Bag) (it : Declaration) (x : A) → Contains bag it
-    → Contains (f it) x → Contains (flat_map f bag) x
-gives f [] it x among given = absurd (omega (arith, among.1))
-gives f (first ∷ rest) it x among given =
-    ⊎_elim
-    (λ here. let P : Declaration → Type 0 = λ each. Contains (f each) x in
-    Contains-append_left (f first) (flat_map f rest) x (subst P (sym here) given))
-    (λ later. Contains-append_right (f first) (flat_map f rest) x (gives f rest it x later given))
-    (Contains-cons_cases first rest it among)
-
 -- a declaration of an entity type declares it
 pub declares_entity : (bag : Bag) (it : Declaration) (body : EntityBody) → Contains bag it → it.body ≡ entity_type body
     → Contains (declared_entities bag) (declared_name it, body)
 declares_entity bag it body among is =
     let P : Body → Type 0 = λ each. Contains (entity_in (declared_name it) each) (declared_name it, body) in
-    gives (λ each. entity_in (declared_name each) each.body) bag it (declared_name it, body) among (subst P (sym is) (0, omega arith, refl))
+    Contains-given (λ each. entity_in (declared_name each) each.body) bag it (declared_name it, body) among (subst P (sym is) (0, omega arith, refl))
 
 -- a declaration of an action declares it
 pub declares_action : (bag : Bag) (it : Declaration) (body : ActionBody) → Contains bag it → it.body ≡ action body
     → Contains (declared_actions bag) (declared_uid it, body)
 declares_action bag it body among is =
     let P : Body → Type 0 = λ each. Contains (action_in (declared_uid it) each) (declared_uid it, body) in
-    gives (λ each. action_in (declared_uid each) each.body) bag it (declared_uid it, body) among (subst P (sym is) (0, omega arith, refl))
+    Contains-given (λ each. action_in (declared_uid each) each.body) bag it (declared_uid it, body) among (subst P (sym is) (0, omega arith, refl))
 
 -- a declaration of a common type declares it
 pub declares_common : (bag : Bag) (it : Declaration) (definition : Expr) → Contains bag it
     → it.body ≡ common_type definition → Contains (declared_common bag) (declared_name it, definition)
 declares_common bag it definition among is =
     let P : Body → Type 0 = λ each. Contains (common_in (declared_name it) each) (declared_name it, definition) in
-    gives (λ each. common_in (declared_name each) each.body) bag it (declared_name it, definition) among
+    Contains-given (λ each. common_in (declared_name each) each.body) bag it (declared_name it, definition) among
     (subst P (sym is) (0, omega arith, refl))

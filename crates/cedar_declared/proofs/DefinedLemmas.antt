@@ -28,6 +28,15 @@ SameDefined-sym defined other same = record {
   entities_back = same.entities;
 }
 
+-- the same is defined as itself
+pub SameDefined-itself : (defined : Defined) → SameDefined defined defined
+SameDefined-itself defined = record {
+  common = λ it among. among;
+  common_back = λ it among. among;
+  entities = λ name among. among;
+  entities_back = λ name among. among;
+}
+
 module _ (defined other : Defined) (same : SameDefined defined other) where
   -- the name of a common type of the one is one of the other
   common_there : (name : PlainName) → Contains (names_of defined).common name → Contains (names_of other).common name

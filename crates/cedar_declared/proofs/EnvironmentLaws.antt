@@ -1,22 +1,24 @@
 -- The environments of a declared schema are the declared ones.
-use Rattle.std.proofs.Common.{◌≡◌, subst, Contains}
+use Rattle.std.proofs.Common.{subst, Contains}
 use Rattle.cedar_below.proofs.Lists.{Contains-preimage}
 use Rattle.cedar_below.specs.Extensions.{extension_types}
 use Rattle.cedar_below.specs.PlainUid.{PlainUid}
 use Rattle.cedar_below.specs.TypeNames.{TypeNamesFit}
 use Rattle.cedar_below.specs.declared.extension.Extensions.{Extensions}
 use Rattle.cedar_declared.proofs.BuiltInLemmas.{one_definition}
-use Rattle.cedar_declared.proofs.OccurrenceLemmas.{Contains-image, value_once}
+use Rattle.cedar_declared.proofs.OccurrenceLemmas.{Contains-image}
+use Rattle.cedar_declared.proofs.TogetherLemmas.{defined_action_is_declared, action_definition_says, action_says_once}
 use Rattle.cedar_declared.proofs.ResolutionLemmas.{HasOneDefinition, written_once}
-use Rattle.cedar_declared.specs.Bag.{Bag, declared_actions, definitions}
+use Rattle.cedar_declared.specs.Bag.{Bag, definitions}
 use Rattle.cedar_declared.specs.DeclaredSchema.{IsDeclaredActionKind, IsDeclaredSchema}
 use Rattle.cedar_declared.specs.Defined.{Defined}
 use Rattle.cedar_declared.specs.Environments.{Environment, IsRequestOf, IsEnvironmentOf, IsDeclaredRequest, IsDeclaredEnvironment}
 use Rattle.cedar_declared.specs.Fault.{duplicate_common_type, duplicate_action}
 use Rattle.cedar_declared.specs.IllFormed.{IsIllFormed}
 use Rattle.cedar_declared.specs.PlainSchema.{ActionKind, defined_action, external_action, SchemaAction, PlainSchema}
+use Rattle.cedar_declared.specs.Together.{defined_actions, ActionSays}
 use Rattle.cedar_declared.specs.WrittenOut.{WrittenOut}
-use Rattle.cedar_names.specs.ActionBody.{ActionBody, Requests, requests, elsewhere}
+use Rattle.cedar_names.specs.ActionBody.{Requests, requests, elsewhere}
 
 -- requests of a declared kind of action are declared
 declared_request : (defined : Defined) (declared : Requests) (kind : ActionKind) (it : Environment)
@@ -35,29 +37,36 @@ request_of defined one (requests principals resources context) (defined_action p
 request_of defined one (requests principals resources context) external_action it fits request = absurd fits
 request_of defined one elsewhere kind it fits request = absurd request
 
+-- the requests of a declared kind of action whose environments there are, are those of its definition
+said_requests : (bag : Bag) (uid : PlainUid) (defined : Defined) (applies_to : Requests) (it : Environment)
+    → ActionSays bag uid applies_to → IsDeclaredRequest defined applies_to it → Contains (defined_actions bag) (uid, applies_to)
+said_requests bag uid defined (requests principals resources context) it says request = says
+said_requests bag uid defined elsewhere it says request = absurd request
+
 module _ (bag : Bag) (extensions : Extensions) (fit : TypeNamesFit (extension_types extensions))
     (well : ¬ IsIllFormed bag extensions) (schema : PlainSchema) (declared : IsDeclaredSchema bag extensions schema) where
   -- an environment of the schema is declared
   pub environment_declared : (it : Environment) → IsEnvironmentOf schema it → IsDeclaredEnvironment bag extensions it
   environment_declared it found =
-      let action = declared.actions (it.action, found.0) found.1 in (
-        action.body,
-        action.declared,
-        declared_request (definitions bag extensions) action.body.applies_to found.0.kind it action.kind found.2,
+      let action = declared.actions (it.action, found.0) found.1 in
+      let request = declared_request (definitions bag extensions) action.applies_to found.0.kind it action.kind found.2 in (
+        action.applies_to,
+        said_requests bag it.action (definitions bag extensions) action.applies_to it action.says request,
+        request,
       )
 
   -- a declared environment is one of the schema
   pub declared_environment : (it : Environment) → IsDeclaredEnvironment bag extensions it → IsEnvironmentOf schema it
   declared_environment it found =
       let defined = definitions bag extensions in
-      let named = declared.each_action it.action
-      (Contains-image (λ (each : PlainUid × ActionBody). each.0) (declared_actions bag) (it.action, found.0) found.1) in
+      let named = declared.each_action it.action (defined_action_is_declared bag it.action
+      (Contains-image (λ (each : PlainUid × Requests). each.0) (defined_actions bag) (it.action, found.0) found.1)) in
       let there = Contains-preimage (λ (each : PlainUid × SchemaAction). each.0) schema.actions it.action named in
       let P : PlainUid → Type 0 = λ uid. Contains schema.actions (uid, there.0.1) in
       let among = subst P there.2 there.1 in
       let action = declared.actions (it.action, there.0.1) among in
-      let same : action.body ≡ found.0 = value_once (declared_actions bag)
-      (λ uid twice. well (duplicate_action uid, twice)) it.action action.body found.0 action.declared found.1 in
-      let Q : ActionBody → Type 0 = λ body. IsDeclaredActionKind defined body.applies_to there.0.1.kind in
+      let same = action_says_once bag (λ uid twice. well (duplicate_action uid, twice)) it.action action.applies_to found.0
+      action.says (action_definition_says bag it.action found.0 found.1) in
+      let Q : Requests → Type 0 = λ applies_to. IsDeclaredActionKind defined applies_to there.0.1.kind in
       let one = one_definition bag extensions fit (λ name twice. well (duplicate_common_type name, twice)) in
-      (there.0.1, among, request_of defined one found.0.applies_to there.0.1.kind it (subst Q same action.kind) found.2)
+      (there.0.1, among, request_of defined one found.0 there.0.1.kind it (subst Q same action.kind) found.2)

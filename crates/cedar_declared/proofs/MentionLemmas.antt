@@ -1,15 +1,11 @@
 -- What stands in types that are written out is known.
 use Rattle.std.proofs.Common.{◌≡◌, ◌⊎◌, zero, suc, Bool, true, false, [], ap, sym, subst, refl, inl, inr, ⊎_elim, arith, Contains}
 use Rattle.std.proofs.lemmas.Bool.{false≢true}
-use Rattle.std.proofs.lemmas.Bool.Decides.{Decides-like}
 use Rattle.std.proofs.lemmas.List.Elements.{All-contains, Contains-append_cases}
 use Rattle.std.specs.Bool.{Decides}
 use Rattle.std.specs.List.{list_any}
 use Rattle.std.specs.Ordering.{is_eq}
-use Rattle.std.specs.declared.cmp.Ordering.{Ordering}
-use Rattle.std.specs.declared.cmp.Ordering.TheVariants.{Less, Equal, Greater}
 use Rattle.cedar_below.proofs.Lists.{Contains-cons_cases, list_any-Contains, Contains-preimage}
-use Rattle.cedar_below.proofs.PlainNames.{name_cmp-Equal}
 use Rattle.cedar_below.specs.Extensions.{extension_types}
 use Rattle.cedar_below.specs.Name.{plain_name}
 use Rattle.cedar_below.specs.PlainName.{PlainName, name_cmp, IsUnqualified}
@@ -21,6 +17,7 @@ use Rattle.cedar_names.specs.Declaration.{Body}
 use Rattle.cedar_names.specs.Expr.{Expr, Members, extension_expr}
 use Rattle.cedar_declared.proofs.BuiltInLemmas.{alias_of, common_cases}
 use Rattle.cedar_declared.proofs.DeclarationLemmas.{common_declaration}
+use Rattle.cedar_declared.proofs.OccurrenceLemmas.{name_test}
 use Rattle.cedar_declared.specs.Bag.{Bag, declared_common, definitions, built_ins, built_in_types, built_in_name, alias_name}
 use Rattle.cedar_declared.specs.Counted.{CountsIn, IsCounted}
 use Rattle.cedar_declared.specs.Defined.{Defined}
@@ -98,17 +95,11 @@ mutual
 is_type_name : PlainName → Name → Bool
 is_type_name name ty = is_eq (name_cmp (plain_name ty) name)
 
--- a test for a tie decides whether there is one
-pub ties : (o : Ordering) → Decides (is_eq o) (o ≡ Equal)
-ties Less = (λ e. cc, λ e. cc)
-ties Equal = (λ e. refl, λ e. refl)
-ties Greater = (λ e. cc, λ e. cc)
-
 -- the test of the name of an extension type decides
 is_type_name-Decides : (name : PlainName) (ty : Name) → Decides (is_type_name name ty) (plain_name ty ≡ name)
 unfolding is_type_name
 is_type_name-Decides name ty =
-    Decides-like _ (name_cmp-Equal (plain_name ty) name).0 (name_cmp-Equal (plain_name ty) name).1 (ties (name_cmp (plain_name ty) name))
+    name_test (plain_name ty) name
 
 -- an extension type is known or it isn't
 known_or_not : (extensions : Extensions) (name : PlainName) → Contains (extension_types extensions) name

@@ -1,9 +1,8 @@
 -- The references of raw fragments fit their places.
-use Rattle.std.proofs.Common.{◌≡◌, Bool, true, false, List, [], ◌∷◌, ◌++◌, Option, None, Some, map, ap, sym, subst, refl, inl, inr, ⊎_elim, arith, Contains}
+use Rattle.std.proofs.Common.{◌≡◌, Bool, true, false, List, ◌++◌, Option, None, Some, map, ap, sym, subst, ⊎_elim, arith, Contains}
 use Rattle.std.proofs.lemmas.List.Elements.{Contains-append_cases}
-use Rattle.std.specs.List.{flat_map}
 use Rattle.std.specs.Option.{option_map}
-use Rattle.cedar_below.proofs.Lists.{Contains-cons, Contains-preimage}
+use Rattle.cedar_below.proofs.Lists.{Contains-preimage}
 use Rattle.cedar_below.specs.Name.{plain_name}
 use Rattle.cedar_below.specs.PlainName.{PlainName}
 use Rattle.cedar_names.specs.ActionBody.{requests_by}
@@ -18,17 +17,8 @@ use Rattle.cedar_names.specs.declared.json_schema.fragment.Fragment.{Fragment}
 use Rattle.cedar_names.specs.declared.json_schema.fragment.NamespaceDefinition.{NamespaceDefinition}
 use Rattle.cedar_names.specs.declared.json_schema.raw_name.RawName.{RawName}
 use Rattle.cedar_names.specs.declared.json_schema.reference_type.ReferenceType.TheVariants.{Entity}
+use Rattle.cedar_declared.proofs.OccurrenceLemmas.{Contains-flat_map}
 use Rattle.cedar_declared.specs.Counted.{IsEntityPlace, entity_parents, IsPrincipalOrResource, PlacesFit}
-
--- what stands in the lists that some items give stands in one of them
-Contains-flat_map : {A B : Type 0} (f : A → List B) (xs : List A) (y : B) → Contains (flat_map f xs) y → (x : A)
-    × Contains xs x × Contains (f x) y
-Contains-flat_map f [] y among = absurd (omega (arith, among.1))
-Contains-flat_map f (first ∷ rest) y among =
-    ⊎_elim
-    (λ here. (first, Contains-cons first rest first (inl refl), here))
-    (λ later. let found = Contains-flat_map f rest y later in (found.0, Contains-cons first rest found.0 (inr found.1), found.2))
-    (Contains-append_cases (f first) (flat_map f rest) y among)
 
 module _ (namespace : Option PlainName) where
   -- each of some names at places of entity types refers to one

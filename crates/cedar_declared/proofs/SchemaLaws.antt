@@ -7,23 +7,27 @@ use Rattle.cedar_below.specs.PlainName.{PlainName, name_cmp}
 use Rattle.cedar_below.specs.PlainUid.{PlainUid, uid_cmp}
 use Rattle.cedar_below.specs.TypeNames.{TypeNamesFit}
 use Rattle.cedar_below.specs.declared.extension.Extensions.{Extensions}
-use Rattle.cedar_names.specs.ActionBody.{ActionBody, Requests, requests, elsewhere}
+use Rattle.cedar_names.specs.ActionBody.{Requests, requests, elsewhere}
 use Rattle.cedar_names.specs.EntityBody.{EntityBody, standard, enumerated, external}
 use Rattle.cedar_names.specs.Expr.{Expr}
 use Rattle.cedar_declared.proofs.AdmitsLemmas.{has_admitted, admitted_of}
 use Rattle.cedar_declared.proofs.BuiltInLemmas.{one_definition}
-use Rattle.cedar_declared.proofs.OccurrenceLemmas.{Contains-image, value_once}
+use Rattle.cedar_declared.proofs.ActionEntityLaws.{entities_declared}
+use Rattle.cedar_declared.proofs.DefinedLemmas.{SameDefined-itself}
+use Rattle.cedar_declared.proofs.KindLemmas.{kind_there}
+use Rattle.cedar_declared.proofs.TogetherLemmas.{IsDefinition, declared_definition, definition_says, entity_says_once, action_says_once, said_is_declared, said_action_is_declared}
 use Rattle.cedar_declared.proofs.ResolutionLemmas.{HasOneDefinition, written_once}
-use Rattle.cedar_declared.specs.Bag.{Bag, declared_entities, declared_actions, definitions}
-use Rattle.cedar_declared.specs.DeclaredSchema.{IsDeclaredEntityType, IsNamedBy, IsDeclaredActionKind, IsDeclaredAction, IsDefinedAction, IsEntityOfAction, IsDeclaredSchema, IsDeclaredKind, AreDeclaredTags}
+use Rattle.cedar_declared.specs.Bag.{Bag, declared_entities, action_uids, definitions}
+use Rattle.cedar_declared.specs.DeclaredSchema.{IsDeclaredEntityType, IsNamedBy, IsDeclaredActionKind, IsDeclaredAction, IsDeclaredSchema, IsDeclaredKind, AreDeclaredTags}
 use Rattle.cedar_declared.specs.Defined.{Defined, names_of}
 use Rattle.cedar_declared.specs.Descent.{IsDescendant, IsDescendantAction}
-use Rattle.cedar_declared.specs.EndToEnd.{AdmitsTheSame, TypesAdmitTheDeclared}
+use Rattle.cedar_declared.specs.EndToEnd.{AdmitsTheSame, IsEntityOfDefinition, TypesAdmitTheDeclared}
 use Rattle.cedar_declared.specs.Fault.{duplicate_entity_type, duplicate_common_type, duplicate_action}
 use Rattle.cedar_declared.specs.IllFormed.{IsIllFormed}
 use Rattle.cedar_declared.specs.PlainSchema.{SchemaEntityType, ActionKind, defined_action, external_action, SchemaAction, ActionEntity, PlainSchema}
 use Rattle.cedar_below.specs.Lists.{SameItems, HoldsInTurn}
 use Rattle.cedar_declared.specs.SameSchema.{SameEntityType, SameActionKind, SameAction, SameActionEntity, SameSchema}
+use Rattle.cedar_declared.specs.Together.{defined_actions, EntitySays, ActionSays}
 use Rattle.cedar_declared.specs.WrittenOut.{WrittenOut}
 use Rattle.cedar_rules.proofs.AntisymmetryLaws.{Included-same}
 use Rattle.cedar_declared.specs.EntityTypeKind.{EntityTypeKind, standard_kind, enumerated_kind, external_kind}
@@ -103,18 +107,16 @@ module _ (bag : Bag) (extensions : Extensions) (fit : TypeNamesFit (extension_ty
       → IsDeclaredEntityType bag extensions other → SameEntityType it other
   same_entity_type it other same first second =
       let defined = definitions bag extensions in
-      let P : PlainName → Type 0 = λ name. Contains (declared_entities bag) (name, second.body) in
-      let bodies : first.body ≡ second.body = value_once (declared_entities bag)
-      (λ name twice. well (duplicate_entity_type name, twice)) it.0 first.body second.body first.declared
-      (subst P (sym same) second.declared) in
-      let Q : EntityBody → Type 0 = λ body. IsDeclaredKind defined body other.1.kind in
+      let P : PlainName → Type 0 = λ name. EntitySays bag name second.body in
+      let alike = entity_says_once bag (λ name twice. well (duplicate_entity_type name, twice)) it.0 second.body first.body
+      (subst P (sym same) second.says) first.says in
       let R : PlainName → Type 0 = λ name. (lower : PlainName) → Contains other.1.descendants lower
       ↔ IsDescendant bag extensions lower name in
       record {
         key = same;
         name = first.name ∙ (same ∙ sym second.name);
         kind = kind_once defined (one_of_well_formed bag extensions fit well) first.body it.1.kind other.1.kind
-            first.kind (subst Q (sym bodies) second.kind);
+            first.kind (kind_there defined defined (SameDefined-itself defined) second.body first.body other.1.kind alike second.kind);
         descendants = same_items (λ lower. IsDescendant bag extensions lower it.0) it.1.descendants other.1.descendants
             first.descendants (subst R (sym same) second.descendants);
       }
@@ -124,24 +126,23 @@ module _ (bag : Bag) (extensions : Extensions) (fit : TypeNamesFit (extension_ty
       → IsDeclaredAction bag extensions other → SameAction it other
   same_action it other same first second =
       let defined = definitions bag extensions in
-      let P : PlainUid → Type 0 = λ uid. Contains (declared_actions bag) (uid, second.body) in
-      let bodies : first.body ≡ second.body = value_once (declared_actions bag)
-      (λ uid twice. well (duplicate_action uid, twice)) it.0 first.body second.body first.declared
-      (subst P (sym same) second.declared) in
-      let Q : ActionBody → Type 0 = λ body. IsDeclaredActionKind defined body.applies_to other.1.kind in
+      let P : PlainUid → Type 0 = λ uid. ActionSays bag uid second.applies_to in
+      let alike = action_says_once bag (λ uid twice. well (duplicate_action uid, twice)) it.0 first.applies_to second.applies_to
+      first.says (subst P (sym same) second.says) in
+      let Q : Requests → Type 0 = λ applies_to. IsDeclaredActionKind defined applies_to other.1.kind in
       let R : PlainUid → Type 0 = λ uid. (lower : PlainUid) → Contains other.1.descendants lower ↔ IsDescendantAction bag lower uid in
       record {
         key = same;
         uid = first.uid ∙ (same ∙ sym second.uid);
-        kind = action_kind_once defined (one_of_well_formed bag extensions fit well) first.body.applies_to it.1.kind
-            other.1.kind first.kind (subst Q (sym bodies) second.kind);
+        kind = action_kind_once defined (one_of_well_formed bag extensions fit well) first.applies_to it.1.kind
+            other.1.kind first.kind (subst Q (sym alike) second.kind);
         descendants = same_items (λ lower. IsDescendantAction bag lower it.0) it.1.descendants other.1.descendants
             first.descendants (subst R (sym same) second.descendants);
       }
 
   -- the entities of one action are the same
-  same_action_entity : (it other : ActionEntity) → it.uid ≡ other.uid → IsEntityOfAction bag it
-      → IsEntityOfAction bag other → SameActionEntity it other
+  same_action_entity : (it other : ActionEntity) → it.uid ≡ other.uid → IsEntityOfDefinition bag it
+      → IsEntityOfDefinition bag other → SameActionEntity it other
   same_action_entity it other same first second =
       let R : PlainUid → Type 0 = λ uid. (upper : PlainUid) → Contains other.ancestors upper ↔ IsDescendantAction bag uid upper in
       record {
@@ -191,13 +192,14 @@ pub one_schema : (bag : Bag) (extensions : Extensions) → TypeNamesFit (extensi
     → IsDeclaredSchema bag extensions other → SameSchema schema other
 one_schema bag extensions fit well schema other first second =
     let Types : PlainName → Type 0 = Contains (map (λ it. it.0) (declared_entities bag)) in
-    let Actions : PlainUid → Type 0 = Contains (map (λ it. it.0) (declared_actions bag)) in
-    let Entities : PlainUid → Type 0 = IsDefinedAction bag in
-    let declared_type = λ (it : PlainName × SchemaEntityType)
-    (declared : IsDeclaredEntityType bag extensions it). Contains-image (λ (each : PlainName × EntityBody). each.0)
-    (declared_entities bag) (it.0, declared.body) declared.declared in
+    let Actions : PlainUid → Type 0 = Contains (action_uids bag) in
+    let Entities : PlainUid → Type 0 = Contains (map (λ it. it.0) (defined_actions bag)) in
+    let declared_type = λ (it : PlainName × SchemaEntityType) (declared : IsDeclaredEntityType bag extensions it).
+    said_is_declared bag it.0 declared.body declared.says in
     let declared_action = λ (it : PlainUid × SchemaAction) (declared : IsDeclaredAction bag extensions it).
-    Contains-image (λ (each : PlainUid × ActionBody). each.0) (declared_actions bag) (it.0, declared.body) declared.declared in
+    said_action_is_declared bag it.0 declared.applies_to declared.says in
+    let ours = entities_declared bag extensions schema first in
+    let theirs = entities_declared bag extensions other second in
     let type_key = λ (it : PlainName × SchemaEntityType). it.0 in
     let action_key = λ (it : PlainUid × SchemaAction). it.0 in
     let entity_key = λ (it : ActionEntity). it.uid in
@@ -214,19 +216,19 @@ one_schema bag extensions fit well schema other first second =
     (keys_included action_key Actions other.actions schema.actions
     (λ it among. declared_action it (second.actions it among)) first.each_action) in
     let entities = Included-same uid_cmp uid_cmp-total (map entity_key schema.action_entities)
-    (map entity_key other.action_entities) first.action_entities_in_order second.action_entities_in_order
+    (map entity_key other.action_entities) first.action_entities.in_order second.action_entities.in_order
     (keys_included entity_key Entities schema.action_entities other.action_entities
-    (λ it among. (first.action_entities it among).defined) second.each_action_entity)
+    (λ it among. (ours.0 it among).defined) theirs.1)
     (keys_included entity_key Entities other.action_entities schema.action_entities
-    (λ it among. (second.action_entities it among).defined) first.each_action_entity) in
+    (λ it among. (theirs.0 it among).defined) ours.1) in
     record {
       entity_types = same_in_turn type_key (IsDeclaredEntityType bag extensions) SameEntityType
           (same_entity_type bag extensions fit well) schema.entity_types other.entity_types types first.entity_types second.entity_types;
       actions = same_in_turn action_key (IsDeclaredAction bag extensions) SameAction
           (same_action bag extensions fit well) schema.actions other.actions actions first.actions second.actions;
-      action_entities = same_in_turn entity_key (IsEntityOfAction bag) SameActionEntity
+      action_entities = same_in_turn entity_key (IsEntityOfDefinition bag) SameActionEntity
           (same_action_entity bag extensions fit well) schema.action_entities other.action_entities entities
-          first.action_entities second.action_entities;
+          ours.0 theirs.0;
     }
 
 -- what is written out as a type has just the values that it admits
@@ -243,29 +245,29 @@ pub types_admit : (bag : Bag) (extensions : Extensions) → TypeNamesFit (extens
 types_admit bag extensions fit well schema declared =
     let defined = definitions bag extensions in
     let one = one_of_well_formed bag extensions fit well in
-    let fits = λ (name : PlainName) (body : EntityBody) (it : SchemaEntityType)
+    let fits = λ (name : PlainName) (body : EntityBody) (it : SchemaEntityType) (is : IsDefinition body)
     (among : Contains (declared_entities bag) (name, body)) (there : Contains schema.entity_types (name, it)).
     (let found = declared.entity_types (name, it) there in
-    let P : EntityBody → Type 0 = λ each. IsDeclaredKind defined each it.kind in
-    subst P (value_once (declared_entities bag) (λ each twice. well (duplicate_entity_type each, twice)) name found.body
-    body found.declared among) found.kind) in
+    kind_there defined defined (SameDefined-itself defined) found.body body it.kind
+    (entity_says_once bag (λ each twice. well (duplicate_entity_type each, twice)) name found.body body found.says
+    (definition_says bag name body (declared_definition bag name body is among)))
+    found.kind) in
     record {
       attributes = λ name parents shape tags it fields openness tag_type among there is.
           (let P : EntityTypeKind → Type 0 = IsDeclaredKind defined (standard parents shape tags) in
-          let kind_fits = subst P is (fits name (standard parents shape tags) it among there) in
+          let kind_fits = subst P is (fits name (standard parents shape tags) it tt among there) in
           let Q : OpenTag → Type 0 = λ each. AdmitsTheSame bag extensions shape (record_of fields each) in
           subst Q (sym kind_fits.1) (admits_the_same bag extensions one shape (record_of fields ClosedAttributes) kind_fits.0));
       tags = λ name parents shape tags it fields openness tag_type among there is.
           (let P : EntityTypeKind → Type 0 = IsDeclaredKind defined (standard parents shape (Some tags)) in
-          let kind_fits = subst P is (fits name (standard parents shape (Some tags)) it among there) in
+          let kind_fits = subst P is (fits name (standard parents shape (Some tags)) it tt among there) in
           admits_the_same bag extensions one tags tag_type kind_fits.2);
-      contexts = λ uid body principals resources context it principal_types resource_types ty among applies there is.
+      contexts = λ uid principals resources context it principal_types resource_types ty among there is.
           (let found = declared.actions (uid, it) there in
-          let same = value_once (declared_actions bag) (λ each twice. well (duplicate_action each, twice)) uid
-          found.body body found.declared among in
-          let P : ActionBody → Type 0 = λ each. IsDeclaredActionKind defined each.applies_to it.kind in
+          let same = action_says_once bag (λ each twice. well (duplicate_action each, twice)) uid
+          found.applies_to (requests principals resources context) found.says among in
           let Q : Requests → Type 0 = λ each. IsDeclaredActionKind defined each it.kind in
           let R : ActionKind → Type 0 = IsDeclaredActionKind defined (requests principals resources context) in
-          let kind_fits = subst R is (subst Q applies (subst P same found.kind)) in
+          let kind_fits = subst R is (subst Q same found.kind) in
           admits_the_same bag extensions one context ty kind_fits.2);
     }

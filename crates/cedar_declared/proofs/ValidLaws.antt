@@ -1,7 +1,7 @@
 -- The schema that a bag declares is valid, and its descendants are closed.
-use Rattle.std.proofs.Common.{◌≡◌, ◌⊎◌, List, [], ◌∷◌, Option, Some, None, map, ap, sym, subst, ◌∙◌, refl, inl, inr, ⊎_elim, arith, Contains}
+use Rattle.std.proofs.Common.{◌≡◌, ◌≢◌, ◌⊎◌, List, [], ◌∷◌, Option, Some, None, map, ap, sym, subst, ◌∙◌, refl, inl, inr, ⊎_elim, arith, Contains}
 use Rattle.std.proofs.lemmas.List.Elements.{Contains-append_right, Contains-append_cases}
-use Rattle.cedar_below.proofs.Lists.{Contains-cons_cases, Contains-preimage}
+use Rattle.cedar_below.proofs.Lists.{Contains-cons, Contains-cons_cases, Contains-preimage}
 use Rattle.cedar_below.specs.Extensions.{extension_types}
 use Rattle.cedar_below.specs.PlainName.{PlainName, IsActionType}
 use Rattle.cedar_below.specs.PlainUid.{PlainUid}
@@ -13,24 +13,39 @@ use Rattle.cedar_names.specs.Declaration.{Body}
 use Rattle.cedar_names.specs.EntityBody.{EntityBody, standard, enumerated, external}
 use Rattle.cedar_names.specs.Expr.{Expr}
 use Rattle.cedar_names.specs.Reference.{Reference}
-use Rattle.cedar_declared.proofs.ChainLemmas.{first_step, last_step, chain_of_chains}
+use Rattle.cedar_declared.proofs.ChainLemmas.{first_step, chain_of_chains}
 use Rattle.cedar_declared.proofs.DeclarationLemmas.{entity_declaration, action_declaration}
 use Rattle.cedar_declared.proofs.MentionLemmas.{mentions_entity, known_written, known_counted, known_common}
 use Rattle.cedar_declared.proofs.ResolutionLemmas.{first_defined, names_no_common}
 use Rattle.cedar_declared.proofs.OccurrenceLemmas.{Contains-image, value_once}
 use Rattle.cedar_declared.specs.Bag.{Bag, declared_common, declared_entities, declared_actions, declared_types, action_uids, definitions, defined_names}
-use Rattle.cedar_below.specs.Chain.{Chain}
+use Rattle.cedar_below.specs.Chain.{Chain, one}
+use Rattle.cedar_below.specs.Lists.{HoldsInTurn}
+use Rattle.cedar_declared.specs.ClosedSchema.{ClosesType, ClosesAction, ClosesSchema}
 use Rattle.cedar_declared.specs.Counted.{CountsIn, IsCounted, IsPlaced, PlacesFit, CountsInEntity, CountsInRequests, entity_parents, IsPrincipalOrResource, IsEntityPlace}
 use Rattle.cedar_declared.specs.DeclaredSchema.{IsDeclaredSchema, IsDeclaredActionKind, IsDeclaredKind, AreDeclaredTags}
 use Rattle.cedar_declared.specs.Names.{ResolvesTo}
 use Rattle.cedar_declared.specs.Descent.{HasParent, HasParentAction, IsDescendant, IsDescendantAction}
-use Rattle.cedar_declared.specs.Fault.{undeclared_entity_types, type_shadowing, action_shadowing, duplicate_entity_type, action_cycle, action_entity_type, external_below_enumerated}
+use Rattle.cedar_declared.specs.Fault.{undeclared_entity_types, type_shadowing, action_shadowing, duplicate_entity_type, action_cycle, action_entity_type, unknown_extension_type, external_below_enumerated, enumerated_below, undeclared_action_descendant, invalid_action_type}
 use Rattle.cedar_declared.specs.IllFormed.{IsIllFormed}
-use Rattle.cedar_declared.specs.PlainSchema.{ActionKind, defined_action, external_action, SchemaAction, PlainSchema}
-use Rattle.cedar_declared.specs.ValidSchema.{IsTypeOfKind, IsContextOf, IsPrincipalOrResourceOf, IsTypeIn, HasEntityType, HasAction, ListsDescendant, ListsDescendantAction, IsOfKind, IsEnumerated, IsExternal, IsValidSchema, IsClosedSchema}
+use Rattle.cedar_declared.specs.PlainSchema.{SchemaEntityType, ActionKind, defined_action, external_action, SchemaAction, PlainSchema}
+use Rattle.cedar_declared.proofs.TogetherLemmas.{definition_declared, declared_definition, definition_or_external, said_is_declared, said_action_is_declared, said_definition, said_action_definition, entity_counted, requests_counted, request_placed}
+use Rattle.cedar_declared.specs.Together.{defined_entities, EntitySays, IsExternalType}
+use Rattle.cedar_declared.specs.ValidSchema.{IsTypeOfKind, IsContextOf, IsPrincipalOrResourceOf, IsTypeIn, HasEntityType, HasAction, ListsDescendant, ListsDescendantAction, IsOfKind, IsEnumerated, IsExternal, IsUnknownType, IsValidSchema}
 use Rattle.cedar_declared.specs.WrittenOut.{WrittenOut}
 use Rattle.cedar_declared.specs.EntityTypeKind.{EntityTypeKind, standard_kind, enumerated_kind, external_kind}
 use Rattle.cedar_rules.specs.Ty.{Ty, record_of}
+
+-- a relation of each item to itself holds in turn of a list and itself
+itself_in_turn : {A : Type 0} (R : A → A → Type 0) (xs : List A) → ((x : A) → Contains xs x → R x x) → HoldsInTurn R xs xs
+itself_in_turn R [] each = tt
+itself_in_turn R (x ∷ xs) each =
+    (each x (Contains-cons x xs x (inl refl)), itself_in_turn R xs (λ y among. each y (Contains-cons x xs y (inr among))))
+
+-- some list isn't none
+some_first : {A : Type 0} (items : List A) → items ≢ [] → (item : A) × Contains items item
+some_first [] some = absurd (some refl)
+some_first (first ∷ rest) some = (first, Contains-cons first rest first (inl refl))
 
 module _ (bag : Bag) (extensions : Extensions) (schema : PlainSchema) (declared : IsDeclaredSchema bag extensions schema) where
   -- what is listed as a descendant is one
@@ -49,19 +64,36 @@ module _ (bag : Bag) (extensions : Extensions) (schema : PlainSchema) (declared 
   pub reached_action : (lower upper : PlainUid) → Chain (ListsDescendantAction schema) lower upper → IsDescendantAction bag lower upper
   reached_action = chain_of_chains (ListsDescendantAction schema) (HasParentAction bag) listed_action
 
-  -- the descendants of a declared schema are closed
-  pub declared_closed : IsClosedSchema schema
+  -- the entity types of a declared schema are closed
+  type_closed : (it : PlainName × SchemaEntityType) → Contains schema.entity_types it → ClosesType schema it it
+  type_closed it among = record {
+    key = refl;
+    name = refl;
+    kind = refl;
+    descendants = λ lower. (
+      λ listed. one (it.1, among, listed),
+      λ chain. ((declared.entity_types it among).descendants lower).1 (reached_descendant lower it.0 chain),
+    );
+  }
+
+  -- the actions of a declared schema are closed
+  action_closed : (it : PlainUid × SchemaAction) → Contains schema.actions it → ClosesAction schema it it
+  action_closed it among = record {
+    key = refl;
+    uid = refl;
+    kind = refl;
+    descendants = λ lower. (
+      λ listed. one (it.1, among, listed),
+      λ chain. ((declared.actions it among).descendants lower).1 (reached_action lower it.0 chain),
+    );
+  }
+
+  -- closing a declared schema gives it
+  pub declared_closed : ClosesSchema schema schema
   declared_closed = record {
-    entity_types = λ lower upper chain.
-        (let last = last_step (ListsDescendant schema) lower upper chain in (
-          last.1.0,
-          last.1.1,
-          ((declared.entity_types (upper, last.1.0) last.1.1).descendants lower).1
-              (reached_descendant lower upper chain),
-        ));
-    actions = λ lower upper chain.
-        (let last = last_step (ListsDescendantAction schema) lower upper chain in
-        (last.1.0, last.1.1, ((declared.actions (upper, last.1.0) last.1.1).descendants lower).1 (reached_action lower upper chain)));
+    entity_types = itself_in_turn (ClosesType schema) schema.entity_types type_closed;
+    actions = itself_in_turn (ClosesAction schema) schema.actions action_closed;
+    action_entities = declared.action_entities;
   }
 
 module _ (bag : Bag) (extensions : Extensions) (schema : PlainSchema) (fit : TypeNamesFit (extension_types extensions))
@@ -82,8 +114,10 @@ module _ (bag : Bag) (extensions : Extensions) (schema : PlainSchema) (fit : Typ
   action_type uid has =
       let found = Contains-preimage (λ it. it.0) schema.actions uid has in
       let it = declared.actions found.0 found.1 in
-      let declaration = action_declaration bag found.0.0 it.body it.declared in
-      ap (λ (each : PlainUid). each.ty.base) (sym (declaration.3 ∙ found.2))
+      let body = Contains-preimage (λ (each : PlainUid × ActionBody). each.0) (declared_actions bag) found.0.0
+      (said_action_is_declared bag found.0.0 it.applies_to it.says) in
+      let declaration = action_declaration bag body.0.0 body.0.1 body.1 in
+      ap (λ (each : PlainUid). each.ty.base) (sym (declaration.3 ∙ (body.2 ∙ found.2)))
 
   -- a type of an entity type is what a counted expression is written out as
   kind_written : (body : EntityBody) (kind : EntityTypeKind) (ty : Ty)
@@ -130,24 +164,27 @@ module _ (bag : Bag) (extensions : Extensions) (schema : PlainSchema) (fit : Typ
       (λ of_entity.
       (let it = declared.entity_types of_entity.0 of_entity.1 in
       let found = kind_written it.body of_entity.0.1.kind ty it.kind of_entity.2 in
-      let declaration = entity_declaration bag of_entity.0.0 it.body it.declared in
+      let declaration = entity_declaration bag of_entity.0.0 it.body
+      (said_definition bag of_entity.0.0 it.body it.says (entity_counted it.body found.0 found.1)) in
       let P : Body → Type 0 = λ body. CountsIn body found.0 in
       (found.0, (declaration.0, declaration.1, subst P (sym declaration.2) found.1), found.2)))
       (λ of_action.
       (let it = declared.actions of_action.0 of_action.1 in
-      let found = context_written it.body.applies_to of_action.0.1.kind ty it.kind of_action.2 in
-      let declaration = action_declaration bag of_action.0.0 it.body it.declared in
-      let P : Body → Type 0 = λ body. CountsIn body found.0 in
-      (found.0, (declaration.0, declaration.1, subst P (sym declaration.2) found.1), found.2)))
+      let found = context_written it.applies_to of_action.0.1.kind ty it.kind of_action.2 in
+      let body = said_action_definition bag of_action.0.0 it.applies_to it.says (requests_counted it.applies_to found.0 found.1) in
+      let declaration = action_declaration bag of_action.0.0 body.0 body.1 in
+      let P : Body → Type 0 = λ each. CountsIn each found.0 in
+      let Q : Requests → Type 0 = λ each. CountsInRequests each found.0 in
+      (found.0, (declaration.0, declaration.1, subst P (sym declaration.2) (subst Q (sym body.2) found.1)), found.2)))
       type_in
 
   -- the name of an entity type of the schema is declared
-  declared_type : (name : PlainName) → HasEntityType schema name → (body : EntityBody) × Contains (declared_entities bag) (name, body)
+  declared_type : (name : PlainName) → HasEntityType schema name → Contains (map (λ it. it.0) (declared_entities bag)) name
   declared_type name has =
       let found = Contains-preimage (λ it. it.0) schema.entity_types name has in
       let it = declared.entity_types found.0 found.1 in
-      let P : PlainName → Type 0 = λ each. Contains (declared_entities bag) (each, it.body) in
-      (it.body, subst P found.2 it.declared)
+      let P : PlainName → Type 0 = Contains (map (λ it. it.0) (declared_entities bag)) in
+      subst P found.2 (said_is_declared bag found.0.0 it.body it.says)
 
   -- the uid of an action of the schema is declared
   declared_action_uid : (uid : PlainUid) → HasAction schema uid → Contains (action_uids bag) uid
@@ -155,39 +192,37 @@ module _ (bag : Bag) (extensions : Extensions) (schema : PlainSchema) (fit : Typ
       let found = Contains-preimage (λ it. it.0) schema.actions uid has in
       let it = declared.actions found.0 found.1 in
       let P : PlainUid → Type 0 = Contains (action_uids bag) in
-      subst P found.2 (Contains-image (λ (each : PlainUid × ActionBody). each.0) (declared_actions bag) (found.0.0, it.body) it.declared)
+      subst P found.2 (said_action_is_declared bag found.0.0 it.applies_to it.says)
 
-  -- an external entity type of the schema is declared as one
-  declared_external : (name : PlainName) → IsOfKind schema name IsExternal → (parents : List Reference)
-      × Contains (declared_entities bag) (name, external parents)
+  -- an external entity type of the schema is external
+  declared_external : (name : PlainName) → IsOfKind schema name IsExternal → IsExternalType bag name
   declared_external name (it, there, is_external) =
-      let found = declared.entity_types (name, it) there in by found.body it.kind found.kind is_external found.declared where
+      let found = declared.entity_types (name, it) there in by found.body it.kind found.kind is_external found.says where
         by : (body : EntityBody) (kind : EntityTypeKind) → IsDeclaredKind (definitions bag extensions) body kind
-            → IsExternal kind → Contains (declared_entities bag) (name, body) → (parents : List Reference)
-            × Contains (declared_entities bag) (name, external parents)
-        by (external parents) kind fits is_external among = (parents, among)
-        by (standard parents shape tags) (standard_kind fields openness tag_type) fits is_external among = absurd is_external
-        by (standard parents shape tags) (enumerated_kind ids) fits is_external among = absurd fits
-        by (standard parents shape tags) external_kind fits is_external among = absurd fits
-        by (enumerated choices) (standard_kind fields openness tag_type) fits is_external among = absurd fits
-        by (enumerated choices) (enumerated_kind ids) fits is_external among = absurd is_external
-        by (enumerated choices) external_kind fits is_external among = absurd fits
+            → IsExternal kind → EntitySays bag name body → IsExternalType bag name
+        by (external parents) kind fits is_external says = says
+        by (standard parents shape tags) (standard_kind fields openness tag_type) fits is_external says = absurd is_external
+        by (standard parents shape tags) (enumerated_kind ids) fits is_external says = absurd fits
+        by (standard parents shape tags) external_kind fits is_external says = absurd fits
+        by (enumerated choices) (standard_kind fields openness tag_type) fits is_external says = absurd fits
+        by (enumerated choices) (enumerated_kind ids) fits is_external says = absurd is_external
+        by (enumerated choices) external_kind fits is_external says = absurd fits
 
   -- an enumerated entity type of the schema is declared as one
   declared_enumerated : (name : PlainName) → IsOfKind schema name IsEnumerated → (choices : List Text)
       × Contains (declared_entities bag) (name, enumerated choices)
   declared_enumerated name (it, there, is_enumerated) =
-      let found = declared.entity_types (name, it) there in by found.body it.kind found.kind is_enumerated found.declared where
+      let found = declared.entity_types (name, it) there in by found.body it.kind found.kind is_enumerated found.says where
         by : (body : EntityBody) (kind : EntityTypeKind) → IsDeclaredKind (definitions bag extensions) body kind
-            → IsEnumerated kind → Contains (declared_entities bag) (name, body) → (choices : List Text)
+            → IsEnumerated kind → EntitySays bag name body → (choices : List Text)
             × Contains (declared_entities bag) (name, enumerated choices)
-        by (enumerated choices) kind fits is_enumerated among = (choices, among)
-        by (standard parents shape tags) (standard_kind fields openness tag_type) fits is_enumerated among = absurd is_enumerated
-        by (standard parents shape tags) (enumerated_kind ids) fits is_enumerated among = absurd fits
-        by (standard parents shape tags) external_kind fits is_enumerated among = absurd fits
-        by (external parents) (standard_kind fields openness tag_type) fits is_enumerated among = absurd fits
-        by (external parents) (enumerated_kind ids) fits is_enumerated among = absurd fits
-        by (external parents) external_kind fits is_enumerated among = absurd is_enumerated
+        by (enumerated choices) kind fits is_enumerated says = (choices, (definition_declared bag name (enumerated choices) says).0)
+        by (standard parents shape tags) (standard_kind fields openness tag_type) fits is_enumerated says = absurd is_enumerated
+        by (standard parents shape tags) (enumerated_kind ids) fits is_enumerated says = absurd fits
+        by (standard parents shape tags) external_kind fits is_enumerated says = absurd fits
+        by (external parents) (standard_kind fields openness tag_type) fits is_enumerated says = absurd fits
+        by (external parents) (enumerated_kind ids) fits is_enumerated says = absurd fits
+        by (external parents) external_kind fits is_enumerated says = absurd is_enumerated
 
   -- a principal or a resource of an action of the schema is named at its place
   named_place : (it : PlainUid × SchemaAction) (name : PlainName) → Contains schema.actions it
@@ -195,10 +230,12 @@ module _ (bag : Bag) (extensions : Extensions) (schema : PlainSchema) (fit : Typ
       × ResolvesTo (defined_names bag extensions) reference name
   named_place it name there named =
       let found = declared.actions it there in
-      let declaration = action_declaration bag it.0 found.body found.declared in
-      let place = by found.body.applies_to it.1.kind found.kind named in
-      let P : Body → Type 0 = λ body. IsEntityPlace body place.0 in
-      (place.0, (declaration.0, declaration.1, subst P (sym declaration.2) place.1), place.2)
+      let place = by found.applies_to it.1.kind found.kind named in
+      let body = said_action_definition bag it.0 found.applies_to found.says (request_placed found.applies_to place.0 place.1) in
+      let declaration = action_declaration bag it.0 body.0 body.1 in
+      let P : Body → Type 0 = λ each. IsEntityPlace each place.0 in
+      let Q : Requests → Type 0 = λ each. IsPrincipalOrResource each place.0 in
+      (place.0, (declaration.0, declaration.1, subst P (sym declaration.2) (subst Q (sym body.2) place.1)), place.2)
     where
       by : (body : Requests) (kind : ActionKind) → IsDeclaredActionKind (definitions bag extensions) body kind
           → IsPrincipalOrResourceOf kind name → (reference : Reference) × IsPrincipalOrResource body reference
@@ -248,64 +285,103 @@ module _ (bag : Bag) (extensions : Extensions) (schema : PlainSchema) (fit : Typ
       let step = (first_step (HasParent bag extensions) lower upper
       (listed_descendant bag extensions schema declared lower upper lists)).1 in
       declared.each_entity_type lower (Contains-image (λ (each : PlainName × EntityBody). each.0)
-      (declared_entities bag) (lower, step.0) step.2)
+      (declared_entities bag) (lower, step.1.0) step.1.1)
 
   -- a descendant of an action that the schema lists is an action of it
   action_descendant_known : (lower upper : PlainUid) → ListsDescendantAction schema lower upper → HasAction schema lower
   action_descendant_known lower upper lists =
       let step = (first_step (HasParentAction bag) lower upper (listed_action bag extensions schema declared lower upper lists)).1 in
-      declared.each_action lower (Contains-image (λ (each : PlainUid × ActionBody). each.0) (declared_actions bag) (lower, step.0) step.2)
+      declared.each_action lower (Contains-image (λ (each : PlainUid × ActionBody). each.0) (declared_actions bag)
+      (lower, step.1.0) step.1.1)
+
+  -- an enumerated entity type has no parent
+  enumerated_has_no_parent : (lower upper : PlainName) (choices : List Text)
+      → Contains (declared_entities bag) (lower, enumerated choices) → ¬ HasParent bag extensions lower upper
+  enumerated_has_no_parent lower upper choices among (reference, (body, there, parent), resolves) =
+      ⊎_elim
+      (λ definition.
+      let same : enumerated choices ≡ body = value_once (defined_entities bag) (λ name twice. well (duplicate_entity_type name, twice))
+      lower (enumerated choices) body (declared_definition bag lower (enumerated choices) tt among)
+      (declared_definition bag lower body definition there) in
+      let P : EntityBody → Type 0 = λ each. Contains (entity_parents each) reference in
+      omega (arith, (subst P (sym same) parent).1))
+      (λ is_external.
+      let P : EntityBody → Type 0 = λ each. Contains (declared_entities bag) (lower, each) in
+      let Q : EntityBody → Type 0 = λ each. Contains (entity_parents each) reference in
+      well (
+        enumerated_below lower upper,
+        (
+          choices,
+          is_external.0,
+          reference,
+          among,
+          subst P is_external.1 there,
+          subst Q is_external.1 parent,
+          resolves,
+        ),
+      ))
+      (definition_or_external body)
 
   -- an enumerated entity type of the schema is below none
   enumerated_below_none : (lower upper : PlainName) → IsOfKind schema lower IsEnumerated → ¬ Chain (ListsDescendant schema) lower upper
   enumerated_below_none lower upper enumerated_type chain =
-      let step = (first_step (HasParent bag extensions) lower upper
-      (reached_descendant bag extensions schema declared lower upper chain)).1 in
+      let step = first_step (HasParent bag extensions) lower upper
+      (reached_descendant bag extensions schema declared lower upper chain) in
       let found = declared_enumerated lower enumerated_type in
-      let same : step.0 ≡ enumerated found.0 = value_once (declared_entities bag)
-      (λ name twice. well (duplicate_entity_type name, twice)) lower step.0 (enumerated found.0) step.2 found.1 in
-      let P : EntityBody → Type 0 = λ body. Contains (entity_parents body) step.1 in
-      omega (arith, (subst P same step.3).1)
+      enumerated_has_no_parent lower step.0 found.0 found.1 step.1
 
   -- the name of an entity type of the schema is among the declared types
   among_types : (name : PlainName) → HasEntityType schema name → Contains (declared_types bag) name
   among_types name has =
-      let found = declared_type name has in
       Contains-append_right (map (λ it. it.0) (declared_common bag)) (map (λ it. it.0) (declared_entities bag)) name
-      (Contains-image (λ (each : PlainName × EntityBody). each.0) (declared_entities bag) (name, found.0) found.1)
+      (declared_type name has)
+
+  -- no entity type is named that isn't known
+  types_known : (name : PlainName) → ¬ IsUnknownType schema name
+  types_known name (inl (ty, type_in, mentions, unknown)) =
+      let found = type_written ty type_in in
+      unknown (entity_known name (mentions_entity (definitions bag extensions) found.2 name mentions))
+  types_known name (inr (inl (upper, lists, unknown))) = unknown (descendant_known name upper lists)
+  types_known name (inr (inr (it, there, named, unknown))) = unknown (request_known it name there named)
+
+  -- no entity type of the schema has the base name of actions' types
+  no_action_type : (name : PlainName) → HasEntityType schema name → ¬ IsActionType name
+  no_action_type name has is_action =
+      let found = Contains-preimage (λ (each : PlainName × EntityBody). each.0) (declared_entities bag) name (declared_type name has) in
+      let P : PlainName → Type 0 = λ each. Contains (declared_entities bag) (each, found.0.1) in
+      well (action_entity_type name, (found.0.1, subst P found.2 found.1, is_action))
+
+  -- no external entity type of the schema is below an enumerated one
+  no_external_below : (lower upper : PlainName) → IsOfKind schema lower IsExternal → IsOfKind schema upper IsEnumerated
+      → ¬ Chain (ListsDescendant schema) lower upper
+  no_external_below lower upper first second chain =
+      let enumerated_type = declared_enumerated upper second in
+      well (
+        external_below_enumerated lower upper,
+        (
+          enumerated_type.0,
+          declared_external lower first,
+          enumerated_type.1,
+          reached_descendant bag extensions schema declared lower upper chain,
+        ),
+      )
 
   -- the schema that a bag declares is valid
   pub declared_valid : IsValidSchema extensions schema
-  declared_valid = record {
-    types_known = λ ty name type_in mentions.
-        (let found = type_written ty type_in in entity_known name (mentions_entity (definitions bag extensions) found.2 name mentions));
-    extensions_known = λ ty name type_in mentions.
-        (let found = type_written ty type_in in
-        known_written (definitions bag extensions) extensions (known_common bag extensions fit well) found.2
-        (known_counted bag extensions well found.0 found.1) name mentions);
-    no_action_type = λ name has is_action. let found = declared_type name has in
-        well (action_entity_type name, (found.0, found.1, is_action));
-    action_uids = action_type;
-    no_action_cycle = λ uid chain. well (action_cycle uid, reached_action bag extensions schema declared uid uid chain);
-    no_external_below_enumerated = λ lower upper first second chain.
-        (let external_type = declared_external lower first in
-        let enumerated_type = declared_enumerated upper second in
-        well (
-          external_below_enumerated lower upper,
-          (
-            external_type.0,
-            enumerated_type.0,
-            external_type.1,
-            enumerated_type.1,
-            reached_descendant bag extensions schema declared lower upper chain,
-          ),
-        ));
-    no_enumerated_below = enumerated_below_none;
-    descendants_known = descendant_known;
-    requests_known = request_known;
-    action_descendants_known = action_descendant_known;
-    no_shadowed_type = λ name qualified first second shadows.
-        well (type_shadowing name qualified, (among_types name first, among_types qualified second, shadows));
-    no_shadowed_action = λ uid qualified first second shadows.
-        well (action_shadowing uid qualified, (declared_action_uid uid first, declared_action_uid qualified second, shadows));
-  }
+  declared_valid (undeclared_entity_types names) at_fault =
+      let found = some_first names at_fault.0 in types_known found.0 (at_fault.1 found.0 found.1)
+  declared_valid (unknown_extension_type name) (ty, type_in, mentions, unknown) =
+      let found = type_written ty type_in in
+      unknown (known_written (definitions bag extensions) extensions (known_common bag extensions fit well) found.2
+      (known_counted bag extensions well found.0 found.1) name mentions)
+  declared_valid (action_entity_type name) at_fault = no_action_type name at_fault.0 at_fault.1
+  declared_valid (invalid_action_type uid) at_fault = at_fault.1 (action_type uid at_fault.0)
+  declared_valid (action_cycle uid) chain = well (action_cycle uid, reached_action bag extensions schema declared uid uid chain)
+  declared_valid (external_below_enumerated lower upper) at_fault = no_external_below lower upper at_fault.0 at_fault.1 at_fault.2
+  declared_valid (enumerated_below lower upper) at_fault = enumerated_below_none lower upper at_fault.0 at_fault.1
+  declared_valid (undeclared_action_descendant uid) (upper, lists, unknown) = unknown (action_descendant_known uid upper lists)
+  declared_valid (type_shadowing name qualified) (first, second, shadows) =
+      well (type_shadowing name qualified, (among_types name first, among_types qualified second, shadows))
+  declared_valid (action_shadowing uid qualified) (first, second, shadows) =
+      well (action_shadowing uid qualified, (declared_action_uid uid first, declared_action_uid qualified second, shadows))
+  declared_valid _ at_fault = at_fault

@@ -1,10 +1,9 @@
-use Rattle.std.specs.Prelude.{Bool, true, false, not, ◌&&◌, List, [], ◌∷◌, ◌++◌, map, codes}
+use Rattle.std.specs.Prelude.{Bool, not, List, [], ◌∷◌, ◌++◌, map, codes}
 use Rattle.std.specs.List.{flat_map, filter, list_any}
-use Rattle.std.specs.Option.{is_none}
-use Rattle.std.specs.Str.{bytes_eq}
+use Rattle.std.specs.Ordering.{is_eq}
 use Rattle.cedar_below.specs.Extensions.{extension_types}
 use Rattle.cedar_below.specs.Identifier.{reserved_word}
-use Rattle.cedar_below.specs.PlainName.{PlainName, action_word}
+use Rattle.cedar_below.specs.PlainName.{PlainName, name_cmp, action_word}
 use Rattle.cedar_below.specs.PlainUid.{PlainUid}
 use Rattle.cedar_below.specs.Text.{Text}
 use Rattle.cedar_below.specs.declared.extension.Extensions.{Extensions}
@@ -63,15 +62,6 @@ declared_types bag = map (λ it. it.0) (declared_common bag) ++ map (λ it. it.0
 abbrev pub action_uids : Bag → List PlainUid
 action_uids bag = map (λ it. it.0) (declared_actions bag)
 
--- a type is declared, and no action
-abbrev pub is_type : Body → Bool
-is_type (action body) = false
-is_type _ = true
-
--- a type of this id is declared in the empty namespace
-abbrev pub is_declared_here : Bag → Text → Bool
-is_declared_here bag id = list_any (λ it. is_none it.namespace && (is_type it.body && bytes_eq id it.id)) bag
-
 -- the built-in base names with what they stand for: the primitive types, and the extension types that were handed in
 abbrev pub built_in_types : Extensions → List (Text × Expr)
 built_in_types extensions =
@@ -89,6 +79,10 @@ alias_name word = record { base = word; path = [] }
 -- the built-in common types, each under its full name
 abbrev pub built_ins : Extensions → List (PlainName × Expr)
 built_ins extensions = map (λ it. (built_in_name it.0, it.1)) (built_in_types extensions)
+
+-- a type of this base name is declared in the empty namespace
+abbrev pub is_declared_here : Bag → Text → Bool
+is_declared_here bag word = list_any (λ name. is_eq (name_cmp (alias_name word) name)) (declared_types bag)
 
 -- the aliases: the built-in types under their base names alone, but for those of which a type is declared in the empty
 -- namespace

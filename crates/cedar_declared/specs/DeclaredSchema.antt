@@ -2,9 +2,8 @@ use Rattle.std.specs.Prelude.{◌≡◌, ◌↔◌, List, map, Contains, Option,
 use Rattle.std.specs.List.Sorted.{IsStrictlySortedBy}
 use Rattle.cedar_below.specs.PlainName.{PlainName, name_cmp}
 use Rattle.cedar_below.specs.PlainUid.{PlainUid, uid_cmp}
-use Rattle.cedar_below.specs.Tree.{no_entry}
 use Rattle.cedar_below.specs.declared.extension.Extensions.{Extensions}
-use Rattle.cedar_names.specs.ActionBody.{ActionBody, Requests, requests, elsewhere}
+use Rattle.cedar_names.specs.ActionBody.{Requests, requests, elsewhere}
 use Rattle.cedar_names.specs.EntityBody.{EntityBody, standard, enumerated, external}
 use Rattle.cedar_names.specs.Expr.{Expr}
 use Rattle.cedar_names.specs.Reference.{Reference}
@@ -12,7 +11,9 @@ use Rattle.cedar_declared.specs.Bag.{Bag, declared_entities, declared_actions, d
 use Rattle.cedar_declared.specs.Defined.{Defined, names_of}
 use Rattle.cedar_declared.specs.Names.{Names, ResolvesTo}
 use Rattle.cedar_declared.specs.Descent.{IsDescendant, IsDescendantAction}
-use Rattle.cedar_declared.specs.PlainSchema.{SchemaEntityType, ActionKind, defined_action, external_action, SchemaAction, ActionEntity, PlainSchema}
+use Rattle.cedar_declared.specs.PlainSchema.{SchemaEntityType, ActionKind, defined_action, external_action, SchemaAction, PlainSchema}
+use Rattle.cedar_declared.specs.ActionEntities.{AreActionEntities}
+use Rattle.cedar_declared.specs.Together.{EntitySays, ActionSays}
 use Rattle.cedar_declared.specs.WrittenOut.{WrittenOut}
 use Rattle.cedar_declared.specs.EntityTypeKind.{EntityTypeKind, standard_kind, enumerated_kind, external_kind}
 use Rattle.cedar_rules.specs.Ty.{Ty, record_of}
@@ -33,10 +34,10 @@ IsDeclaredKind defined (enumerated ids) (enumerated_kind choices) = ids ≡ choi
 IsDeclaredKind defined (external parents) external_kind = Unit {0}
 IsDeclaredKind defined _ _ = ⊥
 
--- the entity type stands under its name, is declared, is of the declared kind, and has just the declared descendants
+-- the entity type stands under its name, is of the kind that its declarations say, and has just the declared descendants
 pub record IsDeclaredEntityType (bag : Bag) (extensions : Extensions) (it : PlainName × SchemaEntityType) : Type 0 where
   pub body : EntityBody
-  pub declared : Contains (declared_entities bag) (it.0, body)
+  pub says : EntitySays bag it.0 body
   pub name : it.1.name ≡ it.0
   pub kind : IsDeclaredKind (definitions bag extensions) body it.1.kind
   pub descendants : (lower : PlainName) → Contains it.1.descendants lower ↔ IsDescendant bag extensions lower it.0
@@ -55,30 +56,16 @@ IsDeclaredActionKind defined (requests principals resources context) (defined_ac
 IsDeclaredActionKind defined elsewhere external_action = Unit {0}
 IsDeclaredActionKind defined _ _ = ⊥
 
--- the action stands under its uid, is declared, is of the declared kind, and has just the declared descendants
+-- the action stands under its uid, is of the kind that its declarations say, and has just the declared descendants
 pub record IsDeclaredAction (bag : Bag) (extensions : Extensions) (it : PlainUid × SchemaAction) : Type 0 where
-  pub body : ActionBody
-  pub declared : Contains (declared_actions bag) (it.0, body)
+  pub applies_to : Requests
+  pub says : ActionSays bag it.0 applies_to
   pub uid : it.1.uid ≡ it.0
-  pub kind : IsDeclaredActionKind (definitions bag extensions) body.applies_to it.1.kind
+  pub kind : IsDeclaredActionKind (definitions bag extensions) applies_to it.1.kind
   pub descendants : (lower : PlainUid) → Contains it.1.descendants lower ↔ IsDescendantAction bag lower it.0
 
--- an action that isn't external is declared under the uid
-abbrev pub IsDefinedAction : Bag → PlainUid → Type 0
-IsDefinedAction bag uid =
-    (body : ActionBody) × (principals : List Reference) × (resources : List Reference) × (context : Expr)
-    × Contains (declared_actions bag) (uid, body) × (body.applies_to ≡ requests principals resources context)
-
--- the entity is that of an action that is defined: without attributes and tags, and just below the actions whose
--- descendant it is
-pub record IsEntityOfAction (bag : Bag) (it : ActionEntity) : Type 0 where
-  pub defined : IsDefinedAction bag it.uid
-  pub attributes : it.attributes ≡ no_entry
-  pub tags : it.tags ≡ no_entry
-  pub ancestors : (upper : PlainUid) → Contains it.ancestors upper ↔ IsDescendantAction bag it.uid upper
-
 -- the schema is the one that the bag declares: it has just the declared entity types and actions, each once and as it
--- is declared, and the entities of the defined actions
+-- is declared, and the entities of its defined actions
 pub record IsDeclaredSchema (bag : Bag) (extensions : Extensions) (schema : PlainSchema) : Type 0 where
   pub entity_types : (it : PlainName × SchemaEntityType) → Contains schema.entity_types it
       → IsDeclaredEntityType bag extensions it
@@ -89,7 +76,4 @@ pub record IsDeclaredSchema (bag : Bag) (extensions : Extensions) (schema : Plai
   pub each_action : (uid : PlainUid) → Contains (map (λ it. it.0) (declared_actions bag)) uid
       → Contains (map (λ it. it.0) schema.actions) uid
   pub actions_in_order : IsStrictlySortedBy uid_cmp (map (λ it. it.0) schema.actions)
-  pub action_entities : (it : ActionEntity) → Contains schema.action_entities it → IsEntityOfAction bag it
-  pub each_action_entity : (uid : PlainUid) → IsDefinedAction bag uid
-      → Contains (map (λ it. it.uid) schema.action_entities) uid
-  pub action_entities_in_order : IsStrictlySortedBy uid_cmp (map (λ it. it.uid) schema.action_entities)
+  pub action_entities : AreActionEntities schema

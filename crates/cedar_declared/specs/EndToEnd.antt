@@ -1,24 +1,29 @@
-use Rattle.std.specs.Prelude.{◌≡◌, ◌⊎◌, ◌↔◌, Result, IfOk, IfErr, OnOk, Option, Some, Contains, List}
+use Rattle.std.specs.Prelude.{◌≡◌, ◌⊎◌, ◌↔◌, Result, IfOk, IfErr, OnOk, Option, Some, Contains, List, map}
+use Rattle.std.specs.List.Sorted.{IsPermutation}
 use Rattle.cedar_below.specs.Extensions.{extension_types}
 use Rattle.cedar_below.specs.PlainName.{PlainName}
 use Rattle.cedar_below.specs.PlainUid.{PlainUid}
-use Rattle.cedar_below.specs.Tree.{Tree}
+use Rattle.cedar_below.specs.Tree.{Tree, no_entry}
 use Rattle.cedar_below.specs.TypeNames.{TypeNamesFit}
 use Rattle.cedar_below.specs.declared.extension.Extensions.{Extensions}
-use Rattle.cedar_names.specs.ActionBody.{ActionBody, requests}
+use Rattle.cedar_declared.specs.Environments.{AreDeclaredEnvironments}
+use Rattle.cedar_declared.specs.Together.{defined_actions}
+use Rattle.cedar_names.specs.ActionBody.{requests}
 use Rattle.cedar_names.specs.EntityBody.{standard}
 use Rattle.cedar_names.specs.Expr.{Expr}
 use Rattle.cedar_names.specs.Reference.{Reference}
 use Rattle.cedar_declared.specs.Admits.{Admits}
-use Rattle.cedar_declared.specs.Bag.{Bag, declared_entities, declared_actions, definitions}
+use Rattle.cedar_declared.specs.Bag.{Bag, declared_entities, definitions}
+use Rattle.cedar_declared.specs.ClosedSchema.{ClosesSchema}
 use Rattle.cedar_declared.specs.Counted.{PlacesFit}
 use Rattle.cedar_declared.specs.DeclaredSchema.{IsDeclaredSchema}
 use Rattle.cedar_declared.specs.Fault.{Fault, want_of_memory}
 use Rattle.cedar_declared.specs.IllFormed.{IsFault, IsIllFormed}
-use Rattle.cedar_declared.specs.PlainSchema.{SchemaEntityType, SchemaAction, defined_action, PlainSchema}
+use Rattle.cedar_declared.specs.PlainSchema.{SchemaEntityType, SchemaAction, defined_action, ActionEntity, PlainSchema}
 use Rattle.cedar_declared.specs.SameBag.{SameBag}
 use Rattle.cedar_declared.specs.SameSchema.{SameSchema}
-use Rattle.cedar_declared.specs.ValidSchema.{IsValidSchema, IsClosedSchema}
+use Rattle.cedar_declared.specs.ValidSchema.{IsValidSchema}
+use Rattle.cedar_declared.specs.Descent.{IsDescendantAction}
 use Rattle.cedar_declared.specs.EntityTypeKind.{standard_kind}
 use Rattle.cedar_rules.specs.Has.{Has}
 use Rattle.cedar_rules.specs.Ty.{Ty, Fields, record_of}
@@ -42,20 +47,22 @@ pub record TypesAdmitTheDeclared (bag : Bag) (extensions : Extensions) (schema :
       → Contains (declared_entities bag) (name, standard parents shape (Some tags))
       → Contains schema.entity_types (name, it) → it.kind ≡ standard_kind fields openness (Some tag_type)
       → AdmitsTheSame bag extensions tags tag_type
-  pub contexts : (uid : PlainUid) (body : ActionBody) (principals resources : List Reference) (context : Expr)
-      (it : SchemaAction) (principal_types resource_types : List PlainName) (ty : Ty)
-      → Contains (declared_actions bag) (uid, body) → body.applies_to ≡ requests principals resources context
+  pub contexts : (uid : PlainUid) (principals resources : List Reference) (context : Expr) (it : SchemaAction)
+      (principal_types resource_types : List PlainName) (ty : Ty)
+      → Contains (defined_actions bag) (uid, requests principals resources context)
       → Contains schema.actions (uid, it) → it.kind ≡ defined_action principal_types resource_types ty
       → AdmitsTheSame bag extensions context ty
 
 -- what a builder answers for a bag is right, want of memory aside: a refusal names a fault of the bag; otherwise
--- nothing is at fault, the schema is the declared one and the only one, and its types have just the declared values
+-- nothing is at fault, the schema is the declared one and the only one, its types have just the declared values, and its
+-- environments are the declared ones
 pub record IsBuiltFrom (bag : Bag) (extensions : Extensions) (answer : Result PlainSchema Fault) : Type 0 where
   pub fault : IfErr answer (λ fault. (fault ≡ want_of_memory) ⊎ IsFault bag extensions fault)
   pub well_formed : OnOk answer (¬ IsIllFormed bag extensions)
   pub declared : IfOk answer (IsDeclaredSchema bag extensions)
   pub only : IfOk answer (λ schema. (other : PlainSchema) → IsDeclaredSchema bag extensions other → SameSchema other schema)
   pub admits : IfOk answer (TypesAdmitTheDeclared bag extensions)
+  pub environments : IfOk answer (AreDeclaredEnvironments bag extensions)
 
 -- a law: a bag that isn't ill-formed declares at most one schema
 abbrev pub BagsDeclareAtMostOneSchema : Type 0
@@ -76,6 +83,25 @@ BagsDeclareASchema = (bag : Bag) (extensions : Extensions) → TypeNamesFit (ext
     → ¬ IsIllFormed bag extensions
     → (schema : PlainSchema) × IsDeclaredSchema bag extensions schema
 
+-- the entity is that of an action that the bag defines: without attributes and tags, and just below the actions whose
+-- descendant it is
+pub record IsEntityOfDefinition (bag : Bag) (it : ActionEntity) : Type 0 where
+  pub defined : Contains (map (λ it. it.0) (defined_actions bag)) it.uid
+  pub attributes : it.attributes ≡ no_entry
+  pub tags : it.tags ≡ no_entry
+  pub ancestors : (upper : PlainUid) → Contains it.ancestors upper ↔ IsDescendantAction bag it.uid upper
+
+-- a law: the entities of actions of the schema that a bag declares are those of the actions that the bag defines
+abbrev pub ActionEntitiesAreDeclared : Type 0
+ActionEntitiesAreDeclared = (bag : Bag) (extensions : Extensions) (schema : PlainSchema) → IsDeclaredSchema bag extensions schema
+    → ((it : ActionEntity) → Contains schema.action_entities it → IsEntityOfDefinition bag it)
+    × ((uid : PlainUid) → Contains (map (λ it. it.0) (defined_actions bag)) uid
+    → Contains (map (λ it. it.uid) schema.action_entities) uid)
+
+-- a law: a bag in another order is the same bag
+abbrev pub OrderIsNothing : Type 0
+OrderIsNothing = (bag other : Bag) → IsPermutation bag other → SameBag bag other
+
 -- a law: bags that are the same are ill-formed both or neither, and declare the same schemas
 abbrev pub SameBagsDeclareTheSame : Type 0
 SameBagsDeclareTheSame = (bag other : Bag) (extensions : Extensions) → SameBag bag other
@@ -88,7 +114,7 @@ DeclaredSchemasAreValid = (bag : Bag) (extensions : Extensions) (schema : PlainS
     → TypeNamesFit (extension_types extensions) → PlacesFit bag
     → ¬ IsIllFormed bag extensions → IsDeclaredSchema bag extensions schema → IsValidSchema extensions schema
 
--- a law: the descendants of the schema that a bag declares are closed, so that validation gives it back unchanged
+-- a law: closing the schema that a bag declares gives that schema
 abbrev pub DeclaredSchemasAreClosed : Type 0
 DeclaredSchemasAreClosed = (bag : Bag) (extensions : Extensions) (schema : PlainSchema)
-    → IsDeclaredSchema bag extensions schema → IsClosedSchema schema
+    → IsDeclaredSchema bag extensions schema → ClosesSchema schema schema

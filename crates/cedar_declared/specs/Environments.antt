@@ -4,13 +4,14 @@ use Rattle.cedar_below.specs.PlainName.{PlainName}
 use Rattle.cedar_below.specs.PlainUid.{PlainUid}
 use Rattle.cedar_below.specs.TypeNames.{TypeNamesFit}
 use Rattle.cedar_below.specs.declared.extension.Extensions.{Extensions}
-use Rattle.cedar_declared.specs.Bag.{Bag, declared_actions, definitions}
+use Rattle.cedar_declared.specs.Bag.{Bag, definitions}
 use Rattle.cedar_declared.specs.DeclaredSchema.{IsNamedBy, IsDeclaredSchema}
 use Rattle.cedar_declared.specs.Defined.{Defined, names_of}
 use Rattle.cedar_declared.specs.IllFormed.{IsIllFormed}
 use Rattle.cedar_declared.specs.PlainSchema.{ActionKind, defined_action, external_action, SchemaAction, PlainSchema}
 use Rattle.cedar_declared.specs.WrittenOut.{WrittenOut}
-use Rattle.cedar_names.specs.ActionBody.{ActionBody, Requests, requests, elsewhere}
+use Rattle.cedar_declared.specs.Together.{defined_actions}
+use Rattle.cedar_names.specs.ActionBody.{Requests, requests, elsewhere}
 use Rattle.cedar_rules.specs.Ty.{Ty}
 
 -- the types of a request: those of the principal and of the resource, the action, and the type of the context
@@ -44,14 +45,19 @@ IsDeclaredRequest defined (requests principals resources context) it =
     × WrittenOut defined context it.context
 IsDeclaredRequest defined elsewhere it = ⊥
 
--- the environment is declared: it is of the requests that are declared of its action
+-- the environment is declared: it is of the requests that its action is defined for
 abbrev pub IsDeclaredEnvironment : Bag → Extensions → Environment → Type 0
 IsDeclaredEnvironment bag extensions it =
-    (body : ActionBody) × Contains (declared_actions bag) (it.action, body)
-    × IsDeclaredRequest (definitions bag extensions) body.applies_to it
+    (applies_to : Requests) × Contains (defined_actions bag) (it.action, applies_to)
+    × IsDeclaredRequest (definitions bag extensions) applies_to it
+
+-- the environments of the schema are the declared ones
+abbrev pub AreDeclaredEnvironments : Bag → Extensions → PlainSchema → Type 0
+AreDeclaredEnvironments bag extensions schema =
+    (it : Environment) → IsEnvironmentOf schema it ↔ IsDeclaredEnvironment bag extensions it
 
 -- a law: the environments of the schema that a bag declares which isn't ill-formed are the declared ones
 abbrev pub EnvironmentsAreDeclared : Type 0
 EnvironmentsAreDeclared = (bag : Bag) (extensions : Extensions) → TypeNamesFit (extension_types extensions)
     → ¬ IsIllFormed bag extensions → (schema : PlainSchema) → IsDeclaredSchema bag extensions schema
-    → (it : Environment) → IsEnvironmentOf schema it ↔ IsDeclaredEnvironment bag extensions it
+    → AreDeclaredEnvironments bag extensions schema

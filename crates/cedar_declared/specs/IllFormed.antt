@@ -11,16 +11,17 @@ use Rattle.cedar_names.specs.Declaration.{action}
 use Rattle.cedar_names.specs.EntityBody.{EntityBody, standard, enumerated, external}
 use Rattle.cedar_names.specs.Expr.{Expr}
 use Rattle.cedar_names.specs.Reference.{Reference, ActionReference}
-use Rattle.cedar_declared.specs.Bag.{Bag, declared_common, declared_entities, declared_actions, declared_types, action_uids, built_ins, definitions, defined_names}
+use Rattle.cedar_declared.specs.Bag.{Bag, declared_common, declared_entities, declared_types, action_uids, built_ins, definitions, defined_names}
 use Rattle.cedar_below.specs.Chain.{Chain}
 use Rattle.cedar_declared.specs.Counted.{IsCounted, IsPlaced, HasToResolve}
 use Rattle.cedar_declared.specs.Defined.{Defined, IsCommon, names_of}
 use Rattle.cedar_declared.specs.Names.{ResolvesTo, IsUnresolved, NamesNoAction}
 use Rattle.cedar_declared.specs.Descent.{IsDescendant, IsDescendantAction}
-use Rattle.cedar_declared.specs.Fault.{Fault, action_attributes, open_record, undeclared_entity_types, type_not_defined, action_not_defined, type_shadowing, action_shadowing, duplicate_entity_type, duplicate_common_type, duplicate_action, action_cycle, common_type_cycle, action_entity_type, shape_not_record, context_not_record, unknown_extension_type, reserved_name, external_below_enumerated}
+use Rattle.cedar_declared.specs.Fault.{Fault, action_attributes, open_record, undeclared_entity_types, type_not_defined, action_not_defined, type_shadowing, action_shadowing, duplicate_entity_type, duplicate_common_type, duplicate_action, action_cycle, common_type_cycle, action_entity_type, shape_not_record, context_not_record, unknown_extension_type, reserved_name, external_below_enumerated, enumerated_below}
 use Rattle.cedar_declared.specs.Mentions.{HasOpenRecord, MentionsExtension, Refers}
 use Rattle.cedar_declared.specs.Occurrences.{Twice}
 use Rattle.cedar_declared.specs.Shadowing.{ShadowsType, ShadowsAction}
+use Rattle.cedar_declared.specs.Together.{defined_entities, defined_actions, IsExternalType, IsActionParent}
 use Rattle.cedar_declared.specs.WrittenOut.{IsNoRecord}
 
 -- an action of this id is declared with attributes in the namespace
@@ -32,8 +33,7 @@ HasAttributes bag namespace id =
 -- an action is declared with a parent of this id and type that names nothing
 abbrev pub HasUnknownParent : Bag → Text × Option Reference → Type 0
 HasUnknownParent bag carried =
-    (uid : PlainUid) × (body : ActionBody) × (parent : ActionReference)
-    × Contains (declared_actions bag) (uid, body) × Contains body.parents parent
+    (uid : PlainUid) × (parent : ActionReference) × IsActionParent bag uid parent
     × (carried ≡ (parent.id, Some parent.ty)) × NamesNoAction (action_uids bag) parent
 
 -- the definition of the one common type refers to the other
@@ -70,10 +70,10 @@ IsFault bag extensions (type_shadowing plain qualified) =
 -- an action is declared in the empty namespace, and one of the same id in another
 IsFault bag extensions (action_shadowing plain qualified) =
     Contains (action_uids bag) plain × Contains (action_uids bag) qualified × ShadowsAction plain qualified
--- these are declared twice; a common type also if it is built in
-IsFault bag extensions (duplicate_entity_type name) = Twice (map (λ it. it.0) (declared_entities bag)) name
+-- these have two definitions; a common type also if it is built in
+IsFault bag extensions (duplicate_entity_type name) = Twice (map (λ it. it.0) (defined_entities bag)) name
 IsFault bag extensions (duplicate_common_type name) = Twice (map (λ it. it.0) (declared_common bag ++ built_ins extensions)) name
-IsFault bag extensions (duplicate_action uid) = Twice (action_uids bag) uid
+IsFault bag extensions (duplicate_action uid) = Twice (map (λ it. it.0) (defined_actions bag)) uid
 -- these lead back to themselves
 IsFault bag extensions (action_cycle uid) = IsDescendantAction bag uid uid
 IsFault bag extensions (common_type_cycle name) = Chain (RefersToCommon (definitions bag extensions)) name name
@@ -85,8 +85,8 @@ IsFault bag extensions (shape_not_record name) =
     (parents : List Reference) × (shape : Expr) × (tags : Option Expr)
     × Contains (declared_entities bag) (name, standard parents shape tags) × IsNoRecord (definitions bag extensions) shape
 IsFault bag extensions (context_not_record uid) =
-    (body : ActionBody) × (principals : List Reference) × (resources : List Reference) × (context : Expr)
-    × Contains (declared_actions bag) (uid, body) × (body.applies_to ≡ requests principals resources context)
+    (principals : List Reference) × (resources : List Reference) × (context : Expr)
+    × Contains (defined_actions bag) (uid, requests principals resources context)
     × IsNoRecord (definitions bag extensions) context
 -- an extension type counts that wasn't handed in
 IsFault bag extensions (unknown_extension_type name) =
@@ -98,9 +98,14 @@ IsFault bag extensions (reserved_name name) =
     × Contains name.path reserved_word
 -- an external entity type is a descendant of an enumerated one
 IsFault bag extensions (external_below_enumerated lower upper) =
-    (parents : List Reference) × (choices : List Text)
-    × Contains (declared_entities bag) (lower, external parents)
-    × Contains (declared_entities bag) (upper, enumerated choices) × IsDescendant bag extensions lower upper
+    (choices : List Text) × IsExternalType bag lower × Contains (declared_entities bag) (upper, enumerated choices)
+    × IsDescendant bag extensions lower upper
+-- an enumerated entity type has a parent, by an external declaration
+IsFault bag extensions (enumerated_below lower upper) =
+    (choices : List Text) × (parents : List Reference) × (reference : Reference)
+    × Contains (declared_entities bag) (lower, enumerated choices)
+    × Contains (declared_entities bag) (lower, external parents) × Contains parents reference
+    × ResolvesTo (defined_names bag extensions) reference upper
 -- no other refusal is one of declarations
 IsFault bag extensions _ = ⊥
 

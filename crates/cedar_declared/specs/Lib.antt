@@ -1,5 +1,7 @@
+pub mod ActionEntities
 pub mod Admits
 pub mod Bag
+pub mod ClosedSchema
 pub mod Counted
 pub mod DeclaredSchema
 pub mod Defined
@@ -17,6 +19,7 @@ pub mod SameBag
 pub mod SameSchema
 pub mod SchemaError
 pub mod Shadowing
+pub mod Together
 pub mod TypeMentions
 pub mod ValidSchema
 pub mod WrittenOut

@@ -1,9 +1,10 @@
-use Rattle.std.specs.Prelude.{◌≡◌, ◌⊎◌, map, Some, Contains}
+use Rattle.std.specs.Prelude.{◌≡◌, ◌≢◌, ◌⊎◌, [], map, Some, Contains}
 use Rattle.cedar_below.specs.Extensions.{extension_types}
 use Rattle.cedar_below.specs.PlainName.{PlainName, IsActionType}
 use Rattle.cedar_below.specs.PlainUid.{PlainUid}
 use Rattle.cedar_below.specs.declared.extension.Extensions.{Extensions}
 use Rattle.cedar_below.specs.Chain.{Chain}
+use Rattle.cedar_declared.specs.Fault.{Fault, undeclared_entity_types, type_shadowing, action_shadowing, action_cycle, action_entity_type, unknown_extension_type, external_below_enumerated, enumerated_below, undeclared_action_descendant, invalid_action_type}
 use Rattle.cedar_declared.specs.PlainSchema.{SchemaEntityType, ActionKind, defined_action, external_action, SchemaAction, PlainSchema}
 use Rattle.cedar_declared.specs.Shadowing.{ShadowsType, ShadowsAction}
 use Rattle.cedar_declared.specs.TypeMentions.{MentionsEntity, MentionsExtensionType}
@@ -64,34 +65,49 @@ abbrev pub IsExternal : EntityTypeKind → Type 0
 IsExternal external_kind = Unit {0}
 IsExternal _ = ⊥
 
--- the schema is valid, where a descendant is what one or more steps of the listed ones reach: what it names it has, its
--- extension types are known, only actions have types of actions, nothing is shadowed, no action is its own descendant,
--- and neither an external type below an enumerated one nor an enumerated type below any
-pub record IsValidSchema (extensions : Extensions) (schema : PlainSchema) : Type 0 where
-  pub types_known : (ty : Ty) (name : PlainName) → IsTypeIn schema ty → MentionsEntity ty name
-      → HasEntityType schema name ⊎ ((uid : PlainUid) × HasAction schema uid × (uid.ty ≡ name))
-  pub extensions_known : (ty : Ty) (name : PlainName) → IsTypeIn schema ty → MentionsExtensionType ty name
-      → Contains (extension_types extensions) name
-  pub no_action_type : (name : PlainName) → HasEntityType schema name → ¬ IsActionType name
-  pub action_uids : (uid : PlainUid) → HasAction schema uid → IsActionType uid.ty
-  pub no_action_cycle : (uid : PlainUid) → ¬ Chain (ListsDescendantAction schema) uid uid
-  pub no_external_below_enumerated : (lower upper : PlainName) → IsOfKind schema lower IsExternal
-      → IsOfKind schema upper IsEnumerated → ¬ Chain (ListsDescendant schema) lower upper
-  pub no_enumerated_below : (lower upper : PlainName) → IsOfKind schema lower IsEnumerated
-      → ¬ Chain (ListsDescendant schema) lower upper
-  pub descendants_known : (lower upper : PlainName) → ListsDescendant schema lower upper → HasEntityType schema lower
-  pub requests_known : (it : PlainUid × SchemaAction) (name : PlainName) → Contains schema.actions it
-      → IsPrincipalOrResourceOf it.1.kind name → HasEntityType schema name
-  pub action_descendants_known : (lower upper : PlainUid) → ListsDescendantAction schema lower upper → HasAction schema lower
-  pub no_shadowed_type : (plain qualified : PlainName) → HasEntityType schema plain → HasEntityType schema qualified
-      → ¬ ShadowsType plain qualified
-  pub no_shadowed_action : (plain qualified : PlainUid) → HasAction schema plain → HasAction schema qualified
-      → ¬ ShadowsAction plain qualified
+-- the name is that of an entity type of the schema, or the type of one of its actions
+abbrev pub IsKnownType : PlainSchema → PlainName → Type 0
+IsKnownType schema name = HasEntityType schema name ⊎ ((uid : PlainUid) × HasAction schema uid × (uid.ty ≡ name))
 
--- the descendants are closed: what one or more steps of the listed ones reach is listed, so that to close them changes
--- nothing
-pub record IsClosedSchema (schema : PlainSchema) : Type 0 where
-  pub entity_types : (lower upper : PlainName) → Chain (ListsDescendant schema) lower upper
-      → ListsDescendant schema lower upper
-  pub actions : (lower upper : PlainUid) → Chain (ListsDescendantAction schema) lower upper
-      → ListsDescendantAction schema lower upper
+-- the entity type stands in a type of the schema and isn't known, or it is a descendant, a principal or a resource and
+-- isn't an entity type of the schema
+abbrev pub IsUnknownType : PlainSchema → PlainName → Type 0
+IsUnknownType schema name =
+    ((ty : Ty) × IsTypeIn schema ty × MentionsEntity ty name × ¬ IsKnownType schema name)
+    ⊎ (((upper : PlainName) × ListsDescendant schema name upper × ¬ HasEntityType schema name)
+    ⊎ ((it : PlainUid × SchemaAction) × Contains schema.actions it × IsPrincipalOrResourceOf it.1.kind name
+    × ¬ HasEntityType schema name))
+
+-- the refusal names a fault of the schema, over the extensions that are handed in, where a descendant is what one or more
+-- steps of the listed ones reach
+abbrev pub IsSchemaFault : Extensions → PlainSchema → Fault → Type 0
+-- each of these is named where a known one has to stand
+IsSchemaFault extensions schema (undeclared_entity_types names) =
+    (names ≢ []) × ((name : PlainName) → Contains names name → IsUnknownType schema name)
+-- an extension type stands in a type and wasn't handed in
+IsSchemaFault extensions schema (unknown_extension_type name) =
+    (ty : Ty) × IsTypeIn schema ty × MentionsExtensionType ty name × ¬ Contains (extension_types extensions) name
+-- an entity type has the base name of actions' types, or an action hasn't
+IsSchemaFault extensions schema (action_entity_type name) = HasEntityType schema name × IsActionType name
+IsSchemaFault extensions schema (invalid_action_type uid) = HasAction schema uid × ¬ IsActionType uid.ty
+-- an action leads back to itself
+IsSchemaFault extensions schema (action_cycle uid) = Chain (ListsDescendantAction schema) uid uid
+-- an external entity type is below an enumerated one, or an enumerated one below any
+IsSchemaFault extensions schema (external_below_enumerated lower upper) =
+    IsOfKind schema lower IsExternal × IsOfKind schema upper IsEnumerated × Chain (ListsDescendant schema) lower upper
+IsSchemaFault extensions schema (enumerated_below lower upper) =
+    IsOfKind schema lower IsEnumerated × Chain (ListsDescendant schema) lower upper
+-- a descendant of an action is no action of the schema
+IsSchemaFault extensions schema (undeclared_action_descendant uid) =
+    (upper : PlainUid) × ListsDescendantAction schema uid upper × ¬ HasAction schema uid
+-- an entity type or an action is shadowed
+IsSchemaFault extensions schema (type_shadowing plain qualified) =
+    HasEntityType schema plain × HasEntityType schema qualified × ShadowsType plain qualified
+IsSchemaFault extensions schema (action_shadowing plain qualified) =
+    HasAction schema plain × HasAction schema qualified × ShadowsAction plain qualified
+-- no other refusal is one of a schema
+IsSchemaFault extensions schema _ = ⊥
+
+-- the schema is valid: nothing in it is at fault
+abbrev pub IsValidSchema : Extensions → PlainSchema → Type 0
+IsValidSchema extensions schema = (fault : Fault) → ¬ IsSchemaFault extensions schema fault

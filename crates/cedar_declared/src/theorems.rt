@@ -10,7 +10,7 @@ ghost use Rattle.cedar_names.specs.declared.json_schema.fragment.Fragment.{Fragm
 ghost use Rattle.cedar_names.specs.declared.json_schema.raw_name.RawName.{RawName};
 ghost use Rattle.cedar_declared.specs.Bag.{Bag, definitions};
 ghost use Rattle.cedar_declared.specs.Counted.{PlacesFit};
-ghost use Rattle.cedar_declared.specs.EndToEnd.{AdmitsTheSame, BagsDeclareAtMostOneSchema, DeclaredSchemasAreClosed, DeclaredSchemasAreValid, DeclaredTypesHaveTheDeclaredValues, SameBagsDeclareTheSame};
+ghost use Rattle.cedar_declared.specs.EndToEnd.{ActionEntitiesAreDeclared, AdmitsTheSame, BagsDeclareAtMostOneSchema, DeclaredSchemasAreClosed, DeclaredSchemasAreValid, DeclaredTypesHaveTheDeclaredValues, OrderIsNothing, SameBagsDeclareTheSame};
 ghost use Rattle.cedar_declared.specs.Environments.{EnvironmentsAreDeclared};
 ghost use Rattle.cedar_declared.specs.IllFormed.{IsIllFormed};
 ghost use Rattle.cedar_declared.specs.WrittenOut.{WrittenOut};
@@ -43,14 +43,25 @@ pub fn declared_types_have_the_declared_values()
     ensures { DeclaredTypesHaveTheDeclaredValues }
 {}
 
-/// Bags that are the same, whatever the order of their declarations and of parents, principals and
-/// resources, are ill-formed both or neither, and declare the same schemas.
+/// Bags that say the same, name by name, are ill-formed both or neither, and declare the same schemas,
+/// whatever the split into declarations, and the order and repeats of parents, principals and resources.
 pub fn same_bags_declare_the_same()
     ensures { SameBagsDeclareTheSame }
 {}
 
+/// A bag in another order is the same bag.
+pub fn order_is_nothing()
+    ensures { OrderIsNothing }
+{}
+
+/// The entities of actions of the schema that a bag declares are those of the actions that the bag
+/// defines, each just below the actions whose descendant it is.
+pub fn action_entities_are_declared()
+    ensures { ActionEntitiesAreDeclared }
+{}
+
 /// The schema that a bag declares which isn't ill-formed is valid, where the references of the bag fit
-/// their places; and its descendants are closed, so that validation gives it back unchanged.
+/// their places; and closing it gives it back, so that validation does.
 pub fn declared_schemas_are_valid()
     ensures valid { DeclaredSchemasAreValid }
     ensures closed { DeclaredSchemasAreClosed }

@@ -1,6 +1,6 @@
 -- The faults of a definition of the part: those of its entity types, and no others.
 use Rattle.std.proofs.Common.{◌≡◌, ◌≢◌, zero, suc, List, [], ◌∷◌, ◌++◌, Option, None, Some, map, ap, sym, subst, refl, inl, ⊎_elim, arith, Contains}
-use Rattle.std.specs.List.{AllByRecursion}
+use Rattle.std.specs.List.{AllByRecursion, flat_map}
 use Rattle.std.specs.List.Sorted.{IsStrictlySortedBy}
 use Rattle.cedar_below.proofs.PlainNames.{name_cmp-total}
 use Rattle.cedar_below.specs.Extensions.{extension_types}
@@ -10,7 +10,7 @@ use Rattle.cedar_below.specs.PlainUid.{PlainUid}
 use Rattle.cedar_below.specs.Text.{Text}
 use Rattle.cedar_below.specs.TypeNames.{TypeNamesFit}
 use Rattle.cedar_below.specs.declared.extension.Extensions.{Extensions}
-use Rattle.cedar_names.specs.ActionBody.{ActionBody}
+use Rattle.cedar_names.specs.ActionBody.{ActionBody, requests}
 use Rattle.cedar_names.specs.Declaration.{Body}
 use Rattle.cedar_names.specs.EntityBody.{EntityBody, standard, enumerated, external, raw_entity_body}
 use Rattle.cedar_names.specs.Expr.{Expr}
@@ -27,9 +27,11 @@ use Rattle.cedar_declared.specs.Bag.{declared_entities, declared_actions, declar
 use Rattle.cedar_declared.specs.Counted.{CountsInEntity, IsEntityPlace, IsPlaced}
 use Rattle.cedar_declared.specs.Descent.{HasParentAction}
 use Rattle.cedar_schema.specs.Steps.{Declared, declared_by_entries, defined_by, IsEntityFault, IsCountedHere}
-use Rattle.cedar_declared.specs.Fault.{Fault, action_attributes, open_record, undeclared_entity_types, type_not_defined, action_not_defined, type_shadowing, action_shadowing, duplicate_entity_type, duplicate_common_type, duplicate_action, action_cycle, common_type_cycle, action_entity_type, shape_not_record, context_not_record, unknown_extension_type, reserved_name, external_below_enumerated}
+use Rattle.cedar_declared.specs.Fault.{Fault, action_attributes, open_record, undeclared_entity_types, type_not_defined, action_not_defined, type_shadowing, action_shadowing, duplicate_entity_type, duplicate_common_type, duplicate_action, action_cycle, common_type_cycle, action_entity_type, shape_not_record, context_not_record, unknown_extension_type, reserved_name, external_below_enumerated, enumerated_below}
 use Rattle.cedar_declared.specs.IllFormed.{IsFault, RefersToCommon}
+use Rattle.cedar_declared.proofs.TogetherLemmas.{action_definition_declared, twice_declared}
 use Rattle.cedar_declared.specs.Occurrences.{Twice}
+use Rattle.cedar_declared.specs.Together.{action_definition_in}
 use Rattle.cedar_declared.specs.WrittenOut.{IsNoRecord}
 
 -- what is declared is plain
@@ -209,7 +211,7 @@ module _ (entries : Entries) (extensions : Extensions) (plain : ArePlain entries
   entity_fault_of (action_not_defined actions) at_fault =
       let found = some_first actions at_fault.0 in
       let unknown = at_fault.1 found.0 found.1 in
-      absurd (no_action_in entries (unknown.0, unknown.1) unknown.3)
+      absurd (no_action_in entries (unknown.0, unknown.2.0) unknown.2.1)
   entity_fault_of (type_shadowing name qualified) at_fault =
       let P : List PlainName → Type 0 = λ names. Contains names qualified in
       absurd (at_fault.2.1 (no_path_here entries qualified (subst P (type_names_here entries) at_fault.1)))
@@ -217,16 +219,18 @@ module _ (entries : Entries) (extensions : Extensions) (plain : ArePlain entries
   entity_fault_of (duplicate_entity_type name) at_fault =
       let P : Declared → Type 0 = λ declared. Twice (map (λ it. it.0) declared) name in
       absurd (Twice-ascending name_cmp name_cmp-total (map (λ entity. entity.0) (declared_by_entries entries)) name
-      ascending (subst P (just_entities entries) at_fault))
+      ascending (subst P (just_entities entries)
+      (twice_declared (declared_entities (declarations_here entries)) name at_fault)))
   entity_fault_of (duplicate_common_type name) at_fault =
       let P : List (PlainName × Expr) → Type 0 = λ common. Twice (map (λ it. it.0) (common ++ built_ins extensions)) name in
       absurd (built_ins_once extensions fit name (subst P (no_common entries) at_fault))
   entity_fault_of (duplicate_action uid) at_fault =
-      let P : List (PlainUid × ActionBody) → Type 0 = λ actions. Twice (map (λ it. it.0) actions) uid in
+      let P : List (PlainUid × ActionBody) → Type 0 = λ actions.
+      Twice (map (λ it. it.0) (flat_map (λ it. action_definition_in it.0 it.1.applies_to) actions)) uid in
       absurd (subst P (no_actions entries) at_fault)
   entity_fault_of (action_cycle uid) at_fault =
       let step = first_step (HasParentAction (declarations_here entries)) uid uid at_fault in
-      absurd (no_action_in entries (uid, step.1.0) step.1.2)
+      absurd (no_action_in entries (uid, step.1.1.0) step.1.1.1)
   entity_fault_of (common_type_cycle name) at_fault =
       let step = first_step (RefersToCommon (definitions (declarations_here entries) extensions)) name name at_fault in
       absurd (no_common_step entries extensions name step.0 step.1)
@@ -239,7 +243,9 @@ module _ (entries : Entries) (extensions : Extensions) (plain : ArePlain entries
         among,
         no_record_like entries extensions at_fault.1 (shape_alone entries plain name at_fault.0 at_fault.1 at_fault.2 among) at_fault.4,
       )
-  entity_fault_of (context_not_record uid) at_fault = absurd (no_action_in entries (uid, at_fault.0) at_fault.4)
+  entity_fault_of (context_not_record uid) at_fault =
+      let found = action_definition_declared (declarations_here entries) uid (requests at_fault.0 at_fault.1 at_fault.2) at_fault.3 in
+      absurd (no_action_in entries (uid, found.0) found.1)
   entity_fault_of (unknown_extension_type name) at_fault =
       let counted = counted_in_entity entries at_fault.0 at_fault.1 in
       absurd (no_extension at_fault.0 name.base (counted_alone entries plain at_fault.0 counted) at_fault.2)
@@ -253,5 +259,7 @@ module _ (entries : Entries) (extensions : Extensions) (plain : ArePlain entries
       absurd (no_action_among (λ it. it.0) entries found.0 found.1)))
       at_fault.0
   entity_fault_of (external_below_enumerated lower upper) at_fault =
-      absurd (plain_of entries plain (lower, external at_fault.0) (declared_to entries (lower, external at_fault.0) at_fault.2))
+      absurd (plain_of entries plain (upper, enumerated at_fault.0) (declared_to entries (upper, enumerated at_fault.0) at_fault.2))
+  entity_fault_of (enumerated_below lower upper) at_fault =
+      absurd (plain_of entries plain (lower, enumerated at_fault.0) (declared_to entries (lower, enumerated at_fault.0) at_fault.3))
   entity_fault_of _ at_fault = absurd at_fault

@@ -19,7 +19,9 @@ use Rattle.cedar_schema.proofs.DeclaredLemmas.{Entries}
 use Rattle.cedar_schema.proofs.PartBag.{declarations_here, just_entities, same_entities, no_parents}
 use Rattle.cedar_schema.proofs.PartFaults.{ArePlain, AreAscending, plain_of, declared_from, no_action_in}
 use Rattle.cedar_schema.proofs.PartWritten.{written_like}
-use Rattle.cedar_declared.specs.Bag.{declared_entities, declared_actions, definitions}
+use Rattle.cedar_declared.specs.Bag.{declared_actions, definitions}
+use Rattle.cedar_declared.proofs.TogetherLemmas.{IsDefinition, declared_definition, definition_says}
+use Rattle.cedar_declared.specs.Together.{EntitySays}
 use Rattle.cedar_declared.specs.DeclaredSchema.{IsDeclaredEntityType, IsDeclaredSchema, IsDeclaredKind, AreDeclaredTags}
 use Rattle.cedar_declared.specs.Defined.{Defined}
 use Rattle.cedar_declared.specs.Descent.{HasParent, IsDescendant}
@@ -74,25 +76,34 @@ kind_like defined other same (standard parents shape tags) external_kind plain f
 kind_like defined other same (enumerated choices) kind plain fits = absurd plain
 kind_like defined other same (external parents) kind plain fits = absurd plain
 
+-- a plain declaration is a definition
+plain_definition : (body : EntityBody) → IsPlainStandard body → IsDefinition body
+plain_definition (standard parents shape tags) plain = tt
+plain_definition (enumerated choices) plain = absurd plain
+plain_definition (external parents) plain = absurd plain
+
 module _ (entries : Entries) (extensions : Extensions) (plain : ArePlain entries) where
   -- no entity type is a descendant
   no_descendant : (lower upper : PlainName) → ¬ IsDescendant (declarations_here entries) extensions lower upper
   no_descendant lower upper chain =
       let step = first_step (HasParent (declarations_here entries) extensions) lower upper chain in
-      let P : Declared → Type 0 = λ declared. Contains declared (lower, step.1.0) in
-      no_parents step.1.0 step.1.1 (plain_of entries plain (lower, step.1.0) (subst P (just_entities entries) step.1.2)) step.1.3
+      let body = step.1.1.0 in
+      let P : Declared → Type 0 = λ declared. Contains declared (lower, body) in
+      no_parents body step.1.0 (plain_of entries plain (lower, body) (subst P (just_entities entries) step.1.1.1)) step.1.1.2
 
   -- an entity type that fits its declaration is the declared one
   declared_entry : (entity : PlainName × EntityBody) (entry : EntityType × ValidatorEntityType)
       → Contains (declared_by_entries entries) entity → IsBuilt (defined_by (declared_by_entries entries)) entity entry
       → IsDeclaredEntityType (declarations_here entries) extensions (plain_entry entry)
   declared_entry entity entry among fits =
-      let P : PlainName → Type 0 = λ name. Contains (declared_entities (declarations_here entries)) (name, entity.1) in
+      let P : PlainName → Type 0 = λ name. EntitySays (declarations_here entries) name entity.1 in
+      let is_definition = plain_definition entity.1 (plain_of entries plain entity among) in
+      let defined = declared_definition (declarations_here entries) entity.0 entity.1 is_definition (declared_from entries entity among) in
       let Q : List PlainName → Type 0 = λ names. (lower : PlainName) → Contains names lower
       ↔ IsDescendant (declarations_here entries) extensions lower (type_name entry.0) in
       record {
         body = entity.1;
-        declared = subst P (sym fits.key) (declared_from entries entity among);
+        says = subst P (sym fits.key) (definition_says (declarations_here entries) entity.0 entity.1 defined);
         name = fits.name ∙ sym fits.key;
         kind = kind_like (defined_by (declared_by_entries entries))
             (definitions (declarations_here entries) extensions) (sym (same_entities entries extensions)) entity.1
@@ -134,7 +145,9 @@ schema_of_part entries extensions schema plain ascending each =
           (let found = Contains-preimage (λ (it : PlainUid × ActionBody). it.0) (declared_actions (declarations_here entries)) uid among in
           absurd (no_action_in entries found.0 found.1));
       actions_in_order = tt;
-      action_entities = λ it among. absurd (omega (arith, among.1));
-      each_action_entity = λ uid defined. absurd (no_action_in entries (uid, defined.0) defined.4);
-      action_entities_in_order = tt;
+      action_entities = record {
+        entities = λ it among. absurd (omega (arith, among.1));
+        each = λ uid defined. absurd (omega (arith, defined.1.1));
+        in_order = tt;
+      };
     }

@@ -8,6 +8,7 @@ ghost use Rattle.cedar_below.specs.TypeNames.{TypeNamesFit};
 ghost use Rattle.cedar_names.specs.Declaration.{raw_declarations};
 ghost use Rattle.cedar_names.specs.Part.{IsInPart};
 ghost use Rattle.cedar_declared.specs.DeclaredSchema.{IsDeclaredSchema};
+ghost use Rattle.cedar_declared.specs.Environments.{AreDeclaredEnvironments};
 ghost use Rattle.cedar_declared.specs.EndToEnd.{TypesAdmitTheDeclared};
 ghost use Rattle.cedar_declared.specs.SchemaError.{fault_of};
 ghost use Rattle.cedar_declared.specs.Fault.{want_of_memory};
@@ -67,6 +68,8 @@ impl ValidatorSchema {
             → SameSchema other (schema_of schema)) }
         ensures admits { IfOk result (λ schema.
             TypesAdmitTheDeclared (raw_declarations None definition) extensions.now (schema_of schema)) }
+        ensures environments { IfOk result (λ schema.
+            AreDeclaredEnvironments (raw_declarations None definition) extensions.now (schema_of schema)) }
     {
         // No extension type stands in the part, so none is looked up.
         let _ = extensions;

@@ -1,4 +1,4 @@
-use Rattle.std.specs.Prelude.{true, false, List, [], ◌∷◌, Some, None, codes}
+use Rattle.std.specs.Prelude.{true, false, List, [], ◌∷◌, ◌++◌, Some, None, codes}
 use Rattle.cedar_below.specs.PlainName.{PlainName, action_word}
 use Rattle.cedar_below.specs.Text.{Text}
 use Rattle.cedar_names.specs.ActionBody.{requests}
@@ -100,6 +100,27 @@ tint_bag =
     record { namespace = None; id = codes "Color"; body = entity_type (enumerated (codes "red" ∷ [])) }
     ∷ entity_here (codes "Shade") (refer_here Entity (codes "Color") ∷ []) no_member
     ∷ record { namespace = None; id = codes "Tint"; body = entity_type (external (refer_here Entity (codes "Shade") ∷ [])) }
+    ∷ []
+
+-- the same, where the lowest has a definition besides
+abbrev pub known_tint_bag : Bag
+known_tint_bag = tint_bag ++ entity_here (codes "Tint") [] no_member ∷ []
+
+-- an enumerated entity type that an external declaration gives a parent
+abbrev pub painted_bag : Bag
+painted_bag =
+    record { namespace = None; id = codes "Color"; body = entity_type (enumerated (codes "red" ∷ [])) }
+    ∷ record { namespace = None; id = codes "Color"; body = entity_type (external (refer_here Entity (codes "Paint") ∷ [])) }
+    ∷ entity_here (codes "Paint") [] no_member
+    ∷ []
+
+-- an entity type with an external declaration and a definition, each with a parent of its own
+abbrev pub linked_bag : Bag
+linked_bag =
+    record { namespace = None; id = codes "User"; body = entity_type (external (refer_here Entity (codes "Group") ∷ [])) }
+    ∷ entity_here (codes "User") (refer_here Entity (codes "Team") ∷ []) no_member
+    ∷ entity_here (codes "Group") [] no_member
+    ∷ entity_here (codes "Team") [] no_member
     ∷ []
 
 -- two entity types, each below the other

@@ -1,12 +1,12 @@
 //! Worked examples of the definitions: small bags of declarations, and what is right or wrong with
 //! them.
 
-ghost use Rattle.std.specs.Prelude.{◌≡◌, ℤ, List, [], ◌∷◌, None, true, codes};
+ghost use Rattle.std.specs.Prelude.{◌≡◌, ℤ, List, [], ◌∷◌, None, true, false, codes};
 ghost use Rattle.cedar_below.specs.PlainName.{PlainName, action_word};
 ghost use Rattle.cedar_below.specs.Tree.{map_value, number_value, entry, no_entry};
 ghost use Rattle.cedar_below.specs.declared.extension.Extensions.{Extensions};
-ghost use Rattle.cedar_names.specs.EntityBody.{external, kind_body};
-ghost use Rattle.cedar_names.specs.Expr.{named, no_member};
+ghost use Rattle.cedar_names.specs.EntityBody.{standard, external, kind_body};
+ghost use Rattle.cedar_names.specs.Expr.{named, record_expr, no_member};
 ghost use Rattle.cedar_names.specs.Reference.{Reference, reference_to};
 ghost use Rattle.cedar_names.specs.declared.json_schema.entity_type.EntityTypeKind.{EntityTypeKind};
 ghost use Rattle.cedar_names.specs.declared.json_schema.raw_name.RawName.{RawName};
@@ -17,9 +17,10 @@ ghost use Rattle.cedar_declared.specs.Bag.{alias_name, built_in_name, definition
 ghost use Rattle.cedar_declared.specs.Counted.{HasToResolve};
 ghost use Rattle.cedar_declared.specs.Names.{ResolvesTo};
 ghost use Rattle.cedar_declared.specs.Descent.{IsDescendant};
-ghost use Rattle.cedar_declared.specs.Fault.{open_record, undeclared_entity_types, type_shadowing, duplicate_entity_type, common_type_cycle, external_below_enumerated};
+ghost use Rattle.cedar_declared.specs.Fault.{open_record, undeclared_entity_types, type_shadowing, duplicate_entity_type, common_type_cycle, external_below_enumerated, enumerated_below};
 ghost use Rattle.cedar_declared.specs.IllFormed.{IsFault};
-ghost use Rattle.declaration_examples.specs.Samples.{within_sample, refer_here, refer_within, entity_here, cycle_bag, both_bag, alias_bag, shadow_bag, actions_bag, tint_bag, ring_bag, principal_bag, nested_bag, open_bag, external_bag, optional_record};
+ghost use Rattle.declaration_examples.specs.Samples.{within_sample, refer_here, refer_within, entity_here, cycle_bag, both_bag, alias_bag, shadow_bag, actions_bag, tint_bag, known_tint_bag, painted_bag, linked_bag, ring_bag, principal_bag, nested_bag, open_bag, external_bag, optional_record};
+ghost use Rattle.cedar_declared.specs.Together.{EntitySays};
 ghost use Rattle.cedar_declared.specs.WrittenOut.{WrittenOut};
 ghost use Rattle.cedar_rules.specs.Ty.{long, text, union_of};
 
@@ -86,10 +87,32 @@ pub fn duplicates_are_found()
         extensions (duplicate_entity_type (alias_name (codes "T"))) }
 {}
 
-/// An external entity type that is below an enumerated one in two steps is at fault.
+/// An external entity type that is below an enumerated one in two steps is at fault; where it has a
+/// definition besides it is not.
 pub fn external_types_below_enumerated_ones()
-    ensures { (extensions : Extensions) → IsFault tint_bag extensions
+    ensures two_steps { (extensions : Extensions) → IsFault tint_bag extensions
         (external_below_enumerated (alias_name (codes "Tint")) (alias_name (codes "Color"))) }
+    ensures defined { (extensions : Extensions) → ¬ IsFault known_tint_bag extensions
+        (external_below_enumerated (alias_name (codes "Tint")) (alias_name (codes "Color"))) }
+{}
+
+/// An enumerated entity type to which an external declaration gives a parent is at fault.
+pub fn enumerated_types_have_no_parents()
+    ensures { (extensions : Extensions) → IsFault painted_bag extensions
+        (enumerated_below (alias_name (codes "Color")) (alias_name (codes "Paint"))) }
+{}
+
+/// An entity type with an external declaration and a definition is what its definition says, is
+/// declared once, and has the parents of both.
+pub fn definitions_fulfil_external_declarations()
+    ensures says { EntitySays linked_bag (alias_name (codes "User"))
+        (standard (refer_here to.Entity (codes "Team") ∷ []) (record_expr no_member false) None) }
+    ensures once { (extensions : Extensions) → ¬ IsFault linked_bag extensions
+        (duplicate_entity_type (alias_name (codes "User"))) }
+    ensures external { (extensions : Extensions)
+        → IsDescendant linked_bag extensions (alias_name (codes "User")) (alias_name (codes "Group")) }
+    ensures own { (extensions : Extensions)
+        → IsDescendant linked_bag extensions (alias_name (codes "User")) (alias_name (codes "Team")) }
 {}
 
 /// Where two entity types are each below the other, each is its own descendant.

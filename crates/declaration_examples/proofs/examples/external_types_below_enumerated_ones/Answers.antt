@@ -1,30 +1,47 @@
-use Rattle.std.proofs.Common.{None, false, [], ◌∷◌, refl, inl, inr, arith, codes}
+use Rattle.std.proofs.Common.{None, false, zero, suc, [], ◌∷◌, ap, refl, inl, inr, arith, codes, Contains}
+use Rattle.cedar_below.specs.Chain.{one, more}
+use Rattle.cedar_below.specs.declared.extension.Extensions.{Extensions}
 use Rattle.cedar_names.specs.EntityBody.{standard, external}
 use Rattle.cedar_names.specs.Expr.{record_expr, no_member}
 use Rattle.cedar_names.specs.declared.json_schema.reference_type.ReferenceType.TheVariants.{Entity}
-use Rattle.cedar_below.specs.Chain.{one, more}
-use Rattle.declaration_examples.specs.Samples.{refer_here}
+use Rattle.cedar_declared.proofs.BuiltInLemmas.{unlike_texts}
+use Rattle.cedar_declared.specs.Bag.{alias_name}
+use Rattle.cedar_declared.specs.Descent.{HasParent}
+use Rattle.cedar_declared.specs.Together.{IsExternalType}
+use Rattle.declaration_examples.specs.Samples.{refer_here, tint_bag}
 use Rattle.declaration_examples.proofs.examples.external_types_below_enumerated_ones.Goals as goal
 
-pub returns : goal.returns
-returns c extensions = (
-  refer_here Entity (codes "Shade") ∷ [],
-  codes "red" ∷ [],
-  (2, omega arith, refl),
-  (0, omega arith, refl),
-  more (
-    external (refer_here Entity (codes "Shade") ∷ []),
-    refer_here Entity (codes "Shade"),
-    (2, omega arith, refl),
-    (0, omega arith, refl),
-    inl (refl, inr (tt, (1, omega arith, refl))),
-  )
-      (one (
-        standard (refer_here Entity (codes "Color") ∷ []) (record_expr no_member false) None,
-        refer_here Entity
-            (codes "Color"),
-        (1, omega arith, refl),
-        (0, omega arith, refl),
-        inl (refl, inr (tt, (0, omega arith, refl))),
-      )),
+-- the external type is external: neither definition is of it
+tint_is_external : IsExternalType tint_bag (alias_name (codes "Tint"))
+tint_is_external = ((2, omega arith, refl), none) where
+  none : ¬ Contains (alias_name (codes "Color") ∷ alias_name (codes "Shade") ∷ []) (alias_name (codes "Tint"))
+  none (zero, below, is) = unlike_texts (codes "Color") (codes "Tint") refl (ap (λ name. name.base) is)
+  none (suc zero, below, is) = unlike_texts (codes "Shade") (codes "Tint") refl (ap (λ name. name.base) is)
+  none (suc (suc k), below, is) = omega (arith, below)
+
+-- it is below the standard type
+tint_below_shade : (extensions : Extensions) → HasParent tint_bag extensions (alias_name (codes "Tint")) (alias_name (codes "Shade"))
+tint_below_shade extensions = (
+  refer_here Entity (codes "Shade"),
+  (external (refer_here Entity (codes "Shade") ∷ []), (2, omega arith, refl), (0, omega arith, refl)),
+  inl (refl, inr (tt, (1, omega arith, refl))),
 )
+
+-- which is below the enumerated one
+shade_below_color : (extensions : Extensions) → HasParent tint_bag extensions (alias_name (codes "Shade")) (alias_name (codes "Color"))
+shade_below_color extensions = (
+  refer_here Entity (codes "Color"),
+  (standard (refer_here Entity (codes "Color") ∷ []) (record_expr no_member false) None, (1, omega arith, refl), (0, omega arith, refl)),
+  inl (refl, inr (tt, (0, omega arith, refl))),
+)
+
+pub returns-clause-two_steps : goal.returns-clause-two_steps
+returns-clause-two_steps c extensions = (
+  codes "red" ∷ [],
+  tint_is_external,
+  (0, omega arith, refl),
+  more (tint_below_shade extensions) (one (shade_below_color extensions)),
+)
+
+pub returns-clause-defined : goal.returns-clause-defined
+returns-clause-defined c extensions at_fault = at_fault.1.1 (2, omega arith, refl)

@@ -12,20 +12,16 @@ use Rattle.declaration_examples.proofs.examples.rings_are_their_own_descendants.
 -- the one is below the other
 first_below : (extensions : Extensions) → HasParent ring_bag extensions (alias_name (codes "A")) (alias_name (codes "B"))
 first_below extensions = (
-  standard (refer_here Entity (codes "B") ∷ []) (record_expr no_member false) None,
   refer_here Entity (codes "B"),
-  (0, omega arith, refl),
-  (0, omega arith, refl),
+  (standard (refer_here Entity (codes "B") ∷ []) (record_expr no_member false) None, (0, omega arith, refl), (0, omega arith, refl)),
   inl (refl, inr (tt, (1, omega arith, refl))),
 )
 
 -- and the other below the one
 second_below : (extensions : Extensions) → HasParent ring_bag extensions (alias_name (codes "B")) (alias_name (codes "A"))
 second_below extensions = (
-  standard (refer_here Entity (codes "A") ∷ []) (record_expr no_member false) None,
   refer_here Entity (codes "A"),
-  (1, omega arith, refl),
-  (0, omega arith, refl),
+  (standard (refer_here Entity (codes "A") ∷ []) (record_expr no_member false) None, (1, omega arith, refl), (0, omega arith, refl)),
   inl (refl, inr (tt, (0, omega arith, refl))),
 )
 

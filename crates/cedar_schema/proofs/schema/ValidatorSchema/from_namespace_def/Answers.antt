@@ -4,6 +4,7 @@ use Rattle.cedar_below.specs.declared.entity_type.EntityType.{EntityType}
 use Rattle.cedar_names.specs.Declaration.{raw_declarations}
 use Rattle.cedar_schema.proofs.PartDefinition.{part_fault, part_well_formed, part_declared}
 use Rattle.cedar_declared.proofs.SchemaLaws.{one_schema, types_admit}
+use Rattle.cedar_declared.proofs.EnvironmentLaws.{environment_declared, declared_environment}
 use Rattle.cedar_schema.specs.ValidatorSchema.{schema_of}
 use Rattle.cedar_schema.specs.declared.schema.ValidatorSchema.{ValidatorSchema}
 use Rattle.cedar_entities.specs.declared.entity_type.ValidatorEntityType.{ValidatorEntityType}
@@ -51,3 +52,19 @@ returns-clause-admits c =
     (built_schema c.in_ok-entity_types.field-0) c.requires.part c.requires.names_fit
     c.in_ok-entity_types.ensures.fits c.in_ok-entity_types.ensures.in_order c.in_ok-entity_types.ensures.sound in
     types_admit bag c.args.extensions.now c.requires.names_fit well (schema_of (built_schema c.in_ok-entity_types.field-0)) built
+
+pub returns-clause-environments : goal.returns-clause-environments
+returns-clause-environments c =
+    let bag = raw_declarations None c.args.definition in
+    let built = part_declared c.args.definition c.args.extensions.now
+    (built_schema c.in_ok-entity_types.field-0) c.requires.part c.requires.names_fit
+    c.in_ok-entity_types.ensures.fits c.in_ok-entity_types.ensures.in_order in
+    let well = part_well_formed c.args.definition c.args.extensions.now
+    (built_schema c.in_ok-entity_types.field-0) c.requires.part c.requires.names_fit
+    c.in_ok-entity_types.ensures.fits c.in_ok-entity_types.ensures.in_order c.in_ok-entity_types.ensures.sound in
+    λ it. (
+      environment_declared bag c.args.extensions.now c.requires.names_fit well
+          (schema_of (built_schema c.in_ok-entity_types.field-0)) built it,
+      declared_environment bag c.args.extensions.now c.requires.names_fit well
+          (schema_of (built_schema c.in_ok-entity_types.field-0)) built it,
+    )

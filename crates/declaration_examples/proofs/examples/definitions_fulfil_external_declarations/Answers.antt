@@ -1,0 +1,47 @@
+use Rattle.std.proofs.Common.{None, false, zero, suc, [], ◌∷◌, ap, refl, inl, inr, arith, codes, Contains}
+use Rattle.cedar_below.specs.Chain.{one}
+use Rattle.cedar_names.specs.EntityBody.{standard, external}
+use Rattle.cedar_names.specs.Expr.{record_expr, no_member}
+use Rattle.cedar_names.specs.declared.json_schema.reference_type.ReferenceType.TheVariants.{Entity}
+use Rattle.cedar_declared.proofs.BuiltInLemmas.{unlike_texts}
+use Rattle.cedar_declared.specs.Bag.{alias_name}
+use Rattle.cedar_declared.specs.Occurrences.{Twice}
+use Rattle.declaration_examples.specs.Samples.{refer_here}
+use Rattle.declaration_examples.proofs.examples.definitions_fulfil_external_declarations.Goals as goal
+
+-- no other definition is of the type
+no_other : ¬ Contains (alias_name (codes "Group") ∷ alias_name (codes "Team") ∷ []) (alias_name (codes "User"))
+no_other (zero, below, is) = unlike_texts (codes "Group") (codes "User") refl (ap (λ name. name.base) is)
+no_other (suc zero, below, is) = unlike_texts (codes "Team") (codes "User") refl (ap (λ name. name.base) is)
+no_other (suc (suc k), below, is) = omega (arith, below)
+
+-- among the definitions it stands once
+not_twice : ¬ Twice (alias_name (codes "User") ∷ alias_name (codes "Group") ∷ alias_name (codes "Team") ∷ []) (alias_name (codes "User"))
+not_twice (inl here) = no_other here.1
+not_twice (inr (inl here)) = unlike_texts (codes "Group") (codes "User") refl (ap (λ name. name.base) here.0)
+not_twice (inr (inr (inl here))) = unlike_texts (codes "Team") (codes "User") refl (ap (λ name. name.base) here.0)
+not_twice (inr (inr (inr none))) = none
+
+pub returns-clause-says : goal.returns-clause-says
+returns-clause-says c = (0, omega arith, refl)
+
+pub returns-clause-once : goal.returns-clause-once
+returns-clause-once c extensions at_fault = not_twice at_fault
+
+pub returns-clause-external : goal.returns-clause-external
+returns-clause-external c extensions = one (
+  refer_here Entity (codes "Group"),
+  (external (refer_here Entity (codes "Group") ∷ []), (0, omega arith, refl), (0, omega arith, refl)),
+  inl (refl, inr (tt, (2, omega arith, refl))),
+)
+
+pub returns-clause-own : goal.returns-clause-own
+returns-clause-own c extensions = one (
+  refer_here Entity (codes "Team"),
+  (
+    standard (refer_here Entity (codes "Team") ∷ []) (record_expr no_member false) None,
+    (1, omega arith, refl),
+    (0, omega arith, refl),
+  ),
+  inl (refl, inr (tt, (3, omega arith, refl))),
+)
