@@ -1,3 +1,4 @@
+pub mod Chains
 pub mod Collected
 pub mod FittingNames
 pub mod Ids

@@ -7,12 +7,14 @@
 #![tactic(auto)]
 
 pub use closure::{compute_tc, compute_tc_counted};
+pub use ordering::{Ordered, topological_order};
 pub use tc_error::TcError;
 pub use tc_node::TCNode;
 
 mod closing;
 mod closure;
 mod numbering;
+mod ordering;
 mod rows;
 mod targets;
 mod tc_error;

@@ -6,7 +6,7 @@ use Rattle.cedar_below.specs.PlainUid.{PlainUid}
 use Rattle.cedar_below.specs.declared.extension.Extensions.{Extensions}
 use Rattle.cedar_names.specs.ActionBody.{Requests, requests, elsewhere}
 use Rattle.cedar_names.specs.Reference.{ActionReference}
-use Rattle.cedar_declared.proofs.ChainLemmas.{last_step}
+use Rattle.cedar_below.proofs.Chains.{last_step}
 use Rattle.cedar_declared.proofs.OccurrenceLemmas.{Contains-image}
 use Rattle.cedar_declared.proofs.TogetherLemmas.{defined_action_is_declared}
 use Rattle.cedar_declared.proofs.ValidLaws.{listed_action}

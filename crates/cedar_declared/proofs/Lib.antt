@@ -1,7 +1,6 @@
 pub mod ActionEntityLaws
 pub mod AdmitsLemmas
 pub mod BuiltInLemmas
-pub mod ChainLemmas
 pub mod CountLemmas
 pub mod DeclarationLemmas
 pub mod DefinedLemmas

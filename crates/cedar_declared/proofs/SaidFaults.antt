@@ -12,7 +12,7 @@ use Rattle.cedar_names.specs.Declaration.{Body, common_type, entity_type, action
 use Rattle.cedar_names.specs.EntityBody.{EntityBody, standard, enumerated, external}
 use Rattle.cedar_names.specs.Expr.{Expr}
 use Rattle.cedar_names.specs.Reference.{Reference, ActionReference}
-use Rattle.cedar_declared.proofs.ChainLemmas.{chain_of_chains}
+use Rattle.cedar_below.proofs.Chains.{refined}
 use Rattle.cedar_declared.proofs.DeclarationLemmas.{entity_declaration, action_declaration, common_declaration, declares_entity, declares_action, declares_common}
 use Rattle.cedar_declared.proofs.DefinedLemmas.{resolves_there, unresolved_there, no_record_there}
 use Rattle.cedar_declared.proofs.OccurrenceLemmas.{Contains-image, Twice-append, Twice-left, Twice-right, Twice-both, two_values}
@@ -164,11 +164,11 @@ module _ (bag other : Bag) (extensions : Extensions) (said : SaysAll bag other) 
 
   -- a descendant in the one is one in the other
   pub descendant_said : (lower upper : PlainName) → IsDescendant bag extensions lower upper → IsDescendant other extensions lower upper
-  descendant_said = chain_of_chains (HasParent bag extensions) (HasParent other extensions) (λ a b step. one (has_parent_said a b step))
+  descendant_said lower upper = refined (λ a b step. one (has_parent_said a b step))
 
   -- the same of actions
   pub descendant_action_said : (lower upper : PlainUid) → IsDescendantAction bag lower upper → IsDescendantAction other lower upper
-  descendant_action_said = chain_of_chains (HasParentAction bag) (HasParentAction other) (λ a b step. one (has_parent_action_said a b step))
+  descendant_action_said lower upper = refined (λ a b step. one (has_parent_action_said a b step))
 
   -- a common type of the one refers to another as in the other
   refers_said : (name to : PlainName) → RefersToCommon (definitions bag extensions) name to
@@ -317,8 +317,7 @@ module _ (bag other : Bag) (extensions : Extensions) (said : SaysAll bag other) 
   fault_said (action_cycle uid) at_fault = (action_cycle uid, descendant_action_said uid uid at_fault)
   fault_said (common_type_cycle name) at_fault = (
     common_type_cycle name,
-    chain_of_chains (RefersToCommon (definitions bag extensions)) (RefersToCommon (definitions other extensions))
-        (λ a b step. one (refers_said a b step)) name name at_fault,
+    refined (λ a b step. one (refers_said a b step)) at_fault,
   )
   fault_said (action_entity_type name) at_fault =
       let key = λ (each : PlainName × EntityBody). each.0 in

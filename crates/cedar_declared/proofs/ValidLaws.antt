@@ -13,7 +13,7 @@ use Rattle.cedar_names.specs.Declaration.{Body}
 use Rattle.cedar_names.specs.EntityBody.{EntityBody, standard, enumerated, external}
 use Rattle.cedar_names.specs.Expr.{Expr}
 use Rattle.cedar_names.specs.Reference.{Reference}
-use Rattle.cedar_declared.proofs.ChainLemmas.{first_step, chain_of_chains}
+use Rattle.cedar_below.proofs.Chains.{first_step, refined}
 use Rattle.cedar_declared.proofs.DeclarationLemmas.{entity_declaration, action_declaration}
 use Rattle.cedar_declared.proofs.MentionLemmas.{mentions_entity, known_written, known_counted, known_common}
 use Rattle.cedar_declared.proofs.ResolutionLemmas.{first_defined, names_no_common}
@@ -58,11 +58,11 @@ module _ (bag : Bag) (extensions : Extensions) (schema : PlainSchema) (declared 
 
   -- what is reached by listed descendants is a descendant
   pub reached_descendant : (lower upper : PlainName) → Chain (ListsDescendant schema) lower upper → IsDescendant bag extensions lower upper
-  reached_descendant = chain_of_chains (ListsDescendant schema) (HasParent bag extensions) listed_descendant
+  reached_descendant lower upper = refined listed_descendant
 
   -- the same of actions
   pub reached_action : (lower upper : PlainUid) → Chain (ListsDescendantAction schema) lower upper → IsDescendantAction bag lower upper
-  reached_action = chain_of_chains (ListsDescendantAction schema) (HasParentAction bag) listed_action
+  reached_action lower upper = refined listed_action
 
   -- the entity types of a declared schema are closed
   type_closed : (it : PlainName × SchemaEntityType) → Contains schema.entity_types it → ClosesType schema it it

@@ -16,7 +16,7 @@ use Rattle.cedar_names.specs.EntityBody.{EntityBody, standard, enumerated, exter
 use Rattle.cedar_names.specs.Expr.{Expr}
 use Rattle.cedar_names.specs.Part.{NamesEntitiesAlone, IsPlainStandard}
 use Rattle.cedar_names.specs.Reference.{Reference}
-use Rattle.cedar_declared.proofs.ChainLemmas.{first_step}
+use Rattle.cedar_below.proofs.Chains.{first_step}
 use Rattle.cedar_declared.proofs.BuiltInLemmas.{built_ins_once, refers_declared}
 use Rattle.cedar_schema.proofs.DeclaredLemmas.{Entries}
 use Rattle.cedar_below.proofs.Lists.{Contains-preimage}

@@ -13,7 +13,7 @@ use Rattle.cedar_names.specs.ActionBody.{ActionBody}
 use Rattle.cedar_names.specs.EntityBody.{EntityBody, standard, enumerated, external}
 use Rattle.cedar_names.specs.Expr.{Expr}
 use Rattle.cedar_names.specs.Part.{IsPlainStandard}
-use Rattle.cedar_declared.proofs.ChainLemmas.{first_step}
+use Rattle.cedar_below.proofs.Chains.{first_step}
 use Rattle.cedar_schema.proofs.BuiltLemmas.{Types, AreBuilt-keys}
 use Rattle.cedar_schema.proofs.DeclaredLemmas.{Entries}
 use Rattle.cedar_schema.proofs.PartBag.{declarations_here, just_entities, same_entities, no_parents}

@@ -3,6 +3,8 @@
 
 pub mod member;
 #[cfg(test)]
+mod ordering;
+#[cfg(test)]
 mod rows;
 #[cfg(test)]
 mod search;

@@ -3,7 +3,7 @@ use Rattle.std.proofs.lemmas.Bool.{or_cases, or_left, or_right, cases_eq, both_w
 use Rattle.cedar_below.specs.Chain.{one}
 use Rattle.cedar_closure.specs.Numbered.{items_at}
 use Rattle.cedar_closure.specs.Row.{has_bit}
-use Rattle.cedar_closure.proofs.Chains.{joined}
+use Rattle.cedar_below.proofs.Chains.{joined}
 use Rattle.cedar_closure.proofs.Counting.{count_below, count_below-le, count_below-removed}
 use Rattle.cedar_closure.proofs.Lists.{items_at-read}
 use Rattle.cedar_closure.proofs.closing.close_row.Goals as goal

@@ -4,7 +4,7 @@ use Rattle.std.proofs.lemmas.List.Elements.{same_from_all_zip}
 use Rattle.cedar_below.specs.Chain.{Chain, one}
 use Rattle.cedar_closure.specs.Numbered.{items_at, InRow}
 use Rattle.cedar_closure.specs.Row.{has_bit}
-use Rattle.cedar_closure.proofs.Chains.{refined, held_after}
+use Rattle.cedar_below.proofs.Chains.{refined, held_after}
 use Rattle.cedar_closure.proofs.Lists.{items_at-read, each_after_set, items-refilled}
 use Rattle.cedar_closure.proofs.closing.close_rows.Goals as goal
 use Rattle.cedar_closure.proofs.closing.close_rows.Goals.{After-deref_mut-in-loop-i, After-drop-waiting}

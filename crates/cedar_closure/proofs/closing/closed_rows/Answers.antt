@@ -2,7 +2,7 @@ use Rattle.std.proofs.Common.{◌<◌, ◌≤◌, length, vec_len, ap, arith, �
 use Rattle.std.proofs.lemmas.Bool.{cases_lt}
 use Rattle.cedar_closure.proofs.Lists.{items_at-past}
 use Rattle.cedar_below.specs.Chain.{one}
-use Rattle.cedar_closure.proofs.Chains.{refined}
+use Rattle.cedar_below.proofs.Chains.{refined}
 use Rattle.cedar_closure.proofs.closing.closed_rows.Goals as goal
 
 pub direct_rows-requires : goal.direct_rows-requires

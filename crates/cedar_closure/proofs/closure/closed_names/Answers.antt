@@ -5,7 +5,7 @@ use Rattle.std.proofs.lemmas.Option.{IfSome_then}
 use Rattle.cedar_closure.specs.Edges.{HasEdge}
 use Rattle.cedar_closure.specs.Numbered.{IsTarget}
 use Rattle.cedar_closure.specs.Numbering.{IsNumbered}
-use Rattle.cedar_closure.proofs.Chains.{held_after}
+use Rattle.cedar_below.proofs.Chains.{held_after}
 use Rattle.cedar_closure.proofs.KeyedEdges.{step_of_keys, step_of_numbers, target_named, names_for_all}
 use Rattle.cedar_closure.proofs.Numbers.{numbers_from_keys, keys_from_numbers, one_number, number_below}
 use Rattle.cedar_closure.proofs.closure.closed_names.Goals as goal

@@ -4,7 +4,7 @@ use Rattle.cedar_below.specs.declared.extension.Extensions.{Extensions}
 use Rattle.cedar_names.specs.Expr.{Expr}
 use Rattle.cedar_names.specs.declared.json_schema.reference_type.ReferenceType.TheVariants.{CommonOrEntity}
 use Rattle.cedar_declared.proofs.BuiltInLemmas.{refers_declared, unlike_texts}
-use Rattle.cedar_declared.proofs.ChainLemmas.{first_step}
+use Rattle.cedar_below.proofs.Chains.{first_step}
 use Rattle.cedar_declared.specs.Bag.{alias_name, built_in_name, declared_common, definitions}
 use Rattle.cedar_below.specs.Chain.{Chain, one, more}
 use Rattle.cedar_declared.specs.IllFormed.{RefersToCommon}

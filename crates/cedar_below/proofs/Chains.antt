@@ -1,4 +1,4 @@
--- Chains of steps: one after another, over other steps, and what every chain keeps.
+-- Chains of steps: how they begin and end, one after another, over other steps, and what every chain keeps.
 use Rattle.cedar_below.specs.Chain.{Chain, one, more}
 
 module _ {A : Type 0} {Step : A → A → Type 0} where
@@ -23,3 +23,13 @@ pub refined : {A : Type 0} {Step Other : A → A → Type 0} → ((k l : A) → 
     → Chain Step a b → Chain Other a b
 refined each {a = a} {b = b} (one s) = each a b s
 refined each {a = a} (more s rest) = joined (each a _ s) (refined each rest)
+
+-- a chain begins with a step
+pub first_step : {A : Type 0} (Step : A → A → Type 0) (a b : A) → Chain Step a b → (c : A) × Step a c
+first_step Step a b (one step) = (b, step)
+first_step Step a b (more {b = c} step rest) = (c, step)
+
+-- and ends with one
+pub last_step : {A : Type 0} (Step : A → A → Type 0) (a b : A) → Chain Step a b → (c : A) × Step c b
+last_step Step a b (one step) = (a, step)
+last_step Step a b (more {b = c} step rest) = last_step Step c b rest
