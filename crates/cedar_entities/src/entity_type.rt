@@ -27,6 +27,9 @@ pub struct ValidatorEntityType {
     // What the kinds without attributes lend.
     #[derive_where(skip)]
     no_attributes: Attributes,
+    // A set lends no allocator.
+    #[derive_where(skip)]
+    alloc: Global,
     ghost without_attributes: { field_names (fields_of no_attributes) ≡ [] },
 }
 
@@ -64,7 +67,8 @@ impl ValidatorEntityType {
             descendants: HashSet::from_iter(alloc, descendants)?,
             kind,
             loc,
-            no_attributes: Attributes::empty(alloc),
+            no_attributes: Attributes::empty(alloc)?,
+            alloc,
         })
     }
 
@@ -214,13 +218,14 @@ impl ValidatorEntityType {
         ensures descendants { IfOk result (λ copy. SameItems (descendant_names copy) (descendant_names self.now)) }
         ensures loc { IfOk result (λ copy. copy.loc ≡ self.now.loc) }
     {
-        let alloc = self.no_attributes.allocator();
+        let alloc = self.alloc;
         Ok(ValidatorEntityType {
             name: self.name.clone()?,
             descendants: Self::clone_types(alloc, &self.descendants)?,
             kind: self.kind.clone()?,
             loc: self.loc,
-            no_attributes: Attributes::empty(alloc),
+            no_attributes: self.no_attributes.clone()?,
+            alloc,
         })
     }
 }

@@ -161,7 +161,7 @@ attributes_parts y = map-Attributes ((t : «Type») × IsTold t) ((t : Attribute
 
 -- attributes stand for their entries
 pub fields_of-rolled : (x : layer.Attributes-F «Type» AttributeType Attributes)
-    → fields_of (roll-Attributes x) ≡ fields_from (map (λ entry. (string_bytes entry.0, attribute_of entry.1)) x.attrs.entries)
+    → fields_of (roll-Attributes x) ≡ fields_from (map (λ entry. (string_bytes entry.0, attribute_of entry.1)) x.attrs.value.entries.items)
 fields_of-rolled x =
     fold-roll-Attributes Ty (Bool × Ty) Fields type_step attribute_step attributes_step x ∙ ap fields_from (map-map _ _ _)
 
@@ -203,17 +203,17 @@ entries-Decides (x ∷ xs) (y ∷ ys) =
 
 -- the test of attributes compares their entries
 compares_entries : (x z : layer.Attributes-F «Type» AttributeType Attributes)
-    → attributes_eq.Laws.unfolded (roll-Attributes x) (roll-Attributes z) ≡ pointwise same_entry x.attrs.entries z.attrs.entries
-compares_entries x z i = pointwise same_entry (out-roll-Attributes x i).attrs.entries (out-roll-Attributes z i).attrs.entries
+    → attributes_eq.Laws.unfolded (roll-Attributes x) (roll-Attributes z) ≡ pointwise same_entry x.attrs.value.entries.items z.attrs.value.entries.items
+compares_entries x z i = pointwise same_entry (out-roll-Attributes x i).attrs.value.entries.items (out-roll-Attributes z i).attrs.value.entries.items
 
 -- attributes are equal exactly where their entries stand for the same
 rolled-Decides : (y : ToldAttributes) (z : layer.Attributes-F «Type» AttributeType Attributes)
     → Decides (attributes_eq.Laws.unfolded (roll-Attributes (attributes_parts y)) (roll-Attributes z))
-    (fields_from (map plain_entry (attributes_parts y).attrs.entries) ≡ fields_from (map plain_entry z.attrs.entries))
+    (fields_from (map plain_entry (attributes_parts y).attrs.value.entries.items) ≡ fields_from (map plain_entry z.attrs.value.entries.items))
 rolled-Decides y z =
-    let D : Bool → Type 0 = λ answer. Decides answer (fields_from (map plain_entry (attributes_parts y).attrs.entries)
-    ≡ fields_from (map plain_entry z.attrs.entries)) in
-    subst D (sym (compares_entries (attributes_parts y) z)) (entries-Decides y.attrs.entries z.attrs.entries)
+    let D : Bool → Type 0 = λ answer. Decides answer (fields_from (map plain_entry (attributes_parts y).attrs.value.entries.items)
+    ≡ fields_from (map plain_entry z.attrs.value.entries.items)) in
+    subst D (sym (compares_entries (attributes_parts y) z)) (entries-Decides y.attrs.value.entries.items z.attrs.value.entries.items)
 
 -- attributes whose types are told apart are
 attributes_told : (x : layer.Attributes-F «Type» AttributeType Attributes) (y : ToldAttributes) → attributes_parts y ≡ x

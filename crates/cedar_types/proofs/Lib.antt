@@ -1,11 +1,14 @@
 pub mod CompareLemmas
-pub mod CopyLemmas
 pub mod EqualityLaws
 pub mod FieldLemmas
 pub mod FormedLemmas
+pub mod MadeLemmas
 pub mod MemberLemmas
 pub mod MemberParts
 pub mod MembershipLemmas
 pub mod MergedLemmas
 pub mod OrderLaws
+pub mod SearchLemmas
+pub mod SubtypeSteps
 pub mod UnionLemmas
+pub mod WalkLemmas

@@ -150,8 +150,8 @@ entries-placed (x ∷ xs) (y ∷ ys) = λ i.
 
 -- the order of attributes compares their entries
 compares_entries : (x z : layer.Attributes-F «Type» AttributeType Attributes)
-    → attributes_ord.Laws.unfolded (roll-Attributes x) (roll-Attributes z) ≡ slice_cmp entry_cmp x.attrs.entries z.attrs.entries
-compares_entries x z i = slice_cmp entry_cmp (out-roll-Attributes x i).attrs.entries (out-roll-Attributes z i).attrs.entries
+    → attributes_ord.Laws.unfolded (roll-Attributes x) (roll-Attributes z) ≡ slice_cmp entry_cmp x.attrs.value.entries.items z.attrs.value.entries.items
+compares_entries x z i = slice_cmp entry_cmp (out-roll-Attributes x i).attrs.value.entries.items (out-roll-Attributes z i).attrs.value.entries.items
 
 -- attributes whose types are ordered as what they stand for are
 attributes_placed : (x : layer.Attributes-F «Type» AttributeType Attributes) (y : PlacedAttributes)
@@ -162,7 +162,7 @@ attributes_placed x y is b =
     let whole : (attributes_ord.ghosts).cmp a (roll-Attributes z) ≡ fields_cmp (fields_of a) (fields_of (roll-Attributes z)) =
     attributes_ord.Laws.is a (roll-Attributes z)
     ∙ (compares_entries (attributes_parts y) z
-    ∙ (entries-placed y.attrs.entries z.attrs.entries
+    ∙ (entries-placed y.attrs.value.entries.items z.attrs.value.entries.items
     ∙ (λ i. fields_cmp (sym (fields_of-rolled (attributes_parts y)) i) (sym (fields_of-rolled z) i)))) in
     let P : layer.Attributes-F «Type» AttributeType Attributes → Type 0 =
     λ each. (attributes_ord.ghosts).cmp (roll-Attributes each) b ≡ fields_cmp (fields_of (roll-Attributes each)) (fields_of b) in

@@ -1,5 +1,4 @@
 use Rattle.std.specs.Prelude.{◌≡◌, Bool, true, List, map, Option, None, string_bytes}
-use Rattle.std.specs.BTreeMap.{get_by_text}
 use Rattle.std.specs.Option.{option_map}
 use Rattle.std.specs.declared.alloc.Global.{Global}
 use Rattle.std.specs.declared.rc.Rc.{Rc}
@@ -7,6 +6,7 @@ use Rattle.std.specs.declared.string.String.{String}
 use Rattle.cedar_below.specs.Text.{Text}
 use Rattle.cedar_below.specs.declared.loc.Loc.{Loc}
 use Rattle.cedar_rules.specs.Fields.{last_named}
+use Rattle.cedar_types.specs.ByName.{value_at}
 use Rattle.cedar_types.specs.declared.attributes.AttributeType.{AttributeType, out-AttributeType}
 use Rattle.cedar_types.specs.declared.attributes.Attributes.{Attributes, out-Attributes}
 use Rattle.cedar_types.specs.declared.types.Type.{«Type», out-Type}
@@ -28,7 +28,7 @@ located attribute = record {
 
 -- the attribute of that name with its locations, if there is one
 abbrev pub located_at : Text → Attributes → Option Located
-located_at name all = option_map located (get_by_text (out-Attributes all).attrs name)
+located_at name all = option_map located (value_at name (out-Attributes all).attrs.value.entries.items)
 
 -- pairs of a name and an attribute, with the locations
 abbrev pub located_attributes : List (String Global × AttributeType) → List (Text × Located)

@@ -1,9 +1,8 @@
 //! Attributes of records, by name.
 
-ghost use Rattle.std.specs.Prelude.{◌≡◌, List, true, false, map, IfOk, Option, None, string_bytes};
+ghost use Rattle.std.specs.Prelude.{◌≡◌, ◌<◌, ◌≤◌, ◌^◌, ℕ, length, List, true, false, map, IfOk, Option, None, string_bytes};
 ghost use Rattle.std.specs.Iterator.{IsFinite, Drains};
 ghost use Rattle.std.specs.Option.{option_copied, option_map};
-ghost use Rattle.std.specs.BTreeMap.{keys};
 ghost use Rattle.std.specs.declared.alloc.Global.{Global};
 ghost use Rattle.std.specs.declared.rc.Rc.{Rc};
 ghost use Rattle.std.specs.declared.string.String.{String};
@@ -17,22 +16,22 @@ ghost use Rattle.cedar_rules.specs.Ty.{end, field_at, fields_from};
 ghost use Rattle.cedar_types.specs.declared.attributes.AttributeType.{AttributeType};
 ghost use Rattle.cedar_types.specs.declared.types.Type.{«Type»};
 
+use crate::by_name::ByName;
+use crate::iter::{Entries, Names};
 use crate::types::Type;
 use cedar_below::{Loc, M};
 use std::alloc::Global;
-use std::collections::{BTreeMap, btree_map};
 use std::fmt;
 use std::fmt::Display;
 use std::rc::Rc;
 
-/// The attributes of a record type or an entity type: a map from names, in the names' order.
-#[derive(Drop)]
-#[derive_where(Debug, PartialEq, Eq, PartialOrd, Ord, Hash)]
+/// The attributes of a record type or an entity type by name, in the names' order.
+///
+/// Copies share them.
+#[derive(Debug, Drop, PartialEq, Eq, PartialOrd, Ord, Hash)]
 #[cycle(types)]
 pub struct Attributes {
-    pub(crate) attrs: BTreeMap<String, AttributeType>,
-    #[derive_where(skip)]
-    alloc: Global,
+    pub(crate) attrs: Rc<ByName<AttributeType>>,
 }
 
 /// An attribute: the type of its values, and whether it has to be there.
@@ -118,19 +117,21 @@ impl AttributeType {
 }
 
 impl Attributes {
-    /// No attributes. It takes no memory.
-    pub fn empty(alloc: Global) -> Self
-        ensures { fields_of result ≡ end }
+    /// The attributes of these pairs, or want of memory. Of repeated names the last wins.
+    fn from_entries(alloc: Global, entries: Vec<(String, AttributeType)>) -> M<Self>
+        ensures attributes { IfOk result (λ all. HoldsLast (plain_attributes entries.items) (fields_of all)) }
+        ensures located { IfOk result (λ all. KeepsLast (located_attributes entries.items) all) }
     {
-        Attributes {
-            attrs: BTreeMap::new(alloc),
-            alloc,
-        }
+        Ok(Attributes {
+            attrs: Rc::new(alloc, ByName::from_entries(entries)?)?,
+        })
     }
 
-    /// The allocator that the attributes are held in.
-    pub fn allocator(&self) -> Global {
-        self.alloc
+    /// No attributes, or want of memory.
+    pub fn empty(alloc: Global) -> M<Self>
+        ensures { IfOk result (λ all. fields_of all ≡ end) }
+    {
+        Attributes::from_entries(alloc, Vec::new(alloc))
     }
 
     /// The attributes of these names, with their locations, or want of memory. Of repeated names the
@@ -145,11 +146,11 @@ impl Attributes {
             × KeepsLast (located_attributes xs) all) }
         ensures ascending { IfOk result (λ all. IsAscending (fields_of all)) }
     {
-        let mut attrs = BTreeMap::new(alloc);
+        let mut entries = Vec::new(alloc);
         for (name, attribute) in items {
-            attrs.insert(name, attribute)?;
+            entries.push((name, attribute))?;
         }
-        Ok(Attributes { attrs, alloc })
+        Attributes::from_entries(alloc, entries)
     }
 
     /// The attributes of these names, each of which has to be there, or want of memory. Of repeated
@@ -164,27 +165,27 @@ impl Attributes {
             × KeepsLast (located_required xs) all) }
         ensures ascending { IfOk result (λ all. IsAscending (fields_of all)) }
     {
-        let mut attrs = BTreeMap::new(alloc);
+        let mut entries = Vec::new(alloc);
         for (name, ty) in items {
-            attrs.insert(name, AttributeType::required_attribute(ty))?;
+            entries.push((name, AttributeType::required_attribute(ty)))?;
         }
-        Ok(Attributes { attrs, alloc })
+        Attributes::from_entries(alloc, entries)
     }
 
     /// The attributes with their names, in the names' order.
-    pub fn iter(&self) -> btree_map::Iter<'_, String, AttributeType>
+    pub fn iter(&self) -> Entries<'_, AttributeType>
         ensures attributes { fields_from (plain_attributes result) ≡ fields_of self.now }
         ensures ascending { IsAscending (fields_of self.now) }
     {
-        self.attrs.iter()
+        Entries::new(self.attrs.as_slice())
     }
 
     /// The names of the attributes, in their order.
-    pub fn keys(&self) -> btree_map::Keys<'_, String, AttributeType>
+    pub fn keys(&self) -> Names<'_, AttributeType>
         ensures names { map string_bytes result ≡ field_names (fields_of self.now) }
         ensures ascending { IsAscending (fields_of self.now) }
     {
-        self.attrs.keys()
+        Names::new(self.attrs.as_slice())
     }
 
     /// The attribute of this name, if there is one.
@@ -192,21 +193,26 @@ impl Attributes {
         ensures attribute { option_map attribute_of (option_copied result) ≡ field_at name.now (fields_of self.now) }
         ensures located { option_map located (option_copied result) ≡ located_at name.now self.now }
     {
-        self.attrs.get(name)
+        self.get_attr_counted(name).0
     }
 
-    /// Equal attributes at the same locations, or want of memory.
+    /// The attribute of this name, if there is one, and how many names were compared with it: at most
+    /// k where there are fewer than 2 to the k attributes.
+    pub fn get_attr_counted(&self, name: &str) -> (Option<&AttributeType>, u32)
+        ensures attribute { option_map attribute_of (option_copied result.0) ≡ field_at name.now (fields_of self.now) }
+        ensures located { option_map located (option_copied result.0) ≡ located_at name.now self.now }
+        ensures compared { (k : ℕ) → length (field_names (fields_of self.now)) < 2 ^ k → result.1 ≤ k }
+    {
+        self.attrs.get_counted(name)
+    }
+
+    /// The same attributes at the same locations, which are shared, or want of memory.
     pub fn clone(&self) -> M<Self>
         ensures attributes { IfOk result (λ copy. fields_of copy ≡ fields_of self.now) }
         ensures located { IfOk result (λ copy. (name : Text) → located_at name copy ≡ located_at name self.now) }
     {
-        let mut attrs = BTreeMap::new(self.alloc);
-        for (name, attribute) in self.attrs.iter() {
-            attrs.insert(name.clone()?, attribute.clone()?)?;
-        }
         Ok(Attributes {
-            attrs,
-            alloc: self.alloc,
+            attrs: self.attrs.clone()?,
         })
     }
 }
@@ -216,7 +222,7 @@ impl fmt::Display for Attributes {
     #[cycle(show)]
     fn fmt<W: fmt::Write>(&self, f: &mut fmt::Formatter<W>) -> fmt::Result {
         f.write_str("{")?;
-        for (name, attribute) in &self.attrs {
+        for (name, attribute) in self.attrs.as_slice() {
             let mark = if attribute.is_required { ": " } else { "?: " };
             f.write_str(name.as_str())?;
             f.write_str(mark)?;

@@ -134,7 +134,7 @@ fn fields_have<'v>(
         (λ unknown. FieldsMeet extensions.now unknown (entries_of values.now) fields) }
 {
     let mut so_far = Ok(true);
-    for (name, attribute) in &attrs.attrs {
+    for (name, attribute) in attrs.attrs.as_slice() {
         let answer = match values.get(name) {
             Some(value) => (*attribute.attr_type).typecheck_restricted_expr(value, extensions),
             None => Ok(!attribute.is_required),

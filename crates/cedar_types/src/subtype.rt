@@ -14,7 +14,6 @@ use crate::entity_lub::EntityLUB;
 use crate::types::Type;
 use cedar_below::ValidationMode;
 use cedar_rules::{BoolType, OpenTag};
-use std::collections::btree_map;
 
 /// Whether an attribute's flag fits below another's.
 fn flags_fit(lower: bool, upper: bool, mode: ValidationMode) -> bool
@@ -33,31 +32,24 @@ fn tags_fit(lower: OpenTag, upper: OpenTag) -> bool
     lower == OpenTag::ClosedAttributes || upper == OpenTag::OpenAttributes
 }
 
-/// Whether each of these names is a name of the record.
-fn has_names(names: btree_map::Keys<'_, String, AttributeType>, upper: &Attributes) -> bool
-    ensures { IsTrue result ↔ Included (map string_bytes names.entry) (field_names (fields_of upper.now)) }
-{
-    for name in names {
-        if upper.get_attr(name).is_none() {
-            return false;
-        }
-    }
-    true
-}
-
-/// Whether a record with the one's names may be below a record with the other's and this openness.
-fn names_fit(
+/// Whether a record that has each attribute of another has no further name, but where it may have.
+fn counts_fit(
     lower: &Attributes,
     upper: &Attributes,
     openness: OpenTag,
     mode: ValidationMode,
 ) -> bool
-    ensures fit { IsTrue result ↔ NamesBelow mode openness (fields_of lower.now) (fields_of upper.now) }
-    ensures ascending { IsAscending (fields_of lower.now) }
+    ensures { FieldsBelow mode (fields_of lower.now) (fields_of upper.now)
+        → IsTrue result ↔ NamesBelow mode openness (fields_of lower.now) (fields_of upper.now) }
 {
-    let names = lower.keys();
-    let may_have_more = mode == ValidationMode::Permissive && openness == OpenTag::OpenAttributes;
-    may_have_more || has_names(names, upper)
+    let as_many = lower.attrs.as_slice().len() == upper.attrs.as_slice().len();
+    match mode {
+        ValidationMode::Strict => as_many,
+        ValidationMode::Permissive => match openness {
+            OpenTag::OpenAttributes => true,
+            OpenTag::ClosedAttributes => as_many,
+        },
+    }
 }
 
 /// Whether each entity type of the one union is one of the other.
@@ -107,16 +99,20 @@ fn attribute_fits(lower: &AttributeType, upper: &AttributeType, mode: Validation
 }
 
 /// Whether the one record has each attribute of the other, with a type below and a flag that fits.
+///
+/// It goes over the attributes of both together, once.
 #[cycle(subtype)]
 fn fields_fit(lower: &Attributes, upper: &Attributes, mode: ValidationMode) -> bool
-    requires { IsAscending (fields_of lower.now) }
     ensures { IsTrue result ↔ FieldsBelow mode (fields_of lower.now) (fields_of upper.now) }
 {
-    for (name, attribute) in &upper.attrs {
-        let Some(own) = lower.get_attr(name) else {
+    let own = lower.attrs.as_slice();
+    let mut at = 0;
+    for (name, attribute) in upper.attrs.as_slice() {
+        at = lower.attrs.seek(at, name);
+        if !lower.attrs.is_at(at, name) {
             return false;
-        };
-        if !attribute_fits(own, attribute, mode) {
+        }
+        if !attribute_fits(&own[at].1, attribute, mode) {
             return false;
         }
     }
@@ -162,7 +158,7 @@ impl Type {
                 },
             ) => {
                 tags_fit(*lower_openness, *upper_openness)
-                    && names_fit(lower, upper, *upper_openness, mode)
+                    && counts_fit(lower, upper, *upper_openness, mode)
                     && fields_fit(lower, upper, mode)
             }
             (Type::ExtensionType { name: lower }, Type::ExtensionType { name: upper }) =>

@@ -10,6 +10,9 @@ ghost use Rattle.cedar_rules.specs.CompareLaws.{ComparesBy};
 ghost use Rattle.cedar_rules.specs.Order.{ty_cmp, fields_cmp, attribute_cmp, union_cmp};
 ghost use Rattle.cedar_rules.specs.InclusionLaws.{SubtypingIsInclusionOf, SubtypingIsInclusionAndNamesOf};
 ghost use Rattle.cedar_types.specs.EntityKind.{kind_ty};
+ghost use Rattle.cedar_types.specs.declared.attributes.Attributes.{Attributes};
+ghost use Rattle.cedar_types.specs.declared.entity_kind.EntityKind.{EntityKind};
+ghost use Rattle.cedar_types.specs.declared.types.Type.{«Type»};
 ghost use Rattle.cedar_types.specs.EntityLUB.{lub_names};
 ghost use Rattle.cedar_types.specs.Meaning.{ty_of, attribute_of, fields_of};
 ghost use Rattle.cedar_rules.specs.WellFormed.{IsWellFormed, AreWellFormed, AreTexts};
@@ -18,74 +21,36 @@ use crate::attributes::{AttributeType, Attributes};
 use crate::entity_kind::EntityKind;
 use crate::entity_lub::EntityLUB;
 use crate::types::Type;
-use cedar_below::theorems::names_are_of_identifiers;
 use std::hash::Hash;
 
-/// Each kind of entities stands for a well-formed plain type.
-pub fn kinds_are_well_formed(kind: &EntityKind)
-    ensures { IsWellFormed (kind_ty kind.now) }
+/// Each kind of entities and each type stands for a well-formed plain type; and the attributes of each
+/// record have ascending names, which are texts, and stand for well-formed plain types.
+pub fn types_are_well_formed()
+    ensures kinds { (kind : EntityKind) → IsWellFormed (kind_ty kind) }
+    ensures types { (ty : «Type») → IsWellFormed (ty_of ty) }
+    ensures ascending { (attributes : Attributes) → IsAscending (fields_of attributes) }
+    ensures attributes { (attributes : Attributes) → AreWellFormed (fields_of attributes) }
+    ensures texts { (attributes : Attributes) → AreTexts (field_names (fields_of attributes)) }
 {}
-
-/// The attributes of a record have ascending names, which are texts, and each stands for a well-formed
-/// plain type.
-///
-/// It goes over the attributes, and is there for its contract.
-#[cycle(well_formed)]
-pub fn attributes_are_well_formed(attrs: &Attributes)
-    ensures ascending { IsAscending (fields_of attrs.now) }
-    ensures types { AreWellFormed (fields_of attrs.now) }
-    ensures texts { AreTexts (field_names (fields_of attrs.now)) }
-{
-    for (_, attribute) in &attrs.attrs {
-        types_are_well_formed(&attribute.attr_type);
-    }
-}
-
-/// Each type stands for a well-formed plain type.
-///
-/// It goes over the type, and is there for its contract: that the names of a map are in order is
-/// known of a map that is gone over.
-#[cycle(well_formed)]
-pub fn types_are_well_formed(ty: &Type)
-    ensures { IsWellFormed (ty_of ty.now) }
-{
-    match ty {
-        Type::Set {
-            element_type: Some(element),
-        } => types_are_well_formed(element),
-        Type::Record { attrs, .. } => attributes_are_well_formed(attrs),
-        Type::Entity(kind) => kinds_are_well_formed(kind),
-        Type::ExtensionType { name } => names_are_of_identifiers(name),
-        _ => {}
-    }
-}
 
 /// Types that are below each other stand for the same plain type, in either mode.
 pub fn subtyping_of_types_is_antisymmetric(a: &Type, b: &Type)
     ensures { (mode : ValidationMode) → Below mode (ty_of a.now) (ty_of b.now) → Below mode (ty_of b.now) (ty_of a.now)
         → ty_of a.now ≡ ty_of b.now }
-{
-    types_are_well_formed(a);
-    types_are_well_formed(b);
-}
+{}
 
 /// Strict subtyping of types is permissive subtyping, and agreement.
 pub fn strict_subtyping_of_types_is_permissive_and_agrees(a: &Type, b: &Type)
     ensures { Below mode.Strict (ty_of a.now) (ty_of b.now)
         ↔ (Below mode.Permissive (ty_of a.now) (ty_of b.now) × Agree (ty_of a.now) (ty_of b.now)) }
-{
-    types_are_well_formed(a);
-}
+{}
 
 /// On types, permissive subtyping is inclusion of values where both are stated; and where they are only
 /// inhabited throughout, it is inclusion of values and of names.
 pub fn permissive_subtyping_of_types_is_inclusion(a: &Type, b: &Type)
     ensures stated { SubtypingIsInclusionOf (ty_of a.now) (ty_of b.now) }
     ensures with_optional { SubtypingIsInclusionAndNamesOf (ty_of a.now) (ty_of b.now) }
-{
-    types_are_well_formed(a);
-    types_are_well_formed(b);
-}
+{}
 
 /// Equality, order and hash of unions and of kinds of entities go by what they stand for.
 pub fn entity_kinds_compare_by_what_they_stand_for()

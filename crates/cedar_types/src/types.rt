@@ -113,7 +113,7 @@ impl Type {
         ensures { IfOk result (λ ty. ty_of ty ≡ record_of end OpenTag.OpenAttributes) }
     {
         Ok(Type::Record {
-            attrs: Attributes::empty(alloc),
+            attrs: Attributes::empty(alloc)?,
             open_attributes: OpenTag::OpenAttributes,
         })
     }

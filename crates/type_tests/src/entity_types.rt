@@ -104,7 +104,7 @@ fn external_entity_types_have_no_attributes(rt: HostRuntime) -> Result<(), Fail>
     let alloc = rt.alloc();
     let elsewhere = external(alloc)?;
     assert!(rt; elsewhere.is_external());
-    assert_eq!(rt; *elsewhere.attributes(), Attributes::empty(alloc));
+    assert_eq!(rt; *elsewhere.attributes(), Attributes::empty(alloc)?);
     assert_eq!(rt; elsewhere.open_attributes(), OpenTag::ClosedAttributes);
     assert!(rt; elsewhere.tag_type().is_none());
     assert_eq!(rt; *elsewhere.name(), entity_type(alloc, "Elsewhere")?);

@@ -2,7 +2,7 @@ use Rattle.std.proofs.Common.{Bool, true, false, not, List, Ok, ap, sym, subst, 
 use Rattle.std.proofs.Math.ListN.{drop_of_length-le}
 use Rattle.std.specs.declared.alloc.Global.{Global}
 use Rattle.std.specs.declared.string.String.{String}
-use Rattle.cedar_below.proofs.TreeLemmas.{tree_of-uid, tree_of-set, tree_of-record, tree_of-call}
+use Rattle.cedar_below.proofs.TreeLemmas.{drop-at, tree_of-uid, tree_of-set, tree_of-record, tree_of-call}
 use Rattle.cedar_below.specs.EntityUID.{uid_of}
 use Rattle.cedar_below.specs.RestrictedExpr.{tree_of, trees_of, entries_of}
 use Rattle.cedar_below.specs.Tree.{call_value, entry_at}
@@ -15,10 +15,10 @@ use Rattle.cedar_rules.specs.Ty.{Ty, extension_of, Fields, fields_from}
 use Rattle.cedar_types.specs.declared.attributes.AttributeType.{AttributeType}
 use Rattle.cedar_types.specs.declared.types.Type.TheVariants as type
 use Rattle.cedar_types.proofs.MembershipLemmas.{IsMembershipSoFar-none, IsMembershipSoFar-all}
-use Rattle.cedar_types.proofs.FieldLemmas.{fields_of-entries}
+use Rattle.cedar_types.proofs.FieldLemmas.{fields_of-pairs}
 use Rattle.cedar_types.proofs.MemberParts.{IsMembershipFor, IsMembershipForEach, IsMembershipFor-at, IsMembershipFor-uid, IsMembershipFor-listed, IsMembershipFor-unlisted, IsMembershipForEntry, IsMembershipForEntry-Some, IsMembershipForEntry-None, ElementsSoFar, ElementsSoFar-more, FieldsSoFar, FieldsSoFar-more, attribute_of-parts, ty_of-set, ty_of-record, ty_of-entity, ty_of-extension}
 use Rattle.cedar_types.proofs.+member.Goals as goal
-use Rattle.cedar_types.proofs.+member.Goals.{member::fields_have-in-Some-get, member::fields_have-in-None-get}
+use Rattle.cedar_types.proofs.+member.Goals.{member::fields_have-in-Some, member::fields_have-in-None}
 
 pub member::elements_have-loop-value-init : goal.member::elements_have-loop-value-init
 member::elements_have-loop-value-init t c = IsMembershipSoFar-none _ _ _
@@ -54,48 +54,51 @@ member::fields_have-loop-name-init t c =
     let P : Fields → Type 0 = λ rest. FieldsSoFar c.args.extensions.now (entries_of c.args.values.now)
     (fields_of c.args.attrs.now) rest (Ok true) in
     subst P
-    (fields_of-entries c.args.attrs.now ∙ ap (λ entries. fields_from (plain_attributes entries))
-    (sym c.into_iter-name-iterator.ensures.into_iter_gives.0))
+    (fields_of-pairs c.args.attrs.now ∙ ap (λ entries. fields_from (plain_attributes entries))
+    (sym (c.as_slice-name-items.ensures ∙ ap (λ all. all.entries.items) c.deref.ensures)))
     (IsMembershipSoFar-none _ _ _)
 
 pub member::fields_have-loop-name-preserved : goal.member::fields_have-loop-name-preserved
 member::fields_have-loop-name-preserved t c =
     let extensions = c.args.extensions.now in
     let values = c.args.values.now in
-    let attribute = attribute_of c.in-Some.attribute.now in
-    let parts = attribute_of-parts c.in-Some.attribute.now in
+    let item = c.loop-name-item.result in
+    let name = string_bytes item.0 in
+    let attribute = attribute_of item.1 in
+    let parts = attribute_of-parts item.1 in
     let P : List (String Global × AttributeType) → Type 0 = λ entries. FieldsSoFar extensions (entries_of values)
     (fields_of c.args.attrs.now) (fields_from (plain_attributes entries)) c.loop-name.so_far in
-    let before = subst P c.in-Some.ensures.steps c.loop-name.invariant in
-    let Q : Answer → Type 0 = IsMembershipForEntry extensions (entry_at (string_bytes c.in-Some.name.now) (entries_of values)) attribute in
+    let before = subst P (drop-at _ c.loop-name.name-index item c.loop-name-test.true c.loop-name-item.is) c.loop-name.invariant in
+    let Q : Answer → Type 0 = IsMembershipForEntry extensions (entry_at name (entries_of values)) attribute in
     let right : Q c.match-get.answer = elim c.match-get.branch [
-      | member::fields_have-in-Some-get w ↦ (
+      | member::fields_have-in-Some w ↦ (
           let call = w.typecheck_restricted_expr-answer in
-          let R : Ty → Type 0 = λ ty. IsMembershipFor extensions (tree_of w.in-Some-get.value.now) ty call.result in
-          let right : R (ty_of w.deref.result.now) = record {
+          let R : Ty → Type 0 = λ ty. IsMembershipFor extensions (tree_of w.in-Some.value.now) ty call.result in
+          let right : R (ty_of w.deref-in-Some.result.now) = record {
             yes = call.ensures.has;
             no = call.ensures.lacks;
             fault =
                 call.ensures.fault;
           } in
           subst Q (sym w.answer-is)
-          (IsMembershipForEntry-Some extensions (string_bytes c.in-Some.name.now) values attribute c.get.result
-          w.in-Some-get.value call.result c.get.ensures.value w.in-Some-get.is
-          (subst R (ap ty_of w.deref.ensures ∙ ap (λ (p : Bool × Ty). p.1) (sym parts)) right))
+          (IsMembershipForEntry-Some extensions name values attribute c.get.result
+          w.in-Some.value call.result c.get.ensures.value w.in-Some.is
+          (subst R (ap ty_of w.deref-in-Some.ensures ∙ ap (λ (p : Bool × Ty). p.1) (sym parts)) right))
           )
-      | member::fields_have-in-None-get w ↦ IsMembershipForEntry-None extensions
-          (string_bytes c.in-Some.name.now) values attribute c.get.result c.match-get.answer c.get.ensures.value
-          w.in-None-get.is (w.answer-is ∙ ap (λ (p : Bool × Ty). Ok (not p.0)) (sym parts))
+      | member::fields_have-in-None w ↦ IsMembershipForEntry-None extensions
+          name values attribute c.get.result c.match-get.answer c.get.ensures.value
+          w.in-None.is (w.answer-is ∙ ap (λ (p : Bool × Ty). Ok (not p.0)) (sym parts))
     ] in
     FieldsSoFar-more extensions (entries_of values) (fields_of c.args.attrs.now) _
-    (string_bytes c.in-Some.name.now) attribute c.loop-name.so_far c.match-get.answer c.both-so_far.result
+    name attribute c.loop-name.so_far c.match-get.answer c.both-so_far.result
     (record { yes = c.both-so_far.ensures.yes; no = c.both-so_far.ensures.no; fault = c.both-so_far.ensures.fault }) right before
 
 pub member::fields_have-returns : goal.member::fields_have-returns
 member::fields_have-returns t c =
     let P : List (String Global × AttributeType) → Type 0 = λ entries. FieldsSoFar c.args.extensions.now
     (entries_of c.args.values.now) (fields_of c.args.attrs.now) (fields_from (plain_attributes entries)) c.loop-name.so_far in
-    IsMembershipSoFar-all c.loop-name.so_far _ _ _ _ (subst P c.in-None.ensures.steps.0 c.loop-name.invariant)
+    IsMembershipSoFar-all c.loop-name.so_far _ _ _ _
+    (subst P (drop_of_length-le c.as_slice-name-items.result.now c.loop-name-test.false) c.loop-name.invariant)
 
 pub types::Type::typecheck_restricted_expr-returns-in-Entity-EntityUid : goal.types::Type::typecheck_restricted_expr-returns-in-Entity-EntityUid
 types::Type::typecheck_restricted_expr-returns-in-Entity-EntityUid t c =

@@ -23,4 +23,4 @@ invariant-member::elements_have-loop-value l =
 
 abbrev pub invariant-member::fields_have-loop-name : goal.invariant-member::fields_have-loop-name
 invariant-member::fields_have-loop-name l =
-    FieldsSoFar l.extensions (entries_of l.values) (fields_of l.attrs) (fields_from (plain_attributes l.name-iterator)) l.so_far
+    FieldsSoFar l.extensions (entries_of l.values) (fields_of l.attrs) (fields_from (plain_attributes (drop l.name-index l.name-items))) l.so_far

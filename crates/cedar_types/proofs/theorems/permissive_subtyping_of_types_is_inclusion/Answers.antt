@@ -1,11 +1,12 @@
 use Rattle.cedar_types.specs.Meaning.{ty_of}
 use Rattle.cedar_rules.proofs.ValueInclusion.{inclusion, inclusion_and_names}
+use Rattle.cedar_types.proofs.FormedLemmas.{IsWellFormed-type}
 use Rattle.cedar_types.proofs.theorems.permissive_subtyping_of_types_is_inclusion.Goals as goal
 
 pub returns-clause-stated : goal.returns-clause-stated
 returns-clause-stated c =
-    inclusion (ty_of c.args.a.now) (ty_of c.args.b.now) c.types_are_well_formed.ensures c.types_are_well_formed-2.ensures
+    inclusion (ty_of c.args.a.now) (ty_of c.args.b.now) (IsWellFormed-type c.args.a.now) (IsWellFormed-type c.args.b.now)
 
 pub returns-clause-with_optional : goal.returns-clause-with_optional
 returns-clause-with_optional c =
-    inclusion_and_names (ty_of c.args.a.now) (ty_of c.args.b.now) c.types_are_well_formed.ensures c.types_are_well_formed-2.ensures
+    inclusion_and_names (ty_of c.args.a.now) (ty_of c.args.b.now) (IsWellFormed-type c.args.a.now) (IsWellFormed-type c.args.b.now)

@@ -1,7 +1,8 @@
 use Rattle.cedar_types.specs.Meaning.{ty_of}
 use Rattle.cedar_rules.proofs.AgreeLaws.{Below-strict-both}
+use Rattle.cedar_types.proofs.FormedLemmas.{IsWellFormed-type}
 use Rattle.cedar_types.proofs.theorems.strict_subtyping_of_types_is_permissive_and_agrees.Goals as goal
 
 pub returns : goal.returns
 returns c =
-    Below-strict-both (ty_of c.args.a.now) (ty_of c.args.b.now) c.types_are_well_formed.ensures
+    Below-strict-both (ty_of c.args.a.now) (ty_of c.args.b.now) (IsWellFormed-type c.args.a.now)

@@ -1,7 +1,8 @@
 use Rattle.cedar_types.specs.Meaning.{ty_of}
 use Rattle.cedar_rules.proofs.AntisymmetryLaws.{Below-same}
+use Rattle.cedar_types.proofs.FormedLemmas.{IsWellFormed-type}
 use Rattle.cedar_types.proofs.theorems.subtyping_of_types_is_antisymmetric.Goals as goal
 
 pub returns : goal.returns
 returns c mode =
-    Below-same mode (ty_of c.args.a.now) (ty_of c.args.b.now) c.types_are_well_formed.ensures c.types_are_well_formed-2.ensures
+    Below-same mode (ty_of c.args.a.now) (ty_of c.args.b.now) (IsWellFormed-type c.args.a.now) (IsWellFormed-type c.args.b.now)

@@ -1,13 +1,13 @@
 use Rattle.std.proofs.Common.{ap, sym, ◌∙◌}
 use Rattle.cedar_types.specs.Attributes.{plain_attributes}
 use Rattle.cedar_rules.specs.Ty.{fields_from}
-use Rattle.cedar_types.proofs.FieldLemmas.{fields_of-entries, IsAscending-map}
+use Rattle.cedar_types.proofs.FieldLemmas.{fields_of-pairs, IsAscending-fields}
 use Rattle.cedar_types.proofs.attributes.Attributes.iter.Goals as goal
 
 pub returns-clause-attributes : goal.returns-clause-attributes
 returns-clause-attributes c =
-    ap (λ entries. fields_from (plain_attributes entries)) c.iter.ensures.rest
-    ∙ sym (fields_of-entries c.args.self.now)
+    ap (λ entries. fields_from (plain_attributes entries)) (c.new.ensures ∙ (c.as_slice.ensures ∙ ap (λ all. all.entries.items) c.deref.ensures))
+    ∙ sym (fields_of-pairs c.args.self.now)
 
 pub returns-clause-ascending : goal.returns-clause-ascending
-returns-clause-ascending c = IsAscending-map c.args.self.now c.iter.ensures.ordered
+returns-clause-ascending c = IsAscending-fields c.args.self.now

@@ -1,0 +1,176 @@
+-- Steps of the walk that tells whether one record is below another.
+use Rattle.std.proofs.Common.{◌↔◌, ◌≡◌, ◌≢◌, ◌<◌, ◌≤◌, ℕ, Bool, true, false, refl, List, length, get_or, Some, None, ap, sym, subst, ◌∙◌, string_bytes, ◌∷◌, arith, nat_eq}
+use Rattle.std.proofs.lemmas.Bool.Decides.{Decides-eqb}
+use Rattle.std.specs.Bool.{Decides}
+use Rattle.std.specs.Option.{option_map}
+use Rattle.std.specs.declared.alloc.Global.{Global}
+use Rattle.std.specs.declared.cmp.Ordering.TheVariants.{Less}
+use Rattle.std.specs.declared.string.String.{String}
+use Rattle.cedar_below.proofs.Inclusion.{rest_alone, part_fails}
+use Rattle.cedar_below.proofs.Texts.{text_cmp-total}
+use Rattle.cedar_below.specs.Lists.{Included}
+use Rattle.cedar_below.specs.Text.{Text, text_cmp}
+use Rattle.cedar_below.specs.declared.validation_mode.ValidationMode.{ValidationMode}
+use Rattle.cedar_below.specs.declared.validation_mode.ValidationMode.TheVariants.{Strict, Permissive}
+use Rattle.cedar_rules.proofs.AntisymmetryLaws.{Included-same}
+use Rattle.cedar_rules.proofs.SubtypeLaws.{FieldsBelow-names}
+use Rattle.cedar_rules.proofs.SubtypeLemmas.{HasBelow, HasBelow-Decides, HasBelow-none}
+use Rattle.cedar_rules.specs.Below.{AttributeBelow, FieldsBelow, NamesBelow}
+use Rattle.cedar_rules.specs.Fields.{IsAscending, field_names}
+use Rattle.cedar_rules.specs.Ty.{Fields, fields_from, field_at}
+use Rattle.cedar_rules.specs.declared.open_tag.OpenTag.{OpenTag}
+use Rattle.cedar_rules.specs.declared.open_tag.OpenTag.TheVariants.{ClosedAttributes}
+use Rattle.cedar_types.proofs.FieldLemmas.{pairs_of, fields_of-pairs, field_at-pairs, IsAscending-fields, length-fields}
+use Rattle.cedar_types.proofs.SearchLemmas.{text_at, value_at-place}
+use Rattle.cedar_types.proofs.WalkLemmas.{Included-back, Ahead, AllBelow, Ahead-first, Ahead-sought, Ahead-next, value_at-missed}
+use Rattle.cedar_types.specs.Attributes.{plain_attributes}
+use Rattle.cedar_types.specs.Meaning.{fields_of, attribute_of}
+use Rattle.cedar_types.specs.declared.attributes.Attributes.{Attributes, out-Attributes}
+use Rattle.cedar_types.specs.declared.attributes.AttributeType.{AttributeType}
+use Rattle.cedar_types.specs.declared.by_name.ByName.{ByName}
+
+-- pairs of a name and an attribute
+abbrev Pairs : Type 0
+Pairs = List (String Global × AttributeType)
+
+-- a walk over both records: what is left of the upper decides about the whole, and its names are ahead
+abbrev pub WalkedBelow : ValidationMode → Attributes → Attributes → ℕ → Pairs → Type 0
+WalkedBelow mode lower upper at rest =
+    (FieldsBelow mode (fields_of lower) (fields_from (plain_attributes rest)) ↔ FieldsBelow mode (fields_of lower) (fields_of upper))
+    × Ahead (pairs_of lower) at rest
+
+-- at first all is left
+pub WalkedBelow-first : (mode : ValidationMode) (lower upper : Attributes) → WalkedBelow mode lower upper 0 (pairs_of upper)
+WalkedBelow-first mode lower upper =
+    let P : Fields → Type 0 = λ fields. FieldsBelow mode (fields_of lower) fields ↔ FieldsBelow mode (fields_of lower) (fields_of upper) in (
+      subst P (fields_of-pairs upper) (λ h. h, λ h. h),
+      Ahead-first (pairs_of lower) (pairs_of upper) (out-Attributes upper).attrs.value.ascending,
+    )
+
+-- what a walk on to a name knows: it passes only names below, and comes to one that isn't
+pub record Sought (lower : Attributes) (at place : ℕ) (name : Text) : Type 0 where
+  pub passed : (i : ℕ) (d : String Global × AttributeType) → at ≤ i → i < place → text_cmp (text_at (pairs_of lower) i d) name ≡ Less
+  pub stays : (d : String Global × AttributeType) → place < length (pairs_of lower) → text_cmp (text_at (pairs_of lower) place d) name ≢ Less
+
+-- a walk on in the list that a record holds is one in its pairs
+pub Sought-held : (lower : Attributes) (at place : ℕ) (held : ByName AttributeType) (text name : Text)
+    → held ≡ (out-Attributes lower).attrs.value → text ≡ name
+    → ((i : ℕ) (d : String Global × AttributeType) → at ≤ i → i < place → text_cmp (text_at held.entries.items i d) text ≡ Less)
+    → ((d : String Global × AttributeType) → place < length held.entries.items → text_cmp (text_at held.entries.items place d) text ≢ Less)
+    → Sought lower at place name
+Sought-held lower at place held text name is same passed stays =
+    let P : ByName AttributeType → Text → Type 0 = λ all sought.
+    ((i : ℕ) (d : String Global × AttributeType) → at ≤ i → i < place → text_cmp (text_at all.entries.items i d) sought ≡ Less)
+    × ((d : String Global × AttributeType) → place < length all.entries.items → text_cmp (text_at all.entries.items place d) sought ≢ Less) in
+    let both = subst (P (out-Attributes lower).attrs.value) same (subst (λ all. P all text) is (passed, stays)) in
+    record { passed = both.0; stays = both.1 }
+
+-- a name is at a place of a list
+abbrev pub IsAt : List (String Global × AttributeType) → ℕ → Text → Type 0
+IsAt all place name = (place < length all) × ((d : String Global × AttributeType) → text_at all place d ≡ name)
+
+-- whether a name is at a place of the list that a record holds tells whether it is at that place of its pairs
+pub IsAt-held : (lower : Attributes) (place : ℕ) (held : ByName AttributeType) (text name : Text) (b : Bool)
+    → held ≡ (out-Attributes lower).attrs.value → text ≡ name → Decides b (IsAt held.entries.items place text)
+    → Decides b (IsAt (pairs_of lower) place name)
+IsAt-held lower place held text name b is same decides =
+    subst (λ sought. Decides b (IsAt (pairs_of lower) place sought)) same
+    (subst (λ all. Decides b (IsAt all.entries.items place text)) is decides)
+
+module _ (mode : ValidationMode) (lower upper : Attributes) (at place : ℕ) (item : String Global × AttributeType) (rest : Pairs)
+    (walked : WalkedBelow mode lower upper at (item ∷ rest)) (sought : Sought lower at place (string_bytes item.0)) where
+  -- the names before the place are below
+  all_below : AllBelow (pairs_of lower) place (string_bytes item.0)
+  all_below = Ahead-sought (pairs_of lower) at place item rest walked.1 sought.passed
+
+  -- the name at the place has the attribute there
+  found_at : (d : String Global × AttributeType) → place < length (pairs_of lower) → text_at (pairs_of lower) place d ≡ string_bytes item.0
+      → field_at (string_bytes item.0) (fields_of lower) ≡ Some (attribute_of (get_or (pairs_of lower) place d).1)
+  found_at d within is =
+      field_at-pairs (string_bytes item.0) lower
+      ∙ ap (option_map attribute_of)
+      (value_at-place (pairs_of lower) (out-Attributes lower).attrs.value.ascending (string_bytes item.0) place d within is)
+
+  -- whether the attribute at the place is below decides whether the lower has one below
+  at_decides : (d : String Global × AttributeType) (b : Bool) → place < length (pairs_of lower)
+      → text_at (pairs_of lower) place d ≡ string_bytes item.0
+      → Decides b (AttributeBelow mode (attribute_of (get_or (pairs_of lower) place d).1) (attribute_of item.1))
+      → Decides b (HasBelow mode (fields_of lower) (string_bytes item.0) (attribute_of item.1).0 (attribute_of item.1).1)
+  at_decides d b within is decides =
+      HasBelow-Decides mode (fields_of lower) (string_bytes item.0) (attribute_of item.1)
+      (attribute_of (get_or (pairs_of lower) place d).1) b (IsAscending-fields lower) (found_at d within is) decides
+
+  -- where the name isn't at the place, the lower record hasn't the attribute
+  pub WalkedBelow-missed : ¬ IsAt (pairs_of lower) place (string_bytes item.0) → Decides false (FieldsBelow mode (fields_of lower) (fields_of upper))
+  WalkedBelow-missed missed =
+      let none : field_at (string_bytes item.0) (fields_of lower) ≡ None =
+      field_at-pairs (string_bytes item.0) lower
+      ∙ ap (option_map attribute_of)
+      (value_at-missed (pairs_of lower) (out-Attributes lower).attrs.value.ascending (string_bytes item.0) place
+      all_below sought.stays missed) in
+      part_fails walked.0
+      (HasBelow-none mode (fields_of lower) (string_bytes item.0) (attribute_of item.1) (IsAscending-fields lower) none)
+
+  -- where the attribute at the place isn't below, the lower record isn't
+  pub WalkedBelow-fails : (d : String Global × AttributeType) → IsAt (pairs_of lower) place (string_bytes item.0)
+      → Decides false (AttributeBelow mode (attribute_of (get_or (pairs_of lower) place d).1) (attribute_of item.1))
+      → Decides false (FieldsBelow mode (fields_of lower) (fields_of upper))
+  WalkedBelow-fails d here decides =
+      part_fails walked.0 (λ has. absurd (let fits = (at_decides d false here.0 (here.1 d) decides).1 has in cc))
+
+  -- where it is, the walk goes on
+  pub WalkedBelow-next : (d : String Global × AttributeType) → IsAt (pairs_of lower) place (string_bytes item.0)
+      → Decides true (AttributeBelow mode (attribute_of (get_or (pairs_of lower) place d).1) (attribute_of item.1))
+      → WalkedBelow mode lower upper place rest
+  WalkedBelow-next d here decides = (
+    rest_alone walked.0 ((at_decides d true here.0 (here.1 d) decides).0 refl),
+    Ahead-next (pairs_of lower) at place item rest walked.1 all_below,
+  )
+
+-- a record that has each attribute of another has no further name exactly where it has as many
+pub Included-counts : (mode : ValidationMode) (lower upper : Fields) → IsAscending lower → IsAscending upper
+    → FieldsBelow mode lower upper
+    → (length (field_names lower) ≡ length (field_names upper)) ↔ Included (field_names lower) (field_names upper)
+Included-counts mode lower upper first second below =
+    let there = FieldsBelow-names mode lower upper below in (
+      λ same. Included-back text_cmp text_cmp-total (field_names upper) (field_names lower) second first there (omega (arith, same)),
+      λ all. ap length (Included-same text_cmp text_cmp-total (field_names lower) (field_names upper) first second all there),
+    )
+
+-- in strict mode that tells whether it has no further name
+pub NamesBelow-strict : (mode : ValidationMode) (openness : OpenTag) (lower upper : Fields) (as_many : Bool) → mode ≡ Strict
+    → IsAscending lower → IsAscending upper → Decides as_many (length (field_names lower) ≡ length (field_names upper))
+    → FieldsBelow mode lower upper → Decides as_many (NamesBelow mode openness lower upper)
+NamesBelow-strict mode openness lower upper as_many is first second decides =
+    let P : ValidationMode → Type 0 = λ each. FieldsBelow each lower upper → Decides as_many (NamesBelow each openness lower upper) in
+    subst P (sym is) (λ below. let counts = Included-counts Strict lower upper first second below in
+    (λ e. counts.0 (decides.0 e), λ all. decides.1 (counts.1 all)))
+
+-- and below a closed record too
+pub NamesBelow-closed : (mode : ValidationMode) (openness : OpenTag) (lower upper : Fields) (as_many : Bool) → mode ≡ Permissive
+    → openness ≡ ClosedAttributes → IsAscending lower → IsAscending upper
+    → Decides as_many (length (field_names lower) ≡ length (field_names upper))
+    → FieldsBelow mode lower upper → Decides as_many (NamesBelow mode openness lower upper)
+NamesBelow-closed mode openness lower upper as_many is closed first second decides =
+    let P : ValidationMode → Type 0 = λ each. FieldsBelow each lower upper → Decides as_many (NamesBelow each openness lower upper) in
+    let Q : OpenTag → Type 0 = λ each. Decides as_many (NamesBelow Permissive each lower upper) in
+    subst P (sym is) (λ below. let counts = Included-counts Permissive lower upper first second below in
+    subst Q (sym closed) (λ e. counts.0 (decides.0 e), λ all. decides.1 (counts.1 all)))
+
+-- whether the lists that two records hold are of one length tells whether they have as many names
+pub counts-Decides : (lower upper : Attributes) (own other : Pairs) → own ≡ pairs_of lower → other ≡ pairs_of upper
+    → Decides (nat_eq (length own) (length other)) (length (field_names (fields_of lower)) ≡ length (field_names (fields_of upper)))
+counts-Decides lower upper own other first second =
+    let one : length own ≡ length (field_names (fields_of lower)) = ap length first ∙ length-fields lower _ refl in
+    let two : length other ≡ length (field_names (fields_of upper)) = ap length second ∙ length-fields upper _ refl in
+    let D : ℕ → ℕ → Type 0 = λ m n. Decides (nat_eq (length own) (length other)) (m ≡ n) in
+    subst (λ m. D m (length (field_names (fields_of upper)))) one (subst (D (length own)) two (Decides-eqb (length own) (length other)))
+
+-- whether an attribute of the list that a record holds is below another
+pub AttributeBelow-held : (mode : ValidationMode) (lower : Attributes) (own : Pairs) (place : ℕ) (d item : String Global × AttributeType)
+    (b answer : Bool) → own ≡ pairs_of lower → answer ≡ b
+    → Decides answer (AttributeBelow mode (attribute_of (get_or own place d).1) (attribute_of item.1))
+    → Decides b (AttributeBelow mode (attribute_of (get_or (pairs_of lower) place d).1) (attribute_of item.1))
+AttributeBelow-held mode lower own place d item b answer same is decides =
+    subst (λ each. Decides each (AttributeBelow mode (attribute_of (get_or (pairs_of lower) place d).1) (attribute_of item.1))) is
+    (subst (λ each. Decides answer (AttributeBelow mode (attribute_of (get_or each place d).1) (attribute_of item.1))) same decides)

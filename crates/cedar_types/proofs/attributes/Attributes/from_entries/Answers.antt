@@ -1,0 +1,10 @@
+use Rattle.cedar_types.proofs.FieldLemmas.{HoldsLast-made, KeepsLast-made}
+use Rattle.cedar_types.proofs.attributes.Attributes.from_entries.Goals as goal
+
+pub returns-clause-attributes : goal.returns-clause-attributes
+returns-clause-attributes c =
+    HoldsLast-made c.args.entries.items c.in_ok-new.field-0 _ c.in_ok-new.ensures.ok c.in_ok-from_entries.ensures
+
+pub returns-clause-located : goal.returns-clause-located
+returns-clause-located c =
+    KeepsLast-made c.args.entries.items c.in_ok-new.field-0 _ c.in_ok-new.ensures.ok c.in_ok-from_entries.ensures

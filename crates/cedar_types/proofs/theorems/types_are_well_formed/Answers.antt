@@ -1,0 +1,18 @@
+use Rattle.cedar_types.proofs.FieldLemmas.{IsAscending-fields}
+use Rattle.cedar_types.proofs.FormedLemmas.{kind_formed, IsWellFormed-type, AreWellFormed-fields, AreTexts-fields}
+use Rattle.cedar_types.proofs.theorems.types_are_well_formed.Goals as goal
+
+pub returns-clause-kinds : goal.returns-clause-kinds
+returns-clause-kinds c = kind_formed
+
+pub returns-clause-types : goal.returns-clause-types
+returns-clause-types c = IsWellFormed-type
+
+pub returns-clause-ascending : goal.returns-clause-ascending
+returns-clause-ascending c = IsAscending-fields
+
+pub returns-clause-attributes : goal.returns-clause-attributes
+returns-clause-attributes c = AreWellFormed-fields
+
+pub returns-clause-texts : goal.returns-clause-texts
+returns-clause-texts c = AreTexts-fields
