@@ -10,7 +10,8 @@ use Rattle.cedar_below.specs.declared.extension.Extensions.{Extensions}
 use Rattle.cedar_names.specs.Expr.{Expr, Members, member}
 use Rattle.cedar_declared.proofs.ResolutionLemmas.{IsFirst-same, HasOneDefinition, same_definition}
 use Rattle.cedar_declared.specs.Admits.{Admits, AdmitsEach, AdmitsMembers, member_names, admits_text, admits_long, admits_truth, admits_set, admits_record, admits_entity, admits_common, admits_extension, admits_none, admits_first, admits_no_member, admits_missing, admits_there}
-use Rattle.cedar_declared.specs.Defined.{Defined, IsDefined, IsCommon, IsEntity, ResolvesTo}
+use Rattle.cedar_declared.specs.Defined.{Defined, IsCommon, names_of}
+use Rattle.cedar_declared.specs.Names.{IsDefined, IsEntity, ResolvesTo}
 use Rattle.cedar_declared.specs.WrittenOut.{WrittenOut, MembersWrittenOut, as_text, as_long, as_truth, as_set, as_record, as_entity, as_common, as_extension, as_no_member, as_member}
 use Rattle.cedar_rules.specs.Fields.{field_names}
 use Rattle.cedar_rules.specs.Has.{Has, HasFieldsBy}
@@ -47,15 +48,15 @@ mutual
       (subst P (sym (same_names defined written)) listed, members_have_admitted defined extensions one admitted written)
   has_admitted defined extensions one (admits_entity uid reference resolves is_entity no_common)
       (as_entity reference' name resolves' is_entity' no_common') =
-      (0, omega arith, IsFirst-same (IsDefined defined reference.kind) reference.possibilities name uid.ty resolves' resolves)
+      (0, omega arith, IsFirst-same (IsDefined (names_of defined) reference.kind) reference.possibilities name uid.ty resolves' resolves)
   has_admitted defined extensions one (admits_entity uid reference resolves is_entity no_common)
       (as_common reference' name body resolves' is_common written) =
-      let same : name ≡ uid.ty = IsFirst-same (IsDefined defined reference.kind) reference.possibilities name uid.ty resolves' resolves in
+      let same : name ≡ uid.ty = IsFirst-same (IsDefined (names_of defined) reference.kind) reference.possibilities name uid.ty resolves' resolves in
       let P : PlainName → Type 0 = λ each. IsCommon defined reference.kind each body in
       absurd (no_common body (subst P same is_common))
   has_admitted defined extensions one (admits_common reference name body resolves is_common admitted)
       (as_entity reference' name' resolves' is_entity no_common) =
-      let same : name ≡ name' = IsFirst-same (IsDefined defined reference.kind) reference.possibilities name name' resolves resolves' in
+      let same : name ≡ name' = IsFirst-same (IsDefined (names_of defined) reference.kind) reference.possibilities name name' resolves resolves' in
       let P : PlainName → Type 0 = λ each. IsCommon defined reference.kind each body in
       absurd (no_common body (subst P same is_common))
   has_admitted defined extensions one {ty = ty} (admits_common reference name body resolves is_common admitted)
@@ -131,8 +132,8 @@ mutual
   admitted_of defined extensions (as_record written) _ has = absurd has
   admitted_of defined extensions (as_entity reference name resolves is_entity no_common) (uid_value uid) has =
       let same : name ≡ uid.ty = ⊎_elim (λ is. is) (λ none. absurd (omega (arith, none.1))) (Contains-cons_cases name [] uid.ty has) in
-      let P : PlainName → Type 0 = λ each. ResolvesTo defined reference each in
-      let Q : PlainName → Type 0 = λ each. IsEntity defined reference.kind each in
+      let P : PlainName → Type 0 = λ each. ResolvesTo (names_of defined) reference each in
+      let Q : PlainName → Type 0 = λ each. IsEntity (names_of defined) reference.kind each in
       let R : PlainName → Type 0 = λ each. (body : Expr) → IsCommon defined reference.kind each body → ⊥ in
       admits_entity uid reference (subst P same resolves) (subst Q same is_entity) (subst R same no_common)
   admitted_of defined extensions (as_entity reference name resolves is_entity no_common) _ has = absurd has

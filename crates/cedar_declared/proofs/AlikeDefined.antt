@@ -1,8 +1,8 @@
 -- Bags that are alike declare alike, and define the same names.
-use Rattle.std.proofs.Common.{◌≡◌, ◌⊎◌, ◌||◌, ◌&&◌, Bool, true, false, not, List, [], ◌∷◌, ◌++◌, Option, map, ap, sym, subst, ◌∙◌, refl, inl, inr, ⊎_elim, arith, Contains}
+use Rattle.std.proofs.Common.{◌≡◌, ◌||◌, ◌&&◌, Bool, true, false, not, List, [], ◌∷◌, ◌++◌, map, ap, sym, subst, ◌∙◌, refl, inl, inr, ⊎_elim, arith, Contains}
 use Rattle.std.proofs.lemmas.Bool.{false≢true}
 use Rattle.std.proofs.lemmas.List.Elements.{Contains-append_left, Contains-append_right, Contains-append_cases, filter_agree}
-use Rattle.std.specs.List.{list_any, filter}
+use Rattle.std.specs.List.{list_any}
 use Rattle.std.specs.Option.{is_none}
 use Rattle.std.specs.Str.{bytes_eq}
 use Rattle.cedar_below.proofs.Lists.{Contains-cons, Contains-cons_cases, Contains-preimage}
@@ -19,7 +19,7 @@ use Rattle.cedar_declared.proofs.AlikeLemmas.{Alike, Alike-sym}
 use Rattle.cedar_declared.proofs.DeclarationLemmas.{entity_declaration, action_declaration, common_declaration, declares_entity, declares_action, declares_common}
 use Rattle.cedar_declared.proofs.DefinedLemmas.{SameDefined}
 use Rattle.cedar_declared.proofs.OccurrenceLemmas.{Contains-image}
-use Rattle.cedar_declared.specs.Bag.{Bag, declared_name, declared_uid, declared_common, declared_entities, declared_actions, action_uids, is_type, is_declared_here, built_in_types, built_ins, alias_name, aliases, defined_names}
+use Rattle.cedar_declared.specs.Bag.{Bag, declared_name, declared_uid, declared_common, declared_entities, declared_actions, action_uids, is_type, is_declared_here, built_in_types, built_ins, alias_name, aliases, definitions}
 use Rattle.cedar_declared.specs.SameBag.{SameEntityBody, SameActionBody, SameBody, SameDeclaration}
 
 -- declarations that are the same have one full name
@@ -163,7 +163,7 @@ same_aliases bag other extensions alike =
 
 -- a common name of the one is one of the other
 common_name_there : (bag other : Bag) (extensions : Extensions) → Alike bag other → (it : PlainName × Expr)
-    → Contains (defined_names bag extensions).common it → Contains (defined_names other extensions).common it
+    → Contains (definitions bag extensions).common it → Contains (definitions other extensions).common it
 common_name_there bag other extensions alike it among =
     let P : List (PlainName × Expr) → Type 0 = λ names. Contains names it in
     ⊎_elim
@@ -178,11 +178,11 @@ common_name_there bag other extensions alike it among =
 
 -- an entity name of the one is one of the other
 entity_name_there : (bag other : Bag) (extensions : Extensions) → Alike bag other → (name : PlainName)
-    → Contains (defined_names bag extensions).entities name → Contains (defined_names other extensions).entities name
+    → Contains (definitions bag extensions).entities name → Contains (definitions other extensions).entities name
 entity_name_there bag other extensions alike name among =
     let key = λ (each : PlainName × EntityBody). each.0 in
     let type_of = λ (uid : PlainUid). uid.ty in
-    let P : PlainName → Type 0 = Contains (defined_names other extensions).entities in
+    let P : PlainName → Type 0 = Contains (definitions other extensions).entities in
     ⊎_elim
     (λ here.
     (let it = Contains-preimage key (declared_entities bag) name here in
@@ -197,7 +197,7 @@ entity_name_there bag other extensions alike name among =
 
 -- bags that are alike define the same names
 pub same_defined : (bag other : Bag) (extensions : Extensions) → Alike bag other
-    → SameDefined (defined_names bag extensions) (defined_names other extensions)
+    → SameDefined (definitions bag extensions) (definitions other extensions)
 same_defined bag other extensions alike = record {
   common = common_name_there bag other extensions alike;
   common_back = common_name_there other bag extensions (Alike-sym bag other alike);

@@ -1,10 +1,10 @@
 -- Bags that are alike have the same faults.
-use Rattle.std.proofs.Common.{◌≡◌, ◌≢◌, ◌⊎◌, ◌+◌, ◌≤◌, ℕ, Bool, true, false, List, [], ◌∷◌, ◌++◌, Option, Some, None, map, ap, sym, subst, ◌∙◌, refl, inl, inr, ⊎_elim, arith, Contains}
+use Rattle.std.proofs.Common.{◌≡◌, Bool, List, [], ◌∷◌, ◌++◌, Option, map, ap, sym, subst, ◌∙◌, refl, inl, inr, ⊎_elim, arith, Contains}
 use Rattle.std.proofs.lemmas.Bool.Decides.{Decides-like}
 use Rattle.std.proofs.lemmas.List.{map-append}
 use Rattle.std.proofs.lemmas.List.Elements.{Contains-append_left, Contains-append_right, Contains-append_cases}
 use Rattle.std.specs.Bool.{Decides}
-use Rattle.std.specs.List.{flat_map, sum_by}
+use Rattle.std.specs.List.{flat_map}
 use Rattle.std.specs.Ordering.{is_eq}
 use Rattle.cedar_below.proofs.PlainNames.{name_cmp-Equal, uid_cmp-Equal}
 use Rattle.cedar_below.specs.PlainName.{PlainName, name_cmp}
@@ -25,14 +25,15 @@ use Rattle.cedar_declared.proofs.DefinedLemmas.{resolves_there, unresolved_there
 use Rattle.cedar_declared.proofs.MentionLemmas.{ties}
 use Rattle.cedar_declared.proofs.OccurrenceLemmas.{Contains-image}
 use Rattle.cedar_declared.proofs.ResolutionLemmas.{IsFirst-like}
-use Rattle.cedar_declared.specs.Bag.{Bag, common_in, entity_in, action_in, declared_name, declared_uid, declared_common, declared_entities, declared_actions, declared_types, action_uids, built_ins, defined_names}
-use Rattle.cedar_below.specs.Chain.{Chain, one}
+use Rattle.cedar_declared.specs.Bag.{Bag, common_in, entity_in, action_in, declared_name, declared_uid, declared_common, declared_entities, declared_types, action_uids, built_ins, definitions}
+use Rattle.cedar_below.specs.Chain.{one}
 use Rattle.cedar_declared.specs.Counted.{CountsInEntity, CountsInRequests, CountsIn, IsCounted, entity_parents, IsPrincipalOrResource, IsEntityPlace, IsPlaced, HasToResolve}
-use Rattle.cedar_declared.specs.Descent.{NamesAction, NamesNoAction, HasParent, HasParentAction, IsDescendant, IsDescendantAction}
+use Rattle.cedar_declared.specs.Names.{NamesAction}
+use Rattle.cedar_declared.specs.Descent.{HasParent, HasParentAction, IsDescendant, IsDescendantAction}
 use Rattle.cedar_declared.specs.Fault.{Fault, action_attributes, open_record, undeclared_entity_types, type_not_defined, action_not_defined, type_shadowing, action_shadowing, duplicate_entity_type, duplicate_common_type, duplicate_action, action_cycle, common_type_cycle, action_entity_type, shape_not_record, context_not_record, unknown_extension_type, reserved_name, external_below_enumerated}
 use Rattle.cedar_declared.specs.IllFormed.{HasAttributes, HasUnknownParent, RefersToCommon, IsFault}
 use Rattle.cedar_declared.specs.Occurrences.{Twice}
-use Rattle.cedar_declared.specs.SameBag.{SameEntityBody, SameRequests, SameActionBody, SameBody, SameDeclaration}
+use Rattle.cedar_declared.specs.SameBag.{SameEntityBody, SameRequests, SameBody, SameDeclaration}
 
 -- what counts in what is declared of an entity type counts in the same
 entity_counts : (body other : EntityBody) (expr : Expr) → SameEntityBody body other → CountsInEntity body expr → CountsInEntity other expr
@@ -182,7 +183,8 @@ module _ (bag other : Bag) (extensions : Extensions) (alike : Alike bag other) w
       ⊎_elim (λ counts. inl (counts.0, counted_there counts.0 counts.1, counts.2)) (λ placed. inr (placed_there reference placed)) has
 
   -- a reference to an action names the same
-  names_action_there : (reference : ActionReference) (uid : PlainUid) → NamesAction bag reference uid → NamesAction other reference uid
+  names_action_there : (reference : ActionReference) (uid : PlainUid) → NamesAction (action_uids bag) reference uid
+      → NamesAction (action_uids other) reference uid
   names_action_there reference uid names = (
     IsFirst-like (λ ty. Contains (action_uids bag) (record { ty = ty; eid = reference.id }))
         (λ ty. Contains (action_uids other) (record { ty = ty; eid = reference.id }))
@@ -199,7 +201,7 @@ module _ (bag other : Bag) (extensions : Extensions) (alike : Alike bag other) w
         reference,
         found.1,
         parent_there body found.0 reference found.2 parent,
-        resolves_there (defined_names bag extensions) (defined_names other extensions)
+        resolves_there (definitions bag extensions) (definitions other extensions)
             (same_defined bag other extensions alike) reference upper resolves,
       )
 
@@ -219,8 +221,8 @@ module _ (bag other : Bag) (extensions : Extensions) (alike : Alike bag other) w
       (λ a b step. one (has_parent_action_there a b step))
 
   -- a common type of the one refers to another as in the other
-  refers_there : (name to : PlainName) → RefersToCommon (defined_names bag extensions) name to
-      → RefersToCommon (defined_names other extensions) name to
+  refers_there : (name to : PlainName) → RefersToCommon (definitions bag extensions) name to
+      → RefersToCommon (definitions other extensions) name to
   refers_there name to (definition, reference, body, among, refers, resolves, is_common) =
       let same = same_defined bag other extensions alike in (
         definition,
@@ -228,7 +230,7 @@ module _ (bag other : Bag) (extensions : Extensions) (alike : Alike bag other) w
         body,
         same.common (name, definition) among,
         refers,
-        resolves_there (defined_names bag extensions) (defined_names other extensions) same reference to resolves,
+        resolves_there (definitions bag extensions) (definitions other extensions) same reference to resolves,
         (is_common.0, same.common (to, body) is_common.1),
       )
 
@@ -385,8 +387,8 @@ module _ (bag other : Bag) (extensions : Extensions) (alike : Alike bag other) w
           found.0,
           found.1,
           placed_there found.1 found.2,
-          resolves_there (defined_names bag extensions)
-              (defined_names other extensions) (same_defined bag other extensions alike) found.1 name found.3,
+          resolves_there (definitions bag extensions)
+              (definitions other extensions) (same_defined bag other extensions alike) found.1 name found.3,
         )),
   )
   fault_there (type_not_defined references) at_fault = (
@@ -394,8 +396,8 @@ module _ (bag other : Bag) (extensions : Extensions) (alike : Alike bag other) w
     λ reference among.
         (let found = at_fault.1 reference among in (
           has_to_there reference found.0,
-          unresolved_there (defined_names bag extensions)
-              (defined_names other extensions) (same_defined bag other extensions alike) reference found.1,
+          unresolved_there (definitions bag extensions)
+              (definitions other extensions) (same_defined bag other extensions alike) reference found.1,
         )),
   )
   fault_there (action_not_defined actions) at_fault =
@@ -409,7 +411,7 @@ module _ (bag other : Bag) (extensions : Extensions) (alike : Alike bag other) w
   fault_there (duplicate_action uid) at_fault = twice_action uid at_fault
   fault_there (action_cycle uid) at_fault = descendant_action_there uid uid at_fault
   fault_there (common_type_cycle name) at_fault =
-      chain_of_chains (RefersToCommon (defined_names bag extensions)) (RefersToCommon (defined_names other extensions))
+      chain_of_chains (RefersToCommon (definitions bag extensions)) (RefersToCommon (definitions other extensions))
       (λ a b step. one (refers_there a b step)) name name at_fault
   fault_there (action_entity_type name) at_fault =
       let found = entity_there bag other alike name at_fault.0 at_fault.1 in (found.0, found.1, at_fault.2)
@@ -419,8 +421,8 @@ module _ (bag other : Bag) (extensions : Extensions) (alike : Alike bag other) w
         at_fault.1,
         found.1,
         found.2,
-        no_record_there (defined_names bag extensions)
-            (defined_names other extensions) (same_defined bag other extensions alike) at_fault.1 at_fault.4,
+        no_record_there (definitions bag extensions)
+            (definitions other extensions) (same_defined bag other extensions alike) at_fault.1 at_fault.4,
       )
   fault_there (context_not_record uid) at_fault =
       let found = action_there bag other alike uid at_fault.0 at_fault.4 in
@@ -431,8 +433,8 @@ module _ (bag other : Bag) (extensions : Extensions) (alike : Alike bag other) w
         at_fault.3,
         found.1,
         same.2,
-        no_record_there (defined_names bag extensions)
-            (defined_names other extensions) (same_defined bag other extensions alike) at_fault.3 at_fault.6,
+        no_record_there (definitions bag extensions)
+            (definitions other extensions) (same_defined bag other extensions alike) at_fault.3 at_fault.6,
       )
   fault_there (unknown_extension_type name) at_fault = (at_fault.0, counted_there at_fault.0 at_fault.1, at_fault.2, at_fault.3, at_fault.4)
   fault_there (reserved_name name) at_fault = (

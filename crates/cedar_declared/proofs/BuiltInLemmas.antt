@@ -18,7 +18,7 @@ use Rattle.cedar_names.specs.Expr.{Expr, extension_expr}
 use Rattle.cedar_names.specs.Reference.{Reference, path_within}
 use Rattle.cedar_declared.proofs.OccurrenceLemmas.{Twice-distinct, Twice-append, value_once, Contains-filter}
 use Rattle.cedar_declared.proofs.ResolutionLemmas.{HasOneDefinition}
-use Rattle.cedar_declared.specs.Bag.{Bag, common_in, declared_name, declared_common, is_type, is_declared_here, built_in_types, built_in_name, alias_name, built_ins, aliases, defined_names}
+use Rattle.cedar_declared.specs.Bag.{Bag, common_in, declared_name, declared_common, is_type, is_declared_here, built_in_types, built_in_name, alias_name, built_ins, aliases, definitions}
 use Rattle.cedar_declared.specs.Mentions.{Refers}
 use Rattle.cedar_declared.specs.Occurrences.{Twice}
 
@@ -190,14 +190,14 @@ alias_apart bag extensions name body other alias among =
 
 -- a common type is declared or built in, or an alias
 pub common_cases : (bag : Bag) (extensions : Extensions) (it : PlainName × Expr)
-    → Contains (defined_names bag extensions).common it → Contains (declared_common bag ++ built_ins extensions) it
+    → Contains (definitions bag extensions).common it → Contains (declared_common bag ++ built_ins extensions) it
     ⊎ Contains (aliases bag extensions) it
 common_cases bag extensions it among = Contains-append_cases (declared_common bag ++ built_ins extensions) (aliases bag extensions) it among
 
 -- where no common type is declared twice, each common name has one definition
 pub one_definition : (bag : Bag) (extensions : Extensions) → TypeNamesFit (extension_types extensions)
     → ((name : PlainName) → ¬ Twice (map (λ it. it.0) (declared_common bag ++ built_ins extensions)) name)
-    → HasOneDefinition (defined_names bag extensions)
+    → HasOneDefinition (definitions bag extensions)
 one_definition bag extensions fit once name body other among among' =
     ⊎_elim
     (λ here. ⊎_elim
@@ -228,7 +228,7 @@ built_in_refers extensions word body reference (suc (suc (suc k)), below, is) re
 
 -- a common type that refers to something is declared
 pub refers_declared : (bag : Bag) (extensions : Extensions) (name : PlainName) (body : Expr) (reference : Reference)
-    → Contains (defined_names bag extensions).common (name, body) → Refers body reference → Contains (declared_common bag) (name, body)
+    → Contains (definitions bag extensions).common (name, body) → Refers body reference → Contains (declared_common bag) (name, body)
 refers_declared bag extensions name body reference among refers =
     ⊎_elim
     (λ here. ⊎_elim

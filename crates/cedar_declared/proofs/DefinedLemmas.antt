@@ -1,11 +1,14 @@
 -- Where the same names are defined, references and expressions mean the same.
-use Rattle.std.proofs.Common.{◌≡◌, ◌⊎◌, List, [], ◌∷◌, inl, inr, ⊎_elim, Contains}
+use Rattle.std.proofs.Common.{inl, inr, ⊎_elim, subst, Contains}
+use Rattle.cedar_below.proofs.Lists.{Contains-preimage}
 use Rattle.cedar_below.specs.PlainName.{PlainName}
 use Rattle.cedar_names.specs.Expr.{Expr, Members}
 use Rattle.cedar_names.specs.Reference.{Reference}
 use Rattle.cedar_names.specs.declared.json_schema.reference_type.ReferenceType.{ReferenceType}
+use Rattle.cedar_declared.proofs.OccurrenceLemmas.{Contains-image}
 use Rattle.cedar_declared.proofs.ResolutionLemmas.{IsFirst-like}
-use Rattle.cedar_declared.specs.Defined.{Defined, IsDefined, IsCommon, IsEntity, ResolvesTo, IsUnresolved}
+use Rattle.cedar_declared.specs.Defined.{Defined, names_of}
+use Rattle.cedar_declared.specs.Names.{IsDefined, ResolvesTo, IsUnresolved}
 use Rattle.cedar_declared.specs.WrittenOut.{WrittenOut, MembersWrittenOut, IsNoRecord, as_text, as_long, as_truth, as_set, as_record, as_entity, as_common, as_extension, as_no_member, as_member}
 use Rattle.cedar_rules.specs.Ty.{Ty, Fields}
 
@@ -26,30 +29,46 @@ SameDefined-sym defined other same = record {
 }
 
 module _ (defined other : Defined) (same : SameDefined defined other) where
+  -- the name of a common type of the one is one of the other
+  common_there : (name : PlainName) → Contains (names_of defined).common name → Contains (names_of other).common name
+  common_there name among =
+      let key = λ (each : PlainName × Expr). each.0 in
+      let it = Contains-preimage key defined.common name among in
+      let P : PlainName → Type 0 = Contains (names_of other).common in
+      subst P it.2 (Contains-image key other.common it.0 (same.common it.0 it.1))
+
+  -- and the other way round
+  common_here : (name : PlainName) → Contains (names_of other).common name → Contains (names_of defined).common name
+  common_here name among =
+      let key = λ (each : PlainName × Expr). each.0 in
+      let it = Contains-preimage key other.common name among in
+      let P : PlainName → Type 0 = Contains (names_of defined).common in
+      subst P it.2 (Contains-image key defined.common it.0 (same.common_back it.0 it.1))
+
   -- a name is defined in the one as in the other
-  defined_there : (kind : ReferenceType) (name : PlainName) → IsDefined defined kind name → IsDefined other kind name
+  defined_there : (kind : ReferenceType) (name : PlainName) → IsDefined (names_of defined) kind name → IsDefined (names_of other) kind name
   defined_there kind name found =
       ⊎_elim
-      (λ common. inl (common.0, (common.1.0, same.common (name, common.0) common.1.1)))
+      (λ common. inl (common.0, common_there name common.1))
       (λ is_entity. inr (is_entity.0, same.entities name is_entity.1))
       found
 
   -- and the other way round
-  defined_here : (kind : ReferenceType) (name : PlainName) → IsDefined other kind name → IsDefined defined kind name
+  defined_here : (kind : ReferenceType) (name : PlainName) → IsDefined (names_of other) kind name → IsDefined (names_of defined) kind name
   defined_here kind name found =
       ⊎_elim
-      (λ common. inl (common.0, (common.1.0, same.common_back (name, common.0) common.1.1)))
+      (λ common. inl (common.0, common_here name common.1))
       (λ is_entity. inr (is_entity.0, same.entities_back name is_entity.1))
       found
 
   -- a reference resolves alike
-  pub resolves_there : (reference : Reference) (name : PlainName) → ResolvesTo defined reference name → ResolvesTo other reference name
+  pub resolves_there : (reference : Reference) (name : PlainName) → ResolvesTo (names_of defined) reference name → ResolvesTo (names_of other) reference name
   resolves_there reference name resolves =
-      IsFirst-like (IsDefined defined reference.kind) (IsDefined other reference.kind) (defined_there reference.kind)
+      IsFirst-like (IsDefined (names_of defined) reference.kind) (IsDefined (names_of other) reference.kind) (defined_there reference.kind)
       (defined_here reference.kind) reference.possibilities name resolves
 
   -- a reference is unresolved alike
-  pub unresolved_there : (reference : Reference) → IsUnresolved defined reference → IsUnresolved other reference
+  pub unresolved_there : (reference : Reference) → IsUnresolved (names_of defined) reference → IsUnresolved (names_of other) reference
   unresolved_there reference unresolved name among found = unresolved name among (defined_here reference.kind name found)
 
   mutual

@@ -1,5 +1,5 @@
 -- The environments of a declared schema are the declared ones.
-use Rattle.std.proofs.Common.{◌≡◌, sym, subst, Contains}
+use Rattle.std.proofs.Common.{◌≡◌, subst, Contains}
 use Rattle.cedar_below.proofs.Lists.{Contains-preimage}
 use Rattle.cedar_below.specs.Extensions.{extension_types}
 use Rattle.cedar_below.specs.PlainUid.{PlainUid}
@@ -8,7 +8,7 @@ use Rattle.cedar_below.specs.declared.extension.Extensions.{Extensions}
 use Rattle.cedar_declared.proofs.BuiltInLemmas.{one_definition}
 use Rattle.cedar_declared.proofs.OccurrenceLemmas.{Contains-image, value_once}
 use Rattle.cedar_declared.proofs.ResolutionLemmas.{HasOneDefinition, written_once}
-use Rattle.cedar_declared.specs.Bag.{Bag, declared_actions, defined_names}
+use Rattle.cedar_declared.specs.Bag.{Bag, declared_actions, definitions}
 use Rattle.cedar_declared.specs.DeclaredSchema.{IsDeclaredActionKind, IsDeclaredSchema}
 use Rattle.cedar_declared.specs.Defined.{Defined}
 use Rattle.cedar_declared.specs.Environments.{Environment, IsRequestOf, IsEnvironmentOf, IsDeclaredRequest, IsDeclaredEnvironment}
@@ -43,13 +43,13 @@ module _ (bag : Bag) (extensions : Extensions) (fit : TypeNamesFit (extension_ty
       let action = declared.actions (it.action, found.0) found.1 in (
         action.body,
         action.declared,
-        declared_request (defined_names bag extensions) action.body.applies_to found.0.kind it action.kind found.2,
+        declared_request (definitions bag extensions) action.body.applies_to found.0.kind it action.kind found.2,
       )
 
   -- a declared environment is one of the schema
   pub declared_environment : (it : Environment) → IsDeclaredEnvironment bag extensions it → IsEnvironmentOf schema it
   declared_environment it found =
-      let defined = defined_names bag extensions in
+      let defined = definitions bag extensions in
       let named = declared.each_action it.action
       (Contains-image (λ (each : PlainUid × ActionBody). each.0) (declared_actions bag) (it.action, found.0) found.1) in
       let there = Contains-preimage (λ (each : PlainUid × SchemaAction). each.0) schema.actions it.action named in

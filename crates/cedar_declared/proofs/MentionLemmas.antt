@@ -21,7 +21,7 @@ use Rattle.cedar_names.specs.Declaration.{Body}
 use Rattle.cedar_names.specs.Expr.{Expr, Members, extension_expr}
 use Rattle.cedar_declared.proofs.BuiltInLemmas.{alias_of, common_cases}
 use Rattle.cedar_declared.proofs.DeclarationLemmas.{common_declaration}
-use Rattle.cedar_declared.specs.Bag.{Bag, declared_common, defined_names, built_ins, built_in_types, built_in_name, alias_name}
+use Rattle.cedar_declared.specs.Bag.{Bag, declared_common, definitions, built_ins, built_in_types, built_in_name, alias_name}
 use Rattle.cedar_declared.specs.Counted.{CountsIn, IsCounted}
 use Rattle.cedar_declared.specs.Defined.{Defined}
 use Rattle.cedar_declared.specs.Fault.{unknown_extension_type}
@@ -150,7 +150,7 @@ known_built_in extensions fit word body (suc (suc (suc k)), below, is) other men
 -- where the bag isn't ill-formed, each definition mentions known extension types alone
 pub known_common : (bag : Bag) (extensions : Extensions) → TypeNamesFit (extension_types extensions)
     → ¬ IsIllFormed bag extensions → (name : PlainName) (body : Expr)
-    → Contains (defined_names bag extensions).common (name, body) → HasKnownExtensions extensions body
+    → Contains (definitions bag extensions).common (name, body) → HasKnownExtensions extensions body
 known_common bag extensions fit well name body among =
     ⊎_elim
     (λ here. ⊎_elim

@@ -1,9 +1,10 @@
 -- References resolve to one name, and an expression is written out as one type.
-use Rattle.std.proofs.Common.{◌≡◌, List, [], ◌∷◌, ap, sym, subst, ◌∙◌, refl, inl, inr, ⊎_elim, Contains, ◌⊎◌, suc, arith}
+use Rattle.std.proofs.Common.{◌≡◌, List, [], ◌∷◌, ap, sym, subst, ◌∙◌, refl, inl, inr, ⊎_elim, Contains, suc, arith}
 use Rattle.cedar_below.specs.PlainName.{PlainName}
 use Rattle.cedar_names.specs.Expr.{Expr}
 use Rattle.cedar_names.specs.Reference.{Reference}
-use Rattle.cedar_declared.specs.Defined.{Defined, IsDefined, IsCommon, ResolvesTo}
+use Rattle.cedar_declared.specs.Defined.{Defined, IsCommon, names_of}
+use Rattle.cedar_declared.specs.Names.{Names, MayNameCommon, IsDefined, ResolvesTo}
 use Rattle.cedar_declared.specs.Occurrences.{IsFirst}
 use Rattle.cedar_declared.specs.WrittenOut.{WrittenOut, MembersWrittenOut, as_text, as_long, as_truth, as_set, as_record, as_entity, as_common, as_extension, as_no_member, as_member}
 use Rattle.cedar_rules.specs.Ty.{Ty, Fields, set_of, record_of, union_of, field}
@@ -35,11 +36,11 @@ HasOneDefinition defined =
 
 -- the definitions that a reference names are the same
 pub same_definition : (defined : Defined) → HasOneDefinition defined
-    → (reference : Reference) (name name' : PlainName) (body body' : Expr) → ResolvesTo defined reference name
-    → ResolvesTo defined reference name' → IsCommon defined reference.kind name body
+    → (reference : Reference) (name name' : PlainName) (body body' : Expr) → ResolvesTo (names_of defined) reference name
+    → ResolvesTo (names_of defined) reference name' → IsCommon defined reference.kind name body
     → IsCommon defined reference.kind name' body' → body ≡ body'
 same_definition defined one reference name name' body body' resolves resolves' common common' =
-    let same : name ≡ name' = IsFirst-same (IsDefined defined reference.kind) reference.possibilities name name' resolves resolves' in
+    let same : name ≡ name' = IsFirst-same (IsDefined (names_of defined) reference.kind) reference.possibilities name name' resolves resolves' in
     let P : PlainName → Type 0 = λ each. Contains defined.common (each, body') in
     one name body body' common.1 (subst P (sym same) common'.1)
 
@@ -55,16 +56,16 @@ mutual
       ap (λ fields. record_of fields ClosedAttributes) (members_written_once defined one members others)
   written_once defined one (as_entity reference name resolves is_entity no_common)
       (as_entity reference' name' resolves' is_entity' no_common') =
-      ap (λ each. union_of (each ∷ [])) (IsFirst-same (IsDefined defined reference.kind) reference.possibilities name
+      ap (λ each. union_of (each ∷ [])) (IsFirst-same (IsDefined (names_of defined) reference.kind) reference.possibilities name
       name' resolves resolves')
   written_once defined one (as_entity reference name resolves is_entity no_common)
       (as_common reference' name' body resolves' is_common written) =
-      let same : name ≡ name' = IsFirst-same (IsDefined defined reference.kind) reference.possibilities name name' resolves resolves' in
+      let same : name ≡ name' = IsFirst-same (IsDefined (names_of defined) reference.kind) reference.possibilities name name' resolves resolves' in
       let P : PlainName → Type 0 = λ each. IsCommon defined reference.kind each body in
       absurd (no_common body (subst P (sym same) is_common))
   written_once defined one (as_common reference name body resolves is_common written)
       (as_entity reference' name' resolves' is_entity' no_common) =
-      let same : name ≡ name' = IsFirst-same (IsDefined defined reference.kind) reference.possibilities name name' resolves resolves' in
+      let same : name ≡ name' = IsFirst-same (IsDefined (names_of defined) reference.kind) reference.possibilities name name' resolves resolves' in
       let P : PlainName → Type 0 = λ each. IsCommon defined reference.kind each body in
       absurd (no_common body (subst P same is_common))
   written_once defined one {ty = ty} {ty' = ty'} (as_common reference name body resolves is_common written)
@@ -84,7 +85,7 @@ mutual
       ∙ ap (λ each. field name required each others) (written_once defined one first first')
 
 -- the name that a list of possibilities resolves to is one of them, and is defined
-pub first_defined : (defined : Defined) (kind : ReferenceType) (names : List PlainName) (name : PlainName)
+pub first_defined : (defined : Names) (kind : ReferenceType) (names : List PlainName) (name : PlainName)
     → IsFirst (IsDefined defined kind) names name → Contains names name × IsDefined defined kind name
 first_defined defined kind [] name none = absurd none
 first_defined defined kind (first ∷ rest) name found =
@@ -94,8 +95,7 @@ first_defined defined kind (first ∷ rest) name found =
     found
 
 -- a reference to an entity type names no common type
-pub names_no_common : (defined : Defined) (kind : ReferenceType) (name : PlainName) (body : Expr) → kind ≡ Entity
-    → ¬ IsCommon defined kind name body
-names_no_common defined Common name body is common = cc
-names_no_common defined Entity name body is common = common.0
-names_no_common defined CommonOrEntity name body is common = cc
+pub names_no_common : (kind : ReferenceType) → kind ≡ Entity → ¬ MayNameCommon kind
+names_no_common Common is may = cc
+names_no_common Entity is may = may
+names_no_common CommonOrEntity is may = cc

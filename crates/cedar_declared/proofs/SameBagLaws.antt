@@ -1,5 +1,5 @@
 -- Bags that are the same are ill-formed both or neither, and declare the same schemas.
-use Rattle.std.proofs.Common.{◌≡◌, ◌↔◌, List, Option, Some, None, map, ap, sym, subst, ◌∙◌, refl, Contains}
+use Rattle.std.proofs.Common.{◌↔◌, List, Option, Some, None, map, sym, subst, ◌∙◌, Contains}
 use Rattle.cedar_below.specs.PlainName.{PlainName}
 use Rattle.cedar_below.specs.PlainUid.{PlainUid}
 use Rattle.cedar_below.specs.declared.extension.Extensions.{Extensions}
@@ -13,13 +13,12 @@ use Rattle.cedar_declared.proofs.AlikeLemmas.{Alike, Alike-sym, SameBag-Alike}
 use Rattle.cedar_below.proofs.Lists.{Contains-preimage}
 use Rattle.cedar_declared.proofs.DefinedLemmas.{SameDefined, resolves_there, written_there}
 use Rattle.cedar_declared.proofs.OccurrenceLemmas.{Contains-image}
-use Rattle.cedar_declared.specs.Bag.{Bag, declared_entities, declared_actions, defined_names}
+use Rattle.cedar_declared.specs.Bag.{Bag, declared_actions, definitions}
 use Rattle.cedar_declared.specs.DeclaredSchema.{IsDeclaredEntityType, IsNamedBy, IsDeclaredActionKind, IsDeclaredAction, IsDefinedAction, IsEntityOfAction, IsDeclaredSchema, IsDeclaredKind, AreDeclaredTags}
-use Rattle.cedar_declared.specs.Defined.{Defined}
+use Rattle.cedar_declared.specs.Defined.{Defined, names_of}
 use Rattle.cedar_declared.specs.EndToEnd.{SameBagsDeclareTheSame}
-use Rattle.cedar_declared.specs.IllFormed.{IsIllFormed}
 use Rattle.cedar_declared.specs.PlainSchema.{SchemaEntityType, ActionKind, defined_action, external_action, SchemaAction, ActionEntity, PlainSchema}
-use Rattle.cedar_declared.specs.SameBag.{SameEntityBody, SameRequests, SameBag}
+use Rattle.cedar_declared.specs.SameBag.{SameEntityBody, SameRequests}
 use Rattle.cedar_below.specs.Lists.{SameItems}
 use Rattle.cedar_declared.specs.WrittenOut.{WrittenOut}
 use Rattle.cedar_declared.specs.EntityTypeKind.{EntityTypeKind, standard_kind, enumerated_kind, external_kind}
@@ -58,15 +57,15 @@ module _ (defined other : Defined) (same : SameDefined defined other) where
 
   -- what some references name the same name
   named_there : (references others : List Reference) (name : PlainName) → SameItems references others
-      → IsNamedBy defined references name → IsNamedBy other others name
+      → IsNamedBy (names_of defined) references name → IsNamedBy (names_of other) others name
   named_there references others name alike (reference, among, resolves) =
       (reference, (alike reference).0 among, resolves_there defined other same reference name resolves)
 
 -- and the other way round
 named_both : (defined other : Defined) → SameDefined defined other → SameDefined other defined
     → (references others names : List _) → SameItems references others
-    → ((name : PlainName) → Contains names name ↔ IsNamedBy defined references name) → (name : PlainName)
-    → Contains names name ↔ IsNamedBy other others name
+    → ((name : PlainName) → Contains names name ↔ IsNamedBy (names_of defined) references name) → (name : PlainName)
+    → Contains names name ↔ IsNamedBy (names_of other) others name
 named_both defined other same back references others names alike each name = (
   λ among. named_there defined other same references others name alike ((each name).0 among),
   λ named. (each name).1 (named_there other defined back others references name (λ item. ((alike item).1, (alike item).0)) named),
@@ -103,7 +102,7 @@ module _ (bag other : Bag) (extensions : Extensions) (alike : Alike bag other) w
         body = found.0;
         declared = found.1;
         name = declared.name;
-        kind = kind_there (defined_names bag extensions) (defined_names other extensions)
+        kind = kind_there (definitions bag extensions) (definitions other extensions)
             (same_defined bag other extensions alike) declared.body found.0 it.1.kind found.2 declared.kind;
         descendants = λ lower. (
           λ among. descendant_there bag other extensions alike lower it.0 ((declared.descendants lower).0 among),
@@ -119,7 +118,7 @@ module _ (bag other : Bag) (extensions : Extensions) (alike : Alike bag other) w
         body = found.0;
         declared = found.1;
         uid = declared.uid;
-        kind = action_kind_there (defined_names bag extensions) (defined_names other extensions)
+        kind = action_kind_there (definitions bag extensions) (definitions other extensions)
             (same_defined bag other extensions alike) (same_defined other bag extensions flipped)
             declared.body.applies_to found.0.applies_to it.1.kind found.2.2 declared.kind;
         descendants = λ lower. (

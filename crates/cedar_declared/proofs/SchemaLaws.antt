@@ -14,9 +14,9 @@ use Rattle.cedar_declared.proofs.AdmitsLemmas.{has_admitted, admitted_of}
 use Rattle.cedar_declared.proofs.BuiltInLemmas.{one_definition}
 use Rattle.cedar_declared.proofs.OccurrenceLemmas.{Contains-image, value_once}
 use Rattle.cedar_declared.proofs.ResolutionLemmas.{HasOneDefinition, written_once}
-use Rattle.cedar_declared.specs.Bag.{Bag, declared_entities, declared_actions, defined_names}
+use Rattle.cedar_declared.specs.Bag.{Bag, declared_entities, declared_actions, definitions}
 use Rattle.cedar_declared.specs.DeclaredSchema.{IsDeclaredEntityType, IsNamedBy, IsDeclaredActionKind, IsDeclaredAction, IsDefinedAction, IsEntityOfAction, IsDeclaredSchema, IsDeclaredKind, AreDeclaredTags}
-use Rattle.cedar_declared.specs.Defined.{Defined}
+use Rattle.cedar_declared.specs.Defined.{Defined, names_of}
 use Rattle.cedar_declared.specs.Descent.{IsDescendant, IsDescendantAction}
 use Rattle.cedar_declared.specs.EndToEnd.{AdmitsTheSame, TypesAdmitTheDeclared}
 use Rattle.cedar_declared.specs.Fault.{duplicate_entity_type, duplicate_common_type, duplicate_action}
@@ -33,7 +33,7 @@ use Rattle.cedar_rules.specs.declared.open_tag.OpenTag.TheVariants.{ClosedAttrib
 
 -- in a bag that isn't ill-formed each common name has one definition
 pub one_of_well_formed : (bag : Bag) (extensions : Extensions) → TypeNamesFit (extension_types extensions)
-    → ¬ IsIllFormed bag extensions → HasOneDefinition (defined_names bag extensions)
+    → ¬ IsIllFormed bag extensions → HasOneDefinition (definitions bag extensions)
 one_of_well_formed bag extensions fit well =
     one_definition bag extensions fit (λ name twice. well (duplicate_common_type name, twice))
 
@@ -86,9 +86,9 @@ same_items P items others first second item =
 action_kind_once : (defined : Defined) → HasOneDefinition defined → (body : Requests) (kind kind' : ActionKind)
     → IsDeclaredActionKind defined body kind → IsDeclaredActionKind defined body kind' → SameActionKind kind kind'
 action_kind_once defined one (requests principals resources context) (defined_action ps rs ty) (defined_action ps' rs' ty') fits fits' = (
-  same_items (IsNamedBy defined principals) ps ps' fits.0 fits'.0,
+  same_items (IsNamedBy (names_of defined) principals) ps ps' fits.0 fits'.0,
   same_items
-      (IsNamedBy defined resources) rs rs' fits.1 fits'.1,
+      (IsNamedBy (names_of defined) resources) rs rs' fits.1 fits'.1,
   written_once defined one fits.2 fits'.2,
 )
 action_kind_once defined one (requests principals resources context) (defined_action ps rs ty) external_action fits fits' = absurd fits'
@@ -102,7 +102,7 @@ module _ (bag : Bag) (extensions : Extensions) (fit : TypeNamesFit (extension_ty
   same_entity_type : (it other : PlainName × SchemaEntityType) → it.0 ≡ other.0 → IsDeclaredEntityType bag extensions it
       → IsDeclaredEntityType bag extensions other → SameEntityType it other
   same_entity_type it other same first second =
-      let defined = defined_names bag extensions in
+      let defined = definitions bag extensions in
       let P : PlainName → Type 0 = λ name. Contains (declared_entities bag) (name, second.body) in
       let bodies : first.body ≡ second.body = value_once (declared_entities bag)
       (λ name twice. well (duplicate_entity_type name, twice)) it.0 first.body second.body first.declared
@@ -123,7 +123,7 @@ module _ (bag : Bag) (extensions : Extensions) (fit : TypeNamesFit (extension_ty
   same_action : (it other : PlainUid × SchemaAction) → it.0 ≡ other.0 → IsDeclaredAction bag extensions it
       → IsDeclaredAction bag extensions other → SameAction it other
   same_action it other same first second =
-      let defined = defined_names bag extensions in
+      let defined = definitions bag extensions in
       let P : PlainUid → Type 0 = λ uid. Contains (declared_actions bag) (uid, second.body) in
       let bodies : first.body ≡ second.body = value_once (declared_actions bag)
       (λ uid twice. well (duplicate_action uid, twice)) it.0 first.body second.body first.declared
@@ -230,10 +230,10 @@ one_schema bag extensions fit well schema other first second =
     }
 
 -- what is written out as a type has just the values that it admits
-pub admits_the_same : (bag : Bag) (extensions : Extensions) → HasOneDefinition (defined_names bag extensions)
-    → (expr : Expr) (ty : Ty) → WrittenOut (defined_names bag extensions) expr ty → AdmitsTheSame bag extensions expr ty
+pub admits_the_same : (bag : Bag) (extensions : Extensions) → HasOneDefinition (definitions bag extensions)
+    → (expr : Expr) (ty : Ty) → WrittenOut (definitions bag extensions) expr ty → AdmitsTheSame bag extensions expr ty
 admits_the_same bag extensions one expr ty written value =
-    let defined = defined_names bag extensions in
+    let defined = definitions bag extensions in
     (λ has. admitted_of defined extensions written value has, λ admitted. has_admitted defined extensions one admitted written)
 
 -- the types of the declared schema have just the declared values
@@ -241,7 +241,7 @@ pub types_admit : (bag : Bag) (extensions : Extensions) → TypeNamesFit (extens
     → ¬ IsIllFormed bag extensions → (schema : PlainSchema) → IsDeclaredSchema bag extensions schema
     → TypesAdmitTheDeclared bag extensions schema
 types_admit bag extensions fit well schema declared =
-    let defined = defined_names bag extensions in
+    let defined = definitions bag extensions in
     let one = one_of_well_formed bag extensions fit well in
     let fits = λ (name : PlainName) (body : EntityBody) (it : SchemaEntityType)
     (among : Contains (declared_entities bag) (name, body)) (there : Contains schema.entity_types (name, it)).

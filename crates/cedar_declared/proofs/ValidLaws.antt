@@ -18,11 +18,11 @@ use Rattle.cedar_declared.proofs.DeclarationLemmas.{entity_declaration, action_d
 use Rattle.cedar_declared.proofs.MentionLemmas.{mentions_entity, known_written, known_counted, known_common}
 use Rattle.cedar_declared.proofs.ResolutionLemmas.{first_defined, names_no_common}
 use Rattle.cedar_declared.proofs.OccurrenceLemmas.{Contains-image, value_once}
-use Rattle.cedar_declared.specs.Bag.{Bag, declared_common, declared_entities, declared_actions, declared_types, action_uids, defined_names}
+use Rattle.cedar_declared.specs.Bag.{Bag, declared_common, declared_entities, declared_actions, declared_types, action_uids, definitions, defined_names}
 use Rattle.cedar_below.specs.Chain.{Chain}
 use Rattle.cedar_declared.specs.Counted.{CountsIn, IsCounted, IsPlaced, PlacesFit, CountsInEntity, CountsInRequests, entity_parents, IsPrincipalOrResource, IsEntityPlace}
 use Rattle.cedar_declared.specs.DeclaredSchema.{IsDeclaredSchema, IsDeclaredActionKind, IsDeclaredKind, AreDeclaredTags}
-use Rattle.cedar_declared.specs.Defined.{ResolvesTo}
+use Rattle.cedar_declared.specs.Names.{ResolvesTo}
 use Rattle.cedar_declared.specs.Descent.{HasParent, HasParentAction, IsDescendant, IsDescendantAction}
 use Rattle.cedar_declared.specs.Fault.{undeclared_entity_types, type_shadowing, action_shadowing, duplicate_entity_type, action_cycle, action_entity_type, external_below_enumerated}
 use Rattle.cedar_declared.specs.IllFormed.{IsIllFormed}
@@ -87,20 +87,20 @@ module _ (bag : Bag) (extensions : Extensions) (schema : PlainSchema) (fit : Typ
 
   -- a type of an entity type is what a counted expression is written out as
   kind_written : (body : EntityBody) (kind : EntityTypeKind) (ty : Ty)
-      → IsDeclaredKind (defined_names bag extensions) body kind → IsTypeOfKind kind ty → (expr : Expr)
-      × CountsInEntity body expr × WrittenOut (defined_names bag extensions) expr ty
+      → IsDeclaredKind (definitions bag extensions) body kind → IsTypeOfKind kind ty → (expr : Expr)
+      × CountsInEntity body expr × WrittenOut (definitions bag extensions) expr ty
   kind_written (standard parents shape tags) (standard_kind fields openness tag_type) ty fits of_kind =
-      let P : Ty → Type 0 = WrittenOut (defined_names bag extensions) shape in
+      let P : Ty → Type 0 = WrittenOut (definitions bag extensions) shape in
       ⊎_elim
       (λ same. (shape, inl refl, subst P (sym (same ∙ ap (record_of fields) fits.1)) fits.0))
       (λ same. tags_written tags tag_type fits.2 same)
       of_kind
     where
       tags_written : (tags : Option Expr) (tag_type : Option Ty)
-          → AreDeclaredTags (defined_names bag extensions) tags tag_type → tag_type ≡ Some ty → (expr : Expr)
-          × ((shape ≡ expr) ⊎ (tags ≡ Some expr)) × WrittenOut (defined_names bag extensions) expr ty
+          → AreDeclaredTags (definitions bag extensions) tags tag_type → tag_type ≡ Some ty → (expr : Expr)
+          × ((shape ≡ expr) ⊎ (tags ≡ Some expr)) × WrittenOut (definitions bag extensions) expr ty
       tags_written (Some expr) (Some other) written same =
-          let P : Option Ty → Type 0 = AreDeclaredTags (defined_names bag extensions) (Some expr) in (expr, inr refl, subst P same written)
+          let P : Option Ty → Type 0 = AreDeclaredTags (definitions bag extensions) (Some expr) in (expr, inr refl, subst P same written)
       tags_written (Some expr) None written same = absurd written
       tags_written None (Some other) written same = absurd written
       tags_written None None written same = absurd cc
@@ -115,16 +115,16 @@ module _ (bag : Bag) (extensions : Extensions) (schema : PlainSchema) (fit : Typ
 
   -- a context of an action is what a counted expression is written out as
   context_written : (body : Requests) (kind : ActionKind) (ty : Ty)
-      → IsDeclaredActionKind (defined_names bag extensions) body kind → IsContextOf kind ty → (expr : Expr)
-      × CountsInRequests body expr × WrittenOut (defined_names bag extensions) expr ty
+      → IsDeclaredActionKind (definitions bag extensions) body kind → IsContextOf kind ty → (expr : Expr)
+      × CountsInRequests body expr × WrittenOut (definitions bag extensions) expr ty
   context_written (requests principals resources context) (defined_action ps rs other) ty fits same =
-      let P : Ty → Type 0 = WrittenOut (defined_names bag extensions) context in (context, refl, subst P same fits.2)
+      let P : Ty → Type 0 = WrittenOut (definitions bag extensions) context in (context, refl, subst P same fits.2)
   context_written (requests principals resources context) external_action ty fits same = absurd same
   context_written elsewhere (defined_action ps rs other) ty fits same = absurd fits
   context_written elsewhere external_action ty fits same = absurd same
 
   -- each type of the schema is what a counted expression is written out as
-  type_written : (ty : Ty) → IsTypeIn schema ty → (expr : Expr) × IsCounted bag expr × WrittenOut (defined_names bag extensions) expr ty
+  type_written : (ty : Ty) → IsTypeIn schema ty → (expr : Expr) × IsCounted bag expr × WrittenOut (definitions bag extensions) expr ty
   type_written ty type_in =
       ⊎_elim
       (λ of_entity.
@@ -162,7 +162,7 @@ module _ (bag : Bag) (extensions : Extensions) (schema : PlainSchema) (fit : Typ
       × Contains (declared_entities bag) (name, external parents)
   declared_external name (it, there, is_external) =
       let found = declared.entity_types (name, it) there in by found.body it.kind found.kind is_external found.declared where
-        by : (body : EntityBody) (kind : EntityTypeKind) → IsDeclaredKind (defined_names bag extensions) body kind
+        by : (body : EntityBody) (kind : EntityTypeKind) → IsDeclaredKind (definitions bag extensions) body kind
             → IsExternal kind → Contains (declared_entities bag) (name, body) → (parents : List Reference)
             × Contains (declared_entities bag) (name, external parents)
         by (external parents) kind fits is_external among = (parents, among)
@@ -178,7 +178,7 @@ module _ (bag : Bag) (extensions : Extensions) (schema : PlainSchema) (fit : Typ
       × Contains (declared_entities bag) (name, enumerated choices)
   declared_enumerated name (it, there, is_enumerated) =
       let found = declared.entity_types (name, it) there in by found.body it.kind found.kind is_enumerated found.declared where
-        by : (body : EntityBody) (kind : EntityTypeKind) → IsDeclaredKind (defined_names bag extensions) body kind
+        by : (body : EntityBody) (kind : EntityTypeKind) → IsDeclaredKind (definitions bag extensions) body kind
             → IsEnumerated kind → Contains (declared_entities bag) (name, body) → (choices : List Text)
             × Contains (declared_entities bag) (name, enumerated choices)
         by (enumerated choices) kind fits is_enumerated among = (choices, among)
@@ -200,7 +200,7 @@ module _ (bag : Bag) (extensions : Extensions) (schema : PlainSchema) (fit : Typ
       let P : Body → Type 0 = λ body. IsEntityPlace body place.0 in
       (place.0, (declaration.0, declaration.1, subst P (sym declaration.2) place.1), place.2)
     where
-      by : (body : Requests) (kind : ActionKind) → IsDeclaredActionKind (defined_names bag extensions) body kind
+      by : (body : Requests) (kind : ActionKind) → IsDeclaredActionKind (definitions bag extensions) body kind
           → IsPrincipalOrResourceOf kind name → (reference : Reference) × IsPrincipalOrResource body reference
           × ResolvesTo (defined_names bag extensions) reference name
       by (requests principals resources context) (defined_action ps rs ty) fits names =
@@ -216,11 +216,10 @@ module _ (bag : Bag) (extensions : Extensions) (schema : PlainSchema) (fit : Typ
   placed_entity : (reference : Reference) (name : PlainName) → IsPlaced bag reference
       → ResolvesTo (defined_names bag extensions) reference name → Contains (defined_names bag extensions).entities name
   placed_entity reference name placed resolves =
-      let defined = defined_names bag extensions in
       ⊎_elim
-      (λ common. absurd (names_no_common defined reference.kind name common.0 (places reference placed) common.1))
+      (λ common. absurd (names_no_common reference.kind (places reference placed) common.0))
       (λ is_entity. is_entity.1)
-      (first_defined defined reference.kind reference.possibilities name resolves).1
+      (first_defined (defined_names bag extensions) reference.kind reference.possibilities name resolves).1
 
   -- a principal or a resource of an action of the schema is an entity type of it
   request_known : (it : PlainUid × SchemaAction) (name : PlainName) → Contains schema.actions it
@@ -279,10 +278,10 @@ module _ (bag : Bag) (extensions : Extensions) (schema : PlainSchema) (fit : Typ
   pub declared_valid : IsValidSchema extensions schema
   declared_valid = record {
     types_known = λ ty name type_in mentions.
-        (let found = type_written ty type_in in entity_known name (mentions_entity (defined_names bag extensions) found.2 name mentions));
+        (let found = type_written ty type_in in entity_known name (mentions_entity (definitions bag extensions) found.2 name mentions));
     extensions_known = λ ty name type_in mentions.
         (let found = type_written ty type_in in
-        known_written (defined_names bag extensions) extensions (known_common bag extensions fit well) found.2
+        known_written (definitions bag extensions) extensions (known_common bag extensions fit well) found.2
         (known_counted bag extensions well found.0 found.1) name mentions);
     no_action_type = λ name has is_action. let found = declared_type name has in
         well (action_entity_type name, (found.0, found.1, is_action));

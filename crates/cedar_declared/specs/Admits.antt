@@ -8,7 +8,8 @@ use Rattle.cedar_below.specs.Tree.{Tree, truth_value, number_value, text_value, 
 use Rattle.cedar_below.specs.declared.extension.Extensions.{Extensions}
 use Rattle.cedar_names.specs.Expr.{Expr, text_expr, long_expr, truth_expr, set_expr, record_expr, named, extension_expr, Members, no_member, member}
 use Rattle.cedar_names.specs.Reference.{Reference}
-use Rattle.cedar_declared.specs.Defined.{Defined, ResolvesTo, IsCommon, IsEntity}
+use Rattle.cedar_declared.specs.Defined.{Defined, IsCommon, names_of}
+use Rattle.cedar_declared.specs.Names.{ResolvesTo, IsEntity}
 
 -- the names of a record's attributes
 abbrev pub member_names : Members → List Text
@@ -28,11 +29,11 @@ mutual
     admits_record : {values : Entries} {members : Members} {additional : Bool}
         → Included (entry_names values) (member_names members) → AdmitsMembers defined extensions values members
         → Admits defined extensions (map_value values) (record_expr members additional)
-    admits_entity : (uid : PlainUid) (reference : Reference) → ResolvesTo defined reference uid.ty
-        → IsEntity defined reference.kind uid.ty → ((body : Expr) → ¬ IsCommon defined reference.kind uid.ty body)
+    admits_entity : (uid : PlainUid) (reference : Reference) → ResolvesTo (names_of defined) reference uid.ty
+        → IsEntity (names_of defined) reference.kind uid.ty → ((body : Expr) → ¬ IsCommon defined reference.kind uid.ty body)
         → Admits defined extensions (uid_value uid) (named reference)
     admits_common : {value : Tree} (reference : Reference) (name : PlainName) (body : Expr)
-        → ResolvesTo defined reference name → IsCommon defined reference.kind name body
+        → ResolvesTo (names_of defined) reference name → IsCommon defined reference.kind name body
         → Admits defined extensions value body → Admits defined extensions value (named reference)
     admits_extension : (function : PlainName) (args : Trees) (name : Text)
         → Gives extensions function args (record { base = name; path = [] })

@@ -13,7 +13,8 @@ use Rattle.cedar_names.specs.Declaration.{Declaration, Body, common_type, entity
 use Rattle.cedar_names.specs.EntityBody.{EntityBody}
 use Rattle.cedar_names.specs.Expr.{Expr, truth_expr, long_expr, text_expr, extension_expr}
 use Rattle.cedar_names.specs.Reference.{name_within}
-use Rattle.cedar_declared.specs.Defined.{Defined}
+use Rattle.cedar_declared.specs.Defined.{Defined, names_of}
+use Rattle.cedar_declared.specs.Names.{Names}
 
 -- the declarations of some fragments; what is said of a bag doesn't depend on the order
 abbrev pub Bag : Type 0
@@ -94,10 +95,15 @@ built_ins extensions = map (λ it. (built_in_name it.0, it.1)) (built_in_types e
 abbrev pub aliases : Bag → Extensions → List (PlainName × Expr)
 aliases bag extensions = map (λ it. (alias_name it.0, it.1)) (filter (λ it. not (is_declared_here bag it.0)) (built_in_types extensions))
 
--- the names that a reference can name: of common types those that are declared, the built-in ones and the aliases; of
--- entity types those that are declared, and the types of the declared actions
-abbrev pub defined_names : Bag → Extensions → Defined
-defined_names bag extensions = record {
+-- what a bag defines: the common types that are declared, the built-in ones and the aliases, each with its definition;
+-- the entity types that are declared, and the types of the declared actions; and the declared actions
+abbrev pub definitions : Bag → Extensions → Defined
+definitions bag extensions = record {
   common = declared_common bag ++ built_ins extensions ++ aliases bag extensions;
   entities = map (λ it. it.0) (declared_entities bag) ++ map (λ uid. uid.ty) (action_uids bag);
+  actions = action_uids bag;
 }
+
+-- the names of what a bag defines
+abbrev pub defined_names : Bag → Extensions → Names
+defined_names bag extensions = names_of (definitions bag extensions)

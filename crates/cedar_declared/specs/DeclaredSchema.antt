@@ -8,8 +8,9 @@ use Rattle.cedar_names.specs.ActionBody.{ActionBody, Requests, requests, elsewhe
 use Rattle.cedar_names.specs.EntityBody.{EntityBody, standard, enumerated, external}
 use Rattle.cedar_names.specs.Expr.{Expr}
 use Rattle.cedar_names.specs.Reference.{Reference}
-use Rattle.cedar_declared.specs.Bag.{Bag, declared_entities, declared_actions, defined_names}
-use Rattle.cedar_declared.specs.Defined.{Defined, ResolvesTo}
+use Rattle.cedar_declared.specs.Bag.{Bag, declared_entities, declared_actions, definitions}
+use Rattle.cedar_declared.specs.Defined.{Defined, names_of}
+use Rattle.cedar_declared.specs.Names.{Names, ResolvesTo}
 use Rattle.cedar_declared.specs.Descent.{IsDescendant, IsDescendantAction}
 use Rattle.cedar_declared.specs.PlainSchema.{SchemaEntityType, ActionKind, defined_action, external_action, SchemaAction, ActionEntity, PlainSchema}
 use Rattle.cedar_declared.specs.WrittenOut.{WrittenOut}
@@ -37,20 +38,19 @@ pub record IsDeclaredEntityType (bag : Bag) (extensions : Extensions) (it : Plai
   pub body : EntityBody
   pub declared : Contains (declared_entities bag) (it.0, body)
   pub name : it.1.name ≡ it.0
-  pub kind : IsDeclaredKind (defined_names bag extensions) body it.1.kind
+  pub kind : IsDeclaredKind (definitions bag extensions) body it.1.kind
   pub descendants : (lower : PlainName) → Contains it.1.descendants lower ↔ IsDescendant bag extensions lower it.0
 
 -- the name is that which some of the references resolves to
-abbrev pub IsNamedBy : Defined → List Reference → PlainName → Type 0
-IsNamedBy defined references name = (reference : Reference) × Contains references reference
-    × ResolvesTo defined reference name
+abbrev pub IsNamedBy : Names → List Reference → PlainName → Type 0
+IsNamedBy names references name = (reference : Reference) × Contains references reference × ResolvesTo names reference name
 
 -- the kind of an action is the declared one: the names of the principals and of the resources, and the context written
 -- out; or external
 abbrev pub IsDeclaredActionKind : Defined → Requests → ActionKind → Type 0
 IsDeclaredActionKind defined (requests principals resources context) (defined_action principal_types resource_types ty) =
-    ((name : PlainName) → Contains principal_types name ↔ IsNamedBy defined principals name)
-    × ((name : PlainName) → Contains resource_types name ↔ IsNamedBy defined resources name)
+    ((name : PlainName) → Contains principal_types name ↔ IsNamedBy (names_of defined) principals name)
+    × ((name : PlainName) → Contains resource_types name ↔ IsNamedBy (names_of defined) resources name)
     × WrittenOut defined context ty
 IsDeclaredActionKind defined elsewhere external_action = Unit {0}
 IsDeclaredActionKind defined _ _ = ⊥
@@ -60,7 +60,7 @@ pub record IsDeclaredAction (bag : Bag) (extensions : Extensions) (it : PlainUid
   pub body : ActionBody
   pub declared : Contains (declared_actions bag) (it.0, body)
   pub uid : it.1.uid ≡ it.0
-  pub kind : IsDeclaredActionKind (defined_names bag extensions) body.applies_to it.1.kind
+  pub kind : IsDeclaredActionKind (definitions bag extensions) body.applies_to it.1.kind
   pub descendants : (lower : PlainUid) → Contains it.1.descendants lower ↔ IsDescendantAction bag lower it.0
 
 -- an action that isn't external is declared under the uid

@@ -1,4 +1,4 @@
-use Rattle.std.specs.Prelude.{◌≡◌, Contains}
+use Rattle.std.specs.Prelude.{Contains}
 use Rattle.cedar_below.specs.PlainName.{PlainName}
 use Rattle.cedar_below.specs.PlainUid.{PlainUid}
 use Rattle.cedar_below.specs.declared.extension.Extensions.{Extensions}
@@ -8,21 +8,7 @@ use Rattle.cedar_names.specs.Reference.{Reference, ActionReference}
 use Rattle.cedar_declared.specs.Bag.{Bag, declared_entities, declared_actions, action_uids, defined_names}
 use Rattle.cedar_below.specs.Chain.{Chain}
 use Rattle.cedar_declared.specs.Counted.{entity_parents}
-use Rattle.cedar_declared.specs.Defined.{ResolvesTo}
-use Rattle.cedar_declared.specs.Occurrences.{IsFirst}
-
--- the reference to an action names the uid: of the names that its type may stand for the first under which its id is
--- that of a declared action
-abbrev pub NamesAction : Bag → ActionReference → PlainUid → Type 0
-NamesAction bag reference uid =
-    IsFirst (λ ty. Contains (action_uids bag) (record { ty = ty; eid = reference.id })) reference.ty.possibilities
-    uid.ty × (uid.eid ≡ reference.id)
-
--- the reference to an action names nothing
-abbrev pub NamesNoAction : Bag → ActionReference → Type 0
-NamesNoAction bag reference =
-    (ty : PlainName) → Contains reference.ty.possibilities ty
-    → Contains (action_uids bag) (record { ty = ty; eid = reference.id }) → ⊥
+use Rattle.cedar_declared.specs.Names.{ResolvesTo, NamesAction}
 
 -- the one entity type is declared with the other as a parent
 abbrev pub HasParent : Bag → Extensions → PlainName → PlainName → Type 0
@@ -35,7 +21,7 @@ HasParent bag extensions lower upper =
 abbrev pub HasParentAction : Bag → PlainUid → PlainUid → Type 0
 HasParentAction bag lower upper =
     (body : ActionBody) × (reference : ActionReference)
-    × Contains (declared_actions bag) (lower, body) × Contains body.parents reference × NamesAction bag reference upper
+    × Contains (declared_actions bag) (lower, body) × Contains body.parents reference × NamesAction (action_uids bag) reference upper
 
 -- the one entity type is a descendant of the other: a chain of parents leads from it to the other
 abbrev pub IsDescendant : Bag → Extensions → PlainName → PlainName → Type 0

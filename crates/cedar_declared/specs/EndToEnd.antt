@@ -10,7 +10,7 @@ use Rattle.cedar_names.specs.EntityBody.{standard}
 use Rattle.cedar_names.specs.Expr.{Expr}
 use Rattle.cedar_names.specs.Reference.{Reference}
 use Rattle.cedar_declared.specs.Admits.{Admits}
-use Rattle.cedar_declared.specs.Bag.{Bag, declared_entities, declared_actions, defined_names}
+use Rattle.cedar_declared.specs.Bag.{Bag, declared_entities, declared_actions, definitions}
 use Rattle.cedar_declared.specs.Counted.{PlacesFit}
 use Rattle.cedar_declared.specs.DeclaredSchema.{IsDeclaredSchema}
 use Rattle.cedar_declared.specs.Fault.{Fault, want_of_memory}
@@ -27,7 +27,7 @@ use Rattle.cedar_rules.specs.declared.open_tag.OpenTag.{OpenTag}
 -- the type has just the values that the expression admits
 abbrev pub AdmitsTheSame : Bag → Extensions → Expr → Ty → Type 0
 AdmitsTheSame bag extensions expr ty = (value : Tree) → Has extensions value ty
-    ↔ Admits (defined_names bag extensions) extensions value expr
+    ↔ Admits (definitions bag extensions) extensions value expr
 
 -- the attributes of each standard entity type, its tags, and the context of each action have just the values that what
 -- is declared of them admits

@@ -4,9 +4,9 @@ use Rattle.cedar_below.specs.PlainName.{PlainName}
 use Rattle.cedar_below.specs.PlainUid.{PlainUid}
 use Rattle.cedar_below.specs.TypeNames.{TypeNamesFit}
 use Rattle.cedar_below.specs.declared.extension.Extensions.{Extensions}
-use Rattle.cedar_declared.specs.Bag.{Bag, declared_actions, defined_names}
+use Rattle.cedar_declared.specs.Bag.{Bag, declared_actions, definitions}
 use Rattle.cedar_declared.specs.DeclaredSchema.{IsNamedBy, IsDeclaredSchema}
-use Rattle.cedar_declared.specs.Defined.{Defined}
+use Rattle.cedar_declared.specs.Defined.{Defined, names_of}
 use Rattle.cedar_declared.specs.IllFormed.{IsIllFormed}
 use Rattle.cedar_declared.specs.PlainSchema.{ActionKind, defined_action, external_action, SchemaAction, PlainSchema}
 use Rattle.cedar_declared.specs.WrittenOut.{WrittenOut}
@@ -40,7 +40,7 @@ pub record AreEnvironmentsOf (schema : PlainSchema) (environments : List Environ
 -- the environment is of requests that are declared: one of the principals with one of the resources, and the context
 abbrev pub IsDeclaredRequest : Defined → Requests → Environment → Type 0
 IsDeclaredRequest defined (requests principals resources context) it =
-    IsNamedBy defined principals it.principal × IsNamedBy defined resources it.resource
+    IsNamedBy (names_of defined) principals it.principal × IsNamedBy (names_of defined) resources it.resource
     × WrittenOut defined context it.context
 IsDeclaredRequest defined elsewhere it = ⊥
 
@@ -48,7 +48,7 @@ IsDeclaredRequest defined elsewhere it = ⊥
 abbrev pub IsDeclaredEnvironment : Bag → Extensions → Environment → Type 0
 IsDeclaredEnvironment bag extensions it =
     (body : ActionBody) × Contains (declared_actions bag) (it.action, body)
-    × IsDeclaredRequest (defined_names bag extensions) body.applies_to it
+    × IsDeclaredRequest (definitions bag extensions) body.applies_to it
 
 -- a law: the environments of the schema that a bag declares which isn't ill-formed are the declared ones
 abbrev pub EnvironmentsAreDeclared : Type 0

@@ -1,23 +1,8 @@
-use Rattle.std.specs.Prelude.{List, ◌∷◌, map, Option, string_bytes, codes}
-use Rattle.std.specs.Option.{option_map}
-use Rattle.cedar_below.specs.EntityType.{type_name}
-use Rattle.cedar_below.specs.EntityUID.{uid_of}
-use Rattle.cedar_below.specs.InternalName.{name_of}
-use Rattle.cedar_below.specs.Name.{plain_name}
+use Rattle.std.specs.Prelude.{List, Option, codes}
 use Rattle.cedar_below.specs.PlainName.{PlainName}
 use Rattle.cedar_below.specs.PlainUid.{PlainUid}
 use Rattle.cedar_below.specs.Text.{Text}
-use Rattle.cedar_below.specs.declared.non_empty.NonEmpty.{NonEmpty}
-use Rattle.cedar_names.specs.ConditionalName.{conditional_reference}
 use Rattle.cedar_names.specs.Reference.{Reference}
-use Rattle.cedar_names.specs.declared.json_schema.action_type.ActionEntityUID.{ActionEntityUID}
-use Rattle.cedar_names.specs.declared.json_schema.conditional_name.ConditionalName.{ConditionalName}
-use Rattle.cedar_declared.specs.declared.schema_error.ContextOrShape.{ContextOrShape}
-use Rattle.cedar_declared.specs.declared.schema_error.ContextOrShape.TheVariants as place
-use Rattle.cedar_declared.specs.declared.schema_error.SchemaError.{SchemaError}
-use Rattle.cedar_declared.specs.declared.schema_error.SchemaError.TheVariants as error
-use Rattle.cedar_declared.specs.declared.schema_error.UnsupportedFeature.{UnsupportedFeature}
-use Rattle.cedar_declared.specs.declared.schema_error.UnsupportedFeature.TheVariants as feature
 
 -- why no schema is built, as plain data: a fault with what it names, or want of memory
 pub data Fault : Type 0 where

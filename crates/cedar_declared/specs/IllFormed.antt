@@ -11,11 +11,12 @@ use Rattle.cedar_names.specs.Declaration.{action}
 use Rattle.cedar_names.specs.EntityBody.{EntityBody, standard, enumerated, external}
 use Rattle.cedar_names.specs.Expr.{Expr}
 use Rattle.cedar_names.specs.Reference.{Reference, ActionReference}
-use Rattle.cedar_declared.specs.Bag.{Bag, declared_common, declared_entities, declared_actions, declared_types, action_uids, built_ins, defined_names}
+use Rattle.cedar_declared.specs.Bag.{Bag, declared_common, declared_entities, declared_actions, declared_types, action_uids, built_ins, definitions, defined_names}
 use Rattle.cedar_below.specs.Chain.{Chain}
 use Rattle.cedar_declared.specs.Counted.{IsCounted, IsPlaced, HasToResolve}
-use Rattle.cedar_declared.specs.Defined.{Defined, IsCommon, ResolvesTo, IsUnresolved}
-use Rattle.cedar_declared.specs.Descent.{NamesNoAction, IsDescendant, IsDescendantAction}
+use Rattle.cedar_declared.specs.Defined.{Defined, IsCommon, names_of}
+use Rattle.cedar_declared.specs.Names.{ResolvesTo, IsUnresolved, NamesNoAction}
+use Rattle.cedar_declared.specs.Descent.{IsDescendant, IsDescendantAction}
 use Rattle.cedar_declared.specs.Fault.{Fault, action_attributes, open_record, undeclared_entity_types, type_not_defined, action_not_defined, type_shadowing, action_shadowing, duplicate_entity_type, duplicate_common_type, duplicate_action, action_cycle, common_type_cycle, action_entity_type, shape_not_record, context_not_record, unknown_extension_type, reserved_name, external_below_enumerated}
 use Rattle.cedar_declared.specs.Mentions.{HasOpenRecord, MentionsExtension, Refers}
 use Rattle.cedar_declared.specs.Occurrences.{Twice}
@@ -33,13 +34,13 @@ abbrev pub HasUnknownParent : Bag → Text × Option Reference → Type 0
 HasUnknownParent bag carried =
     (uid : PlainUid) × (body : ActionBody) × (parent : ActionReference)
     × Contains (declared_actions bag) (uid, body) × Contains body.parents parent
-    × (carried ≡ (parent.id, Some parent.ty)) × NamesNoAction bag parent
+    × (carried ≡ (parent.id, Some parent.ty)) × NamesNoAction (action_uids bag) parent
 
 -- the definition of the one common type refers to the other
 abbrev pub RefersToCommon : Defined → PlainName → PlainName → Type 0
 RefersToCommon defined name other =
     (definition : Expr) × (reference : Reference) × (body : Expr)
-    × Contains defined.common (name, definition) × Refers definition reference × ResolvesTo defined reference other
+    × Contains defined.common (name, definition) × Refers definition reference × ResolvesTo (names_of defined) reference other
     × IsCommon defined reference.kind other body
 
 -- the refusal names a fault of the bag, over the extensions that are handed in
@@ -75,18 +76,18 @@ IsFault bag extensions (duplicate_common_type name) = Twice (map (λ it. it.0) (
 IsFault bag extensions (duplicate_action uid) = Twice (action_uids bag) uid
 -- these lead back to themselves
 IsFault bag extensions (action_cycle uid) = IsDescendantAction bag uid uid
-IsFault bag extensions (common_type_cycle name) = Chain (RefersToCommon (defined_names bag extensions)) name name
+IsFault bag extensions (common_type_cycle name) = Chain (RefersToCommon (definitions bag extensions)) name name
 -- an entity type is declared with the base name of actions' types
 IsFault bag extensions (action_entity_type name) = (body : EntityBody) × Contains (declared_entities bag) (name, body)
     × IsActionType name
 -- a shape or a context is written out as a type that is no record type
 IsFault bag extensions (shape_not_record name) =
     (parents : List Reference) × (shape : Expr) × (tags : Option Expr)
-    × Contains (declared_entities bag) (name, standard parents shape tags) × IsNoRecord (defined_names bag extensions) shape
+    × Contains (declared_entities bag) (name, standard parents shape tags) × IsNoRecord (definitions bag extensions) shape
 IsFault bag extensions (context_not_record uid) =
     (body : ActionBody) × (principals : List Reference) × (resources : List Reference) × (context : Expr)
     × Contains (declared_actions bag) (uid, body) × (body.applies_to ≡ requests principals resources context)
-    × IsNoRecord (defined_names bag extensions) context
+    × IsNoRecord (definitions bag extensions) context
 -- an extension type counts that wasn't handed in
 IsFault bag extensions (unknown_extension_type name) =
     (expr : Expr) × IsCounted bag expr × MentionsExtension expr name.base × IsUnqualified name

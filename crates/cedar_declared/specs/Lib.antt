@@ -10,6 +10,7 @@ pub mod Environments
 pub mod Fault
 pub mod IllFormed
 pub mod Mentions
+pub mod Names
 pub mod Occurrences
 pub mod PlainSchema
 pub mod SameBag

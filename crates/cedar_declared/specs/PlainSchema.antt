@@ -1,5 +1,4 @@
-use Rattle.std.specs.Prelude.{List, [], map}
-use Rattle.cedar_below.specs.EntityType.{type_name}
+use Rattle.std.specs.Prelude.{List}
 use Rattle.cedar_below.specs.PlainName.{PlainName}
 use Rattle.cedar_below.specs.PlainUid.{PlainUid}
 use Rattle.cedar_below.specs.Tree.{Entries}

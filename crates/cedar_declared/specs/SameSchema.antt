@@ -1,4 +1,4 @@
-use Rattle.std.specs.Prelude.{◌≡◌, ◌↔◌, List, [], ◌∷◌, Contains}
+use Rattle.std.specs.Prelude.{◌≡◌}
 use Rattle.cedar_below.specs.Lists.{SameItems, HoldsInTurn}
 use Rattle.cedar_below.specs.PlainName.{PlainName}
 use Rattle.cedar_below.specs.PlainUid.{PlainUid}

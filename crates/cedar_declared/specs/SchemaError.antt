@@ -1,11 +1,9 @@
-use Rattle.std.specs.Prelude.{List, ◌∷◌, map, Option, string_bytes, codes}
+use Rattle.std.specs.Prelude.{map, Option, string_bytes}
 use Rattle.std.specs.Option.{option_map}
 use Rattle.cedar_below.specs.EntityType.{type_name}
 use Rattle.cedar_below.specs.EntityUID.{uid_of}
 use Rattle.cedar_below.specs.InternalName.{name_of}
 use Rattle.cedar_below.specs.Name.{plain_name}
-use Rattle.cedar_below.specs.PlainName.{PlainName}
-use Rattle.cedar_below.specs.PlainUid.{PlainUid}
 use Rattle.cedar_below.specs.Text.{Text}
 use Rattle.cedar_below.specs.NonEmpty.{items_of}
 use Rattle.cedar_names.specs.ConditionalName.{conditional_reference}

@@ -3,7 +3,8 @@ use Rattle.cedar_below.specs.PlainName.{PlainName}
 use Rattle.cedar_below.specs.Text.{Text}
 use Rattle.cedar_names.specs.Expr.{Expr, text_expr, long_expr, truth_expr, set_expr, record_expr, named, extension_expr, Members, no_member, member}
 use Rattle.cedar_names.specs.Reference.{Reference}
-use Rattle.cedar_declared.specs.Defined.{Defined, ResolvesTo, IsCommon, IsEntity}
+use Rattle.cedar_declared.specs.Defined.{Defined, IsCommon, names_of}
+use Rattle.cedar_declared.specs.Names.{ResolvesTo, IsEntity}
 use Rattle.cedar_rules.specs.Ty.{Ty, long, text, truth, set_of, union_of, record_of, extension_of, Fields, end, field}
 use Rattle.cedar_rules.specs.declared.bool_type.BoolType.TheVariants.{AnyBool}
 use Rattle.cedar_rules.specs.declared.open_tag.OpenTag.TheVariants.{ClosedAttributes}
@@ -19,10 +20,10 @@ mutual
     as_set : {element : Expr} {ty : Ty} → WrittenOut defined element ty → WrittenOut defined (set_expr element) (set_of ty)
     as_record : {members : Members} {fields : Fields} {additional : Bool} → MembersWrittenOut defined members fields
         → WrittenOut defined (record_expr members additional) (record_of fields ClosedAttributes)
-    as_entity : (reference : Reference) (name : PlainName) → ResolvesTo defined reference name
-        → IsEntity defined reference.kind name → ((body : Expr) → ¬ IsCommon defined reference.kind name body)
+    as_entity : (reference : Reference) (name : PlainName) → ResolvesTo (names_of defined) reference name
+        → IsEntity (names_of defined) reference.kind name → ((body : Expr) → ¬ IsCommon defined reference.kind name body)
         → WrittenOut defined (named reference) (union_of (name ∷ []))
-    as_common : (reference : Reference) (name : PlainName) (body : Expr) {ty : Ty} → ResolvesTo defined reference name
+    as_common : (reference : Reference) (name : PlainName) (body : Expr) {ty : Ty} → ResolvesTo (names_of defined) reference name
         → IsCommon defined reference.kind name body → WrittenOut defined body ty → WrittenOut defined (named reference) ty
     as_extension : (name : Text)
         → WrittenOut defined (extension_expr name) (extension_of (record { base = name; path = [] }))

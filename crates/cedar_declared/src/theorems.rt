@@ -8,7 +8,7 @@ ghost use Rattle.cedar_names.specs.Declaration.{raw_bag};
 ghost use Rattle.cedar_names.specs.Expr.{Expr};
 ghost use Rattle.cedar_names.specs.declared.json_schema.fragment.Fragment.{Fragment};
 ghost use Rattle.cedar_names.specs.declared.json_schema.raw_name.RawName.{RawName};
-ghost use Rattle.cedar_declared.specs.Bag.{Bag, defined_names};
+ghost use Rattle.cedar_declared.specs.Bag.{Bag, definitions};
 ghost use Rattle.cedar_declared.specs.Counted.{PlacesFit};
 ghost use Rattle.cedar_declared.specs.EndToEnd.{AdmitsTheSame, BagsDeclareAtMostOneSchema, DeclaredSchemasAreClosed, DeclaredSchemasAreValid, DeclaredTypesHaveTheDeclaredValues, SameBagsDeclareTheSame};
 ghost use Rattle.cedar_declared.specs.Environments.{EnvironmentsAreDeclared};
@@ -20,8 +20,8 @@ ghost use Rattle.cedar_rules.specs.Ty.{Ty};
 pub fn expressions_are_written_out_as_one_type()
     ensures { (bag : Bag) (extensions : Extensions) (expr : Expr) (ty other : Ty)
         → TypeNamesFit (extension_types extensions) → ¬ IsIllFormed bag extensions
-        → WrittenOut (defined_names bag extensions) expr ty
-        → WrittenOut (defined_names bag extensions) expr other → ty ≡ other }
+        → WrittenOut (definitions bag extensions) expr ty
+        → WrittenOut (definitions bag extensions) expr other → ty ≡ other }
 {}
 
 /// In a bag that isn't ill-formed the type that an expression is written out as has just the values
@@ -29,7 +29,7 @@ pub fn expressions_are_written_out_as_one_type()
 pub fn types_have_the_admitted_values()
     ensures { (bag : Bag) (extensions : Extensions) (expr : Expr) (ty : Ty)
         → TypeNamesFit (extension_types extensions) → ¬ IsIllFormed bag extensions
-        → WrittenOut (defined_names bag extensions) expr ty → AdmitsTheSame bag extensions expr ty }
+        → WrittenOut (definitions bag extensions) expr ty → AdmitsTheSame bag extensions expr ty }
 {}
 
 /// A bag that isn't ill-formed declares at most one schema.

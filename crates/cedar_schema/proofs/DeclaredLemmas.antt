@@ -1,8 +1,6 @@
 -- Names that entries of the empty namespace declare.
-use Rattle.std.proofs.Common.{◌≡◌, ◌≢◌, ◌<◌, Bool, List, [], ◌∷◌, length, map, get_or, ap, sym, subst, ◌∙◌, ⊎_elim, arith, Contains, is_some}
-use Rattle.std.proofs.lemmas.List.Elements.{Contains-get_or}
+use Rattle.std.proofs.Common.{◌≡◌, ◌≢◌, Bool, List, [], map, ap, sym, subst, ◌∙◌, ⊎_elim, arith, Contains, is_some}
 use Rattle.std.proofs.lemmas.Map.Made.{is_some-lookup}
-use Rattle.std.proofs.lemmas.List.{get_or-map, length-map}
 use Rattle.std.proofs.lemmas.Simd.{map-map}
 use Rattle.std.specs.BTreeMap.{is_at}
 use Rattle.std.specs.Bool.{Decides}

@@ -5,11 +5,11 @@ use Rattle.cedar_below.specs.PlainName.{PlainName, IsActionType}
 use Rattle.cedar_names.specs.EntityBody.{EntityBody, standard, enumerated, external}
 use Rattle.cedar_names.specs.Expr.{Expr}
 use Rattle.cedar_names.specs.Reference.{Reference}
-use Rattle.cedar_names.specs.declared.json_schema.reference_type.ReferenceType.{ReferenceType}
 use Rattle.cedar_schema.proofs.BuiltLemmas.{Types}
 use Rattle.cedar_schema.specs.Steps.{IsSound, IsBodyFault}
 use Rattle.cedar_declared.specs.Counted.{CountsInEntity}
-use Rattle.cedar_declared.specs.Defined.{Defined, IsDefined, IsUnresolved, ResolvesTo}
+use Rattle.cedar_declared.specs.Defined.{Defined, names_of}
+use Rattle.cedar_declared.specs.Names.{IsDefined, IsUnresolved, ResolvesTo}
 use Rattle.cedar_schema.specs.Steps.{Declared, defined_by, IsEntityFault}
 use Rattle.cedar_declared.specs.Fault.{Fault, open_record, type_not_defined, shape_not_record, action_entity_type, want_of_memory}
 use Rattle.cedar_schema.specs.Steps.{IsBuilt}
@@ -26,18 +26,18 @@ use Rattle.cedar_below.specs.declared.entity_type.EntityType.{EntityType}
 use Rattle.cedar_declared.proofs.ResolutionLemmas.{first_defined}
 
 -- a reference that resolves isn't unresolved
-resolved : (defined : Defined) (reference other : Reference) (name : PlainName) → ResolvesTo defined reference name
-    → reference ≡ other → ¬ IsUnresolved defined other
+resolved : (defined : Defined) (reference other : Reference) (name : PlainName) → ResolvesTo (names_of defined) reference name
+    → reference ≡ other → ¬ IsUnresolved (names_of defined) other
 resolved defined reference other name resolves same unresolved =
-    let found = first_defined defined reference.kind reference.possibilities name resolves in
-    let P : Reference → Type 0 = λ each. Contains each.possibilities name × IsDefined defined each.kind name in
+    let found = first_defined (names_of defined) reference.kind reference.possibilities name resolves in
+    let P : Reference → Type 0 = λ each. Contains each.possibilities name × IsDefined (names_of defined) each.kind name in
     let there = subst P same found in
     unresolved name there.0 there.1
 
 mutual
   -- each reference of an expression that is written out resolves
   pub written_resolves : (defined : Defined) {expr : Expr} {ty : Ty} → WrittenOut defined expr ty
-      → (reference : Reference) → Refers expr reference → ¬ IsUnresolved defined reference
+      → (reference : Reference) → Refers expr reference → ¬ IsUnresolved (names_of defined) reference
   written_resolves defined as_text reference refers unresolved = refers
   written_resolves defined as_long reference refers unresolved = refers
   written_resolves defined as_truth reference refers unresolved = refers
@@ -51,7 +51,7 @@ mutual
 
   -- the same of attributes
   members_resolve : (defined : Defined) {members : _} {fields : _} → MembersWrittenOut defined members fields
-      → (reference : Reference) → MembersRefer members reference → ¬ IsUnresolved defined reference
+      → (reference : Reference) → MembersRefer members reference → ¬ IsUnresolved (names_of defined) reference
   members_resolve defined as_no_member reference refers unresolved = refers
   members_resolve defined (as_member first rest) reference refers unresolved =
       ⊎_elim (λ here. written_resolves defined first reference here unresolved)

@@ -14,7 +14,7 @@ use Rattle.cedar_names.specs.Reference.{Reference}
 use Rattle.cedar_names.specs.declared.json_schema.fragment.NamespaceDefinition.{NamespaceDefinition}
 use Rattle.cedar_names.specs.declared.json_schema.raw_name.RawName.{RawName}
 use Rattle.cedar_schema.proofs.DeclaredLemmas.{Entries}
-use Rattle.cedar_declared.specs.Bag.{Bag, declared_common, declared_entities, declared_actions, defined_names}
+use Rattle.cedar_declared.specs.Bag.{Bag, declared_common, declared_entities, declared_actions, definitions}
 use Rattle.cedar_declared.specs.Counted.{CountsIn, CountsInEntity, entity_parents, IsCounted}
 use Rattle.cedar_schema.specs.Steps.{declared_by_entries, defined_by, name_here, IsCountedHere}
 
@@ -48,7 +48,7 @@ just_entities (entry ∷ rest) = ap (λ others. (name_here entry.0, raw_entity_b
 
 -- the entity types that references can name are those that are declared
 pub same_entities : (entries : Entries) (extensions : Extensions)
-    → (defined_names (declarations_here entries) extensions).entities ≡ (defined_by (declared_by_entries entries)).entities
+    → (definitions (declarations_here entries) extensions).entities ≡ (defined_by (declared_by_entries entries)).entities
 same_entities entries extensions =
     (λ i. map (λ it. it.0) (just_entities entries i) ++ map (λ uid. uid.ty) (map (λ it. it.0) (no_actions entries i)))
     ∙ append-nil (map (λ it. it.0) (declared_by_entries entries))

@@ -23,7 +23,7 @@ use Rattle.cedar_below.proofs.Lists.{Contains-preimage}
 use Rattle.cedar_schema.proofs.PartBag.{declarations_here, no_common, no_actions, just_entities, same_entities, is_entity_declaration, no_action_declared, counted_in_entity, counted_of_entity, no_parents}
 use Rattle.cedar_schema.proofs.PartWritten.{unresolved_like, written_like, refers_to_entity, no_extension}
 use Rattle.cedar_declared.proofs.OccurrenceLemmas.{Twice-ascending}
-use Rattle.cedar_declared.specs.Bag.{declared_entities, declared_actions, declared_types, action_uids, built_ins, defined_names}
+use Rattle.cedar_declared.specs.Bag.{declared_entities, declared_actions, declared_types, action_uids, built_ins, definitions}
 use Rattle.cedar_declared.specs.Counted.{CountsInEntity, IsEntityPlace, IsPlaced}
 use Rattle.cedar_declared.specs.Descent.{HasParentAction}
 use Rattle.cedar_schema.specs.Steps.{Declared, declared_by_entries, defined_by, IsEntityFault, IsCountedHere}
@@ -104,11 +104,11 @@ no_place entries plain reference placed =
 
 -- what is no record type where the bag's names are defined is none where the entity types are
 no_record_like : (entries : Entries) (extensions : Extensions) (shape : Expr) → NamesEntitiesAlone shape
-    → IsNoRecord (defined_names (declarations_here entries) extensions) shape
+    → IsNoRecord (definitions (declarations_here entries) extensions) shape
     → IsNoRecord (defined_by (declared_by_entries entries)) shape
 no_record_like entries extensions shape alone none = (
   none.0,
-  written_like (defined_names (declarations_here entries) extensions)
+  written_like (definitions (declarations_here entries) extensions)
       (defined_by (declared_by_entries entries)) (same_entities entries extensions) alone none.1,
   none.2,
 )
@@ -116,11 +116,11 @@ no_record_like entries extensions shape alone none = (
 -- the other way round
 no_record_back : (entries : Entries) (extensions : Extensions) (shape : Expr) → NamesEntitiesAlone shape
     → IsNoRecord (defined_by (declared_by_entries entries)) shape
-    → IsNoRecord (defined_names (declarations_here entries) extensions) shape
+    → IsNoRecord (definitions (declarations_here entries) extensions) shape
 no_record_back entries extensions shape alone none = (
   none.0,
   written_like (defined_by (declared_by_entries entries))
-      (defined_names (declarations_here entries) extensions) (sym (same_entities entries extensions)) alone none.1,
+      (definitions (declarations_here entries) extensions) (sym (same_entities entries extensions)) alone none.1,
   none.2,
 )
 
@@ -131,7 +131,7 @@ shape_alone entries plain name parents shape tags among = (plain_of entries plai
 
 -- no common type leads to another
 no_common_step : (entries : Entries) (extensions : Extensions) (name other : PlainName)
-    → ¬ RefersToCommon (defined_names (declarations_here entries) extensions) name other
+    → ¬ RefersToCommon (definitions (declarations_here entries) extensions) name other
 no_common_step entries extensions name other (definition, reference, body, among, refers, resolves, is_common) =
     let P : List (PlainName × Expr) → Type 0 = λ common. Contains common (name, definition) in
     omega (
@@ -152,7 +152,7 @@ module _ (entries : Entries) (extensions : Extensions) (plain : ArePlain entries
         let alone = refers_to_entity found.0 reference (counted_alone entries plain found.0 found.1) found.2 in (
           inl (found.0, counted_of_entity entries found.0 found.1, found.2),
           unresolved_like (defined_by (declared_by_entries entries))
-              (defined_names (declarations_here entries) extensions) (sym (same_entities entries extensions)) reference alone found.3,
+              (definitions (declarations_here entries) extensions) (sym (same_entities entries extensions)) reference alone found.3,
         )),
   )
   fault_of_bag (action_entity_type name) at_fault = (at_fault.0, declared_from entries (name, at_fault.0) at_fault.1, at_fault.2)
@@ -200,7 +200,7 @@ module _ (entries : Entries) (extensions : Extensions) (plain : ArePlain entries
           counts.0,
           counted,
           counts.2,
-          unresolved_like (defined_names (declarations_here entries) extensions)
+          unresolved_like (definitions (declarations_here entries) extensions)
               (defined_by (declared_by_entries entries)) (same_entities entries extensions) reference alone found.1,
         )))
         (λ placed. absurd (no_place entries plain reference placed))
@@ -228,7 +228,7 @@ module _ (entries : Entries) (extensions : Extensions) (plain : ArePlain entries
       let step = first_step (HasParentAction (declarations_here entries)) uid uid at_fault in
       absurd (no_action_in entries (uid, step.1.0) step.1.2)
   entity_fault_of (common_type_cycle name) at_fault =
-      let step = first_step (RefersToCommon (defined_names (declarations_here entries) extensions)) name name at_fault in
+      let step = first_step (RefersToCommon (definitions (declarations_here entries) extensions)) name name at_fault in
       absurd (no_common_step entries extensions name step.0 step.1)
   entity_fault_of (action_entity_type name) at_fault = (at_fault.0, declared_to entries (name, at_fault.0) at_fault.1, at_fault.2)
   entity_fault_of (shape_not_record name) at_fault =

@@ -19,7 +19,7 @@ use Rattle.cedar_schema.proofs.DeclaredLemmas.{Entries}
 use Rattle.cedar_schema.proofs.PartBag.{declarations_here, just_entities, same_entities, no_parents}
 use Rattle.cedar_schema.proofs.PartFaults.{ArePlain, AreAscending, plain_of, declared_from, no_action_in}
 use Rattle.cedar_schema.proofs.PartWritten.{written_like}
-use Rattle.cedar_declared.specs.Bag.{declared_entities, declared_actions, defined_names}
+use Rattle.cedar_declared.specs.Bag.{declared_entities, declared_actions, definitions}
 use Rattle.cedar_declared.specs.DeclaredSchema.{IsDeclaredEntityType, IsDeclaredSchema, IsDeclaredKind, AreDeclaredTags}
 use Rattle.cedar_declared.specs.Defined.{Defined}
 use Rattle.cedar_declared.specs.Descent.{HasParent, IsDescendant}
@@ -95,7 +95,7 @@ module _ (entries : Entries) (extensions : Extensions) (plain : ArePlain entries
         declared = subst P (sym fits.key) (declared_from entries entity among);
         name = fits.name ∙ sym fits.key;
         kind = kind_like (defined_by (declared_by_entries entries))
-            (defined_names (declarations_here entries) extensions) (sym (same_entities entries extensions)) entity.1
+            (definitions (declarations_here entries) extensions) (sym (same_entities entries extensions)) entity.1
             (entity_type_of entry.1).kind (plain_of entries plain entity among) fits.kind;
         descendants = subst Q (sym fits.no_descendants) (λ lower.
             (λ none. absurd (omega (arith, none.1)), λ chain. absurd (no_descendant lower (type_name entry.0) chain)));

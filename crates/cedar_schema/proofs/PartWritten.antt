@@ -6,9 +6,10 @@ use Rattle.cedar_names.specs.Expr.{Expr, text_expr, long_expr, truth_expr, set_e
 use Rattle.cedar_names.specs.Part.{NamesEntitiesAlone, MembersNameEntitiesAlone}
 use Rattle.cedar_names.specs.Reference.{Reference}
 use Rattle.cedar_names.specs.declared.json_schema.reference_type.ReferenceType.{ReferenceType}
-use Rattle.cedar_names.specs.declared.json_schema.reference_type.ReferenceType.TheVariants.{Common, Entity, CommonOrEntity}
+use Rattle.cedar_names.specs.declared.json_schema.reference_type.ReferenceType.TheVariants.{Entity}
 use Rattle.cedar_declared.proofs.ResolutionLemmas.{IsFirst-like}
-use Rattle.cedar_declared.specs.Defined.{Defined, IsDefined, IsCommon, IsEntity, ResolvesTo, IsUnresolved}
+use Rattle.cedar_declared.specs.Defined.{Defined, names_of}
+use Rattle.cedar_declared.specs.Names.{IsDefined, IsEntity, ResolvesTo, IsUnresolved}
 use Rattle.cedar_declared.specs.Mentions.{Refers, MembersRefer, MentionsExtension, MembersMentionExtension}
 use Rattle.cedar_declared.specs.WrittenOut.{WrittenOut, MembersWrittenOut, as_text, as_long, as_truth, as_set, as_record, as_entity, as_common, as_extension, as_no_member, as_member}
 use Rattle.cedar_rules.specs.Ty.{Ty, Fields}
@@ -16,29 +17,29 @@ use Rattle.cedar_declared.proofs.ResolutionLemmas.{names_no_common}
 
 -- where the entity types are the same, a reference to one names the same
 entity_like : (defined other : Defined) → defined.entities ≡ other.entities → (kind : ReferenceType) (name : PlainName)
-    → IsEntity defined kind name → IsEntity other kind name
+    → IsEntity (names_of defined) kind name → IsEntity (names_of other) kind name
 entity_like defined other same kind name is_entity =
     let P : List PlainName → Type 0 = λ names. Contains names name in
     (is_entity.0, subst P same is_entity.1)
 
 -- where the entity types are the same, a name is defined for references to entity types in the one as in the other
 defined_like : (defined other : Defined) → defined.entities ≡ other.entities → (kind : ReferenceType) → kind ≡ Entity
-    → (name : PlainName) → IsDefined defined kind name → IsDefined other kind name
+    → (name : PlainName) → IsDefined (names_of defined) kind name → IsDefined (names_of other) kind name
 defined_like defined other same kind is name found =
-    ⊎_elim (λ common. absurd (names_no_common defined kind name common.0 is common.1))
+    ⊎_elim (λ common. absurd (names_no_common kind is common.0))
     (λ is_entity. inr (entity_like defined other same kind name is_entity)) found
 
 -- a reference to an entity type resolves alike
 pub resolves_like : (defined other : Defined) → defined.entities ≡ other.entities → (reference : Reference)
-    → reference.kind ≡ Entity → (name : PlainName) → ResolvesTo defined reference name → ResolvesTo other reference name
+    → reference.kind ≡ Entity → (name : PlainName) → ResolvesTo (names_of defined) reference name → ResolvesTo (names_of other) reference name
 resolves_like defined other same reference is name resolves =
-    IsFirst-like (IsDefined defined reference.kind) (IsDefined other reference.kind)
+    IsFirst-like (IsDefined (names_of defined) reference.kind) (IsDefined (names_of other) reference.kind)
     (defined_like defined other same reference.kind is) (defined_like other defined (sym same) reference.kind is)
     reference.possibilities name resolves
 
 -- a reference to an entity type is unresolved alike
 pub unresolved_like : (defined other : Defined) → defined.entities ≡ other.entities → (reference : Reference)
-    → reference.kind ≡ Entity → IsUnresolved defined reference → IsUnresolved other reference
+    → reference.kind ≡ Entity → IsUnresolved (names_of defined) reference → IsUnresolved (names_of other) reference
 unresolved_like defined other same reference is unresolved name among found =
     unresolved name among (defined_like other defined (sym same) reference.kind is name found)
 
@@ -54,9 +55,9 @@ mutual
   written_like defined other same alone (as_entity reference name resolves is_entity none) =
       as_entity reference name (resolves_like defined other same reference alone name resolves)
       (entity_like defined other same reference.kind name is_entity)
-      (λ body common. names_no_common other reference.kind name body alone common)
+      (λ body common. names_no_common reference.kind alone common.0)
   written_like defined other same alone (as_common reference name body resolves is_common written) =
-      absurd (names_no_common defined reference.kind name body alone is_common)
+      absurd (names_no_common reference.kind alone is_common.0)
   written_like defined other same alone (as_extension name) = absurd alone
 
   -- the same of the attributes of a record

@@ -1,27 +1,25 @@
 -- What the private steps of the builder promise of declarations in the empty namespace.
-use Rattle.std.specs.Prelude.{◌≢◌, List, [], map, Option, None, Contains, ◌≡◌, ◌∷◌, Some}
+use Rattle.std.specs.Prelude.{◌≢◌, List, [], map, Option, None, Contains, ◌≡◌}
 use Rattle.cedar_below.specs.PlainName.{PlainName, IsActionType}
 use Rattle.cedar_below.specs.UnreservedId.{unreserved_id_text}
 use Rattle.cedar_below.specs.declared.unreserved_id.UnreservedId.{UnreservedId}
-use Rattle.cedar_names.specs.EntityBody.{EntityBody, standard, raw_entity_body, enumerated, external}
+use Rattle.cedar_names.specs.EntityBody.{EntityBody, standard, raw_entity_body}
 use Rattle.cedar_names.specs.Expr.{Expr}
 use Rattle.cedar_names.specs.Reference.{Reference}
 use Rattle.cedar_names.specs.declared.json_schema.entity_type.EntityType.{EntityType as WrittenEntityType}
 use Rattle.cedar_names.specs.declared.json_schema.fragment.NamespaceDefinition.{NamespaceDefinition}
 use Rattle.cedar_names.specs.declared.json_schema.raw_name.RawName.{RawName}
 use Rattle.cedar_declared.specs.Counted.{CountsInEntity}
-use Rattle.cedar_declared.specs.Defined.{Defined, IsUnresolved}
+use Rattle.cedar_declared.specs.Defined.{Defined, names_of}
+use Rattle.cedar_declared.specs.Names.{IsUnresolved}
 use Rattle.cedar_declared.specs.Fault.{Fault, open_record, type_not_defined, action_entity_type, shape_not_record, want_of_memory}
 use Rattle.cedar_declared.specs.Mentions.{HasOpenRecord, Refers}
-use Rattle.cedar_declared.specs.WrittenOut.{IsNoRecord, WrittenOut}
+use Rattle.cedar_declared.specs.WrittenOut.{IsNoRecord}
 use Rattle.std.specs.BTreeMap.{BTreeMap}
 use Rattle.cedar_below.specs.EntityType.{type_name}
 use Rattle.cedar_below.specs.declared.entity_type.EntityType.{EntityType}
-use Rattle.cedar_declared.specs.EntityTypeKind.{EntityTypeKind, standard_kind, enumerated_kind, external_kind}
-use Rattle.cedar_rules.specs.Ty.{Ty, record_of}
 use Rattle.cedar_entities.specs.ValidatorEntityType.{entity_type_of, descendant_names}
 use Rattle.cedar_entities.specs.declared.entity_type.ValidatorEntityType.{ValidatorEntityType}
-use Rattle.cedar_rules.specs.declared.open_tag.OpenTag.TheVariants.{ClosedAttributes}
 use Rattle.cedar_declared.specs.DeclaredSchema.{IsDeclaredKind}
 
 -- the name of an id in the empty namespace
@@ -42,7 +40,7 @@ declared_by definition = declared_by_entries definition.entity_types.entries
 
 -- what references can name where entity types alone are declared
 abbrev pub defined_by : Declared → Defined
-defined_by declared = record { common = []; entities = map (λ entity. entity.0) declared }
+defined_by declared = record { common = []; entities = map (λ entity. entity.0) declared; actions = [] }
 
 -- the expression counts in some declaration
 abbrev pub IsCountedHere : Declared → Expr → Type 0
@@ -55,7 +53,7 @@ IsEntityFault declared open_record = (expr : Expr) × IsCountedHere declared exp
 IsEntityFault declared (type_not_defined references) =
     (references ≢ [])
     × ((reference : Reference) → Contains references reference → (expr : Expr) × IsCountedHere declared expr
-    × Refers expr reference × IsUnresolved (defined_by declared) reference)
+    × Refers expr reference × IsUnresolved (names_of (defined_by declared)) reference)
 IsEntityFault declared (action_entity_type name) = (body : EntityBody) × Contains declared (name, body) × IsActionType name
 IsEntityFault declared (shape_not_record name) =
     (parents : List Reference) × (shape : Expr) × (tags : Option Expr)
@@ -71,7 +69,7 @@ abbrev pub IsExprFault : Defined → Expr → Fault → Type 0
 IsExprFault defined expr open_record = HasOpenRecord expr
 IsExprFault defined expr (type_not_defined references) =
     (references ≢ []) × ((reference : Reference) → Contains references reference → Refers expr reference
-    × IsUnresolved defined reference)
+    × IsUnresolved (names_of defined) reference)
 IsExprFault defined expr want_of_memory = Unit {0}
 IsExprFault defined expr _ = ⊥
 

@@ -13,9 +13,9 @@ ghost use Rattle.cedar_names.specs.declared.json_schema.raw_name.RawName.{RawNam
 ghost use Rattle.cedar_names.specs.RawExpr.{raw_reference};
 ghost use Rattle.cedar_names.specs.declared.json_schema.reference_type.ReferenceType.TheVariants as to;
 ghost use Rattle.cedar_declared.specs.Admits.{Admits};
-ghost use Rattle.cedar_declared.specs.Bag.{alias_name, built_in_name, defined_names};
+ghost use Rattle.cedar_declared.specs.Bag.{alias_name, built_in_name, definitions, defined_names};
 ghost use Rattle.cedar_declared.specs.Counted.{HasToResolve};
-ghost use Rattle.cedar_declared.specs.Defined.{ResolvesTo};
+ghost use Rattle.cedar_declared.specs.Names.{ResolvesTo};
 ghost use Rattle.cedar_declared.specs.Descent.{IsDescendant};
 ghost use Rattle.cedar_declared.specs.Fault.{open_record, undeclared_entity_types, type_shadowing, duplicate_entity_type, common_type_cycle, external_below_enumerated};
 ghost use Rattle.cedar_declared.specs.IllFormed.{IsFault};
@@ -39,19 +39,19 @@ pub fn cycles_name_their_members()
 /// A name that is common and entity is the common type where either may stand, and the entity type
 /// where an entity type has to.
 pub fn common_types_are_preferred()
-    ensures either { (extensions : Extensions) → WrittenOut (defined_names both_bag extensions)
+    ensures either { (extensions : Extensions) → WrittenOut (definitions both_bag extensions)
         (named (refer_within to.CommonOrEntity (codes "T"))) long }
-    ensures entity { (extensions : Extensions) → WrittenOut (defined_names both_bag extensions)
+    ensures entity { (extensions : Extensions) → WrittenOut (definitions both_bag extensions)
         (named (refer_within to.Entity (codes "T"))) (union_of (within_sample (codes "T") ∷ [])) }
 {}
 
 /// An entity type takes the alias of its name away; the built-in type keeps its full name.
 pub fn entity_types_take_aliases_away()
-    ensures entity { (extensions : Extensions) → WrittenOut (defined_names alias_bag extensions)
+    ensures entity { (extensions : Extensions) → WrittenOut (definitions alias_bag extensions)
         (named (refer_here to.CommonOrEntity (codes "String"))) (union_of (alias_name (codes "String") ∷ [])) }
-    ensures built_in { (extensions : Extensions) → WrittenOut (defined_names alias_bag extensions)
+    ensures built_in { (extensions : Extensions) → WrittenOut (definitions alias_bag extensions)
         (named (reference_to None to.CommonOrEntity (built_in_name (codes "String")))) text }
-    ensures alias { (extensions : Extensions) → WrittenOut (defined_names alias_bag extensions)
+    ensures alias { (extensions : Extensions) → WrittenOut (definitions alias_bag extensions)
         (named (refer_here to.CommonOrEntity (codes "Long"))) long }
 {}
 
@@ -123,12 +123,12 @@ pub fn unused_common_types_count()
 
 /// A record admits values without an attribute that isn't required, and none with a further one.
 pub fn optional_attributes_may_be_missing()
-    ensures missing { (extensions : Extensions) → Admits (defined_names [] extensions) extensions
+    ensures missing { (extensions : Extensions) → Admits (definitions [] extensions) extensions
         (map_value no_entry) optional_record }
     ensures there { (extensions : Extensions) (number : ℤ)
-        → Admits (defined_names [] extensions) extensions
+        → Admits (definitions [] extensions) extensions
         (map_value (entry (codes "a") (number_value number) no_entry)) optional_record }
     ensures further { (extensions : Extensions) (number : ℤ)
-        → ¬ Admits (defined_names [] extensions) extensions
+        → ¬ Admits (definitions [] extensions) extensions
         (map_value (entry (codes "b") (number_value number) no_entry)) optional_record }
 {}

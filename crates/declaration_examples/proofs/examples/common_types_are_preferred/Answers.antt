@@ -8,7 +8,7 @@ use Rattle.declaration_examples.proofs.examples.common_types_are_preferred.Goals
 pub returns-clause-either : goal.returns-clause-either
 returns-clause-either c extensions =
     as_common (refer_within CommonOrEntity (codes "T")) (within_sample (codes "T")) long_expr
-    (inl (refl, inl (long_expr, (tt, (0, omega arith, refl))))) (tt, (0, omega arith, refl)) as_long
+    (inl (refl, inl (tt, (0, omega arith, refl)))) (tt, (0, omega arith, refl)) as_long
 
 pub returns-clause-entity : goal.returns-clause-entity
 returns-clause-entity c extensions =

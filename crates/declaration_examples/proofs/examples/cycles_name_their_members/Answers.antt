@@ -5,14 +5,14 @@ use Rattle.cedar_names.specs.Expr.{Expr}
 use Rattle.cedar_names.specs.declared.json_schema.reference_type.ReferenceType.TheVariants.{CommonOrEntity}
 use Rattle.cedar_declared.proofs.BuiltInLemmas.{refers_declared, unlike_texts}
 use Rattle.cedar_declared.proofs.ChainLemmas.{first_step}
-use Rattle.cedar_declared.specs.Bag.{alias_name, built_in_name, declared_common, defined_names}
+use Rattle.cedar_declared.specs.Bag.{alias_name, built_in_name, declared_common, definitions}
 use Rattle.cedar_below.specs.Chain.{Chain, one, more}
 use Rattle.cedar_declared.specs.IllFormed.{RefersToCommon}
 use Rattle.declaration_examples.specs.Samples.{refer_here, cycle_first, cycle_second, cycle_bag}
 use Rattle.declaration_examples.proofs.examples.cycles_name_their_members.Goals as goal
 
 -- the one refers to the other
-first_to_second : (extensions : Extensions) → RefersToCommon (defined_names cycle_bag extensions)
+first_to_second : (extensions : Extensions) → RefersToCommon (definitions cycle_bag extensions)
     (alias_name (codes "A")) (alias_name (codes "B"))
 first_to_second extensions = (
   cycle_first,
@@ -20,12 +20,12 @@ first_to_second extensions = (
   cycle_second,
   (0, omega arith, refl),
   inl refl,
-  inl (refl, inl (cycle_second, (tt, (1, omega arith, refl)))),
+  inl (refl, inl (tt, (1, omega arith, refl))),
   (tt, (1, omega arith, refl)),
 )
 
 -- and the other to the one
-second_to_first : (extensions : Extensions) → RefersToCommon (defined_names cycle_bag extensions)
+second_to_first : (extensions : Extensions) → RefersToCommon (definitions cycle_bag extensions)
     (alias_name (codes "B")) (alias_name (codes "A"))
 second_to_first extensions = (
   cycle_second,
@@ -33,16 +33,16 @@ second_to_first extensions = (
   cycle_first,
   (1, omega arith, refl),
   refl,
-  inl (refl, inl (cycle_first, (tt, (0, omega arith, refl)))),
+  inl (refl, inl (tt, (0, omega arith, refl))),
   (tt, (0, omega arith, refl)),
 )
 
 -- a name in a cycle is declared
 in_cycle : (extensions : Extensions) (name : PlainName) → Chain
-    (RefersToCommon (defined_names cycle_bag extensions)) name name → (definition : Expr)
+    (RefersToCommon (definitions cycle_bag extensions)) name name → (definition : Expr)
     × Contains (declared_common cycle_bag) (name, definition)
 in_cycle extensions name chain =
-    let step = (first_step (RefersToCommon (defined_names cycle_bag extensions)) name name chain).1 in
+    let step = (first_step (RefersToCommon (definitions cycle_bag extensions)) name name chain).1 in
     (step.0, refers_declared cycle_bag extensions name step.0 step.1 step.3 step.4)
 
 -- only the two members are declared

@@ -2,18 +2,20 @@ use Rattle.std.proofs.Common.{◌++◌, sym, None, refl, inl, inr, ⊎_elim, ari
 use Rattle.std.proofs.lemmas.Bool.{false≢true}
 use Rattle.std.proofs.lemmas.List.Elements.{Contains-append_right, Contains-append_cases}
 use Rattle.cedar_below.specs.declared.extension.Extensions.{Extensions}
+use Rattle.cedar_below.specs.PlainName.{PlainName}
 use Rattle.cedar_names.specs.Expr.{Expr, text_expr, long_expr}
 use Rattle.cedar_names.specs.Reference.{reference_to}
 use Rattle.cedar_names.specs.declared.json_schema.reference_type.ReferenceType.TheVariants.{CommonOrEntity}
 use Rattle.cedar_declared.proofs.BuiltInLemmas.{alias_of, built_in_path, common_cases}
-use Rattle.cedar_declared.specs.Bag.{alias_name, built_in_name, declared_common, built_ins, aliases, defined_names}
+use Rattle.cedar_declared.proofs.OccurrenceLemmas.{Contains-image}
+use Rattle.cedar_declared.specs.Bag.{alias_name, built_in_name, declared_common, built_ins, aliases, definitions}
 use Rattle.cedar_declared.specs.Defined.{IsCommon}
 use Rattle.declaration_examples.specs.Samples.{refer_here, alias_bag}
 use Rattle.cedar_declared.specs.WrittenOut.{as_text, as_long, as_entity, as_common}
 use Rattle.declaration_examples.proofs.examples.entity_types_take_aliases_away.Goals as goal
 
 -- no common type has the name of the entity type
-no_alias : (extensions : Extensions) (body : Expr) → ¬ IsCommon (defined_names alias_bag extensions) CommonOrEntity
+no_alias : (extensions : Extensions) (body : Expr) → ¬ IsCommon (definitions alias_bag extensions) CommonOrEntity
     (alias_name (codes "String")) body
 no_alias extensions body common =
     ⊎_elim
@@ -32,11 +34,11 @@ returns-clause-entity c extensions =
 pub returns-clause-built_in : goal.returns-clause-built_in
 returns-clause-built_in c extensions =
     as_common (reference_to None CommonOrEntity (built_in_name (codes "String"))) (built_in_name (codes "String")) text_expr
-    (inl (refl, inl (text_expr, (tt, (2, omega arith, refl))))) (tt, (2, omega arith, refl)) as_text
+    (inl (refl, inl (tt, (2, omega arith, refl)))) (tt, (2, omega arith, refl)) as_text
 
 pub returns-clause-alias : goal.returns-clause-alias
 returns-clause-alias c extensions =
     let there = Contains-append_right (declared_common alias_bag ++ built_ins extensions) (aliases alias_bag extensions)
     (alias_name (codes "Long"), long_expr) (1, omega arith, refl) in
     as_common (refer_here CommonOrEntity (codes "Long")) (alias_name (codes "Long")) long_expr
-    (inl (refl, inl (long_expr, (tt, there)))) (tt, there) as_long
+    (inl (refl, inl (tt, Contains-image (λ (it : PlainName × Expr). it.0) (definitions alias_bag extensions).common (alias_name (codes "Long"), long_expr) there))) (tt, there) as_long

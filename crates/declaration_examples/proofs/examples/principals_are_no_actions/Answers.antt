@@ -5,7 +5,7 @@ use Rattle.cedar_names.specs.Reference.{Reference}
 use Rattle.cedar_names.specs.declared.json_schema.reference_type.ReferenceType.TheVariants.{Entity}
 use Rattle.cedar_declared.specs.Bag.{alias_name, defined_names}
 use Rattle.cedar_declared.specs.Counted.{IsPlaced}
-use Rattle.cedar_declared.specs.Defined.{ResolvesTo}
+use Rattle.cedar_declared.specs.Names.{ResolvesTo}
 use Rattle.declaration_examples.specs.Samples.{refer_here, action_here, principal_bag}
 use Rattle.declaration_examples.proofs.examples.principals_are_no_actions.Goals as goal
 
