@@ -1,30 +1,56 @@
 -- What written types and their attributes stand for.
-use Rattle.std.proofs.Common.{◌≡◌, Bool, ap, ◌∙◌, Option}
+use Rattle.std.proofs.Common.{◌≡◌, Bool, ap, ◌∙◌, map, Option, string_bytes}
 use Rattle.std.proofs.lemmas.Simd.{map-map}
 use Rattle.cedar_below.specs.PlainName.{PlainName}
 use Rattle.cedar_names.specs.Expr.{Expr, record_expr, members_from}
 use Rattle.cedar_names.specs.PlainMembers.{plain_members}
 use Rattle.cedar_names.specs.RawExpr.{raw_reference, raw_expr, raw_record, raw_attribute}
-use Rattle.cedar_names.specs.WrittenExpr.{type_step, variant_step, record_step, attribute_step}
+use Rattle.cedar_names.specs.Reference.{Reference}
+use Rattle.cedar_names.specs.WrittenExpr.{type_step, variant_step, record_step, attribute_step, written_type, written_record, written_attribute}
 use Rattle.cedar_names.specs.declared.json_schema.raw_name.RawName.{RawName}
-use Rattle.cedar_names.specs.declared.json_schema.type_of.RecordType.{RecordType, out-RecordType, fold_out-RecordType}
+use Rattle.cedar_names.specs.declared.json_schema.reference_type.ReferenceType.{ReferenceType}
+use Rattle.cedar_names.specs.declared.json_schema.type_of.RecordType.{RecordType, out-RecordType, roll-RecordType, fold_out-RecordType, fold-roll-RecordType}
+use Rattle.cedar_names.specs.declared.json_schema.type_of.Type.{«Type»}
+use Rattle.cedar_names.specs.declared.json_schema.type_of.Type.TheOpen as layer
+use Rattle.cedar_names.specs.declared.json_schema.type_of.TypeVariant.{TypeVariant}
 use Rattle.cedar_names.specs.declared.json_schema.type_of.TypeOfAttribute.{TypeOfAttribute, out-TypeOfAttribute, fold_out-TypeOfAttribute}
 
--- a record type stands for what its entries do
+module _ (N : Type 0) (refer : ReferenceType → N → Reference) where
+  -- a record type stands for what its entries do
+  pub written_record-entries : (it : RecordType N)
+      → written_record N refer it
+      ≡ record_expr (members_from (map (λ entry. (string_bytes entry.0, written_attribute N refer entry.1)) (out-RecordType N it).attributes.entries))
+      (out-RecordType N it).additional_attributes
+  written_record-entries it =
+      fold_out-RecordType N Expr Expr Expr (Bool × Expr) (type_step N refer) (variant_step N refer) (record_step N refer)
+      (attribute_step N refer) it
+      ∙ ap (λ members. record_expr (members_from members) (out-RecordType N it).additional_attributes) (map-map _ _ _)
+
+  -- an attribute stands for whether it is required, and for its type
+  pub written_attribute-parts : (it : TypeOfAttribute N)
+      → written_attribute N refer it ≡ ((out-TypeOfAttribute N it).required, written_type N refer (out-TypeOfAttribute N it).ty)
+  written_attribute-parts it =
+      fold_out-TypeOfAttribute N Expr Expr Expr (Bool × Expr) (type_step N refer) (variant_step N refer) (record_step N refer)
+      (attribute_step N refer) it
+
+  -- a record type that is made of entries stands for what they do
+  pub written_record-made : (it : layer.RecordType-F N («Type» N) (TypeVariant N) (RecordType N) (TypeOfAttribute N))
+      → written_record N refer (roll-RecordType N it)
+      ≡ record_expr (members_from (map (λ entry. (string_bytes entry.0, written_attribute N refer entry.1)) it.attributes.entries))
+      it.additional_attributes
+  written_record-made it =
+      fold-roll-RecordType N Expr Expr Expr (Bool × Expr) (type_step N refer) (variant_step N refer) (record_step N refer)
+      (attribute_step N refer) it
+      ∙ ap (λ members. record_expr (members_from members) it.additional_attributes) (map-map _ _ _)
+
+-- a record type that is written in a namespace stands for what its entries do
 pub raw_record-entries : (namespace : Option PlainName) (it : RecordType RawName)
     → raw_record namespace it
     ≡ record_expr (members_from (plain_members namespace (out-RecordType RawName it).attributes.entries))
     (out-RecordType RawName it).additional_attributes
-raw_record-entries namespace it =
-    fold_out-RecordType RawName Expr Expr Expr (Bool × Expr) (type_step RawName (raw_reference namespace))
-    (variant_step RawName (raw_reference namespace)) (record_step RawName (raw_reference namespace))
-    (attribute_step RawName (raw_reference namespace)) it
-    ∙ ap (λ members. record_expr (members_from members) (out-RecordType RawName it).additional_attributes) (map-map _ _ _)
+raw_record-entries namespace = written_record-entries RawName (raw_reference namespace)
 
--- an attribute stands for whether it is required, and for its type
+-- an attribute that is written in a namespace stands for whether it is required, and for its type
 pub raw_attribute-parts : (namespace : Option PlainName) (it : TypeOfAttribute RawName)
     → raw_attribute namespace it ≡ ((out-TypeOfAttribute RawName it).required, raw_expr namespace (out-TypeOfAttribute RawName it).ty)
-raw_attribute-parts namespace it =
-    fold_out-TypeOfAttribute RawName Expr Expr Expr (Bool × Expr) (type_step RawName (raw_reference namespace))
-    (variant_step RawName (raw_reference namespace)) (record_step RawName (raw_reference namespace))
-    (attribute_step RawName (raw_reference namespace)) it
+raw_attribute-parts namespace = written_attribute-parts RawName (raw_reference namespace)

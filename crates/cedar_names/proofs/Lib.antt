@@ -1,6 +1,9 @@
+pub mod Converted
 pub mod Equality
 pub mod ExprLemmas
+pub mod FitLemmas
 pub mod Lasts
 pub mod PartLemmas
+pub mod QualifyLemmas
 pub mod ReservedWords
 pub mod VariantLemmas

@@ -1,9 +1,11 @@
 pub mod ActionBody
 pub mod CommonTypeId
+pub mod ConditionalExpr
 pub mod ConditionalName
 pub mod Declaration
 pub mod EntityBody
 pub mod Expr
+pub mod NamespaceName
 pub mod Part
 pub mod PlainMembers
 pub mod PossibleNames

@@ -37,3 +37,14 @@ possible_names (Some namespace) name = names_within namespace name.base name.pat
 -- a written name as a reference
 abbrev pub reference_to : Option PlainName → ReferenceType → PlainName → Reference
 reference_to namespace kind name = record { possibilities = possible_names namespace name; kind = kind }
+
+-- a base name after a path as the name in full of what is declared under it in a namespace: without a path the name in
+-- the namespace, with one itself
+abbrev pub qualified_within : PlainName → Text → List Text → PlainName
+qualified_within namespace base [] = name_within (Some namespace) base
+qualified_within namespace base (part ∷ path) = record { base = base; path = part ∷ path }
+
+-- a written name as the name in full of what is declared under it; in the empty namespace itself
+abbrev pub qualified_name : Option PlainName → PlainName → PlainName
+qualified_name None name = name
+qualified_name (Some namespace) name = qualified_within namespace name.base name.path

@@ -34,19 +34,29 @@ fn clone_names(names: &Vec<InternalName>) -> M<Vec<InternalName>>
 }
 
 impl ConditionalName {
+    /// The reference that may stand for these names, the first to be tried first.
+    pub(crate) fn new(possibilities: NonEmpty<InternalName>, reference_type: ReferenceType) -> Self
+        ensures possibilities { possibilities_of result ≡ names_of possibilities }
+        ensures locs { possibility_locs result ≡ locs_of possibilities }
+        ensures reference_type { reference_type_of result ≡ reference_type }
+    {
+        ConditionalName {
+            possibilities,
+            reference_type,
+        }
+    }
+
     /// The reference that can stand for this name alone.
     pub fn unconditional(alloc: Global, name: InternalName, reference_type: ReferenceType) -> Self
         ensures possibilities { possibilities_of result ≡ name_of name ∷ [] }
         ensures locs { possibility_locs result ≡ name_loc name ∷ [] }
         ensures reference_type { reference_type_of result ≡ reference_type }
     {
-        ConditionalName {
-            possibilities: NonEmpty {
-                head: name,
-                tail: Vec::new(alloc),
-            },
-            reference_type,
-        }
+        let possibilities = NonEmpty {
+            head: name,
+            tail: Vec::new(alloc),
+        };
+        ConditionalName::new(possibilities, reference_type)
     }
 
     /// The names that the reference may stand for, the first to be tried first.

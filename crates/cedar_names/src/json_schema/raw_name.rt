@@ -2,9 +2,16 @@
 
 ghost use Rattle.std.specs.Prelude.{◌≡◌, IfOk};
 ghost use Rattle.cedar_below.specs.InternalName.{name_of, name_loc};
+ghost use Rattle.std.specs.Prelude.{map};
+ghost use Rattle.cedar_names.specs.ConditionalName.{conditional_reference, possibilities_of, possibility_locs};
+ghost use Rattle.cedar_names.specs.NamespaceName.{namespace_name};
 ghost use Rattle.cedar_names.specs.RawName.{raw_name, raw_loc};
+ghost use Rattle.cedar_names.specs.Reference.{reference_to, name_within, qualified_name};
 
-use cedar_below::{InternalName, Loc, M};
+use crate::json_schema::conditional_name::ConditionalName;
+use crate::json_schema::reference_type::ReferenceType;
+use cedar_below::{InternalName, Loc, M, NonEmpty};
+use std::alloc::Global;
 use std::fmt;
 
 /// A name as a schema writes it, before it is known in which namespace to look it up.
@@ -12,6 +19,19 @@ use std::fmt;
 /// Equality and hash ignore the location.
 #[derive(Debug, Drop, PartialEq, Eq, Hash)]
 pub struct RawName(InternalName);
+
+/// The name in a namespace that has the base name and the location of another.
+fn name_in(alloc: Global, namespace: &InternalName, name: &InternalName) -> M<InternalName>
+    ensures name { IfOk result (λ full. name_of full ≡ name_within (Some (name_of namespace.now)) (name_of name.now).base) }
+    ensures loc { IfOk result (λ full. name_loc full ≡ name_loc name.now) }
+{
+    let mut path = Vec::new(alloc);
+    for part in namespace.path() {
+        path.push(part.clone()?)?;
+    }
+    path.push(namespace.basename().clone()?)?;
+    Ok(InternalName::new(name.basename().clone()?, path, name.loc()))
+}
 
 impl RawName {
     /// The name as it was written.
@@ -43,6 +63,44 @@ impl RawName {
         ensures { result ≡ raw_loc self.now }
     {
         self.0.loc()
+    }
+
+    /// The name in full of what is declared under this name in the namespace: an unqualified name
+    /// with the namespace before it, and a qualified name itself. In the empty namespace, None, it
+    /// is the name itself.
+    pub fn qualify_with(self, alloc: Global, namespace: Option<&InternalName>) -> M<InternalName>
+        ensures name { IfOk result (λ full. name_of full ≡ qualified_name (namespace_name namespace.entry) (raw_name self)) }
+        ensures loc { IfOk result (λ full. name_loc full ≡ raw_loc self) }
+    {
+        match namespace {
+            Some(namespace) if self.0.is_unqualified() => name_in(alloc, namespace, &self.0),
+            _ => Ok(self.0),
+        }
+    }
+
+    /// The reference that the name is where it is written in the namespace: an unqualified name may
+    /// stand for the name in the namespace, and then for itself. A qualified name, and any name in
+    /// the empty namespace, may stand for itself alone.
+    pub fn conditionally_qualify_with(
+        self,
+        alloc: Global,
+        namespace: Option<&InternalName>,
+        reference_type: ReferenceType,
+    ) -> M<ConditionalName>
+        ensures reference { IfOk result (λ name. conditional_reference name
+            ≡ reference_to (namespace_name namespace.entry) reference_type (raw_name self)) }
+        ensures locs { IfOk result (λ name. possibility_locs name ≡ map (λ _. raw_loc self) (possibilities_of name)) }
+    {
+        match namespace {
+            Some(namespace) if self.0.is_unqualified() => {
+                let possibilities = NonEmpty {
+                    head: name_in(alloc, namespace, &self.0)?,
+                    tail: vec![in alloc; self.0]?,
+                };
+                Ok(ConditionalName::new(possibilities, reference_type))
+            }
+            _ => Ok(ConditionalName::unconditional(alloc, self.0, reference_type)),
+        }
     }
 
     /// An equal name with the same location, or want of memory.

@@ -1,0 +1,186 @@
+-- Declarations that give cause for a refusal whatever else is declared, and those that give none.
+use Rattle.std.proofs.Common.{◌≡◌, ◌≢◌, ◌⊎◌, List, [], ◌∷◌, ◌++◌, map, sym, subst, ◌∙◌, refl, inl, inr, ⊎_elim, Contains, Option, arith}
+use Rattle.std.proofs.lemmas.Bool.{false≢true}
+use Rattle.std.specs.List.{AllByRecursion}
+use Rattle.cedar_below.proofs.Lists.{Contains-cons_cases, Contains-preimage}
+use Rattle.cedar_below.specs.Identifier.{reserved_word}
+use Rattle.cedar_below.specs.Lists.{Included}
+use Rattle.cedar_below.specs.PlainName.{PlainName, IsActionType, action_word}
+use Rattle.cedar_below.specs.PlainUid.{PlainUid}
+use Rattle.cedar_below.specs.Text.{Text}
+use Rattle.cedar_declared.proofs.DeclarationLemmas.{entity_declaration, action_declaration, declares_entity, declares_action}
+use Rattle.cedar_declared.proofs.OccurrenceLemmas.{Contains-image}
+use Rattle.cedar_declared.specs.Bag.{Bag, declared_name, declared_uid, declared_entities, declared_actions, action_uids}
+use Rattle.cedar_declared.specs.Fault.{Fault, action_attributes, action_entity_type, reserved_name, want_of_memory}
+use Rattle.cedar_declared.specs.IllFormed.{HasAttributes}
+use Rattle.cedar_fragments.specs.DefinitionFault.{IsDefinitionFault, HasNoDefinitionFault, NamesNoAttributes, GivesNoCause, IsSound}
+use Rattle.cedar_names.specs.ActionBody.{ActionBody}
+use Rattle.cedar_names.specs.Declaration.{Declaration, Body, entity_type, action, common_declarations}
+use Rattle.cedar_names.specs.EntityBody.{EntityBody}
+use Rattle.cedar_names.specs.RawExpr.{raw_reference}
+use Rattle.cedar_names.specs.Reference.{name_within, path_within}
+use Rattle.cedar_names.specs.declared.json_schema.common_type_id.CommonTypeId.{CommonTypeId}
+use Rattle.cedar_names.specs.declared.json_schema.fragment.CommonType.{CommonType}
+use Rattle.cedar_names.specs.declared.json_schema.raw_name.RawName.{RawName}
+
+-- what holds of each item holds of one
+pub AllByRecursion-at : {A : Type 0} (P : A → Type 0) (xs : List A) (x : A) → AllByRecursion P xs → Contains xs x → P x
+AllByRecursion-at P [] x all among = absurd (omega (arith, among.1))
+AllByRecursion-at P (first ∷ rest) x all among =
+    ⊎_elim (λ same. subst P same all.0) (λ later. AllByRecursion-at P rest x all.1 later) (Contains-cons_cases first rest x among)
+
+-- what holds of each item of two lists holds of each of both together
+pub AllByRecursion-append : {A : Type 0} (P : A → Type 0) (xs ys : List A) → AllByRecursion P xs → AllByRecursion P ys → AllByRecursion P (xs ++ ys)
+AllByRecursion-append P [] ys all others = others
+AllByRecursion-append P (first ∷ rest) ys all others = (all.0, AllByRecursion-append P rest ys all.1 others)
+
+-- a declared entity type that is sound
+sound_entity : (bag : Bag) → AllByRecursion IsSound bag → (name : PlainName) (body : EntityBody)
+    → Contains (declared_entities bag) (name, body) → (¬ IsActionType name) × ¬ Contains name.path reserved_word
+sound_entity bag sound name body among =
+    let declared = entity_declaration bag name body among in
+    let P : Body → Type 0 = GivesNoCause declared.0 in
+    let Q : PlainName → Type 0 = λ each. (¬ IsActionType each) × ¬ Contains each.path reserved_word in
+    subst Q declared.3 (subst P declared.2 (AllByRecursion-at IsSound bag declared.0 sound declared.1))
+
+-- a declared action that is sound
+sound_action : (bag : Bag) → AllByRecursion IsSound bag → (uid : PlainUid) (body : ActionBody)
+    → Contains (declared_actions bag) (uid, body) → ¬ Contains uid.ty.path reserved_word
+sound_action bag sound uid body among =
+    let declared = action_declaration bag uid body among in
+    let P : Body → Type 0 = GivesNoCause declared.0 in
+    let Q : PlainUid → Type 0 = λ each. ¬ Contains each.ty.path reserved_word in
+    let no_cause : GivesNoCause declared.0 (action body) = subst P declared.2 (AllByRecursion-at IsSound bag declared.0 sound declared.1) in
+    subst Q declared.3 no_cause.1
+
+-- an action with attributes isn't sound
+sound_attributes : (bag : Bag) → AllByRecursion IsSound bag → (namespace : Option PlainName) (id : Text) → ¬ HasAttributes bag namespace id
+sound_attributes bag sound namespace id has =
+    let no_cause : GivesNoCause (record { namespace = namespace; id = id; body = action has.0 }) (action has.0) =
+    AllByRecursion-at IsSound bag (record { namespace = namespace; id = id; body = action has.0 }) sound has.1 in
+    false≢true (sym no_cause.0 ∙ has.2)
+
+-- where each declaration is sound, there is no cause for such a refusal
+pub sound_bag : (bag : Bag) → AllByRecursion IsSound bag → HasNoDefinitionFault bag
+sound_bag bag sound extensions (action_attributes ids) of at_fault = listed ids at_fault.0 at_fault.3
+  where
+    listed : (named : List Text) → named ≢ [] → ((id : Text) → Contains named id → HasAttributes bag at_fault.2 id) → ⊥
+    listed [] some has = some refl
+    listed (id ∷ rest) some has = sound_attributes bag sound at_fault.2 id (has id (0, omega arith, refl))
+sound_bag bag sound extensions (action_entity_type name) of at_fault =
+    (sound_entity bag sound name at_fault.0 at_fault.1).0 at_fault.2
+sound_bag bag sound extensions (reserved_name name) of at_fault =
+    ⊎_elim
+    (λ among. let entity = Contains-preimage _ (declared_entities bag) name among in
+    let P : PlainName → Type 0 = λ each. Contains each.path reserved_word in
+    (sound_entity bag sound entity.0.0 entity.0.1 entity.1).1 (subst P (sym entity.2) at_fault.1))
+    (λ among. let uid = Contains-preimage _ (action_uids bag) name among in
+    let declared = Contains-preimage _ (declared_actions bag) uid.0 uid.1 in
+    let P : PlainName → Type 0 = λ each. Contains each.path reserved_word in
+    let Q : PlainUid → Type 0 = λ each. Contains each.ty.path reserved_word in
+    sound_action bag sound declared.0.0 declared.0.1 declared.1
+    (subst Q (sym declared.2) (subst P (sym uid.2) at_fault.1)))
+    at_fault.0
+sound_bag bag sound extensions _ of at_fault = of
+
+-- an entity type that some declarations declare is declared by all of them
+entity_included : (part whole : Bag) → Included part whole → (name : PlainName) (body : EntityBody)
+    → Contains (declared_entities part) (name, body) → Contains (declared_entities whole) (name, body)
+entity_included part whole included name body among =
+    let declared = entity_declaration part name body among in
+    let P : PlainName → Type 0 = λ each. Contains (declared_entities whole) (each, body) in
+    subst P declared.3 (declares_entity whole declared.0 body (included declared.0 declared.1) declared.2)
+
+-- an action that some declarations declare is declared by all of them
+action_included : (part whole : Bag) → Included part whole → (uid : PlainUid) (body : ActionBody)
+    → Contains (declared_actions part) (uid, body) → Contains (declared_actions whole) (uid, body)
+action_included part whole included uid body among =
+    let declared = action_declaration part uid body among in
+    let P : PlainUid → Type 0 = λ each. Contains (declared_actions whole) (each, body) in
+    subst P declared.3 (declares_action whole declared.0 body (included declared.0 declared.1) declared.2)
+
+-- the fault of some declarations is that of all of them
+pub fault_included : (part whole : Bag) → Included part whole → (fault : Fault) → IsDefinitionFault part fault → IsDefinitionFault whole fault
+fault_included part whole included (action_attributes ids) at_fault = (
+  tt,
+  λ extensions. let found = at_fault.1 extensions in
+      (found.0, found.1, found.2, λ id among. let has = found.3 id among in (has.0, included _ has.1, has.2)),
+)
+fault_included part whole included (action_entity_type name) at_fault = (
+  tt,
+  λ extensions. let found = at_fault.1 extensions in
+      (found.0, entity_included part whole included name found.0 found.1, found.2),
+)
+fault_included part whole included (reserved_name name) at_fault = (
+  tt,
+  λ extensions. let found = at_fault.1 extensions in (
+    ⊎_elim
+        (λ among. let entity = Contains-preimage _ (declared_entities part) name among in
+        let P : PlainName → Type 0 = Contains (map (λ it. it.0) (declared_entities whole)) in
+        inl (subst P entity.2 (Contains-image _ (declared_entities whole) entity.0
+        (entity_included part whole included entity.0.0 entity.0.1 entity.1))))
+        (λ among. let uid = Contains-preimage _ (action_uids part) name among in
+        let declared = Contains-preimage _ (declared_actions part) uid.0 uid.1 in
+        let P : PlainName → Type 0 = Contains (map (λ each. each.ty) (action_uids whole)) in
+        let Q : PlainUid → Type 0 = Contains (action_uids whole) in
+        inr (subst P uid.2 (Contains-image _ (action_uids whole) uid.0
+        (subst Q declared.2 (Contains-image _ (declared_actions whole) declared.0
+        (action_included part whole included declared.0.0 declared.0.1 declared.1))))))
+        found.0,
+    found.1,
+  ),
+)
+fault_included part whole included _ at_fault = absurd at_fault.0
+
+-- the refusal of the name of an entity type is a fault of the declarations among which it is
+pub fault_of_entity : (bag : Bag) (namespace : Option PlainName) (id : Text) (body : EntityBody) (fault : Fault)
+    → Contains bag (record { namespace = namespace; id = id; body = entity_type body })
+    → (fault ≡ want_of_memory)
+    ⊎ (((fault ≡ action_entity_type (name_within namespace id)) × IsActionType (name_within namespace id))
+    ⊎ ((fault ≡ reserved_name (name_within namespace id)) × Contains (path_within namespace) reserved_word))
+    → (fault ≡ want_of_memory) ⊎ IsDefinitionFault bag fault
+fault_of_entity bag namespace id body fault among refused =
+    let it : Declaration = record { namespace = namespace; id = id; body = entity_type body } in
+    let declared : Contains (declared_entities bag) (declared_name it, body) = declares_entity bag it body among refl in
+    let P : Fault → Type 0 = IsDefinitionFault bag in
+    ⊎_elim (λ memory. inl memory)
+    (λ other. inr (⊎_elim
+    (λ is_action. subst P (sym is_action.0) (tt, λ extensions. (body, declared, is_action.1)))
+    (λ reserved. subst P (sym reserved.0)
+    (tt, λ extensions. (inl (Contains-image _ (declared_entities bag) (declared_name it, body) declared), reserved.1)))
+    other)) refused
+
+-- the refusal of the uid of an action is a fault of the declarations among which it is
+pub fault_of_action : (bag : Bag) (namespace : Option PlainName) (id : Text) (body : ActionBody) (fault : Fault)
+    → Contains bag (record { namespace = namespace; id = id; body = action body })
+    → (fault ≡ want_of_memory)
+    ⊎ ((fault ≡ reserved_name (name_within namespace action_word)) × Contains (path_within namespace) reserved_word)
+    → (fault ≡ want_of_memory) ⊎ IsDefinitionFault bag fault
+fault_of_action bag namespace id body fault among refused =
+    let it : Declaration = record { namespace = namespace; id = id; body = action body } in
+    let declared : Contains (declared_actions bag) (declared_uid it, body) = declares_action bag it body among refl in
+    let P : Fault → Type 0 = IsDefinitionFault bag in
+    ⊎_elim (λ memory. inl memory)
+    (λ reserved. inr (subst P (sym reserved.0) (
+      tt,
+      λ extensions. (
+        inr (Contains-image _ (action_uids bag) (declared_uid it)
+            (Contains-image _ (declared_actions bag) (declared_uid it, body) declared)),
+        reserved.1,
+      ),
+    ))) refused
+
+-- the refusal of the name of an entity type names no actions
+pub name_names_none : (name : PlainName) (A B : Type 0) (fault : Fault)
+    → (fault ≡ want_of_memory) ⊎ (((fault ≡ action_entity_type name) × A) ⊎ ((fault ≡ reserved_name name) × B))
+    → NamesNoAttributes fault
+name_names_none name A B fault refused =
+    ⊎_elim (λ memory. subst NamesNoAttributes (sym memory) tt)
+    (λ other. ⊎_elim (λ is_action. subst NamesNoAttributes (sym is_action.0) tt)
+    (λ reserved. subst NamesNoAttributes (sym reserved.0) tt) other) refused
+
+-- common types give no cause
+pub common_sound : (namespace : Option PlainName) (entries : List (CommonTypeId × CommonType RawName))
+    → AllByRecursion IsSound (common_declarations RawName (raw_reference namespace) namespace entries)
+common_sound namespace [] = tt
+common_sound namespace (entry ∷ entries) = (tt, common_sound namespace entries)

@@ -1,0 +1,26 @@
+use Rattle.std.proofs.Common.{string_bytes}
+use Rattle.cedar_below.specs.EntityUID.{uid_of}
+use Rattle.cedar_fragments.proofs.ListedSoFar.{ListedSoFar}
+use Rattle.cedar_fragments.specs.ActionDeclarations.{action_fragment_body}
+use Rattle.cedar_fragments.specs.DeclaredAs.{declared_action}
+use Rattle.cedar_fragments.specs.DefinitionFault.{IsSound}
+use Rattle.cedar_names.specs.ActionBody.{action_body}
+use Rattle.cedar_names.specs.ConditionalExpr.{own_reference}
+use Rattle.cedar_names.specs.Declaration.{action}
+use Rattle.cedar_names.specs.NamespaceName.{namespace_name}
+use Rattle.cedar_names.specs.RawExpr.{raw_reference}
+use Rattle.cedar_names.specs.declared.json_schema.conditional_name.ConditionalName.{ConditionalName}
+use Rattle.cedar_names.specs.declared.json_schema.raw_name.RawName.{RawName}
+use Rattle.cedar_fragments.proofs.namespace.actions.ActionsDef+ConditionalName+ConditionalName.from_raw_actions.Given as goal
+
+abbrev pub invariant-loop-id : goal.invariant-loop-id
+invariant-loop-id l =
+    ListedSoFar IsSound
+    (λ entry. record {
+      namespace = namespace_name l.namespace;
+      id = string_bytes entry.0;
+      body = action (action_body RawName (raw_reference (namespace_name l.namespace)) (namespace_name l.namespace) entry.1);
+    })
+    (λ def. declared_action (uid_of def.uid)
+    (action (action_fragment_body ConditionalName own_reference ConditionalName own_reference def.fragment)))
+    l.fn.written.entries l.defs.items l.id-iterator

@@ -1,0 +1,18 @@
+use Rattle.std.proofs.Common.{◌∙◌, ap}
+use Rattle.cedar_fragments.proofs.DeclaredAsLemmas.{declared_as-within}
+use Rattle.cedar_fragments.proofs.OneMore.{one_more}
+use Rattle.cedar_names.specs.CommonTypeId.{common_type_text}
+use Rattle.cedar_names.specs.Declaration.{common_type}
+use Rattle.cedar_names.specs.NamespaceName.{namespace_name}
+use Rattle.cedar_names.specs.RawExpr.{raw_expr}
+use Rattle.cedar_names.specs.Reference.{name_within}
+use Rattle.cedar_fragments.proofs.namespace.common_types.CommonTypeDefs+ConditionalName.from_raw_common_types.Goals as goal
+
+pub loop-id-preserved : goal.loop-id-preserved
+loop-id-preserved c =
+    let namespace = namespace_name c.args.namespace in
+    one_more _ _ c.loop-id.defs.items _ c.loop-id.yielded _ (c.in-Some.id, c.in-Some.common) c.in_ok-push.ensures.items
+    c.loop-id.invariant
+    (declared_as-within namespace (common_type_text c.in-Some.id) (common_type (raw_expr namespace c.in-Some.common.ty)) _ _
+    (c.in_ok-name.ensures.name ∙ ap (name_within namespace) (c.into_id-in-loop-id.ensures.text ∙ c.into_id.ensures.text))
+    (ap common_type c.in_ok-ty.ensures.written))

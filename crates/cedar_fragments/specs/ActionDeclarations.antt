@@ -1,0 +1,47 @@
+use Rattle.std.specs.Prelude.{false, List, map, Option, None, Some, string_bytes}
+use Rattle.cedar_below.specs.EntityUID.{uid_of}
+use Rattle.cedar_fragments.specs.DeclaredAs.{declared_action}
+use Rattle.cedar_fragments.specs.declared.namespace.actions.ActionFragment.{ActionFragment}
+use Rattle.cedar_fragments.specs.declared.namespace.actions.ActionParent.{ActionParent}
+use Rattle.cedar_fragments.specs.declared.namespace.actions.ActionRequests.{ActionRequests}
+use Rattle.cedar_fragments.specs.declared.namespace.actions.ActionsDef.{ActionsDef}
+use Rattle.cedar_fragments.specs.declared.namespace.apply_spec.ValidatorApplySpec.{ValidatorApplySpec}
+use Rattle.cedar_names.specs.ActionBody.{ActionBody, Requests, requests, elsewhere}
+use Rattle.cedar_names.specs.Declaration.{Declaration, action}
+use Rattle.cedar_names.specs.Reference.{Reference, ActionReference}
+use Rattle.cedar_names.specs.WrittenExpr.{written_type}
+use Rattle.cedar_names.specs.declared.json_schema.reference_type.ReferenceType.{ReferenceType}
+use Rattle.cedar_names.specs.declared.json_schema.reference_type.ReferenceType.TheVariants.{Entity}
+
+-- over names of some form, where it is given what a name refers to at a place of each kind
+module _ (N : Type 0) (refer : ReferenceType → N → Reference) where
+  -- the entity types that a principal may have
+  abbrev pub principals_of : ValidatorApplySpec N → List Reference
+  principals_of it = map (refer Entity) it.principal_types.items
+
+  -- the entity types that a resource may have
+  abbrev pub resources_of : ValidatorApplySpec N → List Reference
+  resources_of it = map (refer Entity) it.resource_types.items
+
+  -- the requests that an action is for; those of an external one are said elsewhere
+  abbrev pub fragment_requests : Option (ActionRequests N) → Requests
+  fragment_requests None = elsewhere
+  fragment_requests (Some it) = requests (principals_of it.applies_to) (resources_of it.applies_to) (written_type N refer it.context)
+
+  -- a parent of an action
+  abbrev pub fragment_parent : ActionParent N → ActionReference
+  fragment_parent it = record { id = string_bytes it.id; ty = refer Entity it.ty }
+
+-- over names of some form, and names of the types of actions of another
+module _ (N : Type 0) (refer : ReferenceType → N → Reference) (A : Type 0) (refer_action : ReferenceType → A → Reference) where
+  -- what is declared of an action, which has no attributes
+  abbrev pub action_fragment_body : ActionFragment N A → ActionBody
+  action_fragment_body it = record {
+    has_attributes = false;
+    parents = map (fragment_parent A refer_action) it.parents.items;
+    applies_to = fragment_requests N refer it.requests;
+  }
+
+  -- the declarations of the actions
+  abbrev pub action_fragment_declarations : ActionsDef N A → List Declaration
+  action_fragment_declarations it = map (λ def. declared_action (uid_of def.uid) (action (action_fragment_body def.fragment))) it.defs.items

@@ -1,0 +1,42 @@
+use Rattle.std.specs.Prelude.{List, ◌++◌, Option}
+use Rattle.std.specs.List.{flat_map}
+use Rattle.std.specs.Option.{option_map}
+use Rattle.cedar_below.specs.InternalName.{name_of}
+use Rattle.cedar_below.specs.PlainName.{PlainName}
+use Rattle.cedar_declared.specs.Bag.{Bag}
+use Rattle.cedar_fragments.specs.ActionDeclarations.{action_fragment_declarations}
+use Rattle.cedar_fragments.specs.TypeDeclarations.{common_type_declarations, entity_type_declarations}
+use Rattle.cedar_fragments.specs.declared.namespace.definition.ValidatorNamespaceDef.{ValidatorNamespaceDef}
+use Rattle.cedar_fragments.specs.declared.namespace.fragment.ValidatorSchemaFragment.{ValidatorSchemaFragment}
+use Rattle.cedar_names.specs.ConditionalExpr.{own_reference}
+use Rattle.cedar_names.specs.Reference.{Reference}
+use Rattle.cedar_names.specs.declared.json_schema.conditional_name.ConditionalName.{ConditionalName}
+use Rattle.cedar_names.specs.declared.json_schema.reference_type.ReferenceType.{ReferenceType}
+
+-- over names of some form, and names of the types of actions of another
+module _ (N : Type 0) (refer : ReferenceType → N → Reference) (A : Type 0) (refer_action : ReferenceType → A → Reference) where
+  -- the declarations of a namespace's definition: its common types, its entity types and its actions
+  abbrev pub definition_declarations : ValidatorNamespaceDef N A → Bag
+  definition_declarations it =
+      common_type_declarations N refer it.common_types ++ entity_type_declarations N refer it.entity_types
+      ++ action_fragment_declarations N refer A refer_action it.actions
+
+  -- the declarations of a fragment: those of its definitions in turn
+  abbrev pub fragment_declarations : ValidatorSchemaFragment N A → Bag
+  fragment_declarations it = flat_map definition_declarations it.definitions.items
+
+-- the namespace of a definition, None being the empty one
+abbrev pub definition_namespace : (N A : Type 0) → ValidatorNamespaceDef N A → Option PlainName
+definition_namespace N A it = option_map name_of it.namespace
+
+-- the declarations of a definition whose names say what they may stand for
+abbrev pub conditional_definition : ValidatorNamespaceDef ConditionalName ConditionalName → Bag
+conditional_definition = definition_declarations ConditionalName own_reference ConditionalName own_reference
+
+-- the declarations of a fragment whose names say what they may stand for
+abbrev pub conditional_fragment : ValidatorSchemaFragment ConditionalName ConditionalName → Bag
+conditional_fragment = fragment_declarations ConditionalName own_reference ConditionalName own_reference
+
+-- the bag of declarations of some fragments whose names say what they may stand for
+abbrev pub conditional_bag : List (ValidatorSchemaFragment ConditionalName ConditionalName) → Bag
+conditional_bag fragments = flat_map conditional_fragment fragments

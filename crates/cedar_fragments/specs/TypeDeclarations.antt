@@ -1,0 +1,35 @@
+use Rattle.std.specs.Prelude.{List, map}
+use Rattle.std.specs.Option.{option_map}
+use Rattle.cedar_below.specs.Eid.{eid_text}
+use Rattle.cedar_below.specs.EntityType.{type_name}
+use Rattle.cedar_below.specs.InternalName.{name_of}
+use Rattle.cedar_below.specs.NonEmpty.{items_of}
+use Rattle.cedar_fragments.specs.DeclaredAs.{declared_as}
+use Rattle.cedar_fragments.specs.declared.namespace.common_types.CommonTypeDefs.{CommonTypeDefs}
+use Rattle.cedar_fragments.specs.declared.namespace.entity_types.EntityTypeFragment.{EntityTypeFragment}
+use Rattle.cedar_fragments.specs.declared.namespace.entity_types.EntityTypeFragment.TheVariants as variant
+use Rattle.cedar_fragments.specs.declared.namespace.entity_types.EntityTypesDef.{EntityTypesDef}
+use Rattle.cedar_names.specs.Declaration.{Declaration, common_type, entity_type}
+use Rattle.cedar_names.specs.EntityBody.{EntityBody, standard, enumerated, external}
+use Rattle.cedar_names.specs.Reference.{Reference}
+use Rattle.cedar_names.specs.WrittenExpr.{written_type}
+use Rattle.cedar_names.specs.declared.json_schema.reference_type.ReferenceType.{ReferenceType}
+use Rattle.cedar_names.specs.declared.json_schema.reference_type.ReferenceType.TheVariants.{Entity}
+
+-- types over names of some form, where it is given what a name refers to at a place of each kind
+module _ (N : Type 0) (refer : ReferenceType → N → Reference) where
+  -- the declarations of the common types
+  abbrev pub common_type_declarations : CommonTypeDefs N → List Declaration
+  common_type_declarations it = map (λ def. declared_as (name_of def.name) (common_type (written_type N refer def.ty))) it.defs.items
+
+  -- what is declared of an entity type
+  abbrev pub fragment_body : EntityTypeFragment N → EntityBody
+  fragment_body (variant.Standard attributes parents tags) =
+      standard (map (refer Entity) parents.items) (written_type N refer attributes.0) (option_map (written_type N refer) tags)
+  fragment_body (variant.Enum choices) = enumerated (map eid_text (items_of choices))
+  fragment_body (variant.External parents) = external (map (refer Entity) parents.items)
+
+  -- the declarations of the entity types
+  abbrev pub entity_type_declarations : EntityTypesDef N → List Declaration
+  entity_type_declarations it =
+      map (λ def. declared_as (type_name def.name) (entity_type (fragment_body def.fragment))) it.defs.items

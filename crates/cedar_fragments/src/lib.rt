@@ -1,0 +1,4 @@
+//! Namespaces and fragments whose names are on the way to being settled.
+#![tactic(auto)]
+
+pub mod namespace;

@@ -1,0 +1,19 @@
+//! Fragments and the definitions of their namespaces, with what their names may stand for.
+//!
+//! The parameter `N` is the form of a reference to a type: a name that isn't settled yet, or the
+//! full name of what it names. The parameter `A` is the same of the type of an action's parent.
+
+pub use actions::{ActionFragment, ActionsDef};
+pub use apply_spec::ValidatorApplySpec;
+pub use common_types::CommonTypeDefs;
+pub use definition::ValidatorNamespaceDef;
+pub use entity_types::{EntityTypeFragment, EntityTypesDef};
+pub use fragment::ValidatorSchemaFragment;
+
+mod actions;
+mod apply_spec;
+mod common_types;
+mod definition;
+mod entity_types;
+mod fragment;
+mod full_name;

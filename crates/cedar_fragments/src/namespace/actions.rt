@@ -1,0 +1,284 @@
+//! The actions of a namespace.
+
+ghost use Rattle.std.specs.Prelude.{◌≡◌, ◌⊎◌, ◌↔◌, IfOk, IfErr, OnOk, map, Contains, string_bytes, []};
+ghost use Rattle.std.specs.Option.{option_map};
+ghost use Rattle.cedar_below.specs.EntityType.{type_name};
+ghost use Rattle.cedar_below.specs.Id.{id_text};
+ghost use Rattle.cedar_below.specs.Identifier.{reserved_word};
+ghost use Rattle.cedar_below.specs.PlainName.{action_word};
+ghost use Rattle.cedar_declared.specs.Fault.{Fault, reserved_name, want_of_memory};
+ghost use Rattle.cedar_declared.specs.SchemaError.{fault_of};
+ghost use Rattle.std.specs.List.{AllByRecursion};
+ghost use Rattle.std.specs.List.Sorted.{IsStrictlySortedBy};
+ghost use Rattle.cedar_below.specs.EntityUID.{uid_of};
+ghost use Rattle.cedar_below.specs.Text.{Text, text_cmp};
+ghost use Rattle.cedar_declared.specs.IllFormed.{HasAttributes};
+ghost use Rattle.cedar_fragments.specs.ActionDeclarations.{fragment_parent, fragment_requests, action_fragment_body, action_fragment_declarations};
+ghost use Rattle.cedar_fragments.specs.DefinitionFault.{IsDefinitionFault, IsSound, NamesAllWithAttributes};
+ghost use Rattle.cedar_fragments.specs.WithAttributes.{with_attributes};
+ghost use Rattle.cedar_names.specs.Declaration.{action_declarations};
+ghost use Rattle.cedar_names.specs.ActionBody.{parent_action, parent_actions, requests_by, applies_to, action_body};
+ghost use Rattle.cedar_names.specs.ConditionalExpr.{own_reference};
+ghost use Rattle.cedar_names.specs.NamespaceName.{namespace_name};
+ghost use Rattle.cedar_names.specs.RawExpr.{raw_reference};
+ghost use Rattle.cedar_names.specs.Reference.{Reference, name_within, path_within};
+ghost use Rattle.cedar_names.specs.declared.json_schema.reference_type.ReferenceType.{ReferenceType};
+ghost use Rattle.cedar_names.specs.declared.json_schema.conditional_name.ConditionalName.{ConditionalName as Conditional};
+ghost use Rattle.cedar_names.specs.declared.json_schema.raw_name.RawName.{RawName as Raw};
+
+use crate::namespace::apply_spec::ValidatorApplySpec;
+use crate::namespace::entity_types::entity_references;
+use crate::namespace::full_name::full_name;
+use cedar_below::{Eid, EntityType, EntityUID, Id, InternalName, Loc, M, Name};
+use cedar_declared::{SchemaError, UnsupportedFeature};
+use cedar_names::json_schema::{
+    ActionEntityUID, ActionType, ApplySpec, ConditionalName, RawName, RecordType, ReferenceType,
+    Type, TypeVariant,
+};
+use std::alloc::Global;
+use std::collections::BTreeMap;
+
+/// The actions that a definition declares, each under its uid.
+#[derive(Debug, Drop)]
+pub struct ActionsDef<N, A> {
+    pub(crate) defs: Vec<ActionDef<N, A>>,
+}
+
+/// An action under its uid, whose location is that of the whole declaration.
+#[derive(Debug, Drop)]
+pub(crate) struct ActionDef<N, A> {
+    pub(crate) uid: EntityUID,
+    pub(crate) fragment: ActionFragment<N, A>,
+}
+
+/// What is declared of an action.
+#[derive(Debug, Drop)]
+pub struct ActionFragment<N, A> {
+    pub(crate) requests: Option<ActionRequests<N>>,
+    pub(crate) parents: Vec<ActionParent<A>>,
+    pub(crate) loc: Option<Loc>,
+}
+
+/// The requests that an action is for, and the record type of their context.
+#[derive(Debug, Drop)]
+pub(crate) struct ActionRequests<N> {
+    pub(crate) applies_to: ValidatorApplySpec<N>,
+    pub(crate) context: Type<N>,
+}
+
+/// A parent of an action: its id, and the name of its type.
+#[derive(Debug, Drop)]
+pub(crate) struct ActionParent<A> {
+    pub(crate) id: String,
+    pub(crate) ty: A,
+    pub(crate) loc: Option<Loc>,
+}
+
+impl<N, A> ActionsDef<N, A> {
+    /// No actions.
+    pub fn new(alloc: Global) -> Self
+        ensures { (refer : ReferenceType → N → Reference) (refer_action : ReferenceType → A → Reference)
+            → action_fragment_declarations N refer A refer_action result ≡ [] }
+    {
+        ActionsDef {
+            defs: Vec::new(alloc),
+        }
+    }
+}
+
+/// The base name of every action's type.
+fn action_id(alloc: Global) -> M<Id>
+    ensures { IfOk result (λ id. id_text id ≡ action_word) }
+{
+    match Id::new(String::from_str(alloc, "Action")?) {
+        Some(id) => Ok(id),
+        None => unreachable!(),
+    }
+}
+
+/// A reference to a parent of an action, by a name that is written in a namespace.
+fn action_parent(
+    alloc: Global,
+    namespace: Option<&InternalName>,
+    written: ActionEntityUID<RawName>,
+) -> M<ActionParent<ConditionalName>>
+    ensures { IfOk result (λ it. fragment_parent Conditional own_reference it
+        ≡ parent_action Raw (raw_reference (namespace_name namespace.entry)) (namespace_name namespace.entry) written) }
+{
+    let ActionEntityUID { id, ty, loc } = written;
+    let name = match ty {
+        Some(name) => name,
+        None => RawName::new(InternalName::new(action_id(alloc)?, Vec::new(alloc), loc)),
+    };
+    let ty = name.conditionally_qualify_with(alloc, namespace, ReferenceType::Entity)?;
+    Ok(ActionParent { id, ty, loc })
+}
+
+/// References to the parents of an action; none where none are written.
+fn action_parents(
+    alloc: Global,
+    namespace: Option<&InternalName>,
+    written: Option<Vec<ActionEntityUID<RawName>>>,
+) -> M<Vec<ActionParent<ConditionalName>>>
+    ensures { IfOk result (λ it. map (fragment_parent Conditional own_reference) it.items
+        ≡ parent_actions Raw (raw_reference (namespace_name namespace.entry)) (namespace_name namespace.entry) written) }
+{
+    let mut parents = Vec::new(alloc);
+    let Some(written) = written else {
+        return Ok(parents);
+    };
+    for parent in written {
+        parents.push(action_parent(alloc, namespace, parent)?)?;
+    }
+    Ok(parents)
+}
+
+/// The requests that are written of an action; where none are written it is for none, and its
+/// context is the closed record without attributes.
+fn action_requests(
+    alloc: Global,
+    namespace: Option<&InternalName>,
+    written: Option<ApplySpec<RawName>>,
+) -> M<ActionRequests<ConditionalName>>
+    ensures { IfOk result (λ it. fragment_requests Conditional own_reference (Some it)
+        ≡ applies_to Raw (raw_reference (namespace_name namespace.entry)) (namespace_name namespace.entry) written) }
+{
+    let Some(written) = written else {
+        let no_attributes = RecordType {
+            attributes: BTreeMap::new(alloc),
+            additional_attributes: false,
+        };
+        return Ok(ActionRequests {
+            applies_to: ValidatorApplySpec {
+                principal_types: Vec::new(alloc),
+                resource_types: Vec::new(alloc),
+            },
+            context: Type::Plain {
+                ty: TypeVariant::Record(no_attributes),
+                loc: None,
+            },
+        });
+    };
+    let ApplySpec {
+        principal_types,
+        resource_types,
+        context,
+    } = written;
+    let applies_to = ValidatorApplySpec {
+        principal_types: entity_references(alloc, namespace, principal_types)?,
+        resource_types: entity_references(alloc, namespace, resource_types)?,
+    };
+    let context = context
+        .0
+        .conditionally_qualify_type_references(alloc, namespace)?;
+    Ok(ActionRequests {
+        applies_to,
+        context,
+    })
+}
+
+impl ActionFragment<ConditionalName, ConditionalName> {
+    /// What is declared of an action without attributes that is written in a namespace.
+    pub(crate) fn from_raw_action(
+        alloc: Global,
+        namespace: Option<&InternalName>,
+        written: ActionType<RawName>,
+    ) -> M<Self>
+        requires { written.attributes ≡ None }
+        ensures { IfOk result (λ it. action_fragment_body Conditional own_reference Conditional own_reference it
+            ≡ action_body Raw (raw_reference (namespace_name namespace.entry)) (namespace_name namespace.entry) written) }
+    {
+        let ActionType {
+            applies_to,
+            member_of,
+            external,
+            loc,
+            ..
+        } = written;
+        let parents = action_parents(alloc, namespace, member_of)?;
+        let requests = if external {
+            None
+        } else {
+            Some(action_requests(alloc, namespace, applies_to)?)
+        };
+        Ok(ActionFragment {
+            requests,
+            parents,
+            loc,
+        })
+    }
+}
+
+/// The uid of an action that is declared in a namespace, which must not be reserved.
+fn action_uid(
+    alloc: Global,
+    namespace: Option<&InternalName>,
+    id: String,
+    loc: Option<Loc>,
+) -> Result<EntityUID, SchemaError>
+    ensures ty { IfOk result (λ uid. (uid_of uid).ty ≡ name_within (namespace_name namespace.entry) action_word) }
+    ensures eid { IfOk result (λ uid. (uid_of uid).eid ≡ string_bytes id) }
+    ensures unreserved { OnOk result (¬ Contains (path_within (namespace_name namespace.entry)) reserved_word) }
+    ensures fault { IfErr result (λ error. (fault_of error ≡ want_of_memory)
+        ⊎ ((fault_of error ≡ reserved_name (name_within (namespace_name namespace.entry) action_word))
+        × Contains (path_within (namespace_name namespace.entry)) reserved_word)) }
+{
+    let name = full_name(alloc, namespace, action_id(alloc)?, loc)?;
+    if name.is_reserved() {
+        return Err(SchemaError::ReservedName(name));
+    }
+    let Some(name) = Name::new(name) else {
+        unreachable!();
+    };
+    Ok(EntityUID::new(EntityType::new(name), Eid(id), loc))
+}
+
+/// The ids of the actions that are written with attributes, in order.
+fn actions_with_attributes(
+    alloc: Global,
+    written: &BTreeMap<String, ActionType<RawName>>,
+) -> M<Vec<String>>
+    ensures listed { IfOk result (λ ids. map string_bytes ids.items ≡ with_attributes written.now.entries) }
+    ensures in_order { IfOk result (λ ids. IsStrictlySortedBy text_cmp (map string_bytes ids.items)) }
+{
+    let mut ids = Vec::new(alloc);
+    for (id, action) in written {
+        if action.attributes.is_some() {
+            ids.push(id.clone()?)?;
+        }
+    }
+    Ok(ids)
+}
+
+impl ActionsDef<ConditionalName, ConditionalName> {
+    /// The actions that are written in a namespace.
+    pub(crate) fn from_raw_actions(
+        alloc: Global,
+        namespace: Option<&InternalName>,
+        written: BTreeMap<String, ActionType<RawName>>,
+    ) -> Result<Self, SchemaError>
+        ensures declarations { IfOk result (λ it. action_fragment_declarations Conditional own_reference Conditional own_reference it
+            ≡ action_declarations Raw (raw_reference (namespace_name namespace.entry)) (namespace_name namespace.entry) written.entries) }
+        ensures sound { OnOk result (AllByRecursion IsSound
+            (action_declarations Raw (raw_reference (namespace_name namespace.entry)) (namespace_name namespace.entry) written.entries)) }
+        ensures fault { IfErr result (λ error. (fault_of error ≡ want_of_memory)
+            ⊎ IsDefinitionFault (action_declarations Raw (raw_reference (namespace_name namespace.entry)) (namespace_name namespace.entry)
+            written.entries) (fault_of error)) }
+        ensures all_named { IfErr result (λ error. NamesAllWithAttributes
+            (action_declarations Raw (raw_reference (namespace_name namespace.entry)) (namespace_name namespace.entry) written.entries)
+            (namespace_name namespace.entry) (fault_of error)) }
+    {
+        let ids = actions_with_attributes(alloc, &written)?;
+        if !ids.is_empty() {
+            let feature = UnsupportedFeature::ActionAttributes(ids);
+            return Err(SchemaError::UnsupportedFeature(feature));
+        }
+        let mut defs = Vec::new(alloc);
+        for (id, declared) in written {
+            let uid = action_uid(alloc, namespace, id, declared.defn_loc)?;
+            let fragment = ActionFragment::from_raw_action(alloc, namespace, declared)?;
+            defs.push(ActionDef { uid, fragment })?;
+        }
+        Ok(ActionsDef { defs })
+    }
+}

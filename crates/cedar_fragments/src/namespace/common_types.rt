@@ -1,0 +1,50 @@
+//! The common types of a namespace.
+
+ghost use Rattle.std.specs.Prelude.{◌≡◌, IfOk};
+ghost use Rattle.cedar_fragments.specs.TypeDeclarations.{common_type_declarations};
+ghost use Rattle.cedar_names.specs.ConditionalExpr.{own_reference};
+ghost use Rattle.cedar_names.specs.Declaration.{common_declarations};
+ghost use Rattle.cedar_names.specs.NamespaceName.{namespace_name};
+ghost use Rattle.cedar_names.specs.RawExpr.{raw_reference};
+ghost use Rattle.cedar_names.specs.declared.json_schema.conditional_name.ConditionalName.{ConditionalName as Conditional};
+ghost use Rattle.cedar_names.specs.declared.json_schema.raw_name.RawName.{RawName as Raw};
+
+use crate::namespace::full_name::full_name;
+use cedar_below::{InternalName, Loc, M};
+use cedar_names::json_schema::{CommonType, CommonTypeId, ConditionalName, RawName, Type};
+use std::alloc::Global;
+use std::collections::BTreeMap;
+
+/// The common types that a definition declares, each under its full name.
+#[derive(Debug, Drop)]
+pub struct CommonTypeDefs<N> {
+    pub(crate) defs: Vec<CommonTypeDef<N>>,
+}
+
+/// A common type under its full name, whose location is that of the declaration.
+#[derive(Debug, Drop)]
+pub(crate) struct CommonTypeDef<N> {
+    pub(crate) name: InternalName,
+    pub(crate) ty: Type<N>,
+}
+
+impl CommonTypeDefs<ConditionalName> {
+    /// The common types that are written in a namespace.
+    pub(crate) fn from_raw_common_types(
+        alloc: Global,
+        namespace: Option<&InternalName>,
+        written: BTreeMap<CommonTypeId, CommonType<RawName>>,
+    ) -> M<Self>
+        ensures { IfOk result (λ it. common_type_declarations Conditional own_reference it
+            ≡ common_declarations Raw (raw_reference (namespace_name namespace.entry)) (namespace_name namespace.entry) written.entries) }
+    {
+        let mut defs = Vec::new(alloc);
+        for (id, common) in written {
+            let CommonType { ty, loc } = common;
+            let name = full_name(alloc, namespace, id.into_id().into_id(), loc)?;
+            let ty = ty.conditionally_qualify_type_references(alloc, namespace)?;
+            defs.push(CommonTypeDef { name, ty })?;
+        }
+        Ok(CommonTypeDefs { defs })
+    }
+}

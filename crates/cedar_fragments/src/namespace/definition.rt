@@ -1,0 +1,90 @@
+//! Definitions of namespaces.
+
+ghost use Rattle.std.specs.Prelude.{◌≡◌, ◌⊎◌, IfOk, IfErr, OnOk};
+ghost use Rattle.std.specs.List.{AllByRecursion};
+ghost use Rattle.std.specs.Option.{option_map};
+ghost use Rattle.cedar_below.specs.InternalName.{name_of};
+ghost use Rattle.cedar_declared.specs.Fault.{want_of_memory};
+ghost use Rattle.cedar_declared.specs.SchemaError.{fault_of};
+ghost use Rattle.cedar_fragments.specs.DefinitionFault.{HasNoDefinitionFault, IsDefinitionFault, IsSound, NamesAllWithAttributes};
+ghost use Rattle.cedar_fragments.specs.FragmentDeclarations.{conditional_definition, definition_namespace};
+ghost use Rattle.cedar_names.specs.declared.json_schema.conditional_name.ConditionalName.{ConditionalName as Conditional};
+ghost use Rattle.cedar_names.specs.Declaration.{raw_declarations};
+ghost use Rattle.cedar_names.specs.NamespaceName.{namespace_name};
+
+use crate::namespace::actions::ActionsDef;
+use crate::namespace::common_types::CommonTypeDefs;
+use crate::namespace::entity_types::EntityTypesDef;
+use cedar_below::{InternalName, Loc};
+use cedar_declared::SchemaError;
+use cedar_names::json_schema::{ConditionalName, NamespaceDefinition, RawName};
+use std::alloc::Global;
+
+/// The declarations of one namespace.
+#[derive(Debug, Drop)]
+pub struct ValidatorNamespaceDef<N, A> {
+    pub(crate) namespace: Option<InternalName>,
+    pub(crate) common_types: CommonTypeDefs<N>,
+    pub(crate) entity_types: EntityTypesDef<N>,
+    pub(crate) actions: ActionsDef<N, A>,
+    pub(crate) loc: Option<Loc>,
+}
+
+impl<N, A> ValidatorNamespaceDef<N, A> {
+    /// The namespace's name, or None for the empty one.
+    pub fn namespace(&self) -> Option<&InternalName>
+        ensures { namespace_name result ≡ definition_namespace N A self.now }
+    {
+        lend(&self.namespace)
+    }
+}
+
+/// The name of a namespace, lent.
+fn lend(namespace: &Option<InternalName>) -> Option<&InternalName>
+    ensures { namespace_name result ≡ option_map name_of namespace.now }
+{
+    namespace.as_ref()
+}
+
+impl ValidatorNamespaceDef<ConditionalName, ConditionalName> {
+    /// The declarations of a definition that is written in the namespace, None being the empty one.
+    ///
+    /// It is refused with `UnsupportedFeature` if an action is written with attributes, which then
+    /// names all such actions in order; with `ActionEntityTypeDeclared` if an entity type has the id
+    /// `Action`; and with `ReservedName` if an entity type or an action is declared in a reserved
+    /// namespace. All of this holds of external declarations too. The only other refusal is want of
+    /// memory.
+    pub fn from_namespace_definition(
+        alloc: Global,
+        namespace: Option<InternalName>,
+        definition: NamespaceDefinition<RawName>,
+    ) -> Result<Self, SchemaError>
+        ensures declarations { IfOk result (λ it. conditional_definition it
+            ≡ raw_declarations (option_map name_of namespace) definition) }
+        ensures namespace { IfOk result (λ it. definition_namespace Conditional Conditional it ≡ option_map name_of namespace) }
+        ensures sound { OnOk result (AllByRecursion IsSound (raw_declarations (option_map name_of namespace) definition)) }
+        ensures no_fault { OnOk result (HasNoDefinitionFault (raw_declarations (option_map name_of namespace) definition)) }
+        ensures fault { IfErr result (λ error. (fault_of error ≡ want_of_memory)
+            ⊎ IsDefinitionFault (raw_declarations (option_map name_of namespace) definition) (fault_of error)) }
+        ensures all_named { IfErr result (λ error. NamesAllWithAttributes
+            (raw_declarations (option_map name_of namespace) definition) (option_map name_of namespace) (fault_of error)) }
+    {
+        let NamespaceDefinition {
+            common_types,
+            entity_types,
+            actions,
+            loc,
+        } = definition;
+        let within = lend(&namespace);
+        let common_types = CommonTypeDefs::from_raw_common_types(alloc, within, common_types)?;
+        let entity_types = EntityTypesDef::from_raw_entity_types(alloc, within, entity_types)?;
+        let actions = ActionsDef::from_raw_actions(alloc, within, actions)?;
+        Ok(ValidatorNamespaceDef {
+            namespace,
+            common_types,
+            entity_types,
+            actions,
+            loc,
+        })
+    }
+}

@@ -1,0 +1,231 @@
+//! The entity types of a namespace.
+
+ghost use Rattle.std.specs.Prelude.{◌≡◌, ◌⊎◌, IfOk, IfErr, OnOk, map, Contains, []};
+ghost use Rattle.std.specs.List.{AllByRecursion};
+ghost use Rattle.cedar_below.specs.EntityType.{type_name};
+ghost use Rattle.cedar_below.specs.Identifier.{reserved_word};
+ghost use Rattle.cedar_below.specs.PlainName.{IsActionType};
+ghost use Rattle.cedar_below.specs.UnreservedId.{unreserved_id_text};
+ghost use Rattle.cedar_declared.specs.Counted.{entity_parents};
+ghost use Rattle.cedar_names.specs.Reference.{Reference};
+ghost use Rattle.cedar_names.specs.declared.json_schema.reference_type.ReferenceType.{ReferenceType};
+ghost use Rattle.cedar_declared.specs.Fault.{Fault, action_entity_type, reserved_name, want_of_memory};
+ghost use Rattle.cedar_declared.specs.SchemaError.{fault_of};
+ghost use Rattle.cedar_fragments.specs.DefinitionFault.{IsDefinitionFault, IsSound, NamesNoAttributes};
+ghost use Rattle.cedar_fragments.specs.TypeDeclarations.{fragment_body, entity_type_declarations};
+ghost use Rattle.cedar_names.specs.Declaration.{entity_declarations};
+ghost use Rattle.cedar_names.specs.Reference.{name_within, path_within};
+ghost use Rattle.cedar_names.specs.declared.json_schema.raw_name.RawName.{RawName as Raw};
+ghost use Rattle.std.specs.Option.{option_map};
+ghost use Rattle.cedar_names.specs.ConditionalExpr.{own_reference, conditional_expr};
+ghost use Rattle.cedar_names.specs.EntityBody.{raw_entity_body};
+ghost use Rattle.cedar_names.specs.NamespaceName.{namespace_name};
+ghost use Rattle.cedar_names.specs.RawExpr.{raw_reference, raw_expr};
+ghost use Rattle.cedar_names.specs.declared.json_schema.conditional_name.ConditionalName.{ConditionalName as Conditional};
+ghost use Rattle.cedar_names.specs.declared.json_schema.reference_type.ReferenceType.TheVariants.{Entity as entity};
+
+use crate::namespace::full_name::full_name;
+use cedar_below::{Eid, EntityType, InternalName, Loc, M, Name, NonEmpty, UnreservedId};
+use cedar_declared::SchemaError;
+use cedar_names::json_schema;
+use cedar_names::json_schema::{
+    AttributesOrContext, ConditionalName, EntityTypeKind, RawName, ReferenceType,
+    StandardEntityType, Type,
+};
+use std::alloc::Global;
+use std::collections::BTreeMap;
+
+/// The entity types that a definition declares, each under its full name.
+#[derive(Debug, Drop)]
+pub struct EntityTypesDef<N> {
+    pub(crate) defs: Vec<EntityTypeDef<N>>,
+}
+
+/// An entity type under its full name, whose location is that of the declaration.
+#[derive(Debug, Drop)]
+pub(crate) struct EntityTypeDef<N> {
+    pub(crate) name: EntityType,
+    pub(crate) fragment: EntityTypeFragment<N>,
+}
+
+/// What is declared of an entity type.
+#[derive(Debug, Drop)]
+pub enum EntityTypeFragment<N> {
+    /// A type whose entities may have any id, and may have attributes, tags and ancestors.
+    Standard {
+        /// The record type of an entity's attributes.
+        attributes: AttributesOrContext<N>,
+        /// The entity types whose entities may be direct parents of an entity of this type.
+        parents: Vec<N>,
+        /// The type that the values of all tags have, or None where an entity can't have tags.
+        tags: Option<Type<N>>,
+    },
+    /// An enumerated type, whose entities are those with the listed ids.
+    Enum(NonEmpty<Eid>),
+    /// A type that is defined elsewhere.
+    External {
+        /// The entity types whose entities may be direct parents of an entity of this type.
+        parents: Vec<N>,
+    },
+}
+
+impl<N> EntityTypesDef<N> {
+    /// No entity types.
+    pub fn new(alloc: Global) -> Self
+        ensures { (refer : ReferenceType → N → Reference) → entity_type_declarations N refer result ≡ [] }
+    {
+        EntityTypesDef {
+            defs: Vec::new(alloc),
+        }
+    }
+}
+
+impl<N> EntityTypeFragment<N> {
+    /// The entity types whose entities may be direct parents of an entity of this type; an
+    /// enumerated type has none.
+    pub fn parents(&self) -> &[N]
+        ensures { (refer : ReferenceType → N → Reference) → map (refer entity) result.now ≡ entity_parents (fragment_body N refer self.now) }
+    {
+        match self {
+            EntityTypeFragment::Standard { parents, .. } => parents.as_slice(),
+            EntityTypeFragment::Enum(_) => &[],
+            EntityTypeFragment::External { parents } => parents.as_slice(),
+        }
+    }
+}
+
+/// References to entity types, by names that are written in a namespace.
+pub(crate) fn entity_references(
+    alloc: Global,
+    namespace: Option<&InternalName>,
+    names: Vec<RawName>,
+) -> M<Vec<ConditionalName>>
+    ensures { IfOk result (λ it. map (own_reference entity) it.items
+        ≡ map (raw_reference (namespace_name namespace.entry) entity) names.items) }
+{
+    let mut references = Vec::new(alloc);
+    for name in names {
+        let kind = ReferenceType::Entity;
+        references.push(name.conditionally_qualify_with(alloc, namespace, kind)?)?;
+    }
+    Ok(references)
+}
+
+/// A shape, the type of tags or a context that may not be written, by names in a namespace.
+fn tags_type(
+    alloc: Global,
+    namespace: Option<&InternalName>,
+    tags: Option<Type<RawName>>,
+) -> M<Option<Type<ConditionalName>>>
+    ensures { IfOk result (λ it. option_map conditional_expr it
+        ≡ option_map (raw_expr (namespace_name namespace.entry)) tags) }
+{
+    match tags {
+        None => Ok(None),
+        Some(ty) => {
+            let ty = ty.conditionally_qualify_type_references(alloc, namespace)?;
+            Ok(Some(ty))
+        }
+    }
+}
+
+impl EntityTypeFragment<ConditionalName> {
+    /// What is declared of an entity type that is written in a namespace.
+    pub(crate) fn from_raw_entity_type(
+        alloc: Global,
+        namespace: Option<&InternalName>,
+        written: json_schema::EntityType<RawName>,
+    ) -> M<Self>
+        ensures { IfOk result (λ it. fragment_body Conditional own_reference it
+            ≡ raw_entity_body (namespace_name namespace.entry) written) }
+    {
+        let json_schema::EntityType { kind, external, .. } = written;
+        match kind {
+            EntityTypeKind::Standard(standard) => {
+                let StandardEntityType {
+                    member_of_types,
+                    shape,
+                    tags,
+                } = standard;
+                let parents = entity_references(alloc, namespace, member_of_types)?;
+                if external {
+                    return Ok(EntityTypeFragment::External { parents });
+                }
+                let attributes = shape
+                    .0
+                    .conditionally_qualify_type_references(alloc, namespace)?;
+                let tags = tags_type(alloc, namespace, tags)?;
+                Ok(EntityTypeFragment::Standard {
+                    attributes: AttributesOrContext(attributes),
+                    parents,
+                    tags,
+                })
+            }
+            EntityTypeKind::Enum { choices } => {
+                if external {
+                    let parents = Vec::new(alloc);
+                    return Ok(EntityTypeFragment::External { parents });
+                }
+                Ok(EntityTypeFragment::Enum(choices))
+            }
+        }
+    }
+}
+
+/// The full name of an entity type that is declared in a namespace, which must be neither reserved
+/// nor that of actions' types.
+fn entity_type_name(
+    alloc: Global,
+    namespace: Option<&InternalName>,
+    id: UnreservedId,
+    loc: Option<Loc>,
+) -> Result<EntityType, SchemaError>
+    ensures name { IfOk result (λ ty. type_name ty ≡ name_within (namespace_name namespace.entry) (unreserved_id_text id)) }
+    ensures no_action { OnOk result (¬ IsActionType (name_within (namespace_name namespace.entry) (unreserved_id_text id))) }
+    ensures unreserved { OnOk result (¬ Contains (path_within (namespace_name namespace.entry)) reserved_word) }
+    ensures fault { IfErr result (λ error. (fault_of error ≡ want_of_memory)
+        ⊎ (((fault_of error ≡ action_entity_type (name_within (namespace_name namespace.entry) (unreserved_id_text id)))
+        × IsActionType (name_within (namespace_name namespace.entry) (unreserved_id_text id)))
+        ⊎ ((fault_of error ≡ reserved_name (name_within (namespace_name namespace.entry) (unreserved_id_text id)))
+        × Contains (path_within (namespace_name namespace.entry)) reserved_word))) }
+{
+    let name = full_name(alloc, namespace, id.into_id(), loc)?;
+    if name.is_reserved() {
+        return Err(SchemaError::ReservedName(name));
+    }
+    let Some(name) = Name::new(name) else {
+        unreachable!();
+    };
+    let ty = EntityType::new(name);
+    if ty.is_action() {
+        let name = ty.into_name().into_internal();
+        return Err(SchemaError::ActionEntityTypeDeclared(name));
+    }
+    Ok(ty)
+}
+
+impl EntityTypesDef<ConditionalName> {
+    /// The entity types that are written in a namespace.
+    pub(crate) fn from_raw_entity_types(
+        alloc: Global,
+        namespace: Option<&InternalName>,
+        written: BTreeMap<UnreservedId, json_schema::EntityType<RawName>>,
+    ) -> Result<Self, SchemaError>
+        ensures declarations { IfOk result (λ it. entity_type_declarations Conditional own_reference it
+            ≡ entity_declarations Raw (raw_reference (namespace_name namespace.entry)) (namespace_name namespace.entry) written.entries) }
+        ensures sound { OnOk result (AllByRecursion IsSound
+            (entity_declarations Raw (raw_reference (namespace_name namespace.entry)) (namespace_name namespace.entry) written.entries)) }
+        ensures fault { IfErr result (λ error. (fault_of error ≡ want_of_memory)
+            ⊎ IsDefinitionFault (entity_declarations Raw (raw_reference (namespace_name namespace.entry)) (namespace_name namespace.entry)
+            written.entries) (fault_of error)) }
+        ensures no_actions { IfErr result (λ error. NamesNoAttributes (fault_of error)) }
+    {
+        let mut defs = Vec::new(alloc);
+        for (id, declared) in written {
+            let name = entity_type_name(alloc, namespace, id, declared.loc)?;
+            let fragment = EntityTypeFragment::from_raw_entity_type(alloc, namespace, declared)?;
+            defs.push(EntityTypeDef { name, fragment })?;
+        }
+        Ok(EntityTypesDef { defs })
+    }
+}

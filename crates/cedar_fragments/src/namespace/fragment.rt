@@ -1,0 +1,61 @@
+//! Fragments: namespaces with their definitions.
+
+ghost use Rattle.std.specs.Prelude.{◌≡◌, ◌⊎◌, IfOk, IfErr, OnOk};
+ghost use Rattle.std.specs.List.{AllByRecursion};
+ghost use Rattle.std.specs.Option.{option_map};
+ghost use Rattle.cedar_below.specs.InternalName.{name_of};
+ghost use Rattle.cedar_below.specs.Name.{plain_name};
+ghost use Rattle.cedar_declared.specs.Fault.{want_of_memory};
+ghost use Rattle.cedar_declared.specs.SchemaError.{fault_of};
+ghost use Rattle.cedar_fragments.specs.DefinitionFault.{HasNoDefinitionFault, IsDefinitionFault, IsSound};
+ghost use Rattle.cedar_fragments.specs.FragmentDeclarations.{conditional_fragment};
+ghost use Rattle.cedar_fragments.specs.FragmentFault.{NamesAllOfADefinition};
+ghost use Rattle.cedar_names.specs.Declaration.{raw_fragment};
+
+use crate::namespace::definition::ValidatorNamespaceDef;
+use cedar_below::{InternalName, Name};
+use cedar_declared::SchemaError;
+use cedar_names::json_schema::{ConditionalName, Fragment, RawName};
+use std::alloc::Global;
+
+/// A part of a schema: the definitions of some namespaces.
+#[derive(Debug, Drop)]
+pub struct ValidatorSchemaFragment<N, A> {
+    pub(crate) definitions: Vec<ValidatorNamespaceDef<N, A>>,
+}
+
+/// The name of a namespace, which may be the empty one.
+fn internal_namespace(namespace: Option<Name>) -> Option<InternalName>
+    ensures { option_map name_of result ≡ option_map plain_name namespace }
+{
+    match namespace {
+        Some(name) => Some(name.into_internal()),
+        None => None,
+    }
+}
+
+impl ValidatorSchemaFragment<ConditionalName, ConditionalName> {
+    /// The fragment whose names say what they may stand for. It is refused as one of its
+    /// definitions is.
+    pub fn from_schema_fragment(
+        alloc: Global,
+        fragment: Fragment<RawName>,
+    ) -> Result<Self, SchemaError>
+        ensures declarations { IfOk result (λ it. conditional_fragment it ≡ raw_fragment fragment) }
+        ensures sound { OnOk result (AllByRecursion IsSound (raw_fragment fragment)) }
+        ensures no_fault { OnOk result (HasNoDefinitionFault (raw_fragment fragment)) }
+        ensures fault { IfErr result (λ error. (fault_of error ≡ want_of_memory)
+            ⊎ IsDefinitionFault (raw_fragment fragment) (fault_of error)) }
+        ensures all_named { IfErr result (λ error. NamesAllOfADefinition fragment (fault_of error)) }
+    {
+        let mut definitions = Vec::new(alloc);
+        for (name, written) in fragment.0 {
+            let namespace = internal_namespace(name);
+            let definition = ValidatorNamespaceDef::from_namespace_definition(
+                alloc, namespace, written,
+            )?;
+            definitions.push(definition)?;
+        }
+        Ok(ValidatorSchemaFragment { definitions })
+    }
+}

@@ -1,0 +1,125 @@
+//! How a type that was written in a namespace comes to say what its names may stand for.
+
+ghost use Rattle.std.specs.BTreeMap.{insert_entry};
+ghost use Rattle.std.specs.Prelude.{◌≡◌, IfOk, OnOk};
+ghost use Rattle.cedar_names.specs.ConditionalExpr.{conditional_expr, conditional_variant, conditional_record, placed_expr, placed_variant, placed_record, ReferencesFit};
+ghost use Rattle.cedar_names.specs.NamespaceName.{namespace_name};
+ghost use Rattle.cedar_names.specs.RawExpr.{raw_expr, raw_variant, raw_record};
+
+use crate::json_schema::conditional_name::ConditionalName;
+use crate::json_schema::raw_name::RawName;
+use crate::json_schema::reference_type::ReferenceType;
+use crate::json_schema::type_of::{RecordType, Type, TypeOfAttribute, TypeVariant};
+use cedar_below::{InternalName, M};
+use std::alloc::Global;
+use std::collections::BTreeMap;
+
+/// Puts a value under a key, or answers want of memory.
+fn put<K: Ord + Drop, V: Drop>(map: &mut BTreeMap<K, V>, key: K, value: V) -> M<()>
+    ensures { OnOk result (map.new.entries ≡ insert_entry K.cmp map.old.entries key value) }
+{
+    let _old = map.insert(key, value)?;
+    Ok(())
+}
+
+/// The same type, where each name says what it may stand for in the namespace.
+#[cycle(qualify)]
+fn qualify_type(
+    alloc: Global,
+    ty: Type<RawName>,
+    namespace: Option<&InternalName>,
+) -> M<Type<ConditionalName>>
+    ensures own { IfOk result (λ it. conditional_expr it ≡ raw_expr (namespace_name namespace.entry) ty) }
+    ensures placed { IfOk result (λ it. placed_expr it ≡ raw_expr (namespace_name namespace.entry) ty) }
+{
+    match ty {
+        Type::Plain { ty, loc } => {
+            let ty = qualify_variant(alloc, ty, namespace)?;
+            Ok(Type::Plain { ty, loc })
+        }
+        Type::CommonTypeRef { type_name, loc } => {
+            let kind = ReferenceType::Common;
+            let type_name = type_name.conditionally_qualify_with(alloc, namespace, kind)?;
+            Ok(Type::CommonTypeRef { type_name, loc })
+        }
+    }
+}
+
+/// The same of a type that is written out.
+#[cycle(qualify)]
+fn qualify_variant(
+    alloc: Global,
+    ty: TypeVariant<RawName>,
+    namespace: Option<&InternalName>,
+) -> M<TypeVariant<ConditionalName>>
+    ensures own { IfOk result (λ it. conditional_variant it ≡ raw_variant (namespace_name namespace.entry) ty) }
+    ensures placed { IfOk result (λ it. placed_variant it ≡ raw_variant (namespace_name namespace.entry) ty) }
+{
+    match ty {
+        TypeVariant::String => Ok(TypeVariant::String),
+        TypeVariant::Long => Ok(TypeVariant::Long),
+        TypeVariant::Boolean => Ok(TypeVariant::Boolean),
+        TypeVariant::Set { element } => {
+            let element = qualify_type(alloc, Box::into_inner(element), namespace)?;
+            let element = Box::new(alloc, element)?;
+            Ok(TypeVariant::Set { element })
+        }
+        TypeVariant::Record(record_type) => {
+            let record_type = qualify_record(alloc, record_type, namespace)?;
+            Ok(TypeVariant::Record(record_type))
+        }
+        TypeVariant::Entity { name } => {
+            let kind = ReferenceType::Entity;
+            let name = name.conditionally_qualify_with(alloc, namespace, kind)?;
+            Ok(TypeVariant::Entity { name })
+        }
+        TypeVariant::EntityOrCommon { type_name } => {
+            let kind = ReferenceType::CommonOrEntity;
+            let type_name = type_name.conditionally_qualify_with(alloc, namespace, kind)?;
+            Ok(TypeVariant::EntityOrCommon { type_name })
+        }
+        TypeVariant::Extension { name } => Ok(TypeVariant::Extension { name }),
+    }
+}
+
+/// The same of a record type.
+#[cycle(qualify)]
+fn qualify_record(
+    alloc: Global,
+    record_type: RecordType<RawName>,
+    namespace: Option<&InternalName>,
+) -> M<RecordType<ConditionalName>>
+    ensures own { IfOk result (λ it. conditional_record it ≡ raw_record (namespace_name namespace.entry) record_type) }
+    ensures placed { IfOk result (λ it. placed_record it ≡ raw_record (namespace_name namespace.entry) record_type) }
+{
+    let RecordType {
+        attributes: written,
+        additional_attributes,
+    } = record_type;
+    let mut attributes = BTreeMap::new(alloc);
+    for (name, attribute) in written {
+        let TypeOfAttribute { ty, required, loc } = attribute;
+        let ty = qualify_type(alloc, ty, namespace)?;
+        put(&mut attributes, name, TypeOfAttribute { ty, required, loc })?;
+    }
+    Ok(RecordType {
+        attributes,
+        additional_attributes,
+    })
+}
+
+impl Type<RawName> {
+    /// The same type, where each name says what it may stand for in the namespace, None being the
+    /// empty one: a name of a common type, of an entity type, or of either, whichever its place
+    /// permits. Locations are kept.
+    pub fn conditionally_qualify_type_references(
+        self,
+        alloc: Global,
+        namespace: Option<&InternalName>,
+    ) -> M<Type<ConditionalName>>
+        ensures written { IfOk result (λ it. conditional_expr it ≡ raw_expr (namespace_name namespace.entry) self) }
+        ensures fits { IfOk result ReferencesFit }
+    {
+        qualify_type(alloc, self, namespace)
+    }
+}
