@@ -1,7 +1,9 @@
 -- Comparisons of names and of entity types, by the plain names that they stand for.
-use Rattle.std.proofs.Common.{◌≡◌, ◌↔◌, IsTrue, ◌&&◌, ap, sym, subst}
+use Rattle.std.proofs.Common.{◌≡◌, ◌↔◌, IsTrue, ◌&&◌, List, ap, sym, subst}
 use Rattle.std.proofs.lemmas.Bool.Decides.{Decides-and, Decides-at, Decides-like}
+use Rattle.std.proofs.lemmas.Map.Steps.{list_any_congr}
 use Rattle.std.specs.Bool.{Decides}
+use Rattle.std.specs.List.{list_any}
 use Rattle.std.specs.Cmp.Derive.Mapped.{pointwise-map, lex_map}
 use Rattle.std.specs.Cmp.Lexicographic.{pointwise}
 use Rattle.std.specs.Ordering.{ordering_then}
@@ -13,6 +15,7 @@ use Rattle.cedar_below.specs.InternalName.{name_of}
 use Rattle.cedar_below.specs.Name.{plain_name}
 use Rattle.cedar_below.specs.PlainName.{PlainName, name_cmp}
 use Rattle.cedar_below.specs.Text.{text_cmp}
+use Rattle.cedar_below.specs.contracts.entity_type.EntityTypeEq.TheImpl as entity_type_equal
 use Rattle.cedar_below.specs.contracts.entity_type.EntityTypeHash.TheImpl as entity_type_hash
 use Rattle.cedar_below.specs.contracts.entity_type.EntityTypeOrd.TheImpl as entity_type_ord
 use Rattle.cedar_below.specs.contracts.entity_type.EntityTypePartialEq.TheImpl as entity_type_eq
@@ -81,6 +84,11 @@ name_hash-same a b e = name_hash.Laws.respects_eq-law a b ((name_eq-same a b).1 
 -- entity types are equal exactly where their names are the same
 pub entity_type_eq-same : (a b : EntityType) → IsTrue ((entity_type_eq.ghosts).eq a b) ↔ (type_name a ≡ type_name b)
 entity_type_eq-same a b = name_eq-same a.0 b.0
+
+-- equal entity types are found alike
+pub entity_type_searches-respect_eq : (types : List EntityType) (a b : EntityType) → IsTrue ((entity_type_eq.ghosts).eq a b)
+    → list_any ((entity_type_eq.ghosts).eq a) types ≡ list_any ((entity_type_eq.ghosts).eq b) types
+entity_type_searches-respect_eq types a b same = list_any_congr entity_type_equal.Laws.laws-law a b types same
 
 -- entity types order as their names
 pub entity_type_ord-name_cmp : (a b : EntityType) → (entity_type_ord.ghosts).cmp a b ≡ name_cmp (type_name a) (type_name b)

@@ -38,3 +38,8 @@ AnswersAlike-insert before old new ty copy alike same inserted q =
     ∙ ap (cond (eq q ty) true) (alike q)
     ∙ cond-or (eq q ty) (list_any (eq q) before)
     ∙ sym (list_any-append (eq q) before (ty ∷ []))
+
+-- where a set is asked for an entity type that was inserted or for another
+pub cond-first : (b c : Bool) → cond b true c ≡ (b || c)
+cond-first true c = refl
+cond-first false c = refl

@@ -1,2 +1,3 @@
 pub mod EntityTypeKind
+pub mod RequestEnv
 pub mod ValidatorEntityType

@@ -16,7 +16,7 @@ use std::collections::HashSet;
 #[derive(Drop)]
 #[derive_where(Debug, PartialEq, Eq)]
 pub struct ValidatorEntityType {
-    name: EntityType,
+    pub(crate) name: EntityType,
     /// The entity types whose entities may stand below one of this type in the hierarchy.
     pub descendants: HashSet<EntityType>,
     /// How the entity type is declared.

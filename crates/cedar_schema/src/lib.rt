@@ -4,7 +4,8 @@
 pub use cedar_closure::{TCNode, TcError, compute_tc, compute_tc_counted};
 pub use cedar_declared::{ContextOrShape, SchemaError, UnsupportedFeature};
 pub use cedar_entities::{
-    StandardValidatorEntityType, ValidatorEntityType, ValidatorEntityTypeKind,
+    RequestEnv, StandardValidatorEntityType, UnlinkedRequestEnv, ValidatorEntityType,
+    ValidatorEntityTypeKind,
 };
 pub use cedar_names::{below, json_schema};
 pub use cedar_types::{
