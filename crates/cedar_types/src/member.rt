@@ -64,11 +64,15 @@ fn has_uid(kind: &EntityKind, uid: &EntityUID) -> bool
 }
 
 /// Whether each attribute of a record is listed.
+///
+/// It goes over both together, once.
 fn all_listed(values: &BTreeMap<String, RestrictedExpr>, attrs: &Attributes) -> bool
     ensures { IsTrue result ↔ Included (entry_names (entries_of values.now)) (field_names (fields_of attrs.now)) }
 {
+    let mut at = 0;
     for name in values.keys() {
-        if attrs.get_attr(name).is_none() {
+        at = attrs.attrs.seek(at, name);
+        if !attrs.attrs.is_at(at, name) {
             return false;
         }
     }
