@@ -8,7 +8,8 @@ pub mod MemberParts
 pub mod MembershipLemmas
 pub mod MergedLemmas
 pub mod OrderLaws
+pub mod RisingLemmas
 pub mod SearchLemmas
 pub mod SubtypeSteps
 pub mod UnionLemmas
-pub mod WalkLemmas
+pub mod UnionSteps

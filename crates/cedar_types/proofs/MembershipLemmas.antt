@@ -101,6 +101,16 @@ IsMembershipSoFar-all so_far M Whole MayWhole Meeting before = record {
     decided (Ok false) open_still = refl
     decided (Err error) open_still = absurd (open_still (λ e. cc))
 
+-- where a part answers no, the answer of the whole is no
+pub IsMembershipSoFar-stops : (so_far : Answer) (H U : Type 0) (M : PlainName → Type 0) (Whole MayWhole : Type 0)
+    (Meeting : PlainName → Type 0) → so_far ≡ Ok false → IsMembershipSoFar so_far H U M Whole MayWhole Meeting
+    → IsMembership (Ok false) Whole MayWhole Meeting
+IsMembershipSoFar-stops so_far H U M Whole MayWhole Meeting is before = record {
+  yes = (λ e. absurd cc, λ whole. absurd (let all = (before.parts whole).0 in cc));
+  no = (λ _. before.no is, λ _. refl);
+  fault = tt;
+}
+
 -- a known call: its test decides whether it gives the value, and it has a function
 pub IsMembership-known : (extensions : Extensions) (name : PlainName) (args : Trees) (ty : PlainName)
     (function : ExtensionFunction) (b : Bool) → function_named extensions name ≡ Some function

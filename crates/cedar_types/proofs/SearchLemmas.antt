@@ -1,9 +1,8 @@
--- A search by halving among pairs whose names ascend, and a walk on to a name.
-use Rattle.std.proofs.Common.{◌≡◌, ◌<◌, ◌≤◌, ◌+◌, ◌-◌, ◌*◌, ◌/◌, ◌^◌, ℕ, zero, suc, true, false, refl, sym, ap, subst, ◌∙◌, List, [], ◌∷◌, length, string_bytes, get_or, arith, None, Some, if◌then◌else◌, Bool, ⊎_elim}
+-- A search by halving among pairs whose names ascend, and what a place tells of a name.
+use Rattle.std.proofs.Common.{◌≡◌, ◌≢◌, ◌<◌, ◌≤◌, ◌+◌, ◌-◌, ◌*◌, ◌/◌, ◌^◌, ℕ, zero, suc, true, false, refl, sym, ap, subst, ◌∙◌, List, [], ◌∷◌, length, string_bytes, get_or, arith, None, Some, if◌then◌else◌, Bool, ⊎_elim}
 use Rattle.std.proofs.lemmas.Bool.{cases_lt}
 use Rattle.std.proofs.lemmas.List.{get_or_default}
 use Rattle.std.specs.Cmp.Lexicographic.{bytes_decides, nat_list_eq_equiv}
-use Rattle.std.specs.List.{AllByRecursion}
 use Rattle.std.specs.List.Sorted.{IsStrictlySortedBy}
 use Rattle.std.specs.Ordering.{ordering_reverse}
 use Rattle.std.specs.Str.{bytes_eq}
@@ -13,7 +12,8 @@ use Rattle.std.specs.declared.string.String.{String}
 use Rattle.cedar_below.proofs.Texts.{text_cmp-total, text_cmp-Equal}
 use Rattle.cedar_below.specs.Text.{Text, text_cmp}
 use Rattle.cedar_types.proofs.MadeLemmas.{value_at-cons}
-use Rattle.cedar_types.specs.ByName.{entry_texts, NamesAscend, value_at}
+use Rattle.cedar_types.proofs.RisingLemmas.{AllBelow, turned, of_seen_at, seen_at-rises, missed_at}
+use Rattle.cedar_types.specs.ByName.{NamesAscend, value_at}
 
 -- a test that doesn't pass fails
 pub never-true : (b : Bool) → ¬ (b ≡ true) → b ≡ false
@@ -31,35 +31,14 @@ above-apart name other less =
 pub same-found : (name other : Text) → other ≡ name → bytes_eq name other ≡ true
 same-found name other same = ap (bytes_eq name) same ∙ nat_list_eq_equiv.refl name
 
--- the texts that tie are one
-pub tied-same : (one other : Text) → text_cmp one other ≡ Equal → one ≡ other
-tied-same one other = (text_cmp-Equal one other).0
-
--- where the one is above, the other is below
-pub turned : (one other : Text) → text_cmp one other ≡ Greater → text_cmp other one ≡ Less
-turned one other above = text_cmp-total.antisymm other one ∙ ap ordering_reverse above
+-- the name of a pair
+abbrev pub text_of : {V : Type 0} → String Global × V → Text
+text_of pair = string_bytes pair.0
 
 module _ {V : Type 0} where
   -- the name at a place
   abbrev pub text_at : List (String Global × V) → ℕ → String Global × V → Text
   text_at all i d = string_bytes (get_or all i d).0
-
-  -- what holds of each name holds of that at a place
-  of_text_at : (P : Text → Type 0) (all : List (String Global × V)) → AllByRecursion P (entry_texts all) → (i : ℕ)
-      (d : String Global × V) → i < length all → P (text_at all i d)
-  of_text_at P [] holds i d within = absurd (omega arith)
-  of_text_at P (x ∷ xs) holds zero d within = holds.0
-  of_text_at P (x ∷ xs) holds (suc i) d within = of_text_at P xs holds.1 i d (omega arith)
-
-  -- of two names that of the earlier place is below
-  pub text_at-rises : (all : List (String Global × V)) → NamesAscend all → (i j : ℕ) (d : String Global × V) → i < j
-      → j < length all → text_cmp (text_at all i d) (text_at all j d) ≡ Less
-  unfolding IsStrictlySortedBy
-  text_at-rises [] up i j d low high = absurd (omega arith)
-  text_at-rises (x ∷ xs) up i zero d low high = absurd (omega arith)
-  text_at-rises (x ∷ xs) up zero (suc j) d low high =
-      of_text_at (λ name. text_cmp (string_bytes x.0) name ≡ Less) xs up.0 j d (omega arith)
-  text_at-rises (x ∷ xs) up (suc i) (suc j) d low high = text_at-rises xs up.1 i j d (omega arith) (omega arith)
 
   -- a name at a place has the value there
   pub value_at-place : (all : List (String Global × V)) → NamesAscend all → (name : Text) (i : ℕ) (d : String Global × V)
@@ -70,7 +49,7 @@ module _ {V : Type 0} where
       value_at-cons name x xs ∙ ap (λ b. if b then Some x.1 else value_at name xs) (same-found name (string_bytes x.0) is)
   value_at-place (x ∷ xs) up name (suc i) d within is =
       let P : Text → Type 0 = λ other. text_cmp (string_bytes x.0) other ≡ Less in
-      let below : P name = subst P is (of_text_at P xs up.0 i d (omega arith)) in
+      let below : P name = subst P is (of_seen_at text_of text_cmp P xs up.0 i d (omega arith)) in
       value_at-cons name x xs
       ∙ (ap (λ b. if b then Some x.1 else value_at name xs) (above-apart name (string_bytes x.0) below)
       ∙ value_at-place xs up.1 name i d (omega arith) is)
@@ -130,7 +109,7 @@ module _ {V : Type 0} (all : List (String Global × V)) (name : Text) (up : Name
         let P : Text → Type 0 = λ text. text_cmp text name ≡ Less in
         let at_middle : P (text_at all middle d) = subst P (sym (placed middle x d here)) below in
         ⊎_elim
-        (λ low. text_cmp-total.trans (text_at all i d) (text_at all middle d) name (text_at-rises all up i middle d low here) at_middle)
+        (λ low. text_cmp-total.trans (text_at all i d) (text_at all middle d) name (seen_at-rises text_of text_cmp all up i middle d low here) at_middle)
         (λ high. let same : middle ≡ i = omega (arith, lower, high) in subst (λ n. P (text_at all n d)) same at_middle)
         (cases_lt i middle);
     after = known.after;
@@ -151,9 +130,9 @@ module _ {V : Type 0} (all : List (String Global × V)) (name : Text) (up : Name
         let P : Text → Type 0 = λ text. text_cmp text name ≡ Greater in
         let at_middle : P (text_at all middle d) = subst P (sym (placed middle x d here)) above in
         ⊎_elim
-        (λ low. let rises = text_at-rises all up middle i d low within in
+        (λ low. let rises = seen_at-rises text_of text_cmp all up middle i d low within in
         let below = text_cmp-total.trans name (text_at all middle d) (text_at all i d)
-        (turned (text_at all middle d) name at_middle) rises in
+        (turned text_cmp text_cmp-total (text_at all middle d) name at_middle) rises in
         text_cmp-total.antisymm (text_at all i d) name ∙ ap ordering_reverse below)
         (λ high. let same : middle ≡ i = omega (arith, higher, high) in subst (λ n. P (text_at all n d)) same at_middle)
         (cases_lt middle i);
@@ -164,7 +143,7 @@ module _ {V : Type 0} (all : List (String Global × V)) (name : Text) (up : Name
   -- where the middle one is the name, its value is found
   pub Halves-found : (middle : ℕ) (x : String Global × V) → middle < length all → text_cmp (text_at all middle x) name ≡ Equal → (d : String Global × V) → Some (get_or all middle d).1 ≡ value_at name all
   Halves-found middle x within equal d =
-      sym (value_at-place all up name middle d within (placed middle x d within ∙ tied-same (text_at all middle x) name equal))
+      sym (value_at-place all up name middle d within (placed middle x d within ∙ (text_cmp-Equal (text_at all middle x) name).0 equal))
 
   -- where nothing is left, the name has no value
   pub Halves-none : (low high compared : ℕ) → Halves all name low high compared → high ≤ low → None ≡ value_at name all
@@ -179,7 +158,12 @@ module _ {V : Type 0} (all : List (String Global × V)) (name : Text) (up : Name
       (cases_lt i low) in
       never-true (bytes_eq name (text_at all i d)) differs))
 
--- from one place to another all names are below
-pub record Passed {V : Type 0} (all : List (String Global × V)) (name : Text) (from at : ℕ) : Type 0 where
-  pub on : from ≤ at
-  pub below : (i : ℕ) (d : String Global × V) → from ≤ i → i < at → text_cmp (text_at all i d) name ≡ Less
+-- a name that isn't at the place where the names before it are below, and that one isn't, has no value
+pub value_at-missed : {V : Type 0} (own : List (String Global × V)) → NamesAscend own → (name : Text) (place : ℕ)
+    → AllBelow text_of text_cmp own place name
+    → ((d : String Global × V) → place < length own → text_cmp (text_at own place d) name ≢ Less)
+    → ¬ ((place < length own) × ((d : String Global × V) → text_at own place d ≡ name)) → value_at name own ≡ None
+value_at-missed own up name place below stays missed =
+    value_at-nowhere own name (λ i d within. never-true (bytes_eq name (text_at own i d)) (λ e.
+    missed_at text_of text_cmp text_cmp-total own up name place below stays missed i d within
+    (sym ((bytes_decides name (text_at own i d)).0 e))))

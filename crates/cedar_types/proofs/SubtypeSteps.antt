@@ -1,5 +1,5 @@
 -- Steps of the walk that tells whether one record is below another.
-use Rattle.std.proofs.Common.{◌↔◌, ◌≡◌, ◌≢◌, ◌<◌, ◌≤◌, ℕ, Bool, true, false, refl, List, length, get_or, Some, None, ap, sym, subst, ◌∙◌, string_bytes, ◌∷◌, arith, nat_eq}
+use Rattle.std.proofs.Common.{◌↔◌, ◌≡◌, ◌≢◌, ◌<◌, ◌≤◌, ℕ, Bool, true, false, refl, List, length, get_or, Some, None, ap, sym, subst, ◌∙◌, string_bytes, ◌∷◌, arith, nat_eq, Contains}
 use Rattle.std.proofs.lemmas.Bool.Decides.{Decides-eqb}
 use Rattle.std.specs.Bool.{Decides}
 use Rattle.std.specs.Option.{option_map}
@@ -20,9 +20,9 @@ use Rattle.cedar_rules.specs.Fields.{IsAscending, field_names}
 use Rattle.cedar_rules.specs.Ty.{Fields, fields_from, field_at}
 use Rattle.cedar_rules.specs.declared.open_tag.OpenTag.{OpenTag}
 use Rattle.cedar_rules.specs.declared.open_tag.OpenTag.TheVariants.{ClosedAttributes}
-use Rattle.cedar_types.proofs.FieldLemmas.{pairs_of, fields_of-pairs, field_at-pairs, IsAscending-fields, length-fields}
-use Rattle.cedar_types.proofs.SearchLemmas.{text_at, value_at-place}
-use Rattle.cedar_types.proofs.WalkLemmas.{Included-back, Ahead, AllBelow, Ahead-first, Ahead-sought, Ahead-next, value_at-missed}
+use Rattle.cedar_types.proofs.FieldLemmas.{pairs_of, fields_of-pairs, field_at-pairs, field_names-pairs, IsAscending-fields, length-fields}
+use Rattle.cedar_types.proofs.RisingLemmas.{Included-back, Ahead, AllBelow, Ahead-first, Ahead-sought, Ahead-next, sought-Decides, sought-next}
+use Rattle.cedar_types.proofs.SearchLemmas.{text_of, text_at, value_at-place, value_at-missed}
 use Rattle.cedar_types.specs.Attributes.{plain_attributes}
 use Rattle.cedar_types.specs.Meaning.{fields_of, attribute_of}
 use Rattle.cedar_types.specs.declared.attributes.Attributes.{Attributes, out-Attributes}
@@ -37,14 +37,14 @@ Pairs = List (String Global × AttributeType)
 abbrev pub WalkedBelow : ValidationMode → Attributes → Attributes → ℕ → Pairs → Type 0
 WalkedBelow mode lower upper at rest =
     (FieldsBelow mode (fields_of lower) (fields_from (plain_attributes rest)) ↔ FieldsBelow mode (fields_of lower) (fields_of upper))
-    × Ahead (pairs_of lower) at rest
+    × Ahead text_of text_of text_cmp (pairs_of lower) at rest
 
 -- at first all is left
 pub WalkedBelow-first : (mode : ValidationMode) (lower upper : Attributes) → WalkedBelow mode lower upper 0 (pairs_of upper)
 WalkedBelow-first mode lower upper =
     let P : Fields → Type 0 = λ fields. FieldsBelow mode (fields_of lower) fields ↔ FieldsBelow mode (fields_of lower) (fields_of upper) in (
       subst P (fields_of-pairs upper) (λ h. h, λ h. h),
-      Ahead-first (pairs_of lower) (pairs_of upper) (out-Attributes upper).attrs.value.ascending,
+      Ahead-first text_of text_of text_cmp text_cmp-total (pairs_of lower) (pairs_of upper) (out-Attributes upper).attrs.value.ascending,
     )
 
 -- what a walk on to a name knows: it passes only names below, and comes to one that isn't
@@ -77,11 +77,29 @@ IsAt-held lower place held text name b is same decides =
     subst (λ sought. Decides b (IsAt (pairs_of lower) place sought)) same
     (subst (λ all. Decides b (IsAt all.entries.items place text)) is decides)
 
+module _ (attrs : Attributes) (at place : ℕ) (name : String Global) (rest : List (String Global))
+    (ahead : Ahead text_of string_bytes text_cmp (pairs_of attrs) at (name ∷ rest))
+    (sought : Sought attrs at place (string_bytes name)) where
+  -- whether a name is at the place that a walk over names came to decides whether it is one of a record's
+  pub sought-name : (b : Bool) → Decides b (IsAt (pairs_of attrs) place (string_bytes name))
+      → Decides b (Contains (field_names (fields_of attrs)) (string_bytes name))
+  sought-name b decides =
+      let P : List Text → Type 0 = λ names. Decides b (Contains names (string_bytes name)) in
+      subst P (sym (field_names-pairs attrs))
+      (sought-Decides text_of string_bytes text_cmp text_cmp-total (pairs_of attrs) (out-Attributes attrs).attrs.value.ascending
+      at place name rest ahead sought.passed sought.stays b decides)
+
+  -- the walk over names goes on from the place
+  pub sought-on : Ahead text_of string_bytes text_cmp (pairs_of attrs) place rest
+  sought-on =
+      sought-next text_of string_bytes text_cmp text_cmp-total (pairs_of attrs) (out-Attributes attrs).attrs.value.ascending
+      at place name rest ahead sought.passed sought.stays
+
 module _ (mode : ValidationMode) (lower upper : Attributes) (at place : ℕ) (item : String Global × AttributeType) (rest : Pairs)
     (walked : WalkedBelow mode lower upper at (item ∷ rest)) (sought : Sought lower at place (string_bytes item.0)) where
   -- the names before the place are below
-  all_below : AllBelow (pairs_of lower) place (string_bytes item.0)
-  all_below = Ahead-sought (pairs_of lower) at place item rest walked.1 sought.passed
+  all_below : AllBelow text_of text_cmp (pairs_of lower) place (string_bytes item.0)
+  all_below = Ahead-sought text_of text_of text_cmp text_cmp-total (pairs_of lower) at place item rest walked.1 sought.passed
 
   -- the name at the place has the attribute there
   found_at : (d : String Global × AttributeType) → place < length (pairs_of lower) → text_at (pairs_of lower) place d ≡ string_bytes item.0
@@ -124,7 +142,7 @@ module _ (mode : ValidationMode) (lower upper : Attributes) (at place : ℕ) (it
       → WalkedBelow mode lower upper place rest
   WalkedBelow-next d here decides = (
     rest_alone walked.0 ((at_decides d true here.0 (here.1 d) decides).0 refl),
-    Ahead-next (pairs_of lower) at place item rest walked.1 all_below,
+    Ahead-next text_of text_of text_cmp text_cmp-total (pairs_of lower) at place item rest walked.1 all_below,
   )
 
 -- a record that has each attribute of another has no further name exactly where it has as many

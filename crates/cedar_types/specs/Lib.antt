@@ -1,5 +1,6 @@
 pub mod Attributes
 pub mod ByName
+pub mod Entries
 pub mod EntityKind
 pub mod EntityLUB
 pub mod Located

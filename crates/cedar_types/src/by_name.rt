@@ -80,12 +80,13 @@ impl<V> ByName<V> {
     ghost use Rattle.cedar_below.specs.Text.{Text, text_cmp};
     ghost use Rattle.cedar_rules.specs.Fields.{last_named};
     ghost use Rattle.cedar_types.specs.ByName.{value_at, with_texts};
+    ghost use Rattle.cedar_types.specs.Entries.{entries_by_name};
 
     /// The values of these names, or want of memory. Of repeated names the last wins.
     pub(crate) fn from_entries(entries: Vec<(String, V)>) -> M<ByName<V>>
     where
         V: Drop,
-        ensures { IfOk result (λ all. (name : Text) → value_at name all.entries.items ≡ last_named name (with_texts entries.items)) }
+        ensures { IfOk result (λ all. (name : Text) → value_at name (entries_by_name all) ≡ last_named name (with_texts entries.items)) }
     {
         let mut entries = entries;
         entries.reverse();
@@ -96,15 +97,15 @@ impl<V> ByName<V> {
 
     /// The pairs of a name and its value, in the order of the names.
     pub(crate) fn as_slice(&self) -> &[(String, V)]
-        ensures { result.now ≡ self.now.entries.items }
+        ensures { result.now ≡ entries_by_name self.now }
     {
         self.entries.as_slice()
     }
 
     /// The value of a name, if there is one, and how many names were compared with it.
     pub(crate) fn get_counted(&self, name: &str) -> (Option<&V>, u32)
-        ensures value { option_copied result.0 ≡ value_at name.now self.now.entries.items }
-        ensures halving { (k : ℕ) → length self.now.entries.items < 2 ^ k → result.1 ≤ k }
+        ensures value { option_copied result.0 ≡ value_at name.now (entries_by_name self.now) }
+        ensures halving { (k : ℕ) → length (entries_by_name self.now) < 2 ^ k → result.1 ≤ k }
     {
         let entries = self.entries.as_slice();
         let mut low = 0;
@@ -126,9 +127,9 @@ impl<V> ByName<V> {
     pub(crate) fn seek(&self, from: usize, name: &str) -> usize
         ensures from { from ≤ result }
         ensures passed { (i : ℕ) (d : String Global × V) → from ≤ i → i < result
-            → text_cmp (string_bytes (get_or self.now.entries.items i d).0) name.now ≡ Less }
-        ensures stays { (d : String Global × V) → result < length self.now.entries.items
-            → text_cmp (string_bytes (get_or self.now.entries.items result d).0) name.now ≢ Less }
+            → text_cmp (string_bytes (get_or (entries_by_name self.now) i d).0) name.now ≡ Less }
+        ensures stays { (d : String Global × V) → result < length (entries_by_name self.now)
+            → text_cmp (string_bytes (get_or (entries_by_name self.now) result d).0) name.now ≢ Less }
     {
         let entries = self.entries.as_slice();
         let mut at = from;
@@ -140,8 +141,8 @@ impl<V> ByName<V> {
 
     /// Whether a name is at a place.
     pub(crate) fn is_at(&self, place: usize, name: &str) -> bool
-        ensures { IsTrue result ↔ ((place < length self.now.entries.items)
-            × ((d : String Global × V) → string_bytes (get_or self.now.entries.items place d).0 ≡ name.now)) }
+        ensures { IsTrue result ↔ ((place < length (entries_by_name self.now))
+            × ((d : String Global × V) → string_bytes (get_or (entries_by_name self.now) place d).0 ≡ name.now)) }
     {
         let entries = self.entries.as_slice();
         place < entries.len() && entries[place].0.as_str() == name

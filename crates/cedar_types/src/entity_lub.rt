@@ -8,6 +8,7 @@ ghost use Rattle.cedar_below.specs.PlainName.{name_cmp};
 use cedar_below::{EntityType, M};
 use itertools::Itertools;
 use std::alloc::Global;
+use std::cmp::Ordering;
 use std::slice;
 
 /// A union of entity types: a nonempty set of them, in order and without repeats.
@@ -39,13 +40,15 @@ fn sorted_types(types: Vec<EntityType>) -> M<Vec<EntityType>>
 }
 
 impl EntityLUB {
-    ghost use Rattle.std.specs.Prelude.{◌≡◌, ◌≢◌, ◌↔◌, IsTrue, IfOk, [], ◌∷◌, map, Contains};
+    ghost use Rattle.std.specs.Prelude.{◌≡◌, ◌≢◌, ◌↔◌, ◌<◌, ◌≤◌, ℕ, IsTrue, IfOk, [], ◌∷◌, map, length, get_or, Contains};
     ghost use Rattle.std.specs.List.Sorted.{IsStrictlySortedBy};
     ghost use Rattle.std.specs.Option.{option_copied, option_map};
     ghost use Rattle.std.specs.Slice.Iter.{iter_rest};
     ghost use Rattle.cedar_below.specs.EntityType.{type_name};
     ghost use Rattle.cedar_below.specs.PlainName.{name_cmp};
-    ghost use Rattle.cedar_types.specs.EntityLUB.{lub_names};
+    ghost use Rattle.std.specs.declared.cmp.Ordering.TheVariants.{Less};
+    ghost use Rattle.cedar_below.specs.declared.entity_type.EntityType.{EntityType};
+    ghost use Rattle.cedar_types.specs.EntityLUB.{lub_types, lub_names};
     ghost use Rattle.cedar_rules.specs.EntityUnion.{only_name, AreDisjoint, IsUnionOf};
 
     /// The union of a single entity type, or want of memory.
@@ -92,7 +95,7 @@ impl EntityLUB {
     pub fn contains(&self, ty: &EntityType) -> bool
         ensures { IsTrue result ↔ Contains (lub_names self.now) (type_name ty.now) }
     {
-        self.elements.contains(ty)
+        self.elements.binary_search(ty).is_ok()
     }
 
     /// Whether an entity type is one of the union.
@@ -102,12 +105,41 @@ impl EntityLUB {
         self.contains(ty)
     }
 
+    /// The first place, from one on, whose entity type isn't below the given one.
+    pub(crate) fn seek(&self, from: usize, ty: &EntityType) -> usize
+        ensures from { from ≤ result }
+        ensures passed { (i : ℕ) (d : EntityType) → from ≤ i → i < result
+            → name_cmp (type_name (get_or (lub_types self.now) i d)) (type_name ty.now) ≡ Less }
+        ensures stays { (d : EntityType) → result < length (lub_types self.now)
+            → name_cmp (type_name (get_or (lub_types self.now) result d)) (type_name ty.now) ≢ Less }
+    {
+        let types = self.elements.as_slice();
+        let mut at = from;
+        while at < types.len() && types[at].cmp(ty) == Ordering::Less {
+            at += 1;
+        }
+        at
+    }
+
+    /// Whether an entity type is at a place.
+    pub(crate) fn is_at(&self, place: usize, ty: &EntityType) -> bool
+        ensures { IsTrue result ↔ ((place < length (lub_types self.now))
+            × ((d : EntityType) → type_name (get_or (lub_types self.now) place d) ≡ type_name ty.now)) }
+    {
+        let types = self.elements.as_slice();
+        place < types.len() && types[place] == *ty
+    }
+
     /// Whether no entity type is one of both unions.
+    ///
+    /// It goes over both together, once.
     pub fn is_disjoint(&self, other: &EntityLUB) -> bool
         ensures { IsTrue result ↔ AreDisjoint (lub_names self.now) (lub_names other.now) }
     {
+        let mut at = 0;
         for ty in &self.elements {
-            if other.contains(ty) {
+            at = other.seek(at, ty);
+            if other.is_at(at, ty) {
                 return false;
             }
         }

@@ -64,11 +64,15 @@ fn has_uid(kind: &EntityKind, uid: &EntityUID) -> bool
 }
 
 /// Whether each attribute of a record is listed.
+///
+/// It goes over both together, once.
 fn all_listed(values: &BTreeMap<String, RestrictedExpr>, attrs: &Attributes) -> bool
     ensures { IsTrue result ↔ Included (entry_names (entries_of values.now)) (field_names (fields_of attrs.now)) }
 {
+    let mut at = 0;
     for name in values.keys() {
-        if attrs.get_attr(name).is_none() {
+        at = attrs.attrs.seek(at, name);
+        if !attrs.attrs.is_at(at, name) {
             return false;
         }
     }
@@ -105,7 +109,8 @@ fn call_has<'v>(
     Ok(known.gives(args, name, extensions))
 }
 
-/// Whether each of the values has a type, or the lookup fault of a function that one calls.
+/// Whether each of the values has a type, or the lookup fault of a function that one calls. Past a
+/// value that hasn't, none is looked at.
 #[cycle(member)]
 fn elements_have<'v>(values: &'v [RestrictedExpr], ty: &Type, extensions: &Extensions) -> Answer<'v>
     ensures { let element = ty_of ty.now in
@@ -116,12 +121,16 @@ fn elements_have<'v>(values: &'v [RestrictedExpr], ty: &Type, extensions: &Exten
     let mut so_far = Ok(true);
     for value in values {
         so_far = both(so_far, ty.typecheck_restricted_expr(value, extensions));
+        if let Ok(false) = so_far {
+            return Ok(false);
+        }
     }
     so_far
 }
 
 /// Whether the listed attributes have their types and those that are required are there, or the
-/// lookup fault of a function that the value of one calls.
+/// lookup fault of a function that the value of one calls. Past an attribute that settles it, none is
+/// looked at.
 #[cycle(member)]
 fn fields_have<'v>(
     values: &'v BTreeMap<String, RestrictedExpr>,
@@ -140,6 +149,9 @@ fn fields_have<'v>(
             None => Ok(!attribute.is_required),
         };
         so_far = both(so_far, answer);
+        if let Ok(false) = so_far {
+            return Ok(false);
+        }
     }
     so_far
 }

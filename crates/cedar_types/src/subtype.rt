@@ -53,11 +53,15 @@ fn counts_fit(
 }
 
 /// Whether each entity type of the one union is one of the other.
+///
+/// It goes over both together, once.
 fn is_included(lower: &EntityLUB, upper: &EntityLUB) -> bool
     ensures { IsTrue result ↔ Included (lub_names lower.now) (lub_names upper.now) }
 {
+    let mut at = 0;
     for ty in lower.iter() {
-        if !upper.contains(ty) {
+        at = upper.seek(at, ty);
+        if !upper.is_at(at, ty) {
             return false;
         }
     }

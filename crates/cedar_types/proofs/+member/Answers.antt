@@ -14,7 +14,7 @@ use Rattle.cedar_types.specs.Meaning.{ty_of, fields_of, attribute_of}
 use Rattle.cedar_rules.specs.Ty.{Ty, extension_of, Fields, fields_from}
 use Rattle.cedar_types.specs.declared.attributes.AttributeType.{AttributeType}
 use Rattle.cedar_types.specs.declared.types.Type.TheVariants as type
-use Rattle.cedar_types.proofs.MembershipLemmas.{IsMembershipSoFar-none, IsMembershipSoFar-all}
+use Rattle.cedar_types.proofs.MembershipLemmas.{IsMembershipSoFar-none, IsMembershipSoFar-all, IsMembershipSoFar-stops}
 use Rattle.cedar_types.proofs.FieldLemmas.{fields_of-pairs}
 use Rattle.cedar_types.proofs.MemberParts.{IsMembershipFor, IsMembershipForEach, IsMembershipFor-at, IsMembershipFor-uid, IsMembershipFor-listed, IsMembershipFor-unlisted, IsMembershipForEntry, IsMembershipForEntry-Some, IsMembershipForEntry-None, ElementsSoFar, ElementsSoFar-more, FieldsSoFar, FieldsSoFar-more, attribute_of-parts, ty_of-set, ty_of-record, ty_of-entity, ty_of-extension}
 use Rattle.cedar_types.proofs.+member.Goals as goal
@@ -92,6 +92,42 @@ member::fields_have-loop-name-preserved t c =
     FieldsSoFar-more extensions (entries_of values) (fields_of c.args.attrs.now) _
     name attribute c.loop-name.so_far c.match-get.answer c.both-so_far.result
     (record { yes = c.both-so_far.ensures.yes; no = c.both-so_far.ensures.no; fault = c.both-so_far.ensures.fault }) right before
+
+pub member::fields_have-returns-in-Ok-false : goal.member::fields_have-returns-in-Ok-false
+member::fields_have-returns-in-Ok-false t c =
+    let extensions = c.args.extensions.now in
+    let values = c.args.values.now in
+    let item = c.loop-name-item.result in
+    let name = string_bytes item.0 in
+    let attribute = attribute_of item.1 in
+    let parts = attribute_of-parts item.1 in
+    let P : List (String Global × AttributeType) → Type 0 = λ entries. FieldsSoFar extensions (entries_of values)
+    (fields_of c.args.attrs.now) (fields_from (plain_attributes entries)) c.loop-name.so_far in
+    let before = subst P (drop-at _ c.loop-name.name-index item c.loop-name-test.true c.loop-name-item.is) c.loop-name.invariant in
+    let Q : Answer → Type 0 = IsMembershipForEntry extensions (entry_at name (entries_of values)) attribute in
+    let right : Q c.match-get.answer = elim c.match-get.branch [
+      | member::fields_have-in-Some w ↦ (
+          let call = w.typecheck_restricted_expr-answer in
+          let R : Ty → Type 0 = λ ty. IsMembershipFor extensions (tree_of w.in-Some.value.now) ty call.result in
+          let right : R (ty_of w.deref-in-Some.result.now) = record {
+            yes = call.ensures.has;
+            no = call.ensures.lacks;
+            fault =
+                call.ensures.fault;
+          } in
+          subst Q (sym w.answer-is)
+          (IsMembershipForEntry-Some extensions name values attribute c.get.result
+          w.in-Some.value call.result c.get.ensures.value w.in-Some.is
+          (subst R (ap ty_of w.deref-in-Some.ensures ∙ ap (λ (p : Bool × Ty). p.1) (sym parts)) right))
+          )
+      | member::fields_have-in-None w ↦ IsMembershipForEntry-None extensions
+          name values attribute c.get.result c.match-get.answer c.get.ensures.value
+          w.in-None.is (w.answer-is ∙ ap (λ (p : Bool × Ty). Ok (not p.0)) (sym parts))
+    ] in
+    let more = FieldsSoFar-more extensions (entries_of values) (fields_of c.args.attrs.now) _
+    name attribute c.loop-name.so_far c.match-get.answer c.both-so_far.result
+    (record { yes = c.both-so_far.ensures.yes; no = c.both-so_far.ensures.no; fault = c.both-so_far.ensures.fault }) right before in
+    IsMembershipSoFar-stops c.both-so_far.result _ _ _ _ _ _ (c.in-Ok-false.is ∙ ap Ok (sym c.in-Ok-false.field-0-is ∙ c.in-Ok-false.field-0-test)) more
 
 pub member::fields_have-returns : goal.member::fields_have-returns
 member::fields_have-returns t c =

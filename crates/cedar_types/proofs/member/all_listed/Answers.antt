@@ -1,43 +1,71 @@
-use Rattle.std.proofs.Common.{◌↔◌, List, ap, sym, subst, ◌∙◌, string_bytes, map, Contains}
+use Rattle.std.proofs.Common.{refl, ◌↔◌, List, ap, sym, subst, ◌∙◌, string_bytes, map}
 use Rattle.std.proofs.lemmas.Simd.{map-map}
+use Rattle.std.specs.List.Sorted.{IsStrictlySortedBy}
+use Rattle.std.specs.String.{string_cmp}
+use Rattle.std.specs.declared.alloc.Global.{Global}
+use Rattle.std.specs.declared.string.String.{String}
 use Rattle.cedar_below.proofs.Inclusion.{Included-step, Included-head}
+use Rattle.cedar_below.proofs.Ordered.{IsStrictlySortedBy-map}
+use Rattle.cedar_below.proofs.Texts.{text_cmp-total}
 use Rattle.cedar_below.proofs.TreeLemmas.{entry_names-entries}
 use Rattle.cedar_below.specs.Lists.{Included}
 use Rattle.cedar_below.specs.RestrictedExpr.{entries_of}
-use Rattle.cedar_below.specs.Text.{Text}
+use Rattle.cedar_below.specs.Text.{Text, text_cmp}
 use Rattle.cedar_below.specs.Tree.{entry_names}
 use Rattle.cedar_rules.specs.Fields.{field_names}
-use Rattle.cedar_types.specs.Meaning.{fields_of, attribute_of}
-use Rattle.cedar_rules.proofs.InclusionLemmas.{found-Decides}
+use Rattle.cedar_types.specs.Meaning.{fields_of}
+use Rattle.cedar_types.proofs.FieldLemmas.{pairs_of}
+use Rattle.cedar_types.proofs.RisingLemmas.{Ahead, Ahead-first}
+use Rattle.cedar_types.proofs.SearchLemmas.{text_of}
+use Rattle.cedar_types.proofs.SubtypeSteps.{IsAt-held, Sought-held, sought-name, sought-on}
 use Rattle.cedar_types.proofs.member.all_listed.Goals as goal
 
 pub loop-name-init : goal.loop-name-init
 loop-name-init c =
     let listed = field_names (fields_of c.args.attrs.now) in
+    let keys = c.into_iter-name-iterator.ensures.into_iter_gives ∙ c.keys-name-items.ensures.rest in
     let P : List Text → Type 0 = λ names. Included names listed ↔ Included (entry_names (entries_of c.args.values.now)) listed in
-    subst P
-    (entry_names-entries c.args.values.now.entries
-    ∙ (sym (map-map string_bytes (λ entry. entry.0) c.args.values.now.entries)
-    ∙ ap (map string_bytes) (sym (c.into_iter-name-iterator.ensures.into_iter_gives ∙ c.keys-name-items.ensures.rest))))
-    (λ h. h, λ h. h)
+    let Q : List (String Global) → Type 0 = λ names. IsStrictlySortedBy text_cmp (map string_bytes names) in (
+      subst P
+          (entry_names-entries c.args.values.now.entries
+          ∙ (sym (map-map string_bytes (λ entry. entry.0) c.args.values.now.entries) ∙ ap (map string_bytes) (sym keys)))
+          (λ h. h, λ h. h),
+      Ahead-first text_of string_bytes text_cmp text_cmp-total (pairs_of c.args.attrs.now) c.into_iter-name-iterator.result
+          (subst Q (sym keys) (IsStrictlySortedBy-map string_cmp text_cmp string_bytes (λ a b. refl) _ c.keys-name-items.ensures.ordered)),
+    )
 
-pub returns-then-is_none : goal.returns-then-is_none
-returns-then-is_none c =
-    let upper = fields_of c.args.attrs.now in
-    let P : List Text → Type 0 = λ names. Included names (field_names upper)
-    ↔ Included (entry_names (entries_of c.args.values.now)) (field_names upper) in
-    let so_far = subst P (ap (map string_bytes) c.in-Some.ensures.steps) c.loop-name.invariant in
-    let found = found-Decides attribute_of c.get_attr.result c.deref.result.now upper c.get_attr.ensures.attribute in (
+pub returns-then-not-is_at : goal.returns-then-not-is_at
+returns-then-not-is_at c =
+    let attrs = c.args.attrs.now in
+    let name = c.in-Some.name.now in
+    let listed = field_names (fields_of attrs) in
+    let P : List (String Global) → Type 0 = λ names.
+    (Included (map string_bytes names) listed ↔ Included (entry_names (entries_of c.args.values.now)) listed)
+    × Ahead text_of string_bytes text_cmp (pairs_of attrs) c.loop-name.at names in
+    let so_far = subst P c.in-Some.ensures.steps c.loop-name.invariant in
+    let sought = Sought-held attrs c.loop-name.at c.seek-at.result c.deref.result.now _ (string_bytes name)
+    c.deref.ensures c.deref-in-loop-name.ensures c.seek-at.ensures.passed c.seek-at.ensures.stays in
+    let here = IsAt-held attrs c.seek-at.result c.deref-in-loop-name-2.result.now _ (string_bytes name) c.is_at.result
+    c.deref-in-loop-name-2.ensures c.deref-in-loop-name-3.ensures c.is_at.ensures in
+    let there = sought-name attrs c.loop-name.at c.seek-at.result name _ so_far.1 sought c.is_at.result here in (
       λ wrong. absurd cc,
-      λ all. absurd (let there =
-          found.1 (subst (Contains (field_names upper)) (sym c.deref.ensures) (Included-head _ _ _ (so_far.1 all))) in cc),
+      λ all. absurd (let found = there.1 (Included-head _ _ _ (so_far.0.1 all)) in let none = c.if-not-is_at.true in cc),
     )
 
 pub loop-name-preserved : goal.loop-name-preserved
 loop-name-preserved c =
-    let upper = fields_of c.args.attrs.now in
-    let P : List Text → Type 0 = λ names. Included names (field_names upper)
-    ↔ Included (entry_names (entries_of c.args.values.now)) (field_names upper) in
-    let so_far = subst P (ap (map string_bytes) c.in-Some.ensures.steps) c.loop-name.invariant in
-    let found = found-Decides attribute_of c.get_attr.result c.deref.result.now upper c.get_attr.ensures.attribute in
-    Included-step _ _ _ so_far (subst (Contains (field_names upper)) c.deref.ensures (found.0 c.if-is_none.ensures))
+    let attrs = c.args.attrs.now in
+    let name = c.in-Some.name.now in
+    let listed = field_names (fields_of attrs) in
+    let P : List (String Global) → Type 0 = λ names.
+    (Included (map string_bytes names) listed ↔ Included (entry_names (entries_of c.args.values.now)) listed)
+    × Ahead text_of string_bytes text_cmp (pairs_of attrs) c.loop-name.at names in
+    let so_far = subst P c.in-Some.ensures.steps c.loop-name.invariant in
+    let sought = Sought-held attrs c.loop-name.at c.seek-at.result c.deref.result.now _ (string_bytes name)
+    c.deref.ensures c.deref-in-loop-name.ensures c.seek-at.ensures.passed c.seek-at.ensures.stays in
+    let here = IsAt-held attrs c.seek-at.result c.deref-in-loop-name-2.result.now _ (string_bytes name) c.is_at.result
+    c.deref-in-loop-name-2.ensures c.deref-in-loop-name-3.ensures c.is_at.ensures in
+    let there = sought-name attrs c.loop-name.at c.seek-at.result name _ so_far.1 sought c.is_at.result here in (
+      Included-step _ _ _ so_far.0 (there.0 c.if-not-is_at.false),
+      sought-on attrs c.loop-name.at c.seek-at.result name _ so_far.1 sought,
+    )

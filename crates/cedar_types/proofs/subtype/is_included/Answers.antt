@@ -1,21 +1,42 @@
-use Rattle.std.proofs.Common.{◌↔◌, List, ap, subst, map}
+use Rattle.std.proofs.Common.{◌↔◌, List, subst, map, refl}
+use Rattle.std.specs.Slice.Iter.{iter_rest}
+use Rattle.cedar_below.proofs.PlainNames.{name_cmp-total}
 use Rattle.cedar_below.specs.EntityType.{type_name}
-use Rattle.cedar_below.specs.PlainName.{PlainName}
+use Rattle.cedar_below.specs.PlainName.{name_cmp}
 use Rattle.cedar_below.specs.Lists.{Included}
-use Rattle.cedar_types.specs.EntityLUB.{lub_names}
+use Rattle.cedar_below.specs.declared.entity_type.EntityType.{EntityType}
+use Rattle.cedar_types.specs.EntityLUB.{lub_types, lub_names}
 use Rattle.cedar_below.proofs.Inclusion.{Included-step, Included-head}
+use Rattle.cedar_types.proofs.RisingLemmas.{Ahead, sought-Decides, sought-next}
+use Rattle.cedar_types.proofs.UnionSteps.{Included-empty}
 use Rattle.cedar_types.proofs.subtype.is_included.Goals as goal
 
-pub returns-then-not-contains : goal.returns-then-not-contains
-returns-then-not-contains c =
-    let upper = lub_names c.args.upper.now in
-    let P : List PlainName → Type 0 = λ names. Included names upper ↔ Included (lub_names c.args.lower.now) upper in
-    let so_far = subst P (ap (map type_name) c.in-Some.ensures.steps) c.loop-ty.invariant in
-    (λ wrong. absurd cc, λ all. absurd (let there = c.contains.ensures.1 (Included-head _ _ _ (so_far.1 all)) in cc))
+pub returns-then-not-is_at : goal.returns-then-not-is_at
+returns-then-not-is_at c =
+    let upper = c.args.upper.now in
+    let P : List EntityType → Type 0 = λ types.
+    (Included (map type_name types) (lub_names upper) ↔ Included (lub_names c.args.lower.now) (lub_names upper))
+    × Ahead type_name type_name name_cmp (lub_types upper) c.loop-ty.at types in
+    let so_far = subst P c.in-Some.ensures.steps c.loop-ty.invariant in
+    let there = sought-Decides type_name type_name name_cmp name_cmp-total (lub_types upper) upper.ascending c.loop-ty.at c.seek-at.result c.in-Some.ty.now _ so_far.1
+    c.seek-at.ensures.passed c.seek-at.ensures.stays c.is_at.result c.is_at.ensures in
+    (λ wrong. absurd cc, λ all. absurd (let found = there.1 (Included-head _ _ _ (so_far.0.1 all)) in let none = c.if-not-is_at.true in cc))
 
 pub loop-ty-preserved : goal.loop-ty-preserved
 loop-ty-preserved c =
+    let upper = c.args.upper.now in
+    let P : List EntityType → Type 0 = λ types.
+    (Included (map type_name types) (lub_names upper) ↔ Included (lub_names c.args.lower.now) (lub_names upper))
+    × Ahead type_name type_name name_cmp (lub_types upper) c.loop-ty.at types in
+    let so_far = subst P c.in-Some.ensures.steps c.loop-ty.invariant in
+    let there = sought-Decides type_name type_name name_cmp name_cmp-total (lub_types upper) upper.ascending c.loop-ty.at c.seek-at.result c.in-Some.ty.now _ so_far.1
+    c.seek-at.ensures.passed c.seek-at.ensures.stays c.is_at.result c.is_at.ensures in (
+      Included-step _ _ _ so_far.0 (there.0 c.if-not-is_at.false),
+      sought-next type_name type_name name_cmp name_cmp-total (lub_types upper) upper.ascending c.loop-ty.at c.seek-at.result c.in-Some.ty.now _ so_far.1
+          c.seek-at.ensures.passed c.seek-at.ensures.stays,
+    )
+
+pub returns : goal.returns
+returns c =
     let upper = lub_names c.args.upper.now in
-    let P : List PlainName → Type 0 = λ names. Included names upper ↔ Included (lub_names c.args.lower.now) upper in
-    let so_far = subst P (ap (map type_name) c.in-Some.ensures.steps) c.loop-ty.invariant in
-    Included-step _ _ _ so_far (c.contains.ensures.0 c.if-not-contains.false)
+    (λ _. c.loop-ty.invariant.0.0 (Included-empty (iter_rest c.loop-ty.ty-iterator) upper c.in-None.ensures.steps.0), λ _. refl)

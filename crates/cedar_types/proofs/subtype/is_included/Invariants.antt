@@ -2,9 +2,12 @@ use Rattle.std.proofs.Common.{◌↔◌, map}
 use Rattle.std.specs.Slice.Iter.{iter_rest}
 use Rattle.cedar_below.specs.EntityType.{type_name}
 use Rattle.cedar_below.specs.Lists.{Included}
-use Rattle.cedar_types.specs.EntityLUB.{lub_names}
+use Rattle.cedar_below.specs.PlainName.{name_cmp}
+use Rattle.cedar_types.specs.EntityLUB.{lub_types, lub_names}
+use Rattle.cedar_types.proofs.RisingLemmas.{Ahead}
 use Rattle.cedar_types.proofs.subtype.is_included.Given as goal
 
 abbrev pub invariant-loop-ty : goal.invariant-loop-ty
 invariant-loop-ty l =
-    Included (map type_name (iter_rest l.ty-iterator)) (lub_names l.upper) ↔ Included (lub_names l.lower) (lub_names l.upper)
+    (Included (map type_name (iter_rest l.ty-iterator)) (lub_names l.upper) ↔ Included (lub_names l.lower) (lub_names l.upper))
+    × Ahead type_name type_name name_cmp (lub_types l.upper) l.at (iter_rest l.ty-iterator)

@@ -107,18 +107,23 @@ the_items_listed X all = entries-listed X all.entries.items
 abbrev text : RattleType
 text = string.the_row heap.the_row ghosts
 
+-- two rows, and a function between their values
 module _ (R S : RattleType) (h : R.Denot → S.Denot) where
+  -- a `ByName` whose values are seen by h
   abbrev over_h : ByName R.Denot → ByName S.Denot
   over_h = (the_former this).map R.Denot S.Denot h
 
+  -- a pair is laid out alike
   entry_places : Alike R S h → Alike (Tuple (text ∷ R ∷ [])) (Tuple (text ∷ S ∷ [])) (seen h)
   entry_places alike = struct_places (tuple_type (text ∷ R ∷ [])) (tuple_type (text ∷ S ∷ [])) ((λ name. name), (h, tt))
       (seen h) (λ d. refl) refl (stays text, (laid _ _ _ alike, tt))
 
+  -- a `ByName` is laid out alike, and owns and lends the same
   pub the_places : Alike R S h → Alike (C.the_row R) (C.the_row S) over_h
   the_places alike = struct_places (C.the_type R) (C.the_type S) (vec.mapped (seen h), tt) over_h (λ d. refl) refl
       (laid _ _ _ (vec.the_places heap.the_row ghosts (Tuple (text ∷ R ∷ [])) (Tuple (text ∷ S ∷ [])) (seen h) (entry_places alike)), tt)
 
+  -- and its code is the same
   pub the_codes_placed : Recodes R S h → Recodes (C.the_row R) (C.the_row S) over_h
   the_codes_placed recodes = struct_Codes (C.the_type R) (C.the_type S) (vec.mapped (seen h), tt) over_h (λ d. refl) (
     vec.the_codes_placed heap.the_row ghosts (Tuple (text ∷ R ∷ [])) (Tuple (text ∷ S ∷ [])) (seen h)
@@ -149,4 +154,5 @@ module _ {X Y : Type 0} (h : X → Y) where
       → slice fed (map (seen h) entries) ≡ slice (λ one. fed (seen h one)) entries
   hash-seen = items_map (seen h)
 
+-- comparisons and hashes of a `ByName` are those of what is seen of its values
 pub ruleset naturals = (eq-seen, cmp-seen, partial_cmp-seen, hash-seen)

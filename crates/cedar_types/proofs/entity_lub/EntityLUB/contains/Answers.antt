@@ -1,17 +1,21 @@
-use Rattle.std.proofs.Common.{Bool, ap, sym, subst, ◌∙◌, Contains}
+use Rattle.std.proofs.Common.{Bool, List, sym, subst, length}
 use Rattle.std.specs.Bool.{Decides}
-use Rattle.std.specs.List.{list_any}
+use Rattle.std.specs.List.{Contains}
+use Rattle.std.specs.List.Sorted.{IsBinarySearchResult, IsSearchInRange}
 use Rattle.cedar_below.specs.EntityType.{type_name}
-use Rattle.cedar_below.specs.contracts.entity_type.EntityTypePartialEq.TheImpl as entity_type_eq
-use Rattle.cedar_below.proofs.Lists.{list_any-Contains}
-use Rattle.cedar_below.proofs.Names.{entity_type_eq-same}
-use Rattle.cedar_types.specs.EntityLUB.{lub_names}
+use Rattle.cedar_below.specs.contracts.entity_type.EntityTypeOrd.TheImpl as entity_type_ord
+use Rattle.cedar_below.specs.declared.entity_type.EntityType.{EntityType}
+use Rattle.cedar_types.proofs.UnionSteps.{searched-Decides}
+use Rattle.cedar_types.specs.EntityLUB.{lub_types, lub_names}
 use Rattle.cedar_types.proofs.entity_lub.EntityLUB.contains.Goals as goal
 
 pub returns : goal.returns
 returns c =
     let ty = c.args.ty.now in
+    let r = c.binary_search.result in
     let P : Bool → Type 0 = λ found. Decides found (Contains (lub_names c.args.self.now) (type_name ty)) in
-    subst P
-    (sym (c.contains.ensures.value ∙ ap (list_any (λ y. (entity_type_eq.ghosts).eq y ty)) c.deref.ensures.value))
-    (list_any-Contains type_name (type_name ty) _ (λ y. entity_type_eq-same y ty) c.args.self.now.elements.items)
+    let Q : List EntityType → Type 0 = λ types. IsSearchInRange r (length types)
+    × IsBinarySearchResult (λ y. (entity_type_ord.ghosts).cmp y ty) types r in
+    let both = subst Q c.deref.ensures.value (c.binary_search.ensures.bound, c.binary_search.ensures.position) in
+    subst P (sym c.is_ok.ensures.value)
+    (searched-Decides (lub_types c.args.self.now) c.args.self.now.ascending ty r both.0 both.1)

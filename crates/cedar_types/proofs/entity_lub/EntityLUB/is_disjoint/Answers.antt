@@ -1,32 +1,49 @@
 use Rattle.std.proofs.Common.{sym, subst, ◌∙◌, List, map, refl}
 use Rattle.std.proofs.lemmas.List.{take_all}
 use Rattle.std.proofs.lemmas.Bool.{false≢true}
+use Rattle.cedar_below.proofs.TreeLemmas.{drop-at}
+use Rattle.cedar_below.proofs.PlainNames.{name_cmp-total}
 use Rattle.cedar_below.specs.EntityType.{type_name}
+use Rattle.cedar_below.specs.PlainName.{name_cmp}
 use Rattle.cedar_below.specs.declared.entity_type.EntityType.{EntityType}
-use Rattle.cedar_types.specs.EntityLUB.{lub_names}
+use Rattle.cedar_types.specs.EntityLUB.{lub_types, lub_names}
 use Rattle.cedar_rules.specs.EntityUnion.{AreDisjoint}
+use Rattle.cedar_types.proofs.RisingLemmas.{Ahead, sought-Decides, sought-next}
 use Rattle.cedar_types.proofs.UnionLemmas.{AreDisjoint-more, Contains-names}
 use Rattle.cedar_types.proofs.entity_lub.EntityLUB.is_disjoint.Goals as goal
 
-pub returns-then-contains : goal.returns-then-contains
-returns-then-contains c =
-    let P : List EntityType → Type 0 = λ types. AreDisjoint (map type_name types) (lub_names c.args.other.now) in (
+pub returns-then-is_at : goal.returns-then-is_at
+returns-then-is_at c =
+    let other = c.args.other.now in
+    let P : List EntityType → Type 0 = λ types. AreDisjoint (map type_name types) (lub_names other) in
+    let Q : List EntityType → Type 0 = Ahead type_name type_name name_cmp (lub_types other) c.loop-ty.at in
+    let ahead = subst Q (drop-at _ c.loop-ty.ty-index c.ty-item.result c.loop-ty-test.true c.ty-item.is) c.loop-ty.invariant.1 in
+    let there = sought-Decides type_name type_name name_cmp name_cmp-total (lub_types other) other.ascending c.loop-ty.at c.seek-at.result c.ty-item.result _ ahead
+    c.seek-at.ensures.passed c.seek-at.ensures.stays c.is_at.result c.is_at.ensures in (
       λ wrong. absurd (false≢true wrong),
       λ apart. absurd (subst P (sym c.deref-ty-items.ensures.value) apart
           (type_name c.ty-item.result) (Contains-names _ c.loop-ty.ty-index c.ty-item.result c.loop-ty-test.true
-          c.ty-item.is) (c.contains.ensures.0 c.if-contains.true)),
+          c.ty-item.is) (there.0 c.if-is_at.true)),
     )
 
 pub loop-ty-preserved : goal.loop-ty-preserved
 loop-ty-preserved c =
-    AreDisjoint-more c.deref-ty-items.result.now (lub_names c.args.other.now) c.loop-ty.ty-index c.ty-item.result
-    c.loop-ty-test.true c.ty-item.is c.loop-ty.invariant
-    (λ among. false≢true (sym c.if-contains.false ∙ c.contains.ensures.1 among))
+    let other = c.args.other.now in
+    let Q : List EntityType → Type 0 = Ahead type_name type_name name_cmp (lub_types other) c.loop-ty.at in
+    let ahead = subst Q (drop-at _ c.loop-ty.ty-index c.ty-item.result c.loop-ty-test.true c.ty-item.is) c.loop-ty.invariant.1 in
+    let there = sought-Decides type_name type_name name_cmp name_cmp-total (lub_types other) other.ascending c.loop-ty.at c.seek-at.result c.ty-item.result _ ahead
+    c.seek-at.ensures.passed c.seek-at.ensures.stays c.is_at.result c.is_at.ensures in (
+      AreDisjoint-more c.deref-ty-items.result.now (lub_names other) c.loop-ty.ty-index c.ty-item.result
+          c.loop-ty-test.true c.ty-item.is c.loop-ty.invariant.0
+          (λ among. false≢true (sym c.if-is_at.false ∙ there.1 among)),
+      sought-next type_name type_name name_cmp name_cmp-total (lub_types other) other.ascending c.loop-ty.at c.seek-at.result c.ty-item.result _ ahead
+          c.seek-at.ensures.passed c.seek-at.ensures.stays,
+    )
 
 pub returns : goal.returns
 returns c =
     let P : List EntityType → Type 0 = λ types. AreDisjoint (map type_name types) (lub_names c.args.other.now) in (
       λ _. subst P (take_all c.loop-ty.ty-index c.deref-ty-items.result.now c.loop-ty-test.false
-          ∙ c.deref-ty-items.ensures.value) c.loop-ty.invariant,
+          ∙ c.deref-ty-items.ensures.value) c.loop-ty.invariant.0,
       λ _. refl,
     )

@@ -1,8 +1,12 @@
-use Rattle.std.proofs.Common.{map, take}
+use Rattle.std.proofs.Common.{map, take, drop}
 use Rattle.cedar_below.specs.EntityType.{type_name}
-use Rattle.cedar_types.specs.EntityLUB.{lub_names}
+use Rattle.cedar_below.specs.PlainName.{name_cmp}
+use Rattle.cedar_types.specs.EntityLUB.{lub_types, lub_names}
 use Rattle.cedar_rules.specs.EntityUnion.{AreDisjoint}
+use Rattle.cedar_types.proofs.RisingLemmas.{Ahead}
 use Rattle.cedar_types.proofs.entity_lub.EntityLUB.is_disjoint.Given as goal
 
 abbrev pub invariant-loop-ty : goal.invariant-loop-ty
-invariant-loop-ty l = AreDisjoint (map type_name (take l.ty-index l.ty-items)) (lub_names l.other)
+invariant-loop-ty l =
+    AreDisjoint (map type_name (take l.ty-index l.ty-items)) (lub_names l.other)
+    × Ahead type_name type_name name_cmp (lub_types l.other) l.at (drop l.ty-index l.ty-items)

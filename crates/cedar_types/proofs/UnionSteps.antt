@@ -1,0 +1,88 @@
+-- Halving, and places, among the entity types of unions, which rise by their names.
+use Rattle.std.proofs.Common.{◌≡◌, ◌<◌, ◌+◌, ℕ, ⊎_elim, Bool, refl, sym, ap, subst, ◌∙◌, List, [], ◌∷◌, length, map, Contains, get_or, arith, Result, Ok, Err}
+use Rattle.std.proofs.lemmas.Bool.{cases_lt, false≢true}
+use Rattle.std.proofs.lemmas.List.{get_or_default}
+use Rattle.std.proofs.lemmas.List.Sorted.{searchable_from_sorted}
+use Rattle.std.specs.Bool.{◌==◌, Decides}
+use Rattle.std.specs.List.Sorted.{IsStrictlySortedBy, IsSortedBy, IsBinarySearchResult, IsSearchInRange}
+use Rattle.std.specs.Ordering.{is_lt, ordering_index, ordering_reverse}
+use Rattle.std.specs.Result.{is_ok}
+use Rattle.std.specs.declared.cmp.Ordering.{Ordering}
+use Rattle.std.specs.declared.cmp.Ordering.TheVariants.{Less, Equal, Greater}
+use Rattle.cedar_below.proofs.Inclusion.{Included-none}
+use Rattle.cedar_below.proofs.Lists.{Contains-preimage}
+use Rattle.cedar_below.proofs.Names.{entity_type_ord-name_cmp, entity_type_ord-Equal}
+use Rattle.cedar_below.proofs.PlainNames.{name_cmp-total}
+use Rattle.cedar_below.specs.EntityType.{type_name}
+use Rattle.cedar_below.specs.Lists.{Included}
+use Rattle.cedar_below.specs.PlainName.{PlainName, name_cmp}
+use Rattle.cedar_below.specs.contracts.entity_type.EntityTypeOrd.TheImpl as entity_type_ord
+use Rattle.cedar_below.specs.declared.entity_type.EntityType.{EntityType}
+use Rattle.cedar_types.proofs.RisingLemmas.{seen_at-rises, Contains-seen_at}
+
+module _ (types : List EntityType) (up : IsStrictlySortedBy name_cmp (map type_name types)) (ty : EntityType) where
+  -- entity types that rise by their names are sorted
+  sorted : IsSortedBy (λ a b. is_lt ((entity_type_ord.ghosts).cmp a b)) types
+  sorted k d low high =
+      ap is_lt (entity_type_ord-name_cmp (get_or types (k + 1) d) (get_or types k d)
+      ∙ (name_cmp-total.antisymm (type_name (get_or types (k + 1) d)) (type_name (get_or types k d))
+      ∙ ap ordering_reverse (seen_at-rises type_name name_cmp types up k (k + 1) d (omega arith) high)))
+
+  -- whether a search by halving finds an entity type decides whether its name is among the names
+  pub searched-Decides : (r : Result ℕ ℕ) → IsSearchInRange r (length types)
+      → IsBinarySearchResult (λ y. (entity_type_ord.ghosts).cmp y ty) types r
+      → Decides (is_ok r) (Contains (map type_name types) (type_name ty))
+  searched-Decides (Ok k) range holds =
+      let P : PlainName → Type 0 = Contains (map type_name types) in (
+        λ _. subst P ((entity_type_ord-Equal (get_or types k ty) ty).0 (holds ty)) (Contains-seen_at type_name types k ty range),
+        λ _. refl,
+      )
+  searched-Decides (Err i) range gap = (
+    λ e. absurd (false≢true e),
+    λ among.
+        let (x, inside, same) = Contains-preimage type_name types (type_name ty) among in
+        let k = inside.0 in
+        let parts = gap (searchable_from_sorted entity_type_ord.Laws.total-law (λ y. y) types ty sorted) in
+        let equal : (entity_type_ord.ghosts).cmp (get_or types k x) ty ≡ Equal =
+        (entity_type_ord-Equal (get_or types k x) ty).1 (ap type_name inside.2 ∙ same) in
+        ⊎_elim
+        (λ low. let less = parts.0 k x (omega arith) low in absurd cc)
+        (λ high. let greater = parts.1 k x high inside.1 in absurd cc)
+        (cases_lt k i),
+  )
+
+-- a name is at a place
+abbrev pub IsTypeAt : List EntityType → ℕ → PlainName → Type 0
+IsTypeAt types place name = (place < length types) × ((d : EntityType) → type_name (get_or types place d) ≡ name)
+
+-- the names of no entity types are among any
+pub Included-empty : (types : List EntityType) (names : List PlainName) → length types ≡ 0 → Included (map type_name types) names
+Included-empty [] names none = Included-none names
+Included-empty (ty ∷ types) names none = absurd (omega (arith, none))
+
+-- an order that answers the least of its answers answers `Less`
+index_less : (o : Ordering) → Decides (ordering_index o == 0) (o ≡ Less)
+index_less Less = (λ _. refl, λ _. refl)
+index_less Equal = (λ e. absurd cc, λ e. absurd cc)
+index_less Greater = (λ e. absurd cc, λ e. absurd cc)
+
+-- whether the order of entity types answers `Less` decides whether the one's name is below the other's
+pub below-Decides : (x ty : EntityType) (o : Ordering) (b : Bool) → o ≡ (entity_type_ord.ghosts).cmp x ty
+    → b ≡ (ordering_index o == 0) → Decides b (name_cmp (type_name x) (type_name ty) ≡ Less)
+below-Decides x ty o b is answer = (
+  λ e. sym (entity_type_ord-name_cmp x ty) ∙ (sym is ∙ (index_less o).0 (sym answer ∙ e)),
+  λ less. answer ∙ (index_less o).1 (is ∙ (entity_type_ord-name_cmp x ty ∙ less)),
+)
+
+-- the name at a place is that of the entity type there
+pub name_at : (types : List EntityType) (place : ℕ) (x : EntityType) → x ≡ get_or types place x → place < length types
+    → (d : EntityType) → type_name (get_or types place d) ≡ type_name x
+name_at types place x is within d = ap type_name (get_or_default types place d x within ∙ sym is)
+
+-- whether the entity type at a place has a name decides whether the name is at the place
+pub name_at-Decides : (types : List EntityType) (place : ℕ) (x ty : EntityType) (b : Bool) → x ≡ get_or types place x
+    → place < length types → Decides b (type_name x ≡ type_name ty) → Decides b (IsTypeAt types place (type_name ty))
+name_at-Decides types place x ty b is within decides = (
+  λ e. (within, λ d. name_at types place x is within d ∙ decides.0 e),
+  λ here. decides.1 (sym (name_at types place x is within x) ∙ here.1 x),
+)

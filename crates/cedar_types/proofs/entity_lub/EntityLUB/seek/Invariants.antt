@@ -1,0 +1,11 @@
+use Rattle.std.proofs.Common.{◌-◌, length}
+use Rattle.cedar_below.specs.EntityType.{type_name}
+use Rattle.cedar_below.specs.PlainName.{name_cmp}
+use Rattle.cedar_types.proofs.RisingLemmas.{Passed}
+use Rattle.cedar_types.proofs.entity_lub.EntityLUB.seek.Given as goal
+
+abbrev pub invariant-loop-at : goal.invariant-loop-at
+invariant-loop-at l = Passed type_name name_cmp l.types (type_name l.ty) l.fn.from l.at
+
+abbrev pub decreases-loop-at : goal.decreases-loop-at
+decreases-loop-at l = length l.types - l.at
