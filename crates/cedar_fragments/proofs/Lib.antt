@@ -3,5 +3,8 @@ pub mod DeclaredAsLemmas
 pub mod FragmentLemmas
 pub mod FragmentsSoFar
 pub mod ListedSoFar
+pub mod NamesSoFar
 pub mod OneMore
+pub mod ResolveLemmas
+pub mod SetLemmas
 pub mod SoundLemmas

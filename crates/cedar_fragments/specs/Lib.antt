@@ -3,5 +3,7 @@ pub mod DeclaredAs
 pub mod DefinitionFault
 pub mod FragmentDeclarations
 pub mod FragmentFault
+pub mod HeldNames
+pub mod Refused
 pub mod TypeDeclarations
 pub mod WithAttributes

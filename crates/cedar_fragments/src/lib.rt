@@ -1,4 +1,5 @@
 //! Namespaces and fragments whose names are on the way to being settled.
 #![tactic(auto)]
 
+pub mod defs;
 pub mod namespace;

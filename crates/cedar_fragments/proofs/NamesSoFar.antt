@@ -1,0 +1,52 @@
+-- Names that are gathered from definitions and from fragments, one after another.
+use Rattle.std.proofs.Common.{◌≡◌, ℕ, ◌+◌, ◌<◌, ◌≤◌, List, [], length, get_or, take}
+use Rattle.cedar_declared.specs.Names.{Names}
+use Rattle.cedar_fragments.proofs.SetLemmas.{HasAlso-next_ones, HasAlso-all_ones, SameItems-from_none}
+use Rattle.cedar_fragments.specs.HeldNames.{definition_names, names_of_definitions, fragment_names, declared_names, HoldsAlso, HoldsJust}
+use Rattle.cedar_fragments.specs.declared.namespace.definition.ValidatorNamespaceDef.{ValidatorNamespaceDef}
+use Rattle.cedar_fragments.specs.declared.namespace.fragment.ValidatorSchemaFragment.{ValidatorSchemaFragment}
+
+module _ (N A : Type 0) where
+  -- those of one more definition
+  pub definitions_next : (before middle after : Names) (items : List (ValidatorNamespaceDef N A)) (i : ℕ) (item : ValidatorNamespaceDef N A)
+      → i < length items → item ≡ get_or items i item → HoldsAlso middle before (names_of_definitions N A (take i items))
+      → HoldsAlso after middle (definition_names N A item) → HoldsAlso after before (names_of_definitions N A (take (i + 1) items))
+  definitions_next before middle after items i item lt is so_far added = record {
+    common = HasAlso-next_ones (λ each. (definition_names N A each).common) before.common items middle.common after.common i item lt is
+        so_far.common added.common;
+    entities = HasAlso-next_ones (λ each. (definition_names N A each).entities) before.entities items middle.entities after.entities i item lt is
+        so_far.entities added.entities;
+    actions = HasAlso-next_ones (λ each. (definition_names N A each).actions) before.actions items middle.actions after.actions i item lt is
+        so_far.actions added.actions;
+  }
+
+  -- those of one more fragment
+  pub fragments_next : (before middle after : Names) (items : List (ValidatorSchemaFragment N A)) (i : ℕ) (item : ValidatorSchemaFragment N A)
+      → i < length items → item ≡ get_or items i item → HoldsAlso middle before (declared_names N A (take i items))
+      → HoldsAlso after middle (fragment_names N A item) → HoldsAlso after before (declared_names N A (take (i + 1) items))
+  fragments_next before middle after items i item lt is so_far added = record {
+    common = HasAlso-next_ones (λ each. (fragment_names N A each).common) before.common items middle.common after.common i item lt is
+        so_far.common added.common;
+    entities = HasAlso-next_ones (λ each. (fragment_names N A each).entities) before.entities items middle.entities after.entities i item lt is
+        so_far.entities added.entities;
+    actions = HasAlso-next_ones (λ each. (fragment_names N A each).actions) before.actions items middle.actions after.actions i item lt is
+        so_far.actions added.actions;
+  }
+
+  -- those of all fragments
+  pub fragments_all : (before after : Names) (items : List (ValidatorSchemaFragment N A)) (i : ℕ) → length items ≤ i
+      → HoldsAlso after before (declared_names N A (take i items)) → HoldsAlso after before (declared_names N A items)
+  fragments_all before after items i le so_far = record {
+    common = HasAlso-all_ones (λ each. (fragment_names N A each).common) before.common items after.common i le so_far.common;
+    entities = HasAlso-all_ones (λ each. (fragment_names N A each).entities) before.entities items after.entities i le so_far.entities;
+    actions = HasAlso-all_ones (λ each. (fragment_names N A each).actions) before.actions items after.actions i le so_far.actions;
+  }
+
+-- what is more than nothing is just that
+pub just_these : (before after more : Names) → before.common ≡ [] → before.entities ≡ [] → before.actions ≡ []
+    → HoldsAlso after before more → HoldsJust after more
+just_these before after more common entities actions also = record {
+  common = SameItems-from_none after.common before.common more.common common also.common;
+  entities = SameItems-from_none after.entities before.entities more.entities entities also.entities;
+  actions = SameItems-from_none after.actions before.actions more.actions actions also.actions;
+}

@@ -1,0 +1,38 @@
+-- The first possibility that is defined.
+use Rattle.std.proofs.Common.{◌≡◌, ℕ, ◌+◌, ◌<◌, ◌≤◌, List, [], ◌∷◌, ◌++◌, map, ap, sym, subst, ◌∙◌, refl, inl, inr, length, get_or, take, drop, Contains, drop-cons, suc}
+use Rattle.std.proofs.lemmas.List.{map-append, map_more, take_all, take-append-drop}
+use Rattle.std.specs.List.{AllByRecursion}
+use Rattle.cedar_declared.specs.Occurrences.{IsFirst}
+use Rattle.cedar_fragments.proofs.SoundLemmas.{AllByRecursion-at, AllByRecursion-append}
+
+module _ {A B : Type 0} (P : B → Type 0) (f : A → B) where
+  -- after items of which it doesn't hold, the fact holds first of the next of which it does
+  first_after : (xs : List B) (x : B) (ys : List B) → AllByRecursion (λ other. ¬ P other) xs → P x → IsFirst P (xs ++ x ∷ ys) x
+  first_after [] x ys none holds = inl (refl, holds)
+  first_after (other ∷ xs) x ys none holds = inr (none.0, first_after xs x ys none.1 holds)
+
+  -- the fact holds first of what an item gives, where it holds of what none before it gives
+  pub first_at : (first : A) (items : List A) (i : ℕ) (item : A) → i < length items → item ≡ get_or items i item
+      → ¬ P (f first) → AllByRecursion (λ other. ¬ P other) (map f (take i items)) → P (f item) → IsFirst P (f first ∷ map f items) (f item)
+  first_at first items i item lt is not_first none holds =
+      let split : map f items ≡ map f (take i items) ++ f item ∷ map f (drop (suc i) items) =
+      ap (map f) (sym (take-append-drop i items) ∙ ap (λ rest. take i items ++ rest) (drop-cons items i item lt))
+      ∙ (map-append f (take i items) (get_or items i item ∷ drop (suc i) items)
+      ∙ ap (λ each. map f (take i items) ++ f each ∷ map f (drop (suc i) items)) (sym is)) in
+      let Q : List B → Type 0 = λ others. IsFirst P others (f item) in
+      inr (not_first, subst Q (sym split) (first_after (map f (take i items)) (f item) (map f (drop (suc i) items)) none holds))
+
+  -- one more of which it doesn't hold
+  pub none_more : (items : List A) (i : ℕ) (item : A) → i < length items → item ≡ get_or items i item → ¬ P (f item)
+      → AllByRecursion (λ other. ¬ P other) (map f (take i items)) → AllByRecursion (λ other. ¬ P other) (map f (take (i + 1) items))
+  none_more items i item lt is not_it none =
+      let Q : List B → Type 0 = AllByRecursion (λ other. ¬ P other) in
+      subst Q (ap (λ each. map f (take i items) ++ f each ∷ []) is ∙ sym (map_more f items i item lt))
+      (AllByRecursion-append (λ other. ¬ P other) (map f (take i items)) (f item ∷ []) none (not_it, tt))
+
+  -- where it holds of none, it doesn't hold of any
+  pub none_of : (first : A) (items : List A) (i : ℕ) → length items ≤ i → ¬ P (f first)
+      → AllByRecursion (λ other. ¬ P other) (map f (take i items)) → (x : B) → Contains (f first ∷ map f items) x → ¬ P x
+  none_of first items i le not_first none x among =
+      let Q : List A → Type 0 = λ each. AllByRecursion (λ other. ¬ P other) (map f each) in
+      AllByRecursion-at (λ other. ¬ P other) (f first ∷ map f items) x (not_first, subst Q (take_all i items le) none) among

@@ -1,0 +1,127 @@
+-- Sets of names and of uids, by what they stand for.
+use Rattle.std.proofs.Common.{◌≡◌, ◌⊎◌, ◌↔◌, true, List, [], ◌∷◌, ◌++◌, map, ap, sym, subst, ◌∙◌, refl, inl, inr, ⊎_elim, Contains, arith, ℕ, ◌+◌, ◌<◌, ◌≤◌, length, get_or, take}
+use Rattle.std.proofs.lemmas.List.{map_more, take_more, take_all, flat_map_more}
+use Rattle.std.proofs.lemmas.List.Elements.{Contains-append_left, Contains-append_right, Contains-append_cases}
+use Rattle.std.specs.BTreeSet.{insert_key}
+use Rattle.std.specs.Bool.{Decides}
+use Rattle.std.specs.List.{list_any, flat_map}
+use Rattle.std.specs.Ordering.{is_eq, match_ordering}
+use Rattle.std.specs.declared.cmp.Ordering.{Ordering}
+use Rattle.std.specs.declared.cmp.Ordering.TheVariants.{Less, Equal, Greater}
+use Rattle.cedar_below.proofs.Lists.{Contains-cons, Contains-cons_cases, list_any-Contains}
+use Rattle.cedar_below.specs.Lists.{SameItems}
+use Rattle.cedar_fragments.specs.HeldNames.{HasAlso}
+
+-- an answer that says so is a tie
+is_eq-Equal : (answer : Ordering) → is_eq answer ≡ true → answer ≡ Equal
+is_eq-Equal Less e = cc
+is_eq-Equal Equal e = refl
+is_eq-Equal Greater e = cc
+
+-- what stands in a list of one item is that item
+only : {P : Type 0} (one item : P) → Contains (one ∷ []) item → one ≡ item
+only one item among = ⊎_elim (λ same. same) (λ nothing. absurd (omega (arith, nothing.1))) (Contains-cons_cases one [] item among)
+
+-- keys that tie exactly where they stand for the same
+module _ {K P : Type 0} (R : K → K → Ordering) (f : K → P) (tie : (a b : K) → (R a b ≡ Equal) ↔ (f a ≡ f b)) where
+  -- a look-up finds a key exactly where one stands for the same
+  pub found-Decides : (keys : List K) (key : K) → Decides (list_any (λ other. is_eq (R key other)) keys) (Contains (map f keys) (f key))
+  found-Decides keys key =
+      list_any-Contains f (f key) (λ other. is_eq (R key other))
+      (λ other. (
+        λ e. sym ((tie key other).0 (is_eq-Equal (R key other) e)),
+        λ same. ap is_eq ((tie key other).1 (sym same)),
+      )) keys
+
+  -- what an insertion leaves
+  pub inserted : (keys : List K) (key : K) → HasAlso (map f (insert_key R keys key)) (map f keys) (f key ∷ [])
+  inserted [] key item = (
+    λ among. inr among,
+    ⊎_elim (λ nothing. absurd (omega (arith, nothing.1))) (λ among. among),
+  )
+  inserted (first ∷ rest) key item = placed (R key first) refl (inserted rest key item)
+    where
+      placed : (answer : Ordering) → R key first ≡ answer
+          → (Contains (map f (insert_key R rest key)) item ↔ (Contains (map f rest) item ⊎ Contains (f key ∷ []) item))
+          → (Contains (map f (match_ordering answer (key ∷ first ∷ rest) (first ∷ rest) (first ∷ insert_key R rest key))) item
+          ↔ (Contains (f first ∷ map f rest) item ⊎ Contains (f key ∷ []) item))
+      placed Less is later = (
+        λ among. ⊎_elim (λ same. inr (Contains-cons (f key) [] item (inl same))) (λ others. inl others)
+            (Contains-cons_cases (f key) (f first ∷ map f rest) item among),
+        ⊎_elim (λ others. Contains-cons (f key) (f first ∷ map f rest) item (inr others))
+            (λ one. Contains-cons (f key) (f first ∷ map f rest) item (inl (only (f key) item one))),
+      )
+      placed Equal is later = (
+        λ among. inl among,
+        ⊎_elim (λ others. others)
+            (λ one. Contains-cons (f first) (map f rest) item (inl (sym ((tie key first).0 is) ∙ only (f key) item one))),
+      )
+      placed Greater is later = (
+        λ among. ⊎_elim (λ same. inl (Contains-cons (f first) (map f rest) item (inl same)))
+            (λ there. ⊎_elim (λ others. inl (Contains-cons (f first) (map f rest) item (inr others))) (λ one. inr one) (later.0 there))
+            (Contains-cons_cases (f first) (map f (insert_key R rest key)) item among),
+        ⊎_elim
+            (λ others. ⊎_elim (λ same. Contains-cons (f first) (map f (insert_key R rest key)) item (inl same))
+            (λ there. Contains-cons (f first) (map f (insert_key R rest key)) item (inr (later.1 (inl there))))
+            (Contains-cons_cases (f first) (map f rest) item others))
+            (λ one. Contains-cons (f first) (map f (insert_key R rest key)) item (inr (later.1 (inr one)))),
+      )
+
+-- nothing more
+pub HasAlso-none : {P : Type 0} (items : List P) → HasAlso items items []
+HasAlso-none items item = (λ among. inl among, ⊎_elim (λ among. among) (λ nothing. absurd (omega (arith, nothing.1))))
+
+-- some more, and then others
+pub HasAlso-more : {P : Type 0} (before middle after more others : List P) → HasAlso middle before more → HasAlso after middle others
+    → HasAlso after before (more ++ others)
+HasAlso-more before middle after more others first second item = (
+  λ among. ⊎_elim
+      (λ there. ⊎_elim (λ here. inl here) (λ here. inr (Contains-append_left more others item here)) ((first item).0 there))
+      (λ here. inr (Contains-append_right more others item here)) ((second item).0 among),
+  ⊎_elim (λ here. (second item).1 (inl ((first item).1 (inl here))))
+      (λ here. ⊎_elim (λ there. (second item).1 (inl ((first item).1 (inr there)))) (λ there. (second item).1 (inr there))
+      (Contains-append_cases more others item here)),
+)
+
+module _ {D P : Type 0} (f : D → P) (before : List P) (items : List D) where
+  -- the next one more
+  pub HasAlso-next : (middle after : List P) (i : ℕ) (item : D) (name : P) → i < length items → item ≡ get_or items i item
+      → name ≡ f item → HasAlso middle before (map f (take i items)) → HasAlso after middle (name ∷ [])
+      → HasAlso after before (map f (take (i + 1) items))
+  HasAlso-next middle after i item name lt is named so_far added =
+      let Q : List P → Type 0 = HasAlso after before in
+      subst Q ((λ j. map f (take i items) ++ (named ∙ ap f is) j ∷ []) ∙ sym (map_more f items i item lt))
+      (HasAlso-more before middle after (map f (take i items)) (name ∷ []) so_far added)
+
+  -- all of them
+  pub HasAlso-all : (after : List P) (i : ℕ) → length items ≤ i → HasAlso after before (map f (take i items)) → HasAlso after before (map f items)
+  HasAlso-all after i le so_far =
+      let Q : List P → Type 0 = HasAlso after before in
+      subst Q (ap (map f) (take_all i items le)) so_far
+
+module _ {D P : Type 0} (f : D → List P) (before : List P) (items : List D) where
+  -- the next ones more
+  pub HasAlso-next_ones : (middle after : List P) (i : ℕ) (item : D) → i < length items → item ≡ get_or items i item
+      → HasAlso middle before (flat_map f (take i items)) → HasAlso after middle (f item)
+      → HasAlso after before (flat_map f (take (i + 1) items))
+  HasAlso-next_ones middle after i item lt is so_far added =
+      let Q : List P → Type 0 = HasAlso after before in
+      let more : flat_map f (take i items) ++ f item ≡ flat_map f (take (i + 1) items) =
+      flat_map_more f [] (take i items) item
+      ∙ ap (flat_map f) (ap (λ one. take i items ++ one ∷ []) is ∙ sym (take_more items i item lt)) in
+      subst Q more (HasAlso-more before middle after (flat_map f (take i items)) (f item) so_far added)
+
+  -- all of them
+  pub HasAlso-all_ones : (after : List P) (i : ℕ) → length items ≤ i → HasAlso after before (flat_map f (take i items))
+      → HasAlso after before (flat_map f items)
+  HasAlso-all_ones after i le so_far =
+      let Q : List P → Type 0 = HasAlso after before in
+      subst Q (ap (flat_map f) (take_all i items le)) so_far
+
+-- more than nothing
+pub SameItems-from_none : {P : Type 0} (after before more : List P) → before ≡ [] → HasAlso after before more → SameItems after more
+SameItems-from_none {P = P} after before more nothing also item =
+    let Q : List P → Type 0 = λ items. Contains items item in (
+      λ among. ⊎_elim (λ here. absurd (omega (arith, (subst Q nothing here).1))) (λ there. there) ((also item).0 among),
+      λ there. (also item).1 (inr there),
+    )

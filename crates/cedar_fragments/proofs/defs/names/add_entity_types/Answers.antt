@@ -1,0 +1,23 @@
+use Rattle.std.proofs.Common.{List, map, subst, ◌∙◌}
+use Rattle.cedar_below.specs.InternalName.{name_of}
+use Rattle.cedar_below.specs.EntityType.{type_name}
+use Rattle.cedar_below.specs.PlainName.{PlainName}
+use Rattle.cedar_fragments.proofs.SetLemmas.{HasAlso-next, HasAlso-all}
+use Rattle.cedar_fragments.specs.HeldNames.{HasAlso}
+use Rattle.cedar_fragments.specs.declared.namespace.entity_types.EntityTypeDef.{EntityTypeDef}
+use Rattle.cedar_fragments.proofs.defs.names.add_entity_types.Goals as goal
+
+pub loop-def-preserved : goal.loop-def-preserved
+loop-def-preserved g c =
+    let f : EntityTypeDef g.row.N.Denot → PlainName = λ def. type_name def.name in
+    HasAlso-next f (map name_of c.args.names.now.keys) c.deref-def-items.result.now _ _ c.loop-def.def-index c.def-item.result _
+    c.loop-def-test.true c.def-item.is (c.into_internal.ensures.name ∙ (c.into_name.ensures.name ∙ c.in_ok-clone.ensures.name)) c.loop-def.invariant c.in_ok-add_name.ensures.added
+
+pub returns : goal.returns
+returns g c =
+    let f : EntityTypeDef g.row.N.Denot → PlainName = λ def. type_name def.name in
+    let P : List (EntityTypeDef g.row.N.Denot) → Type 0 = λ items.
+    HasAlso (map name_of c.loop-def.names.keys) (map name_of c.args.names.now.keys) (map f items) in
+    subst P c.deref-def-items.ensures.value
+    (HasAlso-all f (map name_of c.args.names.now.keys) c.deref-def-items.result.now _ c.loop-def.def-index
+    c.loop-def-test.false c.loop-def.invariant)

@@ -1,0 +1,8 @@
+//! The names that are defined, and what references resolve to.
+
+pub use all_defs::AllDefs;
+pub use resolve::ResolveName;
+
+mod all_defs;
+mod names;
+mod resolve;

@@ -1,0 +1,13 @@
+//! The names that are defined.
+
+use cedar_below::{EntityUID, InternalName};
+use std::collections::BTreeSet;
+
+/// The names that references are resolved against: those of common types, those of entity types,
+/// and the uids of actions.
+#[derive(Debug, Drop)]
+pub struct AllDefs {
+    pub(crate) entity_types: BTreeSet<InternalName>,
+    pub(crate) common_types: BTreeSet<InternalName>,
+    pub(crate) actions: BTreeSet<EntityUID>,
+}

@@ -1,0 +1,165 @@
+//! What the defined names hold, and how names are added to them.
+
+ghost use Rattle.std.specs.Prelude.{◌≡◌, ◌↔◌, IsTrue, IfOk, OnOk, OnErr, map, Contains, [], ◌∷◌};
+ghost use Rattle.cedar_below.specs.EntityType.{type_name};
+ghost use Rattle.cedar_below.specs.EntityUID.{uid_of};
+ghost use Rattle.cedar_below.specs.InternalName.{name_of};
+ghost use Rattle.cedar_declared.specs.Names.{Names};
+ghost use Rattle.cedar_fragments.specs.HeldNames.{held_names, definition_names, fragment_names, declared_names, HasAlso, HoldsAlso, HoldsJust};
+
+use crate::defs::all_defs::AllDefs;
+use crate::namespace::{
+    ActionsDef, CommonTypeDefs, EntityTypesDef, ValidatorNamespaceDef, ValidatorSchemaFragment,
+};
+use cedar_below::{EntityUID, InternalName, M};
+use cedar_names::json_schema::ConditionalName;
+use std::alloc::Global;
+use std::collections::BTreeSet;
+
+/// Adds a name to some, or leaves them as they are and answers want of memory.
+fn add_name(names: &mut BTreeSet<InternalName>, name: InternalName) -> M<()>
+    ensures added { OnOk result (HasAlso (map name_of names.new.keys) (map name_of names.old.keys) (name_of name ∷ [])) }
+    ensures refused { OnErr result (names.new.keys ≡ names.old.keys) }
+{
+    let _is_new = names.insert(name)?;
+    Ok(())
+}
+
+/// Adds a uid to some, or leaves them as they are and answers want of memory.
+fn add_uid(uids: &mut BTreeSet<EntityUID>, uid: EntityUID) -> M<()>
+    ensures added { OnOk result (HasAlso (map uid_of uids.new.keys) (map uid_of uids.old.keys) (uid_of uid ∷ [])) }
+    ensures refused { OnErr result (uids.new.keys ≡ uids.old.keys) }
+{
+    let _is_new = uids.insert(uid)?;
+    Ok(())
+}
+
+impl AllDefs {
+    /// Whether an entity type of that name is defined.
+    pub fn is_defined_as_entity(&self, name: &InternalName) -> bool
+        ensures { IsTrue result ↔ Contains (held_names self.now).entities (name_of name.now) }
+    {
+        self.entity_types.contains(name)
+    }
+
+    /// Whether a common type of that name is defined.
+    pub fn is_defined_as_common(&self, name: &InternalName) -> bool
+        ensures { IsTrue result ↔ Contains (held_names self.now).common (name_of name.now) }
+    {
+        self.common_types.contains(name)
+    }
+
+    /// Whether an action of that uid is defined.
+    pub fn is_defined_as_action(&self, uid: &EntityUID) -> bool
+        ensures { IsTrue result ↔ Contains (held_names self.now).actions (uid_of uid.now) }
+    {
+        self.actions.contains(uid)
+    }
+
+    /// Adds the name to those of entity types. After want of memory all names are as before.
+    pub fn mark_as_defined_as_entity_type(&mut self, name: InternalName) -> M<()>
+        ensures added { OnOk result (HasAlso (held_names self.new).entities (held_names self.old).entities (name_of name ∷ [])) }
+        ensures common_stay { (held_names self.new).common ≡ (held_names self.old).common }
+        ensures actions_stay { (held_names self.new).actions ≡ (held_names self.old).actions }
+        ensures refused { OnErr result (held_names self.new ≡ held_names self.old) }
+    {
+        add_name(&mut self.entity_types, name)
+    }
+
+    /// Adds the name to those of common types. After want of memory all names are as before.
+    pub fn mark_as_defined_as_common_type(&mut self, name: InternalName) -> M<()>
+        ensures added { OnOk result (HasAlso (held_names self.new).common (held_names self.old).common (name_of name ∷ [])) }
+        ensures entities_stay { (held_names self.new).entities ≡ (held_names self.old).entities }
+        ensures actions_stay { (held_names self.new).actions ≡ (held_names self.old).actions }
+        ensures refused { OnErr result (held_names self.new ≡ held_names self.old) }
+    {
+        add_name(&mut self.common_types, name)
+    }
+}
+
+/// Adds the names of some common types.
+fn add_common_types<N>(names: &mut BTreeSet<InternalName>, defs: &CommonTypeDefs<N>) -> M<()>
+    ensures { OnOk result (HasAlso (map name_of names.new.keys) (map name_of names.old.keys)
+        (map (λ def. name_of def.name) defs.now.defs.items)) }
+{
+    for def in &defs.defs {
+        add_name(names, def.name.clone()?)?;
+    }
+    Ok(())
+}
+
+/// Adds the names of some entity types.
+fn add_entity_types<N>(names: &mut BTreeSet<InternalName>, defs: &EntityTypesDef<N>) -> M<()>
+    ensures { OnOk result (HasAlso (map name_of names.new.keys) (map name_of names.old.keys)
+        (map (λ def. type_name def.name) defs.now.defs.items)) }
+{
+    for def in &defs.defs {
+        add_name(names, def.name.clone()?.into_name().into_internal())?;
+    }
+    Ok(())
+}
+
+/// Adds the uids of some actions.
+fn add_actions<N, A>(uids: &mut BTreeSet<EntityUID>, defs: &ActionsDef<N, A>) -> M<()>
+    ensures { OnOk result (HasAlso (map uid_of uids.new.keys) (map uid_of uids.old.keys)
+        (map (λ def. uid_of def.uid) defs.now.defs.items)) }
+{
+    for def in &defs.defs {
+        add_uid(uids, def.uid.clone()?)?;
+    }
+    Ok(())
+}
+
+impl AllDefs {
+    /// Adds what a definition itself declares.
+    fn add_definition<N, A>(&mut self, definition: &ValidatorNamespaceDef<N, A>) -> M<()>
+        ensures { OnOk result (HoldsAlso (held_names self.new) (held_names self.old) (definition_names N A definition.now)) }
+    {
+        add_common_types(&mut self.common_types, &definition.common_types)?;
+        add_entity_types(&mut self.entity_types, &definition.entity_types)?;
+        add_actions(&mut self.actions, &definition.actions)
+    }
+
+    /// Adds what a fragment itself declares.
+    fn add_fragment<N, A>(&mut self, fragment: &ValidatorSchemaFragment<N, A>) -> M<()>
+        ensures { OnOk result (HoldsAlso (held_names self.new) (held_names self.old) (fragment_names N A fragment.now)) }
+    {
+        for definition in &fragment.definitions {
+            self.add_definition(definition)?;
+        }
+        Ok(())
+    }
+
+    /// No names.
+    fn none(alloc: Global) -> Self
+        ensures common { (held_names result).common ≡ [] }
+        ensures entities { (held_names result).entities ≡ [] }
+        ensures actions { (held_names result).actions ≡ [] }
+    {
+        AllDefs {
+            entity_types: BTreeSet::new(alloc),
+            common_types: BTreeSet::new(alloc),
+            actions: BTreeSet::new(alloc),
+        }
+    }
+
+    /// What the fragments themselves declare, without types of actions, built-in types and aliases.
+    pub fn new<N, A>(alloc: Global, fragments: &[ValidatorSchemaFragment<N, A>]) -> M<Self>
+        ensures { IfOk result (λ defs. HoldsJust (held_names defs) (declared_names N A fragments.now)) }
+    {
+        let mut defs = AllDefs::none(alloc);
+        for fragment in fragments {
+            defs.add_fragment(fragment)?;
+        }
+        Ok(defs)
+    }
+
+    /// What one fragment itself declares.
+    pub fn single_fragment<N, A>(alloc: Global, fragment: &ValidatorSchemaFragment<N, A>) -> M<Self>
+        ensures { IfOk result (λ defs. HoldsJust (held_names defs) (fragment_names N A fragment.now)) }
+    {
+        let mut defs = AllDefs::none(alloc);
+        defs.add_fragment(fragment)?;
+        Ok(defs)
+    }
+}
