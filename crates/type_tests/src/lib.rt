@@ -6,6 +6,8 @@ mod attributes;
 #[cfg(test)]
 mod entity_types;
 #[cfg(test)]
+mod hierarchy;
+#[cfg(test)]
 mod subtyping;
 #[cfg(test)]
 mod test_values;
