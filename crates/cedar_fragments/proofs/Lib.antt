@@ -7,4 +7,5 @@ pub mod NamesSoFar
 pub mod OneMore
 pub mod ResolveLemmas
 pub mod SetLemmas
+pub mod ShadowLemmas
 pub mod SoundLemmas

@@ -13,13 +13,13 @@ use Rattle.cedar_below.specs.Lists.{SameItems}
 use Rattle.cedar_fragments.specs.HeldNames.{HasAlso}
 
 -- an answer that says so is a tie
-is_eq-Equal : (answer : Ordering) → is_eq answer ≡ true → answer ≡ Equal
+pub is_eq-Equal : (answer : Ordering) → is_eq answer ≡ true → answer ≡ Equal
 is_eq-Equal Less e = cc
 is_eq-Equal Equal e = refl
 is_eq-Equal Greater e = cc
 
 -- what stands in a list of one item is that item
-only : {P : Type 0} (one item : P) → Contains (one ∷ []) item → one ≡ item
+pub only : {P : Type 0} (one item : P) → Contains (one ∷ []) item → one ≡ item
 only one item among = ⊎_elim (λ same. same) (λ nothing. absurd (omega (arith, nothing.1))) (Contains-cons_cases one [] item among)
 
 -- keys that tie exactly where they stand for the same

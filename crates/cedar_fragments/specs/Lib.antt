@@ -5,5 +5,6 @@ pub mod FragmentDeclarations
 pub mod FragmentFault
 pub mod HeldNames
 pub mod Refused
+pub mod ShadowedNames
 pub mod TypeDeclarations
 pub mod WithAttributes

@@ -6,3 +6,4 @@ pub use resolve::ResolveName;
 mod all_defs;
 mod names;
 mod resolve;
+mod shadowing;

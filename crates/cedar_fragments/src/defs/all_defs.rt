@@ -1,6 +1,7 @@
 //! The names that are defined.
 
 use cedar_below::{EntityUID, InternalName};
+use std::alloc::Global;
 use std::collections::BTreeSet;
 
 /// The names that references are resolved against: those of common types, those of entity types,
@@ -10,4 +11,5 @@ pub struct AllDefs {
     pub(crate) entity_types: BTreeSet<InternalName>,
     pub(crate) common_types: BTreeSet<InternalName>,
     pub(crate) actions: BTreeSet<EntityUID>,
+    pub(crate) alloc: Global,
 }

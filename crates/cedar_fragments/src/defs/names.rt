@@ -140,6 +140,7 @@ impl AllDefs {
             entity_types: BTreeSet::new(alloc),
             common_types: BTreeSet::new(alloc),
             actions: BTreeSet::new(alloc),
+            alloc,
         }
     }
 

@@ -1,0 +1,50 @@
+use Rattle.std.proofs.Common.{sym, subst, ◌∙◌, inr, Contains}
+use Rattle.std.proofs.lemmas.Bool.{false≢true}
+use Rattle.cedar_below.specs.EntityUID.{uid_of}
+use Rattle.cedar_below.specs.PlainName.{IsUnqualified}
+use Rattle.cedar_below.specs.PlainUid.{PlainUid}
+use Rattle.cedar_below.specs.Text.{Text}
+use Rattle.cedar_declared.specs.Shadowing.{ShadowsAction}
+use Rattle.cedar_fragments.specs.HeldNames.{held_names}
+use Rattle.cedar_fragments.specs.ShadowedNames.{IsPlainAction}
+use Rattle.cedar_fragments.proofs.ShadowLemmas.{ids_of, PassedSoFar-more, passed_all, passed_next, looked_up, not_looked_up, unqualified_is_not_shadowed, not_shadowed}
+use Rattle.cedar_fragments.proofs.defs.all_defs.AllDefs.check_actions.Goals as goal
+
+pub loop-uid-preserved-then-is_unqualified : goal.loop-uid-preserved-then-is_unqualified
+loop-uid-preserved-then-is_unqualified c =
+    let plain : IsUnqualified (uid_of c.in-Some.uid.now).ty = subst IsUnqualified (c.name.ensures.name ∙ c.entity_type.ensures)
+    (c.is_unqualified.ensures.0 c.if-is_unqualified.true) in
+    PassedSoFar-more _ _ _ _ c.next.new.self c.in-Some.uid.now c.in-Some.ensures.steps
+    (unqualified_is_not_shadowed (held_names c.args.self.now).actions (uid_of c.in-Some.uid.now) plain) c.loop-uid.invariant
+
+pub returns-in-Some-get-clause-fault : goal.returns-in-Some-get-clause-fault
+returns-in-Some-get-clause-fault c =
+    let actions = (held_names c.args.self.now).actions in
+    let uid = uid_of c.in-Some.uid.now in
+    let other = uid_of c.in-Some-get.other.now in
+    let P : PlainUid → PlainUid → Type 0 = λ plain qualified. Contains actions plain × Contains actions qualified × ShadowsAction plain qualified in
+    let found : IsPlainAction actions c.as_str.result.now other =
+    looked_up actions c.in_ok-plain.plain.entries c.as_str.result.now c.in-Some-get.other.now c.in_ok-plain.ensures.each
+    (sym c.in-Some-get.ensures.value) in
+    let qualified : ¬ IsUnqualified uid.ty = λ unqualified. false≢true (sym c.if-is_unqualified.false
+    ∙ c.is_unqualified.ensures.1 (subst IsUnqualified (sym (c.name.ensures.name ∙ c.entity_type.ensures)) unqualified)) in
+    let among : Contains actions uid = passed_next _ _ c.args.self.now.actions.keys c.loop-uid.uid-iterator c.next.new.self c.in-Some.uid.now
+    c.in-Some.ensures.steps c.loop-uid.invariant in
+    let pair : P other uid = (found.0, among, (found.1, qualified, found.2 ∙ (c.as_str.ensures ∙ c.eid.ensures))) in
+    let Q : PlainUid → Type 0 = λ each. P other each in
+    let R : PlainUid → Type 0 = λ each. P each (uid_of c.in_ok-clone-in-Some-get-2.field-0) in
+    inr (subst R (sym c.in_ok-clone-in-Some-get.ensures.uid) (subst Q (sym c.in_ok-clone-in-Some-get-2.ensures.uid) pair))
+
+pub loop-uid-preserved : goal.loop-uid-preserved
+loop-uid-preserved c =
+    let actions = (held_names c.args.self.now).actions in
+    let uid = uid_of c.in-Some.uid.now in
+    let P : Text → Type 0 = λ text. ¬ Contains (ids_of c.in_ok-plain.plain.entries) text in
+    let absent : P uid.eid = subst P (c.as_str.ensures ∙ c.eid.ensures)
+    (not_looked_up c.in_ok-plain.plain.entries c.as_str.result.now (sym c.in-None-get.ensures.value)) in
+    PassedSoFar-more _ _ _ _ c.next.new.self c.in-Some.uid.now c.in-Some.ensures.steps
+    (not_shadowed actions c.in_ok-plain.plain.entries uid c.in_ok-plain.ensures.all absent) c.loop-uid.invariant
+
+pub returns-clause-none : goal.returns-clause-none
+returns-clause-none c =
+    λ plain qualified here there. passed_all _ _ _ _ c.in-None.ensures.steps.0 c.loop-uid.invariant qualified there plain here

@@ -1,0 +1,13 @@
+use Rattle.cedar_below.specs.InternalName.{name_of}
+use Rattle.cedar_below.specs.PlainName.{PlainName}
+use Rattle.std.specs.Prelude.{Contains}
+use Rattle.cedar_declared.specs.Shadowing.{ShadowsType}
+use Rattle.cedar_fragments.proofs.ShadowLemmas.{PassedSoFar}
+use Rattle.cedar_fragments.specs.HeldNames.{held_names}
+use Rattle.cedar_fragments.specs.ShadowedNames.{type_names}
+use Rattle.cedar_fragments.proofs.defs.all_defs.AllDefs.check_types.Given as goal
+
+abbrev pub invariant-loop-name : goal.invariant-loop-name
+invariant-loop-name l =
+    PassedSoFar (λ name. (plain : PlainName) → Contains (type_names (held_names l.self)) plain → ¬ ShadowsType plain name)
+    name_of l.names.keys l.name-iterator

@@ -1,0 +1,17 @@
+use Rattle.std.proofs.Common.{⊎_elim}
+use Rattle.std.proofs.lemmas.List.Elements.{Contains-append_right, Contains-append_cases}
+use Rattle.cedar_fragments.specs.HeldNames.{held_names}
+use Rattle.cedar_fragments.proofs.defs.all_defs.AllDefs.rfc_70_shadowing_checks.Goals as goal
+
+pub check_types-requires-2 : goal.check_types-requires-2
+check_types-requires-2 c =
+    let held = held_names c.args.self.now in
+    λ name among. Contains-append_right held.common held.entities name among
+
+pub returns-clause-types : goal.returns-clause-types
+returns-clause-types c =
+    let held = held_names c.args.self.now in
+    λ plain qualified here there. ⊎_elim
+    (λ common. c.in_ok-check_types.ensures.none plain qualified here common)
+    (λ entity. c.in_ok-check_types-2.ensures.none plain qualified here entity)
+    (Contains-append_cases held.common held.entities qualified there)
