@@ -1,10 +1,13 @@
 -- Entity types of two lists that are put together in order, without repeats.
-use Rattle.std.proofs.Common.{◌≡◌, ◌≢◌, inl, inr, List, [], ◌∷◌, ◌++◌, map, Contains, sym, subst, ◌∙◌, refl, arith}
+use Rattle.std.proofs.Common.{Bor, Bool, true, false, cond, ◌+◌, ◌<◌, length, ap, ◌≡◌, ◌≢◌, inl, inr, List, [], ◌∷◌, ◌++◌, map, Contains, sym, subst, ◌∙◌, refl, arith}
 use Rattle.std.proofs.lemmas.List.Elements.{Contains-append_left, Contains-append_right, Contains-append_cases}
 use Rattle.std.proofs.lemmas.List.Filters.{dedup_is}
 use Rattle.std.proofs.lemmas.List.Kept.{Any-dedup, Contains-from_dedup, IsStrictlySortedBy-dedup}
-use Rattle.std.proofs.lemmas.List.Sorted.{Contains-permutation, IsPermutation-sym}
-use Rattle.std.specs.List.{dedup}
+use Rattle.std.proofs.lemmas.List.Sorted.{Contains-permutation, IsPermutation-sym, IsPermutation-map}
+use Rattle.std.proofs.lemmas.List.{get_or-map, length-map}
+use Rattle.std.proofs.lemmas.Simd.{map-map}
+use Rattle.std.specs.List.{dedup, dedup_from}
+use Rattle.std.specs.Ordering.{is_lt}
 use Rattle.std.specs.List.Retain.{IsFiltered, DiffersFromLast}
 use Rattle.std.specs.List.Sorted.{IsPermutation, IsSorted, IsStrictlySortedBy}
 use Rattle.cedar_below.specs.EntityType.{type_name}
@@ -16,6 +19,7 @@ use Rattle.cedar_below.specs.declared.entity_type.EntityType.{EntityType}
 use Rattle.cedar_below.proofs.Names.{entity_type_eq-same, entity_type_ord-name_cmp}
 use Rattle.cedar_below.proofs.Ordered.{IsStrictlySortedBy-map}
 use Rattle.cedar_rules.specs.EntityUnion.{IsUnionOf}
+use Rattle.cedar_types.proofs.RisingLemmas.{some_item}
 use Rattle.cedar_types.proofs.MemberLemmas.{Contains-named}
 use Rattle.cedar_types.proofs.UnionLemmas.{Contains-names}
 
@@ -70,15 +74,61 @@ IsUnionOf-distinct types others sorted permutation name =
           ]),
     )
 
--- entity types in order without repeats have names that ascend
-pub IsStrictlySortedBy-distinct : (sorted all : List EntityType) → IsSorted ((entity_type_ord.ghosts).cmp) sorted
-    → IsFiltered (DiffersFromLast ((entity_type_eq.ghosts).eq)) [] sorted all → IsStrictlySortedBy name_cmp (map type_name all)
-IsStrictlySortedBy-distinct sorted all order filtered =
-    let P : List EntityType → Type 0 = λ types. IsStrictlySortedBy name_cmp (map type_name types) in
+-- the entity types that are referred to
+abbrev pub referred : List (Bor EntityType) → List EntityType
+referred refs = map (λ ty. ty.now) refs
+
+-- whether two references are to equal entity types
+abbrev same_type : Bor EntityType → Bor EntityType → Bool
+same_type a b = (entity_type_eq.ghosts).eq a.now b.now
+
+referred-cond : (b : Bool) (xs ys : List (Bor EntityType)) → referred (cond b xs ys) ≡ cond b (referred xs) (referred ys)
+referred-cond true xs ys = refl
+referred-cond false xs ys = refl
+
+referred-dedup_from : (x : Bor EntityType) (refs : List (Bor EntityType))
+    → referred (dedup_from same_type x refs) ≡ dedup_from ((entity_type_eq.ghosts).eq) x.now (referred refs)
+referred-dedup_from x [] = refl
+referred-dedup_from x (y ∷ refs) =
+    referred-cond (same_type y x) (dedup_from same_type x refs) (x ∷ dedup_from same_type y refs)
+    ∙ (λ i. cond (same_type y x) (referred-dedup_from x refs i) (x.now ∷ referred-dedup_from y refs i))
+
+-- references without repeats are to the entity types without repeats
+referred-distinct : (refs : List (Bor EntityType)) → referred (dedup same_type refs) ≡ distinct (referred refs)
+referred-distinct [] = refl
+referred-distinct (x ∷ refs) = referred-dedup_from x refs
+
+-- references in the order of their entity types are to entity types in order
+IsSorted-referred : (refs : List (Bor EntityType)) → IsSorted (λ a b. (entity_type_ord.ghosts).cmp a.now b.now) refs
+    → IsSorted ((entity_type_ord.ghosts).cmp) (referred refs)
+IsSorted-referred refs sorted k d low high =
+    let within : k + 1 < length refs = rw (sym (length-map refs (λ ty. ty.now))) high in
+    let some : Bor EntityType = some_item refs (k + 1) within in
+    let first = get_or-map (λ ty. ty.now) refs k some d (omega (arith, within)) in
+    let second = get_or-map (λ ty. ty.now) refs (k + 1) some d within in
+    (λ i. is_lt ((entity_type_ord.ghosts).cmp (second i) (first i))) ∙ sorted k some low within
+
+-- the names of what is referred to without repeats
+names_of_distinct : (sorted all : List (Bor EntityType)) (names : List PlainName)
+    → IsFiltered (DiffersFromLast same_type) [] sorted all → names ≡ map (λ ty. type_name ty.now) all
+    → names ≡ map type_name (distinct (referred sorted))
+names_of_distinct sorted all names filtered are =
+    are
+    ∙ (sym (map-map type_name (λ ty. ty.now) all)
+    ∙ (ap (λ refs. map type_name (referred refs)) (dedup_is _ _ _ filtered) ∙ ap (map type_name) (referred-distinct sorted)))
+
+-- entity types that are referred to in order without repeats have names that ascend
+pub IsStrictlySortedBy-distinct : (sorted all : List (Bor EntityType)) (names : List PlainName)
+    → IsSorted (λ a b. (entity_type_ord.ghosts).cmp a.now b.now) sorted
+    → IsFiltered (DiffersFromLast same_type) [] sorted all → names ≡ map (λ ty. type_name ty.now) all
+    → IsStrictlySortedBy name_cmp names
+IsStrictlySortedBy-distinct sorted all names order filtered are =
+    let P : List PlainName → Type 0 = IsStrictlySortedBy name_cmp in
     subst P
-    (sym (dedup_is _ _ _ filtered))
-    (IsStrictlySortedBy-map ((entity_type_ord.ghosts).cmp) name_cmp type_name entity_type_ord-name_cmp (distinct sorted)
-    (IsStrictlySortedBy-dedup entity_type_ord.Laws.total-law entity_type_ord.Laws.matches_eq-law sorted order))
+    (sym (names_of_distinct sorted all names filtered are))
+    (IsStrictlySortedBy-map ((entity_type_ord.ghosts).cmp) name_cmp type_name entity_type_ord-name_cmp (distinct (referred sorted))
+    (IsStrictlySortedBy-dedup entity_type_ord.Laws.total-law entity_type_ord.Laws.matches_eq-law (referred sorted)
+    (IsSorted-referred sorted order)))
 
 -- a union with the names of some entity types has a name
 pub IsUnionOf-nonempty : (types : List EntityType) (others all : List PlainName)
@@ -88,15 +138,13 @@ IsUnionOf-nonempty (ty ∷ types) others [] union some =
     let there = (union (type_name ty)).1 (inl (0, omega arith, refl)) in absurd (omega (arith, there.1))
 IsUnionOf-nonempty (ty ∷ types) others (name ∷ all) union some = λ none. cc
 
--- the names of two lists that are put together in order, without repeats, are those of both
-pub IsUnionOf-merged : (types others both sorted all : List EntityType) (names more : List PlainName)
-    → map type_name types ≡ names → map type_name others ≡ more → both ≡ types ++ others → IsPermutation both sorted
-    → IsFiltered (DiffersFromLast ((entity_type_eq.ghosts).eq)) [] sorted all → IsUnionOf names more (map type_name all)
-IsUnionOf-merged types others both sorted all names more first second together permutation filtered =
-    let P : List EntityType → Type 0 = λ them. IsPermutation them sorted in
-    let Q : List EntityType → Type 0 = λ them. IsUnionOf (map type_name types) (map type_name others) (map type_name them) in
-    let R : List PlainName → Type 0 = λ them. IsUnionOf them (map type_name others) (map type_name all) in
-    let S : List PlainName → Type 0 = λ them. IsUnionOf names them (map type_name all) in
-    subst S
-    second
-    (subst R first (subst Q (sym (dedup_is _ _ _ filtered)) (IsUnionOf-distinct types others sorted (subst P together permutation))))
+-- the names of two lists that are referred to together in order, without repeats, are those of both
+pub IsUnionOf-merged : (types others : List EntityType) (both sorted all : List (Bor EntityType)) (names : List PlainName)
+    → referred both ≡ types ++ others → IsPermutation both sorted → IsFiltered (DiffersFromLast same_type) [] sorted all
+    → names ≡ map (λ ty. type_name ty.now) all → IsUnionOf (map type_name types) (map type_name others) names
+IsUnionOf-merged types others both sorted all names together permutation filtered are =
+    let P : List EntityType → Type 0 = λ them. IsPermutation them (referred sorted) in
+    let Q : List PlainName → Type 0 = IsUnionOf (map type_name types) (map type_name others) in
+    subst Q
+    (sym (names_of_distinct sorted all names filtered are))
+    (IsUnionOf-distinct types others (referred sorted) (subst P together (IsPermutation-map (λ ty. ty.now) both sorted permutation)))

@@ -183,7 +183,7 @@ Passed-next {E = E} see R all k from at x passed within less = record {
 }
 
 -- a list with a place in it has an item
-some_item : {E : Type 0} (all : List E) (place : ℕ) → place < length all → E
+pub some_item : {E : Type 0} (all : List E) (place : ℕ) → place < length all → E
 some_item [] place within = absurd (omega (arith, within))
 some_item (x ∷ xs) place within = x
 

@@ -1,6 +1,6 @@
 //! Unions of entity types.
 
-ghost use Rattle.std.specs.Prelude.{◌≡◌, ◌≢◌, [], map, IfOk};
+ghost use Rattle.std.specs.Prelude.{◌≡◌, ◌≢◌, ◌++◌, [], map, IfOk};
 ghost use Rattle.std.specs.List.Sorted.{IsPermutation, IsSorted, IsStrictlySortedBy, IsStrictlySortedBy-prop};
 ghost use Rattle.cedar_below.specs.EntityType.{type_name};
 ghost use Rattle.cedar_below.specs.PlainName.{name_cmp};
@@ -30,10 +30,29 @@ fn clone_each(types: &Vec<EntityType>) -> M<Vec<EntityType>>
     Ok(copy)
 }
 
-/// The same entity types in order, or want of memory.
-fn sorted_types(types: Vec<EntityType>) -> M<Vec<EntityType>>
-    ensures permutation { IfOk result (λ sorted. IsPermutation types.items sorted.items) }
-    ensures sorted { IfOk result (λ sorted. IsSorted ⟦<EntityType as Ord>⟧.cmp sorted.items) }
+/// Entity types equal to those that are referred to, in the same order, or want of memory.
+fn clone_all(types: &Vec<&EntityType>) -> M<Vec<EntityType>>
+    ensures { IfOk result (λ copy. map type_name copy.items ≡ map (λ ty. type_name ty.now) types.now.items) }
+{
+    let mut copy = Vec::with_capacity(*types.allocator(), types.len())?;
+    for ty in types {
+        copy.push((**ty).clone()?)?;
+    }
+    Ok(copy)
+}
+
+/// References to the entity types of two lists, or want of memory.
+fn both_types<'a>(types: &'a Vec<EntityType>, others: &'a Vec<EntityType>) -> M<Vec<&'a EntityType>>
+    ensures { IfOk result (λ both. map (λ ty. ty.now) both.items ≡ types.now.items ++ others.now.items) }
+{
+    let both = types.iter().chain(others.iter());
+    Ok(both.collect_vec(*types.allocator())?)
+}
+
+/// The same references in the order of their entity types, or want of memory.
+fn in_order<'a>(types: Vec<&'a EntityType>) -> M<Vec<&'a EntityType>>
+    ensures permutation { IfOk result (λ sorted. IsPermutation types.entry.items sorted.items) }
+    ensures sorted { IfOk result (λ sorted. IsSorted (λ a b. ⟦<EntityType as Ord>⟧.cmp a.now b.now) sorted.items) }
 {
     let alloc = *types.allocator();
     Ok(types.into_iter().sorted(alloc)?.collect_vec(alloc)?)
@@ -150,11 +169,11 @@ impl EntityLUB {
     pub fn least_upper_bound(&self, other: &EntityLUB) -> M<EntityLUB>
         ensures { IfOk result (λ lub. IsUnionOf (lub_names self.now) (lub_names other.now) (lub_names lub)) }
     {
-        let mut both = clone_each(&self.elements)?;
-        both.append(&mut clone_each(&other.elements)?)?;
-        let mut elements = sorted_types(both)?;
-        elements.dedup();
-        Ok(EntityLUB { elements })
+        let mut both = in_order(both_types(&self.elements, &other.elements)?)?;
+        both.dedup();
+        Ok(EntityLUB {
+            elements: clone_all(&both)?,
+        })
     }
 
     /// An equal union, or want of memory.
