@@ -9,7 +9,8 @@ pub use cedar_entities::{
 };
 pub use cedar_names::{below, json_schema};
 pub use cedar_types::{
-    AttributeType, Attributes, BoolType, EntityKind, EntityLUB, JoinError, LubHelp, OpenTag, Type,
+    AttributeType, Attributes, BoolType, EntityKind, EntityLUB, Entries, JoinError, LubHelp, Names,
+    OpenTag, Type,
 };
 pub use schema::ValidatorSchema;
 
