@@ -1,0 +1,127 @@
+//! Declarations for the tests, as plain data.
+
+use cedar_below::{Id, InternalName, Loc, Name, UnreservedId};
+use cedar_names::json_schema::{
+    ActionType, AttributesOrContext, CommonType, CommonTypeId, EntityType, EntityTypeKind,
+    NamespaceDefinition, RawName, RecordType, StandardEntityType, Type, TypeVariant,
+};
+use std::alloc::Global;
+use std::collections::BTreeMap;
+use std::test::Fail;
+
+/// Where something was written.
+pub(crate) const PLACE: Loc = Loc {
+    source: 1,
+    start: 2,
+    stop: 5,
+};
+
+/// The id that a text spells.
+pub(crate) fn id(alloc: Global, text: &str) -> Result<UnreservedId, Fail> {
+    Ok(UnreservedId::new(String::from_str(alloc, text)?).ok_or("an identifier")?)
+}
+
+/// The name of some parts.
+pub(crate) fn name(alloc: Global, path: &[&str], base: &str) -> Result<InternalName, Fail> {
+    let mut parts = Vec::new(alloc);
+    for part in path {
+        parts.push(Id::new(String::from_str(alloc, part)?).ok_or("an identifier")?)?;
+    }
+    let base = Id::new(String::from_str(alloc, base)?).ok_or("an identifier")?;
+    Ok(InternalName::new(base, parts, Some(PLACE)))
+}
+
+/// The namespace of one part, or the empty one for no text.
+pub(crate) fn namespace(alloc: Global, text: &str) -> Result<Option<Name>, Fail> {
+    if text.is_empty() {
+        return Ok(None);
+    }
+    Ok(Some(Name::new(name(alloc, &[], text)?).ok_or("a reserved name")?))
+}
+
+/// The name of one part, as it was written.
+pub(crate) fn raw(alloc: Global, text: &str) -> Result<RawName, Fail> {
+    Ok(RawName::new(name(alloc, &[], text)?))
+}
+
+/// A definition that declares nothing.
+pub(crate) fn nothing(alloc: Global) -> NamespaceDefinition<RawName> {
+    NamespaceDefinition {
+        common_types: BTreeMap::new(alloc),
+        entity_types: BTreeMap::new(alloc),
+        actions: BTreeMap::new(alloc),
+        loc: Some(PLACE),
+    }
+}
+
+/// Declares a common type that stands for whole numbers.
+pub(crate) fn add_common(
+    alloc: Global,
+    definition: &mut NamespaceDefinition<RawName>,
+    text: &str,
+) -> Result<(), Fail> {
+    let id = CommonTypeId::new(id(alloc, text)?).ok_or("a word of Cedar's own")?;
+    let ty = Type::Plain {
+        ty: TypeVariant::Long,
+        loc: None,
+    };
+    definition
+        .common_types
+        .insert(id, CommonType { ty, loc: None })?;
+    Ok(())
+}
+
+/// Declares an entity type without parents, attributes and tags.
+pub(crate) fn add_entity(
+    alloc: Global,
+    definition: &mut NamespaceDefinition<RawName>,
+    text: &str,
+    external: bool,
+) -> Result<(), Fail> {
+    let no_attributes = RecordType {
+        attributes: BTreeMap::new(alloc),
+        additional_attributes: false,
+    };
+    let shape = Type::Plain {
+        ty: TypeVariant::Record(no_attributes),
+        loc: None,
+    };
+    let standard = StandardEntityType {
+        member_of_types: Vec::new(alloc),
+        shape: AttributesOrContext(shape),
+        tags: None,
+    };
+    let declared = EntityType {
+        kind: EntityTypeKind::Standard(standard),
+        external,
+        loc: None,
+    };
+    definition.entity_types.insert(id(alloc, text)?, declared)?;
+    Ok(())
+}
+
+/// Declares an action, with attributes that are written and empty where that is asked for.
+pub(crate) fn add_action(
+    alloc: Global,
+    definition: &mut NamespaceDefinition<RawName>,
+    text: &str,
+    with_attributes: bool,
+) -> Result<(), Fail> {
+    let attributes = if with_attributes {
+        Some(BTreeMap::new(alloc))
+    } else {
+        None
+    };
+    let declared = ActionType {
+        attributes,
+        applies_to: None,
+        member_of: None,
+        external: false,
+        loc: None,
+        defn_loc: None,
+    };
+    definition
+        .actions
+        .insert(String::from_str(alloc, text)?, declared)?;
+    Ok(())
+}

@@ -1,0 +1,11 @@
+//! Tests of fragments, of the names that they declare, and of what references resolve to.
+#![tactic(auto)]
+
+#[cfg(test)]
+mod declarations;
+#[cfg(test)]
+mod names;
+#[cfg(test)]
+mod refusals;
+#[cfg(test)]
+mod types;
