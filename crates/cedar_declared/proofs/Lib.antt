@@ -4,6 +4,7 @@ pub mod BuiltInLemmas
 pub mod CountLemmas
 pub mod DeclarationLemmas
 pub mod DefinedLemmas
+pub mod EnumeratedLemmas
 pub mod EnvironmentLaws
 pub mod KindLemmas
 pub mod MentionLemmas

@@ -1,5 +1,5 @@
 -- Where each of two bags says all that the other does, they are ill-formed both or neither.
-use Rattle.std.proofs.Common.{◌≡◌, List, ◌++◌, Option, map, ap, sym, subst, ◌∙◌, refl, inl, inr, ⊎_elim, arith, Contains}
+use Rattle.std.proofs.Common.{◌≡◌, List, ◌++◌, Option, map, ap, sym, subst, ◌∙◌, refl, inl, inr, ⊎_elim, Contains}
 use Rattle.std.proofs.lemmas.List.{map-append}
 use Rattle.cedar_below.proofs.Lists.{Contains-preimage}
 use Rattle.cedar_below.specs.Chain.{one}
@@ -15,19 +15,20 @@ use Rattle.cedar_names.specs.Reference.{Reference, ActionReference}
 use Rattle.cedar_below.proofs.Chains.{refined}
 use Rattle.cedar_declared.proofs.DeclarationLemmas.{entity_declaration, action_declaration, common_declaration, declares_entity, declares_action, declares_common}
 use Rattle.cedar_declared.proofs.DefinedLemmas.{resolves_there, unresolved_there, no_record_there}
-use Rattle.cedar_declared.proofs.OccurrenceLemmas.{Contains-image, Twice-append, Twice-left, Twice-right, Twice-both, two_values}
+use Rattle.cedar_declared.proofs.OccurrenceLemmas.{Contains-image, Twice-append, Twice-left, Twice-right, Twice-both}
 use Rattle.cedar_declared.proofs.ResolutionLemmas.{IsFirst-like}
+use Rattle.cedar_declared.proofs.EnumeratedLemmas.{enumerated_parent}
 use Rattle.cedar_declared.proofs.SaidLemmas.{common_name_said, type_said, action_type_said, same_defined}
-use Rattle.cedar_declared.proofs.TogetherLemmas.{IsDefinition, AreRequests, entity_counted, requests_counted, request_placed, definition_declared, declared_definition, definition_or_external, action_definition_declared, declared_action_definition}
+use Rattle.cedar_declared.proofs.TogetherLemmas.{IsDefinition, AreRequests, entity_counted, requests_counted, request_placed, definition_declared, declared_definition, action_definition_declared, declared_action_definition}
 use Rattle.cedar_declared.specs.Bag.{Bag, declared_name, declared_uid, declared_common, declared_entities, declared_actions, action_uids, built_ins, definitions, defined_names}
-use Rattle.cedar_declared.specs.Counted.{CountsInEntity, CountsInRequests, CountsIn, IsCounted, entity_parents, IsPrincipalOrResource, IsEntityPlace, IsPlaced, HasToResolve}
+use Rattle.cedar_declared.specs.Counted.{CountsInEntity, CountsInRequests, CountsIn, IsCounted, IsPrincipalOrResource, IsEntityPlace, IsPlaced, HasToResolve}
 use Rattle.cedar_declared.specs.Descent.{HasParent, HasParentAction, IsDescendant, IsDescendantAction}
 use Rattle.cedar_declared.specs.Fault.{Fault, action_attributes, open_record, undeclared_entity_types, type_not_defined, action_not_defined, type_shadowing, action_shadowing, duplicate_entity_type, duplicate_common_type, duplicate_action, action_cycle, common_type_cycle, action_entity_type, shape_not_record, context_not_record, unknown_extension_type, reserved_name, external_below_enumerated, enumerated_below}
 use Rattle.cedar_declared.specs.IllFormed.{HasUnknownParent, RefersToCommon, IsFault, IsIllFormed}
 use Rattle.cedar_declared.specs.Names.{NamesAction, ResolvesTo}
 use Rattle.cedar_declared.specs.Occurrences.{Twice}
 use Rattle.cedar_declared.specs.SameBag.{SameEntityBody, SameRequests, SaysAll}
-use Rattle.cedar_declared.specs.Together.{defined_entities, defined_actions, IsExternalType, IsParent}
+use Rattle.cedar_declared.specs.Together.{defined_entities, defined_actions, IsExternalType}
 
 -- what counts in what is declared of an entity type counts in the same
 entity_counts : (body other : EntityBody) (expr : Expr) → SameEntityBody body other → CountsInEntity body expr → CountsInEntity other expr
@@ -214,35 +215,6 @@ module _ (bag other : Bag) (extensions : Extensions) (said : SaysAll bag other) 
       let P : EntityBody → Type 0 = λ body. Contains (declared_entities other) (name, body) in
       subst P (same_enumerated choices found.0 found.2) found.1
 
-  -- an enumerated entity type with a parent is at fault, or it is defined twice
-  enumerated_parent : (lower upper : PlainName) (choices : List Text) (reference : Reference)
-      → Contains (declared_entities other) (lower, enumerated choices) → IsParent other lower reference
-      → ResolvesTo (defined_names other extensions) reference upper → IsIllFormed other extensions
-  enumerated_parent lower upper choices reference among (body, there, parent) resolves =
-      ⊎_elim
-      (λ definition.
-      ⊎_elim
-      (λ same. let P : EntityBody → Type 0 = λ each. Contains (entity_parents each) reference in
-      absurd (omega (arith, (subst P (sym same) parent).1)))
-      (λ twice. (duplicate_entity_type lower, twice))
-      (two_values (defined_entities other) lower (enumerated choices) body
-      (declared_definition other lower (enumerated choices) tt among) (declared_definition other lower body definition there)))
-      (λ is_external.
-      let P : EntityBody → Type 0 = λ each. Contains (declared_entities other) (lower, each) in
-      let Q : EntityBody → Type 0 = λ each. Contains (entity_parents each) reference in (
-        enumerated_below lower upper,
-        (
-          choices,
-          is_external.0,
-          reference,
-          among,
-          subst P is_external.1 there,
-          subst Q is_external.1 parent,
-          resolves,
-        ),
-      ))
-      (definition_or_external body)
-
   -- the standard entity type whose shape is at fault in the one has it in the other
   shape_said : (name : PlainName) (parents : List Reference) (shape : Expr) (tags : Option Expr)
       → Contains (declared_entities bag) (name, standard parents shape tags) → (found : List Reference)
@@ -370,6 +342,9 @@ module _ (bag other : Bag) (extensions : Extensions) (said : SaysAll bag other) 
     ),
   )
   fault_said (enumerated_below lower upper) at_fault =
-      enumerated_parent lower upper at_fault.0 at_fault.2 (enumerated_said lower at_fault.0 at_fault.3)
-      (said.parents lower at_fault.2 (external at_fault.1, at_fault.4, at_fault.5)) (resolves_said at_fault.2 upper at_fault.6)
+      enumerated_parent other extensions lower upper at_fault.0 (enumerated_said lower at_fault.0 at_fault.3) (
+        at_fault.2,
+        said.parents lower at_fault.2 (external at_fault.1, at_fault.4, at_fault.5),
+        resolves_said at_fault.2 upper at_fault.6,
+      )
   fault_said _ at_fault = absurd at_fault

@@ -15,22 +15,23 @@ use Rattle.cedar_names.specs.Expr.{Expr}
 use Rattle.cedar_names.specs.Reference.{Reference}
 use Rattle.cedar_below.proofs.Chains.{first_step, refined}
 use Rattle.cedar_declared.proofs.DeclarationLemmas.{entity_declaration, action_declaration}
+use Rattle.cedar_declared.proofs.EnumeratedLemmas.{enumerated_parent}
 use Rattle.cedar_declared.proofs.MentionLemmas.{mentions_entity, known_written, known_counted, known_common}
 use Rattle.cedar_declared.proofs.ResolutionLemmas.{first_defined, names_no_common}
-use Rattle.cedar_declared.proofs.OccurrenceLemmas.{Contains-image, value_once}
+use Rattle.cedar_declared.proofs.OccurrenceLemmas.{Contains-image}
 use Rattle.cedar_declared.specs.Bag.{Bag, declared_common, declared_entities, declared_actions, declared_types, action_uids, definitions, defined_names}
 use Rattle.cedar_below.specs.Chain.{Chain, one}
 use Rattle.cedar_below.specs.Lists.{HoldsInTurn}
 use Rattle.cedar_declared.specs.ClosedSchema.{ClosesType, ClosesAction, ClosesSchema}
-use Rattle.cedar_declared.specs.Counted.{CountsIn, IsCounted, IsPlaced, PlacesFit, CountsInEntity, CountsInRequests, entity_parents, IsPrincipalOrResource, IsEntityPlace}
+use Rattle.cedar_declared.specs.Counted.{CountsIn, IsCounted, IsPlaced, PlacesFit, CountsInEntity, CountsInRequests, IsPrincipalOrResource, IsEntityPlace}
 use Rattle.cedar_declared.specs.DeclaredSchema.{IsDeclaredSchema, IsDeclaredActionKind, IsDeclaredKind, AreDeclaredTags}
 use Rattle.cedar_declared.specs.Names.{ResolvesTo}
 use Rattle.cedar_declared.specs.Descent.{HasParent, HasParentAction, IsDescendant, IsDescendantAction}
-use Rattle.cedar_declared.specs.Fault.{undeclared_entity_types, type_shadowing, action_shadowing, duplicate_entity_type, action_cycle, action_entity_type, unknown_extension_type, external_below_enumerated, enumerated_below, undeclared_action_descendant, invalid_action_type}
+use Rattle.cedar_declared.specs.Fault.{undeclared_entity_types, type_shadowing, action_shadowing, action_cycle, action_entity_type, unknown_extension_type, external_below_enumerated, enumerated_below, undeclared_action_descendant, invalid_action_type}
 use Rattle.cedar_declared.specs.IllFormed.{IsIllFormed}
 use Rattle.cedar_declared.specs.PlainSchema.{SchemaEntityType, ActionKind, defined_action, external_action, SchemaAction, PlainSchema}
-use Rattle.cedar_declared.proofs.TogetherLemmas.{definition_declared, declared_definition, definition_or_external, said_is_declared, said_action_is_declared, said_definition, said_action_definition, entity_counted, requests_counted, request_placed}
-use Rattle.cedar_declared.specs.Together.{defined_entities, EntitySays, IsExternalType}
+use Rattle.cedar_declared.proofs.TogetherLemmas.{definition_declared, said_is_declared, said_action_is_declared, said_definition, said_action_definition, entity_counted, requests_counted, request_placed}
+use Rattle.cedar_declared.specs.Together.{EntitySays, IsExternalType}
 use Rattle.cedar_declared.specs.ValidSchema.{IsTypeOfKind, IsContextOf, IsPrincipalOrResourceOf, IsTypeIn, HasEntityType, HasAction, ListsDescendant, ListsDescendantAction, IsOfKind, IsEnumerated, IsExternal, IsUnknownType, IsValidSchema}
 use Rattle.cedar_declared.specs.WrittenOut.{WrittenOut}
 use Rattle.cedar_declared.specs.EntityTypeKind.{EntityTypeKind, standard_kind, enumerated_kind, external_kind}
@@ -294,41 +295,13 @@ module _ (bag : Bag) (extensions : Extensions) (schema : PlainSchema) (fit : Typ
       declared.each_action lower (Contains-image (λ (each : PlainUid × ActionBody). each.0) (declared_actions bag)
       (lower, step.1.0) step.1.1)
 
-  -- an enumerated entity type has no parent
-  enumerated_has_no_parent : (lower upper : PlainName) (choices : List Text)
-      → Contains (declared_entities bag) (lower, enumerated choices) → ¬ HasParent bag extensions lower upper
-  enumerated_has_no_parent lower upper choices among (reference, (body, there, parent), resolves) =
-      ⊎_elim
-      (λ definition.
-      let same : enumerated choices ≡ body = value_once (defined_entities bag) (λ name twice. well (duplicate_entity_type name, twice))
-      lower (enumerated choices) body (declared_definition bag lower (enumerated choices) tt among)
-      (declared_definition bag lower body definition there) in
-      let P : EntityBody → Type 0 = λ each. Contains (entity_parents each) reference in
-      omega (arith, (subst P (sym same) parent).1))
-      (λ is_external.
-      let P : EntityBody → Type 0 = λ each. Contains (declared_entities bag) (lower, each) in
-      let Q : EntityBody → Type 0 = λ each. Contains (entity_parents each) reference in
-      well (
-        enumerated_below lower upper,
-        (
-          choices,
-          is_external.0,
-          reference,
-          among,
-          subst P is_external.1 there,
-          subst Q is_external.1 parent,
-          resolves,
-        ),
-      ))
-      (definition_or_external body)
-
   -- an enumerated entity type of the schema is below none
   enumerated_below_none : (lower upper : PlainName) → IsOfKind schema lower IsEnumerated → ¬ Chain (ListsDescendant schema) lower upper
   enumerated_below_none lower upper enumerated_type chain =
       let step = first_step (HasParent bag extensions) lower upper
       (reached_descendant bag extensions schema declared lower upper chain) in
       let found = declared_enumerated lower enumerated_type in
-      enumerated_has_no_parent lower step.0 found.0 found.1 step.1
+      well (enumerated_parent bag extensions lower step.0 found.0 found.1 step.1)
 
   -- the name of an entity type of the schema is among the declared types
   among_types : (name : PlainName) → HasEntityType schema name → Contains (declared_types bag) name
