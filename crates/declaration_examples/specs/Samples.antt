@@ -123,6 +123,18 @@ linked_bag =
     ∷ entity_here (codes "Team") [] no_member
     ∷ []
 
+-- an external declaration of `U` with these parents
+abbrev pub external_here : List Reference → Declaration
+external_here parents = record { namespace = None; id = codes "U"; body = entity_type (external parents) }
+
+-- an external entity type that two declarations give a parent each
+abbrev pub apart_bag : Bag
+apart_bag = external_here (refer_here Entity (codes "A") ∷ []) ∷ external_here (refer_here Entity (codes "B") ∷ []) ∷ []
+
+-- the same in one declaration
+abbrev pub together_bag : Bag
+together_bag = external_here (refer_here Entity (codes "B") ∷ refer_here Entity (codes "A") ∷ []) ∷ []
+
 -- two entity types, each below the other
 abbrev pub ring_bag : Bag
 ring_bag = entity_here (codes "A") (refer_here Entity (codes "B") ∷ []) no_member

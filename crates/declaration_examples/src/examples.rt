@@ -19,7 +19,8 @@ ghost use Rattle.cedar_declared.specs.Names.{ResolvesTo};
 ghost use Rattle.cedar_declared.specs.Descent.{IsDescendant};
 ghost use Rattle.cedar_declared.specs.Fault.{open_record, undeclared_entity_types, type_shadowing, duplicate_entity_type, common_type_cycle, external_below_enumerated, enumerated_below};
 ghost use Rattle.cedar_declared.specs.IllFormed.{IsFault};
-ghost use Rattle.declaration_examples.specs.Samples.{within_sample, refer_here, refer_within, entity_here, cycle_bag, both_bag, alias_bag, shadow_bag, actions_bag, tint_bag, known_tint_bag, painted_bag, linked_bag, ring_bag, principal_bag, nested_bag, open_bag, external_bag, optional_record};
+ghost use Rattle.declaration_examples.specs.Samples.{within_sample, refer_here, refer_within, entity_here, cycle_bag, both_bag, alias_bag, shadow_bag, actions_bag, tint_bag, known_tint_bag, painted_bag, linked_bag, apart_bag, together_bag, ring_bag, principal_bag, nested_bag, open_bag, external_bag, optional_record};
+ghost use Rattle.cedar_declared.specs.SameBag.{SameBag};
 ghost use Rattle.cedar_declared.specs.Together.{EntitySays};
 ghost use Rattle.cedar_declared.specs.WrittenOut.{WrittenOut};
 ghost use Rattle.cedar_rules.specs.Ty.{long, text, union_of};
@@ -100,6 +101,11 @@ pub fn external_types_below_enumerated_ones()
 pub fn enumerated_types_have_no_parents()
     ensures { (extensions : Extensions) → IsFault painted_bag extensions
         (enumerated_below (alias_name (codes "Color")) (alias_name (codes "Paint"))) }
+{}
+
+/// Two external declarations of an entity type with a parent each say what one with both parents says.
+pub fn parents_may_be_said_apart_or_together()
+    ensures { SameBag apart_bag together_bag }
 {}
 
 /// An entity type with an external declaration and a definition is what its definition says, is
