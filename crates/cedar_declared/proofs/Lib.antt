@@ -7,7 +7,10 @@ pub mod DefinedLemmas
 pub mod EnumeratedLemmas
 pub mod EnvironmentLaws
 pub mod KindLemmas
+pub mod MeaningLemmas
 pub mod MentionLemmas
+pub mod MovedBags
+pub mod MovedLemmas
 pub mod OccurrenceLemmas
 pub mod OrderLaws
 pub mod PlacedLemmas
@@ -16,5 +19,6 @@ pub mod SaidFaults
 pub mod SaidLemmas
 pub mod SameBagLaws
 pub mod SchemaLaws
+pub mod SettledLaws
 pub mod TogetherLemmas
 pub mod ValidLaws

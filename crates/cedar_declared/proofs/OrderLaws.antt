@@ -22,7 +22,7 @@ use Rattle.cedar_declared.specs.SameBag.{SaysAll}
 use Rattle.cedar_declared.specs.Together.{entity_definition_in, defined_entities, action_definition_in, defined_actions}
 
 -- what the items of a list give in turn, those of what another gives give
-nested : {A B C : Type 0} (f : A → List B) (g : B → List C) (xs : List A)
+pub nested : {A B C : Type 0} (f : A → List B) (g : B → List C) (xs : List A)
     → flat_map g (flat_map f xs) ≡ flat_map (λ x. flat_map g (f x)) xs
 nested f g [] = refl
 nested {B = B} {C = C} f g (x ∷ xs) =

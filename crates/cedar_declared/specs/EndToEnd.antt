@@ -13,7 +13,7 @@ use Rattle.cedar_names.specs.EntityBody.{standard}
 use Rattle.cedar_names.specs.Expr.{Expr}
 use Rattle.cedar_names.specs.Reference.{Reference}
 use Rattle.cedar_declared.specs.Admits.{Admits}
-use Rattle.cedar_declared.specs.Bag.{Bag, declared_entities, definitions}
+use Rattle.cedar_declared.specs.Bag.{Bag, declared_entities, definitions, defined_names}
 use Rattle.cedar_declared.specs.ClosedSchema.{ClosesSchema}
 use Rattle.cedar_declared.specs.Counted.{PlacesFit}
 use Rattle.cedar_declared.specs.DeclaredSchema.{IsDeclaredSchema}
@@ -22,6 +22,7 @@ use Rattle.cedar_declared.specs.IllFormed.{IsFault, IsIllFormed}
 use Rattle.cedar_declared.specs.PlainSchema.{SchemaEntityType, SchemaAction, defined_action, ActionEntity, PlainSchema}
 use Rattle.cedar_declared.specs.SameBag.{SameBag}
 use Rattle.cedar_declared.specs.SameSchema.{SameSchema}
+use Rattle.cedar_declared.specs.Settled.{SettlesBag}
 use Rattle.cedar_declared.specs.ValidSchema.{IsValidSchema}
 use Rattle.cedar_declared.specs.Descent.{IsDescendantAction}
 use Rattle.cedar_declared.specs.EntityTypeKind.{standard_kind}
@@ -101,6 +102,13 @@ ActionEntitiesAreDeclared = (bag : Bag) (extensions : Extensions) (schema : Plai
 -- a law: a bag in another order is the same bag
 abbrev pub OrderIsNothing : Type 0
 OrderIsNothing = (bag other : Bag) → IsPermutation bag other → SameBag bag other
+
+-- a law: where each reference of a bag is settled, over the names that the bag defines, it has the same faults as before and
+-- declares the same schemas
+abbrev pub SettlingChangesNothing : Type 0
+SettlingChangesNothing = (bag settled : Bag) (extensions : Extensions) → SettlesBag (defined_names bag extensions) bag settled
+    → ((fault : Fault) → IsFault bag extensions fault ↔ IsFault settled extensions fault)
+    × ((schema : PlainSchema) → IsDeclaredSchema bag extensions schema ↔ IsDeclaredSchema settled extensions schema)
 
 -- a law: bags that are the same are ill-formed both or neither, and declare the same schemas
 abbrev pub SameBagsDeclareTheSame : Type 0

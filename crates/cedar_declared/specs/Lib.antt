@@ -18,6 +18,7 @@ pub mod PlainSchema
 pub mod SameBag
 pub mod SameSchema
 pub mod SchemaError
+pub mod Settled
 pub mod Shadowing
 pub mod Together
 pub mod TypeMentions

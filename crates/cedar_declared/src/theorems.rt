@@ -10,7 +10,7 @@ ghost use Rattle.cedar_names.specs.declared.json_schema.fragment.Fragment.{Fragm
 ghost use Rattle.cedar_names.specs.declared.json_schema.raw_name.RawName.{RawName};
 ghost use Rattle.cedar_declared.specs.Bag.{Bag, definitions};
 ghost use Rattle.cedar_declared.specs.Counted.{PlacesFit};
-ghost use Rattle.cedar_declared.specs.EndToEnd.{ActionEntitiesAreDeclared, AdmitsTheSame, BagsDeclareAtMostOneSchema, DeclaredSchemasAreClosed, DeclaredSchemasAreValid, DeclaredTypesHaveTheDeclaredValues, OrderIsNothing, SameBagsDeclareTheSame};
+ghost use Rattle.cedar_declared.specs.EndToEnd.{ActionEntitiesAreDeclared, AdmitsTheSame, BagsDeclareAtMostOneSchema, DeclaredSchemasAreClosed, DeclaredSchemasAreValid, DeclaredTypesHaveTheDeclaredValues, OrderIsNothing, SameBagsDeclareTheSame, SettlingChangesNothing};
 ghost use Rattle.cedar_declared.specs.Environments.{EnvironmentsAreDeclared};
 ghost use Rattle.cedar_declared.specs.IllFormed.{IsIllFormed};
 ghost use Rattle.cedar_declared.specs.WrittenOut.{WrittenOut};
@@ -76,4 +76,10 @@ pub fn raw_references_fit_their_places()
 /// for each action that is defined each pair of a principal and a resource, with the context.
 pub fn environments_are_declared()
     ensures { EnvironmentsAreDeclared }
+{}
+
+/// Where each reference of a bag is replaced by the one to the name alone that it resolves to, the bag
+/// has the same faults as before, and declares the same schemas.
+pub fn settling_changes_nothing()
+    ensures { SettlingChangesNothing }
 {}
