@@ -1,13 +1,10 @@
 use Rattle.std.specs.Prelude.{◌≡◌, ◌≢◌, ◌↔◌, List, AllPairs, Contains}
-use Rattle.cedar_below.specs.Extensions.{extension_types}
 use Rattle.cedar_below.specs.PlainName.{PlainName}
 use Rattle.cedar_below.specs.PlainUid.{PlainUid}
-use Rattle.cedar_below.specs.TypeNames.{TypeNamesFit}
 use Rattle.cedar_below.specs.declared.extension.Extensions.{Extensions}
 use Rattle.cedar_declared.specs.Bag.{Bag, definitions}
 use Rattle.cedar_declared.specs.DeclaredSchema.{IsNamedBy, IsDeclaredSchema}
 use Rattle.cedar_declared.specs.Defined.{Defined, names_of}
-use Rattle.cedar_declared.specs.IllFormed.{IsIllFormed}
 use Rattle.cedar_declared.specs.PlainSchema.{ActionKind, defined_action, external_action, SchemaAction, PlainSchema}
 use Rattle.cedar_declared.specs.WrittenOut.{WrittenOut}
 use Rattle.cedar_declared.specs.Together.{defined_actions}
@@ -55,9 +52,3 @@ IsDeclaredEnvironment bag extensions it =
 abbrev pub AreDeclaredEnvironments : Bag → Extensions → PlainSchema → Type 0
 AreDeclaredEnvironments bag extensions schema =
     (it : Environment) → IsEnvironmentOf schema it ↔ IsDeclaredEnvironment bag extensions it
-
--- a law: the environments of the schema that a bag declares which isn't ill-formed are the declared ones
-abbrev pub EnvironmentsAreDeclared : Type 0
-EnvironmentsAreDeclared = (bag : Bag) (extensions : Extensions) → TypeNamesFit (extension_types extensions)
-    → ¬ IsIllFormed bag extensions → (schema : PlainSchema) → IsDeclaredSchema bag extensions schema
-    → AreDeclaredEnvironments bag extensions schema

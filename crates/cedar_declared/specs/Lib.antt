@@ -6,7 +6,6 @@ pub mod Counted
 pub mod DeclaredSchema
 pub mod Defined
 pub mod Descent
-pub mod EndToEnd
 pub mod EntityTypeKind
 pub mod Environments
 pub mod Fault

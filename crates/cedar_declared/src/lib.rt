@@ -4,4 +4,3 @@
 pub use schema_error::{ContextOrShape, SchemaError, UnsupportedFeature};
 
 mod schema_error;
-pub mod theorems;

@@ -9,7 +9,7 @@ ghost use Rattle.cedar_names.specs.Declaration.{raw_declarations};
 ghost use Rattle.cedar_names.specs.Part.{IsInPart};
 ghost use Rattle.cedar_declared.specs.DeclaredSchema.{IsDeclaredSchema};
 ghost use Rattle.cedar_declared.specs.Environments.{AreDeclaredEnvironments};
-ghost use Rattle.cedar_declared.specs.EndToEnd.{TypesAdmitTheDeclared};
+ghost use Rattle.cedar_laws.specs.EndToEnd.{TypesAdmitTheDeclared};
 ghost use Rattle.cedar_declared.specs.SchemaError.{fault_of};
 ghost use Rattle.cedar_declared.specs.Fault.{want_of_memory};
 ghost use Rattle.cedar_declared.specs.IllFormed.{IsFault, IsIllFormed};

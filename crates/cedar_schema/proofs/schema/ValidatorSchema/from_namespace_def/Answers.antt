@@ -3,8 +3,8 @@ use Rattle.std.specs.BTreeMap.{BTreeMap}
 use Rattle.cedar_below.specs.declared.entity_type.EntityType.{EntityType}
 use Rattle.cedar_names.specs.Declaration.{raw_declarations}
 use Rattle.cedar_schema.proofs.PartDefinition.{part_fault, part_well_formed, part_declared}
-use Rattle.cedar_declared.proofs.SchemaLaws.{one_schema, types_admit}
-use Rattle.cedar_declared.proofs.EnvironmentLaws.{environment_declared, declared_environment}
+use Rattle.cedar_laws.proofs.SchemaLaws.{one_schema, types_admit}
+use Rattle.cedar_laws.proofs.EnvironmentLaws.{environment_declared, declared_environment}
 use Rattle.cedar_schema.specs.ValidatorSchema.{schema_of}
 use Rattle.cedar_schema.specs.declared.schema.ValidatorSchema.{ValidatorSchema}
 use Rattle.cedar_entities.specs.declared.entity_type.ValidatorEntityType.{ValidatorEntityType}

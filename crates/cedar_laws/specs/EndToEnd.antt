@@ -1,0 +1,134 @@
+use Rattle.std.specs.Prelude.{◌≡◌, ◌⊎◌, ◌↔◌, Result, IfOk, IfErr, OnOk, Option, Some, Contains, List, map}
+use Rattle.std.specs.List.Sorted.{IsPermutation}
+use Rattle.cedar_below.specs.Extensions.{extension_types}
+use Rattle.cedar_below.specs.PlainName.{PlainName}
+use Rattle.cedar_below.specs.PlainUid.{PlainUid}
+use Rattle.cedar_below.specs.Tree.{Tree, no_entry}
+use Rattle.cedar_below.specs.TypeNames.{TypeNamesFit}
+use Rattle.cedar_below.specs.declared.extension.Extensions.{Extensions}
+use Rattle.cedar_declared.specs.Environments.{AreDeclaredEnvironments}
+use Rattle.cedar_declared.specs.Together.{defined_actions}
+use Rattle.cedar_names.specs.ActionBody.{requests}
+use Rattle.cedar_names.specs.EntityBody.{standard}
+use Rattle.cedar_names.specs.Expr.{Expr}
+use Rattle.cedar_names.specs.Reference.{Reference}
+use Rattle.cedar_declared.specs.Admits.{Admits}
+use Rattle.cedar_declared.specs.Bag.{Bag, declared_entities, definitions, defined_names}
+use Rattle.cedar_declared.specs.ClosedSchema.{ClosesSchema}
+use Rattle.cedar_declared.specs.Counted.{PlacesFit}
+use Rattle.cedar_declared.specs.DeclaredSchema.{IsDeclaredSchema}
+use Rattle.cedar_declared.specs.Fault.{Fault, want_of_memory}
+use Rattle.cedar_declared.specs.IllFormed.{IsFault, IsIllFormed}
+use Rattle.cedar_declared.specs.PlainSchema.{SchemaEntityType, SchemaAction, defined_action, ActionEntity, PlainSchema}
+use Rattle.cedar_declared.specs.SameBag.{SameBag}
+use Rattle.cedar_declared.specs.SameSchema.{SameSchema}
+use Rattle.cedar_declared.specs.Settled.{SettlesBag}
+use Rattle.cedar_declared.specs.ValidSchema.{IsValidSchema}
+use Rattle.cedar_declared.specs.Descent.{IsDescendantAction}
+use Rattle.cedar_declared.specs.EntityTypeKind.{standard_kind}
+use Rattle.cedar_rules.specs.Has.{Has}
+use Rattle.cedar_rules.specs.Ty.{Ty, Fields, record_of}
+use Rattle.cedar_rules.specs.declared.open_tag.OpenTag.{OpenTag}
+
+-- the type has just the values that the expression admits
+abbrev pub AdmitsTheSame : Bag → Extensions → Expr → Ty → Type 0
+AdmitsTheSame bag extensions expr ty = (value : Tree) → Has extensions value ty
+    ↔ Admits (definitions bag extensions) extensions value expr
+
+-- the attributes of each standard entity type, its tags, and the context of each action have just the values that what
+-- is declared of them admits
+pub record TypesAdmitTheDeclared (bag : Bag) (extensions : Extensions) (schema : PlainSchema) : Type 0 where
+  pub attributes : (name : PlainName) (parents : List Reference) (shape : Expr) (tags : Option Expr)
+      (it : SchemaEntityType) (fields : Fields) (openness : OpenTag) (tag_type : Option Ty)
+      → Contains (declared_entities bag) (name, standard parents shape tags) → Contains schema.entity_types (name, it)
+      → it.kind ≡ standard_kind fields openness tag_type
+      → AdmitsTheSame bag extensions shape (record_of fields openness)
+  pub tags : (name : PlainName) (parents : List Reference) (shape tags : Expr) (it : SchemaEntityType) (fields : Fields)
+      (openness : OpenTag) (tag_type : Ty)
+      → Contains (declared_entities bag) (name, standard parents shape (Some tags))
+      → Contains schema.entity_types (name, it) → it.kind ≡ standard_kind fields openness (Some tag_type)
+      → AdmitsTheSame bag extensions tags tag_type
+  pub contexts : (uid : PlainUid) (principals resources : List Reference) (context : Expr) (it : SchemaAction)
+      (principal_types resource_types : List PlainName) (ty : Ty)
+      → Contains (defined_actions bag) (uid, requests principals resources context)
+      → Contains schema.actions (uid, it) → it.kind ≡ defined_action principal_types resource_types ty
+      → AdmitsTheSame bag extensions context ty
+
+-- what a builder answers for a bag is right, want of memory aside: a refusal names a fault of the bag; otherwise
+-- nothing is at fault, the schema is the declared one and the only one, its types have just the declared values, and its
+-- environments are the declared ones
+pub record IsBuiltFrom (bag : Bag) (extensions : Extensions) (answer : Result PlainSchema Fault) : Type 0 where
+  pub fault : IfErr answer (λ fault. (fault ≡ want_of_memory) ⊎ IsFault bag extensions fault)
+  pub well_formed : OnOk answer (¬ IsIllFormed bag extensions)
+  pub declared : IfOk answer (IsDeclaredSchema bag extensions)
+  pub only : IfOk answer (λ schema. (other : PlainSchema) → IsDeclaredSchema bag extensions other → SameSchema other schema)
+  pub admits : IfOk answer (TypesAdmitTheDeclared bag extensions)
+  pub environments : IfOk answer (AreDeclaredEnvironments bag extensions)
+
+-- a law: a bag that isn't ill-formed declares at most one schema
+abbrev pub BagsDeclareAtMostOneSchema : Type 0
+BagsDeclareAtMostOneSchema = (bag : Bag) (extensions : Extensions) → TypeNamesFit (extension_types extensions)
+    → ¬ IsIllFormed bag extensions
+    → (schema other : PlainSchema) → IsDeclaredSchema bag extensions schema → IsDeclaredSchema bag extensions other
+    → SameSchema schema other
+
+-- a law: the types of the schema that a bag declares which isn't ill-formed have just the declared values
+abbrev pub DeclaredTypesHaveTheDeclaredValues : Type 0
+DeclaredTypesHaveTheDeclaredValues = (bag : Bag) (extensions : Extensions) → TypeNamesFit (extension_types extensions)
+    → ¬ IsIllFormed bag extensions
+    → (schema : PlainSchema) → IsDeclaredSchema bag extensions schema → TypesAdmitTheDeclared bag extensions schema
+
+-- a law to be proved: a bag that isn't ill-formed declares a schema
+abbrev pub BagsDeclareASchema : Type 0
+BagsDeclareASchema = (bag : Bag) (extensions : Extensions) → TypeNamesFit (extension_types extensions)
+    → ¬ IsIllFormed bag extensions
+    → (schema : PlainSchema) × IsDeclaredSchema bag extensions schema
+
+-- the entity is that of an action that the bag defines: without attributes and tags, and just below the actions whose
+-- descendant it is
+pub record IsEntityOfDefinition (bag : Bag) (it : ActionEntity) : Type 0 where
+  pub defined : Contains (map (λ it. it.0) (defined_actions bag)) it.uid
+  pub attributes : it.attributes ≡ no_entry
+  pub tags : it.tags ≡ no_entry
+  pub ancestors : (upper : PlainUid) → Contains it.ancestors upper ↔ IsDescendantAction bag it.uid upper
+
+-- a law: the entities of actions of the schema that a bag declares are those of the actions that the bag defines
+abbrev pub ActionEntitiesAreDeclared : Type 0
+ActionEntitiesAreDeclared = (bag : Bag) (extensions : Extensions) (schema : PlainSchema) → IsDeclaredSchema bag extensions schema
+    → ((it : ActionEntity) → Contains schema.action_entities it → IsEntityOfDefinition bag it)
+    × ((uid : PlainUid) → Contains (map (λ it. it.0) (defined_actions bag)) uid
+    → Contains (map (λ it. it.uid) schema.action_entities) uid)
+
+-- a law: a bag in another order is the same bag
+abbrev pub OrderIsNothing : Type 0
+OrderIsNothing = (bag other : Bag) → IsPermutation bag other → SameBag bag other
+
+-- a law: where each reference of a bag is settled, over the names that the bag defines, it has the same faults as before and
+-- declares the same schemas
+abbrev pub SettlingChangesNothing : Type 0
+SettlingChangesNothing = (bag settled : Bag) (extensions : Extensions) → SettlesBag (defined_names bag extensions) bag settled
+    → ((fault : Fault) → IsFault bag extensions fault ↔ IsFault settled extensions fault)
+    × ((schema : PlainSchema) → IsDeclaredSchema bag extensions schema ↔ IsDeclaredSchema settled extensions schema)
+
+-- a law: bags that are the same are ill-formed both or neither, and declare the same schemas
+abbrev pub SameBagsDeclareTheSame : Type 0
+SameBagsDeclareTheSame = (bag other : Bag) (extensions : Extensions) → SameBag bag other
+    → (IsIllFormed bag extensions ↔ IsIllFormed other extensions)
+    × ((schema : PlainSchema) → IsDeclaredSchema bag extensions schema ↔ IsDeclaredSchema other extensions schema)
+
+-- a law: the schema that a bag declares is valid, where the bag isn't ill-formed and its references fit their places
+abbrev pub DeclaredSchemasAreValid : Type 0
+DeclaredSchemasAreValid = (bag : Bag) (extensions : Extensions) (schema : PlainSchema)
+    → TypeNamesFit (extension_types extensions) → PlacesFit bag
+    → ¬ IsIllFormed bag extensions → IsDeclaredSchema bag extensions schema → IsValidSchema extensions schema
+
+-- a law: closing the schema that a bag declares gives that schema
+abbrev pub DeclaredSchemasAreClosed : Type 0
+DeclaredSchemasAreClosed = (bag : Bag) (extensions : Extensions) (schema : PlainSchema)
+    → IsDeclaredSchema bag extensions schema → ClosesSchema schema schema
+
+-- a law: the environments of the schema that a bag declares which isn't ill-formed are the declared ones
+abbrev pub EnvironmentsAreDeclared : Type 0
+EnvironmentsAreDeclared = (bag : Bag) (extensions : Extensions) → TypeNamesFit (extension_types extensions)
+    → ¬ IsIllFormed bag extensions → (schema : PlainSchema) → IsDeclaredSchema bag extensions schema
+    → AreDeclaredEnvironments bag extensions schema

@@ -1,0 +1,84 @@
+//! Laws of declarations: what a bag declares, and when two bags declare the same.
+
+ghost use Rattle.std.specs.Prelude.{◌≡◌, List};
+ghost use Rattle.cedar_below.specs.Extensions.{extension_types};
+ghost use Rattle.cedar_below.specs.TypeNames.{TypeNamesFit};
+ghost use Rattle.cedar_below.specs.declared.extension.Extensions.{Extensions};
+ghost use Rattle.cedar_names.specs.Declaration.{raw_bag};
+ghost use Rattle.cedar_names.specs.Expr.{Expr};
+ghost use Rattle.cedar_names.specs.declared.json_schema.fragment.Fragment.{Fragment};
+ghost use Rattle.cedar_names.specs.declared.json_schema.raw_name.RawName.{RawName};
+ghost use Rattle.cedar_declared.specs.Bag.{Bag, definitions};
+ghost use Rattle.cedar_declared.specs.Counted.{PlacesFit};
+ghost use Rattle.cedar_laws.specs.EndToEnd.{ActionEntitiesAreDeclared, AdmitsTheSame, BagsDeclareAtMostOneSchema, DeclaredSchemasAreClosed, DeclaredSchemasAreValid, DeclaredTypesHaveTheDeclaredValues, EnvironmentsAreDeclared, OrderIsNothing, SameBagsDeclareTheSame, SettlingChangesNothing};
+ghost use Rattle.cedar_declared.specs.IllFormed.{IsIllFormed};
+ghost use Rattle.cedar_declared.specs.WrittenOut.{WrittenOut};
+ghost use Rattle.cedar_rules.specs.Ty.{Ty};
+
+/// In a bag that isn't ill-formed an expression is written out as one type at most.
+pub fn expressions_are_written_out_as_one_type()
+    ensures { (bag : Bag) (extensions : Extensions) (expr : Expr) (ty other : Ty)
+        → TypeNamesFit (extension_types extensions) → ¬ IsIllFormed bag extensions
+        → WrittenOut (definitions bag extensions) expr ty
+        → WrittenOut (definitions bag extensions) expr other → ty ≡ other }
+{}
+
+/// In a bag that isn't ill-formed the type that an expression is written out as has just the values
+/// that the expression admits.
+pub fn types_have_the_admitted_values()
+    ensures { (bag : Bag) (extensions : Extensions) (expr : Expr) (ty : Ty)
+        → TypeNamesFit (extension_types extensions) → ¬ IsIllFormed bag extensions
+        → WrittenOut (definitions bag extensions) expr ty → AdmitsTheSame bag extensions expr ty }
+{}
+
+/// A bag that isn't ill-formed declares at most one schema.
+pub fn bags_declare_at_most_one_schema()
+    ensures { BagsDeclareAtMostOneSchema }
+{}
+
+/// The attributes, tags and contexts of the schema that a bag declares which isn't ill-formed have
+/// just the values that what is declared of them admits.
+pub fn declared_types_have_the_declared_values()
+    ensures { DeclaredTypesHaveTheDeclaredValues }
+{}
+
+/// Bags that say the same, name by name, are ill-formed both or neither, and declare the same schemas,
+/// whatever the split into declarations, and the order and repeats of parents, principals and resources.
+pub fn same_bags_declare_the_same()
+    ensures { SameBagsDeclareTheSame }
+{}
+
+/// A bag in another order is the same bag.
+pub fn order_is_nothing()
+    ensures { OrderIsNothing }
+{}
+
+/// The entities of actions of the schema that a bag declares are those of the actions that the bag
+/// defines, each just below the actions whose descendant it is.
+pub fn action_entities_are_declared()
+    ensures { ActionEntitiesAreDeclared }
+{}
+
+/// The schema that a bag declares which isn't ill-formed is valid, where the references of the bag fit
+/// their places; and closing it gives it back, so that validation does.
+pub fn declared_schemas_are_valid()
+    ensures valid { DeclaredSchemasAreValid }
+    ensures closed { DeclaredSchemasAreClosed }
+{}
+
+/// The references of fragments whose names are as they were written fit their places.
+pub fn raw_references_fit_their_places()
+    ensures { (fragments : List (Fragment RawName)) → PlacesFit (raw_bag fragments) }
+{}
+
+/// The environments of the schema that a bag declares, where it isn't ill-formed, are the declared ones:
+/// for each action that is defined each pair of a principal and a resource, with the context.
+pub fn environments_are_declared()
+    ensures { EnvironmentsAreDeclared }
+{}
+
+/// Where each reference of a bag is replaced by the one to the name alone that it resolves to, the bag
+/// has the same faults as before, and declares the same schemas.
+pub fn settling_changes_nothing()
+    ensures { SettlingChangesNothing }
+{}
