@@ -18,6 +18,7 @@ pub mod SameBag
 pub mod SameSchema
 pub mod SchemaError
 pub mod Settled
+pub mod SettledExpr
 pub mod Shadowing
 pub mod Together
 pub mod TypeMentions
