@@ -10,6 +10,8 @@ use Rattle.cedar_names.specs.ConditionalName.{conditional_reference}
 use Rattle.cedar_names.specs.Reference.{Reference}
 use Rattle.cedar_names.specs.declared.json_schema.action_type.ActionEntityUID.{ActionEntityUID}
 use Rattle.cedar_names.specs.declared.json_schema.conditional_name.ConditionalName.{ConditionalName}
+use Rattle.cedar_names.specs.declared.json_schema.qualify_error.QualifyError.{QualifyError}
+use Rattle.cedar_names.specs.declared.json_schema.qualify_error.QualifyError.TheVariants as qualify
 use Rattle.cedar_declared.specs.declared.schema_error.ContextOrShape.{ContextOrShape}
 use Rattle.cedar_declared.specs.declared.schema_error.ContextOrShape.TheVariants as context_or_shape
 use Rattle.cedar_declared.specs.declared.schema_error.SchemaError.{SchemaError}
@@ -56,3 +58,8 @@ fault_of (error.InvalidActionType uid) = invalid_action_type (uid_of uid)
 fault_of error.CommonTypeInvariantViolation = common_type_left
 fault_of error.ActionInvariantViolation = action_left
 fault_of (error.Memory refused) = want_of_memory
+
+-- why a reference is not settled, as plain data
+abbrev pub qualify_fault : QualifyError → Fault
+qualify_fault (qualify.TypeNotDefined it) = type_not_defined (map conditional_reference (items_of it.undefined_types))
+qualify_fault (qualify.Memory refused) = want_of_memory

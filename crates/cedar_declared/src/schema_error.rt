@@ -1,11 +1,13 @@
 //! Why no schema is built.
 
 ghost use Rattle.std.specs.Prelude.{◌≡◌};
-ghost use Rattle.cedar_declared.specs.SchemaError.{fault_of};
+ghost use Rattle.cedar_declared.specs.SchemaError.{fault_of, qualify_fault};
 ghost use Rattle.cedar_declared.specs.Fault.{kind_text, want_of_memory};
 
 use cedar_below::{EntityType, EntityUID, InternalName, Memory, Name, NonEmpty};
-use cedar_names::json_schema::{ActionEntityUID, ConditionalName, TypeNotDefinedError};
+use cedar_names::json_schema::{
+    ActionEntityUID, ConditionalName, QualifyError, TypeNotDefinedError,
+};
 use std::alloc::{AllocError, AllocFailed};
 use thiserror::Error;
 
@@ -119,6 +121,17 @@ impl<T: Drop> From<AllocFailed<T>> for SchemaError {
 
     fn from(_refused: AllocFailed<T>) -> Self {
         SchemaError::Memory(Memory)
+    }
+}
+
+impl From<QualifyError> for SchemaError {
+    ghost from_gives = { λ refused error. fault_of error ≡ qualify_fault refused };
+
+    fn from(refused: QualifyError) -> Self {
+        match refused {
+            QualifyError::TypeNotDefined(error) => SchemaError::TypeNotDefined(error),
+            QualifyError::Memory(memory) => SchemaError::Memory(memory),
+        }
     }
 }
 

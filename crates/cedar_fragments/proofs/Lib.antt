@@ -2,9 +2,11 @@ pub mod AttributeLemmas
 pub mod DeclaredAsLemmas
 pub mod FragmentLemmas
 pub mod FragmentsSoFar
+pub mod InTurn
 pub mod ListedSoFar
 pub mod NamesSoFar
 pub mod OneMore
+pub mod QualifiedLemmas
 pub mod ResolveLemmas
 pub mod SetLemmas
 pub mod ShadowLemmas

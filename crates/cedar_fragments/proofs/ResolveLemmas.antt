@@ -1,6 +1,6 @@
 -- The first possibility that is defined.
 use Rattle.std.proofs.Common.{◌≡◌, ℕ, ◌+◌, ◌<◌, ◌≤◌, List, [], ◌∷◌, ◌++◌, map, ap, sym, subst, ◌∙◌, refl, inl, inr, length, get_or, take, drop, Contains, drop-cons, suc}
-use Rattle.std.proofs.lemmas.List.{map-append, map_more, take_all, take-append-drop}
+use Rattle.std.proofs.lemmas.List.{get_or_default, map-append, map_more, take_all, take-append-drop}
 use Rattle.std.specs.List.{AllByRecursion}
 use Rattle.cedar_declared.specs.Occurrences.{IsFirst}
 use Rattle.cedar_fragments.proofs.SoundLemmas.{AllByRecursion-at, AllByRecursion-append}
@@ -36,3 +36,13 @@ module _ {A B : Type 0} (P : B → Type 0) (f : A → B) where
   none_of first items i le not_first none x among =
       let Q : List A → Type 0 = λ each. AllByRecursion (λ other. ¬ P other) (map f each) in
       AllByRecursion-at (λ other. ¬ P other) (f first ∷ map f items) x (not_first, subst Q (take_all i items le) none) among
+
+  -- where it holds of the item at a place after those of which it doesn't, it holds first of the one taken from there
+  pub first_taken : (first : A) (items tail : List A) (i : ℕ) (seen taken : A) → tail ≡ items → i < length items
+      → seen ≡ get_or tail i seen → taken ≡ get_or tail i taken → ¬ P (f first)
+      → AllByRecursion (λ other. ¬ P other) (map f (take i items)) → P (f seen) → IsFirst P (f first ∷ map f items) (f taken)
+  first_taken first items tail i seen taken same lt sees takes not_first none holds =
+      let takes' : taken ≡ get_or items i taken = takes ∙ ap (λ each. get_or each i taken) same in
+      let is : seen ≡ taken = sees ∙ (ap (λ each. get_or each i seen) same ∙ (get_or_default items i seen taken lt ∙ sym takes')) in
+      let Q : A → Type 0 = λ each. P (f each) in
+      first_at first items i taken lt takes' not_first none (subst Q is holds)

@@ -3,12 +3,14 @@ use Rattle.std.specs.List.{flat_map}
 use Rattle.std.specs.Option.{option_map}
 use Rattle.cedar_below.specs.InternalName.{name_of}
 use Rattle.cedar_below.specs.PlainName.{PlainName}
+use Rattle.cedar_below.specs.declared.internal_name.InternalName.{InternalName}
 use Rattle.cedar_declared.specs.Bag.{Bag}
+use Rattle.cedar_declared.specs.SettledExpr.{settled_reference}
 use Rattle.cedar_fragments.specs.ActionDeclarations.{action_fragment_declarations}
 use Rattle.cedar_fragments.specs.TypeDeclarations.{common_type_declarations, entity_type_declarations}
 use Rattle.cedar_fragments.specs.declared.namespace.definition.ValidatorNamespaceDef.{ValidatorNamespaceDef}
 use Rattle.cedar_fragments.specs.declared.namespace.fragment.ValidatorSchemaFragment.{ValidatorSchemaFragment}
-use Rattle.cedar_names.specs.ConditionalExpr.{own_reference}
+use Rattle.cedar_names.specs.ConditionalExpr.{placed_reference}
 use Rattle.cedar_names.specs.Reference.{Reference}
 use Rattle.cedar_names.specs.declared.json_schema.conditional_name.ConditionalName.{ConditionalName}
 use Rattle.cedar_names.specs.declared.json_schema.reference_type.ReferenceType.{ReferenceType}
@@ -31,12 +33,20 @@ definition_namespace N A it = option_map name_of it.namespace
 
 -- the declarations of a definition whose names say what they may stand for
 abbrev pub conditional_definition : ValidatorNamespaceDef ConditionalName ConditionalName → Bag
-conditional_definition = definition_declarations ConditionalName own_reference ConditionalName own_reference
+conditional_definition = definition_declarations ConditionalName placed_reference ConditionalName placed_reference
 
 -- the declarations of a fragment whose names say what they may stand for
 abbrev pub conditional_fragment : ValidatorSchemaFragment ConditionalName ConditionalName → Bag
-conditional_fragment = fragment_declarations ConditionalName own_reference ConditionalName own_reference
+conditional_fragment = fragment_declarations ConditionalName placed_reference ConditionalName placed_reference
 
 -- the bag of declarations of some fragments whose names say what they may stand for
 abbrev pub conditional_bag : List (ValidatorSchemaFragment ConditionalName ConditionalName) → Bag
 conditional_bag fragments = flat_map conditional_fragment fragments
+
+-- the declarations of a definition over full names
+abbrev pub settled_definition : ValidatorNamespaceDef InternalName InternalName → Bag
+settled_definition = definition_declarations InternalName settled_reference InternalName settled_reference
+
+-- the declarations of a fragment over full names
+abbrev pub settled_fragment : ValidatorSchemaFragment InternalName InternalName → Bag
+settled_fragment = fragment_declarations InternalName settled_reference InternalName settled_reference

@@ -1,4 +1,4 @@
-use Rattle.std.specs.Prelude.{◌≡◌, [], ◌∷◌, map}
+use Rattle.std.specs.Prelude.{◌≡◌, [], ◌∷◌, map, Contains}
 use Rattle.cedar_below.specs.NonEmpty.{items_of}
 use Rattle.cedar_declared.specs.Names.{Names, IsUnresolved}
 use Rattle.cedar_names.specs.ConditionalName.{conditional_reference}
@@ -12,3 +12,11 @@ abbrev pub IsRefused : Names → Reference → QualifyError → Type 0
 IsRefused names reference (error.TypeNotDefined it) =
     IsUnresolved names reference × (map conditional_reference (items_of it.undefined_types) ≡ reference ∷ [])
 IsRefused names reference (error.Memory refused) = Unit {0}
+
+-- some references are refused, over the names that are defined: each that the refusal holds is one of those that have to
+-- resolve, and names nothing; or memory was wanting
+abbrev pub IsRefusedAmong : Names → (Reference → Type 0) → QualifyError → Type 0
+IsRefusedAmong names HasTo (error.TypeNotDefined it) =
+    (reference : Reference) → Contains (map conditional_reference (items_of it.undefined_types)) reference
+    → HasTo reference × IsUnresolved names reference
+IsRefusedAmong names HasTo (error.Memory refused) = Unit {0}

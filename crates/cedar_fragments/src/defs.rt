@@ -2,6 +2,7 @@
 
 pub use all_defs::AllDefs;
 pub use resolve::ResolveName;
+pub(crate) use resolve::resolve_at;
 
 mod all_defs;
 mod names;

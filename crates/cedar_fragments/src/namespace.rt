@@ -17,3 +17,4 @@ mod definition;
 mod entity_types;
 mod fragment;
 mod full_name;
+mod qualify_types;

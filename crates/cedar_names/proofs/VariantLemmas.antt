@@ -3,45 +3,90 @@ use Rattle.std.proofs.Common.{◌≡◌, Option, rules}
 use Rattle.std.specs.declared.alloc.Global.{Global}
 use Rattle.std.specs.declared.boxed.Box.{Box}
 use Rattle.cedar_below.specs.PlainName.{PlainName}
+use Rattle.cedar_below.specs.UnreservedId.{unreserved_id_text}
 use Rattle.cedar_below.specs.declared.loc.Loc.{Loc}
-use Rattle.cedar_names.specs.Expr.{text_expr, long_expr, truth_expr, set_expr, named}
-use Rattle.cedar_names.specs.RawExpr.{raw_expr, raw_variant, raw_record}
+use Rattle.cedar_below.specs.declared.unreserved_id.UnreservedId.{UnreservedId}
+use Rattle.cedar_names.specs.Expr.{text_expr, long_expr, truth_expr, set_expr, named, extension_expr}
+use Rattle.cedar_names.specs.RawExpr.{raw_reference, raw_expr, raw_variant, raw_record}
 use Rattle.cedar_names.specs.RawName.{raw_name}
-use Rattle.cedar_names.specs.Reference.{reference_to}
+use Rattle.cedar_names.specs.Reference.{Reference, reference_to}
+use Rattle.cedar_names.specs.WrittenExpr.{written_type, written_variant, written_record}
 use Rattle.cedar_names.specs.declared.json_schema.raw_name.RawName.{RawName}
-use Rattle.cedar_names.specs.declared.json_schema.reference_type.ReferenceType.TheVariants.{Entity as entity}
+use Rattle.cedar_names.specs.declared.json_schema.reference_type.ReferenceType.{ReferenceType}
+use Rattle.cedar_names.specs.declared.json_schema.reference_type.ReferenceType.TheVariants.{Common as common, Entity as entity, CommonOrEntity as common_or_entity}
 use Rattle.cedar_names.specs.declared.json_schema.type_of.RecordType.{RecordType}
-use Rattle.cedar_names.specs.declared.json_schema.type_of.Type.{«Type», Plain, the_lemmas}
-use Rattle.cedar_names.specs.declared.json_schema.type_of.TypeVariant.{TypeVariant, String, Long, Boolean, Set, Record, Entity}
+use Rattle.cedar_names.specs.declared.json_schema.type_of.Type.{«Type», Plain, CommonTypeRef, the_lemmas}
+use Rattle.cedar_names.specs.declared.json_schema.type_of.TypeVariant.{TypeVariant, String, Long, Boolean, Set, Record, Entity, EntityOrCommon, Extension}
+
+module _ (N : Type 0) (refer : ReferenceType → N → Reference) where
+  -- what the type of texts stands for
+  pub variant-String : written_variant N refer String ≡ text_expr
+  variant-String = search (rules, the_lemmas)
+
+  -- what the type of whole numbers stands for
+  pub variant-Long : written_variant N refer Long ≡ long_expr
+  variant-Long = search (rules, the_lemmas)
+
+  -- what the type of truth values stands for
+  pub variant-Boolean : written_variant N refer Boolean ≡ truth_expr
+  variant-Boolean = search (rules, the_lemmas)
+
+  -- what a set type stands for
+  pub variant-Set : (element : Box («Type» N) Global) → written_variant N refer (Set element) ≡ set_expr (written_type N refer element.value)
+  variant-Set element = search (rules, the_lemmas)
+
+  -- what a record type stands for
+  pub variant-Record : (it : RecordType N) → written_variant N refer (Record it) ≡ written_record N refer it
+  variant-Record it = search (rules, the_lemmas)
+
+  -- what an entity type stands for
+  pub variant-Entity : (name : N) → written_variant N refer (Entity name) ≡ named (refer entity name)
+  variant-Entity name = search (rules, the_lemmas)
+
+  -- what a name of either stands for
+  pub variant-EntityOrCommon : (name : N) → written_variant N refer (EntityOrCommon name) ≡ named (refer common_or_entity name)
+  variant-EntityOrCommon name = search (rules, the_lemmas)
+
+  -- what an extension type stands for
+  pub variant-Extension : (name : UnreservedId) → written_variant N refer (Extension name) ≡ extension_expr (unreserved_id_text name)
+  variant-Extension name = search (rules, the_lemmas)
+
+  -- what a type that is written out stands for
+  pub type-Plain : (ty : TypeVariant N) (loc : Option Loc) → written_type N refer (Plain ty loc) ≡ written_variant N refer ty
+  type-Plain ty loc = search (rules, the_lemmas)
+
+  -- what a reference to a common type stands for
+  pub type-CommonTypeRef : (name : N) (loc : Option Loc) → written_type N refer (CommonTypeRef name loc) ≡ named (refer common name)
+  type-CommonTypeRef name loc = search (rules, the_lemmas)
 
 -- what the written type of texts stands for
 pub raw_variant-String : (namespace : Option PlainName) → raw_variant namespace String ≡ text_expr
-raw_variant-String namespace = search (rules, the_lemmas)
+raw_variant-String namespace = variant-String RawName (raw_reference namespace)
 
 -- what the written type of whole numbers stands for
 pub raw_variant-Long : (namespace : Option PlainName) → raw_variant namespace Long ≡ long_expr
-raw_variant-Long namespace = search (rules, the_lemmas)
+raw_variant-Long namespace = variant-Long RawName (raw_reference namespace)
 
 -- what the written type of truth values stands for
 pub raw_variant-Boolean : (namespace : Option PlainName) → raw_variant namespace Boolean ≡ truth_expr
-raw_variant-Boolean namespace = search (rules, the_lemmas)
+raw_variant-Boolean namespace = variant-Boolean RawName (raw_reference namespace)
 
 -- what a written set type stands for
 pub raw_variant-Set : (namespace : Option PlainName) (element : Box («Type» RawName) Global)
     → raw_variant namespace (Set element) ≡ set_expr (raw_expr namespace element.value)
-raw_variant-Set namespace element = search (rules, the_lemmas)
+raw_variant-Set namespace = variant-Set RawName (raw_reference namespace)
 
 -- what a written record type stands for
 pub raw_variant-Record : (namespace : Option PlainName) (it : RecordType RawName)
     → raw_variant namespace (Record it) ≡ raw_record namespace it
-raw_variant-Record namespace it = search (rules, the_lemmas)
+raw_variant-Record namespace = variant-Record RawName (raw_reference namespace)
 
 -- what a written entity type stands for
 pub raw_variant-Entity : (namespace : Option PlainName) (name : RawName)
     → raw_variant namespace (Entity name) ≡ named (reference_to namespace entity (raw_name name))
-raw_variant-Entity namespace name = search (rules, the_lemmas)
+raw_variant-Entity namespace = variant-Entity RawName (raw_reference namespace)
 
 -- what a type that is written out stands for
 pub raw_expr-Plain : (namespace : Option PlainName) (ty : TypeVariant RawName) (loc : Option Loc)
     → raw_expr namespace (Plain ty loc) ≡ raw_variant namespace ty
-raw_expr-Plain namespace ty loc = search (rules, the_lemmas)
+raw_expr-Plain namespace = type-Plain RawName (raw_reference namespace)

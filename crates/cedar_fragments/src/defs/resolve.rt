@@ -1,11 +1,15 @@
 //! What references resolve to.
 
-ghost use Rattle.std.specs.Prelude.{◌≡◌, ◌↔◌, IsTrue, IfOk, IfErr, MatchOption};
+ghost use Rattle.std.specs.Prelude.{◌≡◌, ◌↔◌, IsTrue, IfOk, IfErr, OnErr, Contains};
 ghost use Rattle.cedar_below.specs.InternalName.{name_of};
-ghost use Rattle.cedar_declared.specs.Names.{IsDefined, IsUnresolved, ResolvesTo};
+ghost use Rattle.cedar_below.specs.PlainName.{PlainName};
+ghost use Rattle.cedar_declared.specs.Names.{IsDefined, ResolvesTo};
+ghost use Rattle.cedar_declared.specs.Occurrences.{IsFirst};
 ghost use Rattle.cedar_fragments.specs.HeldNames.{held_names};
 ghost use Rattle.cedar_fragments.specs.Refused.{IsRefused};
+ghost use Rattle.cedar_names.specs.ConditionalExpr.{placed_reference};
 ghost use Rattle.cedar_names.specs.ConditionalName.{conditional_reference};
+ghost use Rattle.cedar_names.specs.PossibleNames.{names_of};
 
 use crate::defs::all_defs::AllDefs;
 use cedar_below::{InternalName, NonEmpty};
@@ -24,22 +28,49 @@ fn is_defined(all_defs: &AllDefs, kind: ReferenceType, name: &InternalName) -> b
     }
 }
 
-/// The first possibility of a reference that is defined in a kind that it permits.
-fn first_defined<'a>(name: &'a ConditionalName, all_defs: &AllDefs) -> Option<&'a InternalName>
-    ensures { MatchOption result (IsUnresolved (held_names all_defs.now) (conditional_reference name.now))
-        (λ found. ResolvesTo (held_names all_defs.now) (conditional_reference name.now) (name_of found.now)) }
+/// The first of some names that is defined in a kind that a reference of the kind permits, or else
+/// the names as they were.
+fn first_defined(
+    names: NonEmpty<InternalName>,
+    kind: ReferenceType,
+    all_defs: &AllDefs,
+) -> Result<InternalName, NonEmpty<InternalName>>
+    ensures found { IfOk result (λ name. IsFirst (IsDefined (held_names all_defs.now) kind) (names_of names) (name_of name)) }
+    ensures none { OnErr result ((name : PlainName) → Contains (names_of names) name → ¬ IsDefined (held_names all_defs.now) kind name) }
+    ensures kept { IfErr result (λ kept. kept ≡ names) }
 {
-    let kind = *name.reference_type();
-    let names = name.possibilities();
-    if is_defined(all_defs, kind, &names.head) {
-        return Some(&names.head);
+    let NonEmpty { head, mut tail } = names;
+    if is_defined(all_defs, kind, &head) {
+        return Ok(head);
     }
-    for other in &names.tail {
-        if is_defined(all_defs, kind, other) {
-            return Some(other);
+    for number in 0..tail.len() {
+        if is_defined(all_defs, kind, &tail[number]) {
+            return Ok(tail.swap_remove(number));
         }
     }
-    None
+    Err(NonEmpty { head, tail })
+}
+
+/// What a name stands for at a place of the kind: the first of its possibilities that is defined in
+/// a kind that the place permits. It is refused with `TypeNotDefined`, which holds the reference
+/// itself, if there is none.
+pub(crate) fn resolve_at(
+    name: ConditionalName,
+    kind: ReferenceType,
+    all_defs: &AllDefs,
+) -> Result<InternalName, QualifyError>
+    ensures resolved { IfOk result (λ found. ResolvesTo (held_names all_defs.now) (placed_reference kind name) (name_of found)) }
+    ensures refused { IfErr result (IsRefused (held_names all_defs.now) (placed_reference kind name)) }
+{
+    match first_defined(name.into_possibilities(), kind, all_defs) {
+        Ok(found) => Ok(found),
+        Err(possibilities) => Err(QualifyError::TypeNotDefined(TypeNotDefinedError {
+            undefined_types: NonEmpty {
+                head: ConditionalName::new(possibilities, kind),
+                tail: Vec::new(all_defs.alloc),
+            },
+        })),
+    }
 }
 
 /// What names that aren't settled resolve to.
@@ -55,12 +86,7 @@ impl ResolveName for ConditionalName {
         ensures resolved { IfOk result (λ name. ResolvesTo (held_names all_defs.now) (conditional_reference self) (name_of name)) }
         ensures refused { IfErr result (IsRefused (held_names all_defs.now) (conditional_reference self)) }
     {
-        if let Some(name) = first_defined(&self, all_defs) {
-            return Ok(name.clone()?);
-        }
-        let tail = Vec::new(*self.possibilities().tail.allocator());
-        Err(QualifyError::TypeNotDefined(TypeNotDefinedError {
-            undefined_types: NonEmpty { head: self, tail },
-        }))
+        let kind = *self.reference_type();
+        resolve_at(self, kind, all_defs)
     }
 }

@@ -18,7 +18,7 @@ ghost use Rattle.cedar_fragments.specs.DefinitionFault.{IsDefinitionFault, IsSou
 ghost use Rattle.cedar_fragments.specs.WithAttributes.{with_attributes};
 ghost use Rattle.cedar_names.specs.Declaration.{action_declarations};
 ghost use Rattle.cedar_names.specs.ActionBody.{parent_action, parent_actions, requests_by, applies_to, action_body};
-ghost use Rattle.cedar_names.specs.ConditionalExpr.{own_reference};
+ghost use Rattle.cedar_names.specs.ConditionalExpr.{placed_reference};
 ghost use Rattle.cedar_names.specs.NamespaceName.{namespace_name};
 ghost use Rattle.cedar_names.specs.RawExpr.{raw_reference};
 ghost use Rattle.cedar_names.specs.Reference.{Reference, name_within, path_within};
@@ -102,7 +102,7 @@ fn action_parent(
     namespace: Option<&InternalName>,
     written: ActionEntityUID<RawName>,
 ) -> M<ActionParent<ConditionalName>>
-    ensures { IfOk result (λ it. fragment_parent Conditional own_reference it
+    ensures { IfOk result (λ it. fragment_parent Conditional placed_reference it
         ≡ parent_action Raw (raw_reference (namespace_name namespace.entry)) (namespace_name namespace.entry) written) }
 {
     let ActionEntityUID { id, ty, loc } = written;
@@ -120,7 +120,7 @@ fn action_parents(
     namespace: Option<&InternalName>,
     written: Option<Vec<ActionEntityUID<RawName>>>,
 ) -> M<Vec<ActionParent<ConditionalName>>>
-    ensures { IfOk result (λ it. map (fragment_parent Conditional own_reference) it.items
+    ensures { IfOk result (λ it. map (fragment_parent Conditional placed_reference) it.items
         ≡ parent_actions Raw (raw_reference (namespace_name namespace.entry)) (namespace_name namespace.entry) written) }
 {
     let mut parents = Vec::new(alloc);
@@ -140,7 +140,7 @@ fn action_requests(
     namespace: Option<&InternalName>,
     written: Option<ApplySpec<RawName>>,
 ) -> M<ActionRequests<ConditionalName>>
-    ensures { IfOk result (λ it. fragment_requests Conditional own_reference (Some it)
+    ensures { IfOk result (λ it. fragment_requests Conditional placed_reference (Some it)
         ≡ applies_to Raw (raw_reference (namespace_name namespace.entry)) (namespace_name namespace.entry) written) }
 {
     let Some(written) = written else {
@@ -185,7 +185,7 @@ impl ActionFragment<ConditionalName, ConditionalName> {
         written: ActionType<RawName>,
     ) -> M<Self>
         requires { written.attributes ≡ None }
-        ensures { IfOk result (λ it. action_fragment_body Conditional own_reference Conditional own_reference it
+        ensures { IfOk result (λ it. action_fragment_body Conditional placed_reference Conditional placed_reference it
             ≡ action_body Raw (raw_reference (namespace_name namespace.entry)) (namespace_name namespace.entry) written) }
     {
         let ActionType {
@@ -257,7 +257,7 @@ impl ActionsDef<ConditionalName, ConditionalName> {
         namespace: Option<&InternalName>,
         written: BTreeMap<String, ActionType<RawName>>,
     ) -> Result<Self, SchemaError>
-        ensures declarations { IfOk result (λ it. action_fragment_declarations Conditional own_reference Conditional own_reference it
+        ensures declarations { IfOk result (λ it. action_fragment_declarations Conditional placed_reference Conditional placed_reference it
             ≡ action_declarations Raw (raw_reference (namespace_name namespace.entry)) (namespace_name namespace.entry) written.entries) }
         ensures sound { OnOk result (AllByRecursion IsSound
             (action_declarations Raw (raw_reference (namespace_name namespace.entry)) (namespace_name namespace.entry) written.entries)) }

@@ -2,7 +2,7 @@
 
 ghost use Rattle.std.specs.Prelude.{◌≡◌, IfOk};
 ghost use Rattle.cedar_fragments.specs.TypeDeclarations.{common_type_declarations};
-ghost use Rattle.cedar_names.specs.ConditionalExpr.{own_reference};
+ghost use Rattle.cedar_names.specs.ConditionalExpr.{placed_reference};
 ghost use Rattle.cedar_names.specs.Declaration.{common_declarations};
 ghost use Rattle.cedar_names.specs.NamespaceName.{namespace_name};
 ghost use Rattle.cedar_names.specs.RawExpr.{raw_reference};
@@ -35,7 +35,7 @@ impl CommonTypeDefs<ConditionalName> {
         namespace: Option<&InternalName>,
         written: BTreeMap<CommonTypeId, CommonType<RawName>>,
     ) -> M<Self>
-        ensures { IfOk result (λ it. common_type_declarations Conditional own_reference it
+        ensures { IfOk result (λ it. common_type_declarations Conditional placed_reference it
             ≡ common_declarations Raw (raw_reference (namespace_name namespace.entry)) (namespace_name namespace.entry) written.entries) }
     {
         let mut defs = Vec::new(alloc);

@@ -17,7 +17,7 @@ ghost use Rattle.cedar_names.specs.Declaration.{entity_declarations};
 ghost use Rattle.cedar_names.specs.Reference.{name_within, path_within};
 ghost use Rattle.cedar_names.specs.declared.json_schema.raw_name.RawName.{RawName as Raw};
 ghost use Rattle.std.specs.Option.{option_map};
-ghost use Rattle.cedar_names.specs.ConditionalExpr.{own_reference, conditional_expr};
+ghost use Rattle.cedar_names.specs.ConditionalExpr.{placed_reference, placed_expr};
 ghost use Rattle.cedar_names.specs.EntityBody.{raw_entity_body};
 ghost use Rattle.cedar_names.specs.NamespaceName.{namespace_name};
 ghost use Rattle.cedar_names.specs.RawExpr.{raw_reference, raw_expr};
@@ -100,7 +100,7 @@ pub(crate) fn entity_references(
     namespace: Option<&InternalName>,
     names: Vec<RawName>,
 ) -> M<Vec<ConditionalName>>
-    ensures { IfOk result (λ it. map (own_reference entity) it.items
+    ensures { IfOk result (λ it. map (placed_reference entity) it.items
         ≡ map (raw_reference (namespace_name namespace.entry) entity) names.items) }
 {
     let mut references = Vec::new(alloc);
@@ -117,7 +117,7 @@ fn tags_type(
     namespace: Option<&InternalName>,
     tags: Option<Type<RawName>>,
 ) -> M<Option<Type<ConditionalName>>>
-    ensures { IfOk result (λ it. option_map conditional_expr it
+    ensures { IfOk result (λ it. option_map placed_expr it
         ≡ option_map (raw_expr (namespace_name namespace.entry)) tags) }
 {
     match tags {
@@ -136,7 +136,7 @@ impl EntityTypeFragment<ConditionalName> {
         namespace: Option<&InternalName>,
         written: json_schema::EntityType<RawName>,
     ) -> M<Self>
-        ensures { IfOk result (λ it. fragment_body Conditional own_reference it
+        ensures { IfOk result (λ it. fragment_body Conditional placed_reference it
             ≡ raw_entity_body (namespace_name namespace.entry) written) }
     {
         let json_schema::EntityType { kind, external, .. } = written;
@@ -211,7 +211,7 @@ impl EntityTypesDef<ConditionalName> {
         namespace: Option<&InternalName>,
         written: BTreeMap<UnreservedId, json_schema::EntityType<RawName>>,
     ) -> Result<Self, SchemaError>
-        ensures declarations { IfOk result (λ it. entity_type_declarations Conditional own_reference it
+        ensures declarations { IfOk result (λ it. entity_type_declarations Conditional placed_reference it
             ≡ entity_declarations Raw (raw_reference (namespace_name namespace.entry)) (namespace_name namespace.entry) written.entries) }
         ensures sound { OnOk result (AllByRecursion IsSound
             (entity_declarations Raw (raw_reference (namespace_name namespace.entry)) (namespace_name namespace.entry) written.entries)) }

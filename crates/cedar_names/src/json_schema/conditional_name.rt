@@ -35,7 +35,7 @@ fn clone_names(names: &Vec<InternalName>) -> M<Vec<InternalName>>
 
 impl ConditionalName {
     /// The reference that may stand for these names, the first to be tried first.
-    pub(crate) fn new(possibilities: NonEmpty<InternalName>, reference_type: ReferenceType) -> Self
+    pub fn new(possibilities: NonEmpty<InternalName>, reference_type: ReferenceType) -> Self
         ensures possibilities { possibilities_of result ≡ names_of possibilities }
         ensures locs { possibility_locs result ≡ locs_of possibilities }
         ensures reference_type { reference_type_of result ≡ reference_type }
@@ -65,6 +65,14 @@ impl ConditionalName {
         ensures locs { locs_of result.now ≡ possibility_locs self.now }
     {
         &self.possibilities
+    }
+
+    /// The names that the reference may stand for, the first to be tried first.
+    pub fn into_possibilities(self) -> NonEmpty<InternalName>
+        ensures names { names_of result ≡ possibilities_of self }
+        ensures locs { locs_of result ≡ possibility_locs self }
+    {
+        self.possibilities
     }
 
     /// What kind of type the reference may name.

@@ -1,10 +1,12 @@
 //! Why a reference is not settled.
 
 ghost use Rattle.std.specs.Prelude.{◌≡◌};
+ghost use Rattle.cedar_below.specs.declared.memory.Memory.{Memory as WantOfMemory};
 ghost use Rattle.cedar_names.specs.declared.json_schema.qualify_error.QualifyError.TheVariants.{Memory as MemoryFault};
 
 use crate::json_schema::conditional_name::ConditionalName;
 use cedar_below::{Memory, NonEmpty};
+use std::alloc::{AllocError, AllocFailed};
 use thiserror::Error;
 
 /// References to types were found that resolve to no declared type.
@@ -31,5 +33,21 @@ impl From<Memory> for QualifyError {
 
     fn from(memory: Memory) -> Self {
         QualifyError::Memory(memory)
+    }
+}
+
+impl From<AllocError> for QualifyError {
+    ghost from_gives = { λ _ e. (memory : WantOfMemory) × (e ≡ MemoryFault memory) };
+
+    fn from(_refused: AllocError) -> Self {
+        QualifyError::Memory(Memory)
+    }
+}
+
+impl<T: Drop> From<AllocFailed<T>> for QualifyError {
+    ghost from_gives = { λ _ e. (memory : WantOfMemory) × (e ≡ MemoryFault memory) };
+
+    fn from(_refused: AllocFailed<T>) -> Self {
+        QualifyError::Memory(Memory)
     }
 }

@@ -15,4 +15,4 @@ loop-id-preserved c =
     c.loop-id.invariant
     (declared_as-within namespace (common_type_text c.in-Some.id) (common_type (raw_expr namespace c.in-Some.common.ty)) _ _
     (c.in_ok-name.ensures.name ∙ ap (name_within namespace) (c.into_id-in-loop-id.ensures.text ∙ c.into_id.ensures.text))
-    (ap common_type c.in_ok-ty.ensures.written))
+    (ap common_type (c.in_ok-ty.ensures.fits ∙ c.in_ok-ty.ensures.written)))

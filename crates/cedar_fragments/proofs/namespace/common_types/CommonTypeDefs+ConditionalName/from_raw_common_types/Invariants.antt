@@ -1,7 +1,7 @@
 use Rattle.std.proofs.Common.{◌≡◌, map}
 use Rattle.cedar_below.specs.InternalName.{name_of}
 use Rattle.cedar_fragments.specs.DeclaredAs.{declared_as}
-use Rattle.cedar_names.specs.ConditionalExpr.{conditional_expr}
+use Rattle.cedar_names.specs.ConditionalExpr.{placed_expr}
 use Rattle.cedar_names.specs.Declaration.{common_declarations, common_type}
 use Rattle.cedar_names.specs.NamespaceName.{namespace_name}
 use Rattle.cedar_names.specs.RawExpr.{raw_reference}
@@ -10,5 +10,5 @@ use Rattle.cedar_fragments.proofs.namespace.common_types.CommonTypeDefs+Conditio
 
 abbrev pub invariant-loop-id : goal.invariant-loop-id
 invariant-loop-id l =
-    map (λ def. declared_as (name_of def.name) (common_type (conditional_expr def.ty))) l.defs.items
+    map (λ def. declared_as (name_of def.name) (common_type (placed_expr def.ty))) l.defs.items
     ≡ common_declarations RawName (raw_reference (namespace_name l.namespace)) (namespace_name l.namespace) l.yielded

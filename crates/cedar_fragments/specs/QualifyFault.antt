@@ -1,0 +1,67 @@
+use Rattle.std.specs.Prelude.{◌≡◌, ◌≢◌, ◌⊎◌, List, [], Some, Option, Contains}
+use Rattle.cedar_below.specs.PlainName.{PlainName, IsReserved}
+use Rattle.cedar_below.specs.PlainUid.{PlainUid}
+use Rattle.cedar_below.specs.Text.{Text}
+use Rattle.cedar_declared.specs.Bag.{Bag}
+use Rattle.cedar_declared.specs.Counted.{CountsIn, HasToResolve, IsEntityPlace, IsPrincipalOrResource}
+use Rattle.cedar_declared.specs.Fault.{Fault, type_not_defined, action_not_defined, reserved_name, want_of_memory}
+use Rattle.cedar_declared.specs.Mentions.{Refers}
+use Rattle.cedar_declared.specs.Names.{Names, ResolvesTo, IsUnresolved, NamesNoAction}
+use Rattle.cedar_names.specs.Declaration.{Declaration, Body, common_type, entity_type, action}
+use Rattle.cedar_names.specs.Expr.{Expr}
+use Rattle.cedar_names.specs.Reference.{Reference, ActionReference}
+
+-- the reference has to name something: it stands in an expression that counts in what is declared, or at a place of an
+-- entity type
+abbrev pub HasToResolveIn : Body → Reference → Type 0
+HasToResolveIn body reference = ((expr : Expr) × CountsIn body expr × Refers expr reference) ⊎ IsEntityPlace body reference
+
+-- the reference is to a parent of the action that is declared
+abbrev pub IsParentIn : Body → ActionReference → Type 0
+IsParentIn (action body) parent = Contains body.parents parent
+IsParentIn _ parent = ⊥
+
+-- the reference is to a principal or a resource of the action that is declared
+abbrev pub IsRequestedIn : Body → Reference → Type 0
+IsRequestedIn (action body) reference = IsPrincipalOrResource body.applies_to reference
+IsRequestedIn _ reference = ⊥
+
+-- the reference is to a parent of some action that is declared
+abbrev pub IsAnyParent : Bag → ActionReference → Type 0
+IsAnyParent bag parent = (it : Declaration) × Contains bag it × IsParentIn it.body parent
+
+-- the reference is to a principal or a resource of some action that is declared
+abbrev pub IsRequested : Bag → Reference → Type 0
+IsRequested bag reference = (it : Declaration) × Contains bag it × IsRequestedIn it.body reference
+
+-- over the names that are defined, and over what has to resolve: references, parents of actions, and principals and
+-- resources
+module _ (names : Names) (HasTo : Reference → Type 0) (IsParent : ActionReference → Type 0) (IsOfRequest : Reference → Type 0) where
+  -- the refusal names what can't be settled: references that name nothing, parents of actions that name nothing, or a
+  -- reserved name that a principal or a resource resolves to; or memory was wanting
+  abbrev pub IsUnsettled : Fault → Type 0
+  IsUnsettled (type_not_defined references) =
+      (references ≢ [])
+      × ((reference : Reference) → Contains references reference → HasTo reference × IsUnresolved names reference)
+  IsUnsettled (action_not_defined actions) =
+      (actions ≢ [])
+      × ((carried : Text × Option Reference) → Contains actions carried
+      → (parent : ActionReference) × IsParent parent × (carried ≡ (parent.id, Some parent.ty))
+      × NamesNoAction names.actions parent)
+  IsUnsettled (reserved_name name) =
+      (reference : Reference) × IsOfRequest reference × ResolvesTo names reference name × IsReserved name
+  IsUnsettled want_of_memory = Unit {0}
+  IsUnsettled _ = ⊥
+
+-- over the names that are defined, none of some principals and resources resolves to a reserved name
+abbrev pub NoneIsReserved : Names → (Reference → Type 0) → Type 0
+NoneIsReserved names IsOfRequest =
+    (reference : Reference) (name : PlainName) → IsOfRequest reference → ResolvesTo names reference name → ¬ IsReserved name
+
+-- the refusal names what can't be settled in what is declared
+abbrev pub IsUnsettledIn : Names → Body → Fault → Type 0
+IsUnsettledIn names body = IsUnsettled names (HasToResolveIn body) (IsParentIn body) (IsRequestedIn body)
+
+-- the refusal names what can't be settled in a bag
+abbrev pub IsUnsettledBag : Names → Bag → Fault → Type 0
+IsUnsettledBag names bag = IsUnsettled names (HasToResolve bag) (IsAnyParent bag) (IsRequested bag)

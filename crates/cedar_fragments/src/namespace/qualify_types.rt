@@ -1,0 +1,126 @@
+//! How types whose names say what they may stand for come to name what is defined.
+
+ghost use Rattle.std.specs.BTreeMap.{insert_entry};
+ghost use Rattle.std.specs.Prelude.{◌≡◌, IfOk, IfErr, OnOk, map, Contains};
+ghost use Rattle.cedar_below.specs.Lists.{HoldsInTurn};
+ghost use Rattle.cedar_declared.specs.Mentions.{Refers};
+ghost use Rattle.cedar_declared.specs.Settled.{Settles, SettlesReference};
+ghost use Rattle.cedar_declared.specs.SettledExpr.{settled_reference, settled_expr, settled_variant, settled_record};
+ghost use Rattle.cedar_fragments.specs.HeldNames.{held_names};
+ghost use Rattle.cedar_fragments.specs.Refused.{IsRefusedAmong};
+ghost use Rattle.cedar_names.specs.ConditionalExpr.{placed_reference, placed_expr, placed_variant, placed_record};
+ghost use Rattle.cedar_names.specs.declared.json_schema.reference_type.ReferenceType.TheVariants.{Entity as entity};
+
+use crate::defs::AllDefs;
+use crate::defs::resolve_at;
+use cedar_below::{InternalName, M};
+use cedar_names::json_schema::{
+    ConditionalName, QualifyError, RecordType, ReferenceType, Type, TypeOfAttribute, TypeVariant,
+};
+use std::collections::BTreeMap;
+
+/// Puts a value under a key, or answers want of memory.
+fn put<K: Ord + Drop, V: Drop>(map: &mut BTreeMap<K, V>, key: K, value: V) -> M<()>
+    ensures { OnOk result (map.new.entries ≡ insert_entry K.cmp map.old.entries key value) }
+{
+    let _old = map.insert(key, value)?;
+    Ok(())
+}
+
+/// The same type, where each name is that of what it resolves to. It is refused with
+/// `TypeNotDefined` if a name resolves to nothing.
+#[cycle(qualify)]
+pub(crate) fn qualify_type(
+    ty: Type<ConditionalName>,
+    all_defs: &AllDefs,
+) -> Result<Type<InternalName>, QualifyError>
+    ensures settled { IfOk result (λ it. Settles (held_names all_defs.now) (placed_expr ty) (settled_expr it)) }
+    ensures refused { IfErr result (IsRefusedAmong (held_names all_defs.now) (Refers (placed_expr ty))) }
+{
+    match ty {
+        Type::Plain { ty, loc } => {
+            let ty = qualify_variant(ty, all_defs)?;
+            Ok(Type::Plain { ty, loc })
+        }
+        Type::CommonTypeRef { type_name, loc } => {
+            let type_name = resolve_at(type_name, ReferenceType::Common, all_defs)?;
+            Ok(Type::CommonTypeRef { type_name, loc })
+        }
+    }
+}
+
+/// The same of a type that is written out.
+#[cycle(qualify)]
+fn qualify_variant(
+    ty: TypeVariant<ConditionalName>,
+    all_defs: &AllDefs,
+) -> Result<TypeVariant<InternalName>, QualifyError>
+    ensures settled { IfOk result (λ it. Settles (held_names all_defs.now) (placed_variant ty) (settled_variant it)) }
+    ensures refused { IfErr result (IsRefusedAmong (held_names all_defs.now) (Refers (placed_variant ty))) }
+{
+    match ty {
+        TypeVariant::String => Ok(TypeVariant::String),
+        TypeVariant::Long => Ok(TypeVariant::Long),
+        TypeVariant::Boolean => Ok(TypeVariant::Boolean),
+        TypeVariant::Set { element } => {
+            let element = qualify_type(Box::into_inner(element), all_defs)?;
+            let element = Box::new(all_defs.alloc, element)?;
+            Ok(TypeVariant::Set { element })
+        }
+        TypeVariant::Record(record_type) => {
+            let record_type = qualify_record(record_type, all_defs)?;
+            Ok(TypeVariant::Record(record_type))
+        }
+        TypeVariant::Entity { name } => {
+            let name = resolve_at(name, ReferenceType::Entity, all_defs)?;
+            Ok(TypeVariant::Entity { name })
+        }
+        TypeVariant::EntityOrCommon { type_name } => {
+            let type_name = resolve_at(type_name, ReferenceType::CommonOrEntity, all_defs)?;
+            Ok(TypeVariant::EntityOrCommon { type_name })
+        }
+        TypeVariant::Extension { name } => Ok(TypeVariant::Extension { name }),
+    }
+}
+
+/// The same of a record type.
+#[cycle(qualify)]
+fn qualify_record(
+    record_type: RecordType<ConditionalName>,
+    all_defs: &AllDefs,
+) -> Result<RecordType<InternalName>, QualifyError>
+    ensures settled { IfOk result (λ it. Settles (held_names all_defs.now) (placed_record record_type) (settled_record it)) }
+    ensures refused { IfErr result (IsRefusedAmong (held_names all_defs.now) (Refers (placed_record record_type))) }
+{
+    let RecordType {
+        attributes: written,
+        additional_attributes,
+    } = record_type;
+    let mut attributes = BTreeMap::new(all_defs.alloc);
+    for (name, attribute) in written {
+        let TypeOfAttribute { ty, required, loc } = attribute;
+        let ty = qualify_type(ty, all_defs)?;
+        put(&mut attributes, name, TypeOfAttribute { ty, required, loc })?;
+    }
+    Ok(RecordType {
+        attributes,
+        additional_attributes,
+    })
+}
+
+/// The names of the entity types that some names resolve to. It is refused with `TypeNotDefined` if
+/// one resolves to none.
+pub(crate) fn qualify_entity_types(
+    names: Vec<ConditionalName>,
+    all_defs: &AllDefs,
+) -> Result<Vec<InternalName>, QualifyError>
+    ensures settled { IfOk result (λ it. HoldsInTurn (SettlesReference (held_names all_defs.now))
+        (map (placed_reference entity) names.items) (map (settled_reference entity) it.items)) }
+    ensures refused { IfErr result (IsRefusedAmong (held_names all_defs.now) (Contains (map (placed_reference entity) names.items))) }
+{
+    let mut qualified = Vec::new(all_defs.alloc);
+    for name in names {
+        qualified.push(resolve_at(name, ReferenceType::Entity, all_defs)?)?;
+    }
+    Ok(qualified)
+}
