@@ -11,3 +11,4 @@ pub mod ResolveLemmas
 pub mod SetLemmas
 pub mod ShadowLemmas
 pub mod SoundLemmas
+pub mod UnsettledLemmas

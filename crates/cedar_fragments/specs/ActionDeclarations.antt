@@ -5,7 +5,6 @@ use Rattle.cedar_fragments.specs.declared.namespace.actions.ActionFragment.{Acti
 use Rattle.cedar_fragments.specs.declared.namespace.actions.ActionParent.{ActionParent}
 use Rattle.cedar_fragments.specs.declared.namespace.actions.ActionRequests.{ActionRequests}
 use Rattle.cedar_fragments.specs.declared.namespace.actions.ActionsDef.{ActionsDef}
-use Rattle.cedar_fragments.specs.declared.namespace.apply_spec.ValidatorApplySpec.{ValidatorApplySpec}
 use Rattle.cedar_names.specs.ActionBody.{ActionBody, Requests, requests, elsewhere}
 use Rattle.cedar_names.specs.Declaration.{Declaration, action}
 use Rattle.cedar_names.specs.Reference.{Reference, ActionReference}
@@ -15,18 +14,11 @@ use Rattle.cedar_names.specs.declared.json_schema.reference_type.ReferenceType.T
 
 -- over names of some form, where it is given what a name refers to at a place of each kind
 module _ (N : Type 0) (refer : ReferenceType → N → Reference) where
-  -- the entity types that a principal may have
-  abbrev pub principals_of : ValidatorApplySpec N → List Reference
-  principals_of it = map (refer Entity) it.principal_types.items
-
-  -- the entity types that a resource may have
-  abbrev pub resources_of : ValidatorApplySpec N → List Reference
-  resources_of it = map (refer Entity) it.resource_types.items
-
   -- the requests that an action is for; those of an external one are said elsewhere
   abbrev pub fragment_requests : Option (ActionRequests N) → Requests
   fragment_requests None = elsewhere
-  fragment_requests (Some it) = requests (principals_of it.applies_to) (resources_of it.applies_to) (written_type N refer it.context)
+  fragment_requests (Some it) =
+      requests (map (refer Entity) it.principals.items) (map (refer Entity) it.resources.items) (written_type N refer it.context)
 
   -- a parent of an action
   abbrev pub fragment_parent : ActionParent N → ActionReference

@@ -1,10 +1,13 @@
 use Rattle.std.specs.Prelude.{List, ◌++◌, Option}
 use Rattle.std.specs.List.{flat_map}
 use Rattle.std.specs.Option.{option_map}
+use Rattle.cedar_below.specs.EntityType.{type_name}
 use Rattle.cedar_below.specs.InternalName.{name_of}
 use Rattle.cedar_below.specs.PlainName.{PlainName}
+use Rattle.cedar_below.specs.declared.entity_type.EntityType.{EntityType}
 use Rattle.cedar_below.specs.declared.internal_name.InternalName.{InternalName}
 use Rattle.cedar_declared.specs.Bag.{Bag}
+use Rattle.cedar_declared.specs.Settled.{reference_to_one}
 use Rattle.cedar_declared.specs.SettledExpr.{settled_reference}
 use Rattle.cedar_fragments.specs.ActionDeclarations.{action_fragment_declarations}
 use Rattle.cedar_fragments.specs.TypeDeclarations.{common_type_declarations, entity_type_declarations}
@@ -43,10 +46,14 @@ conditional_fragment = fragment_declarations ConditionalName placed_reference Co
 abbrev pub conditional_bag : List (ValidatorSchemaFragment ConditionalName ConditionalName) → Bag
 conditional_bag fragments = flat_map conditional_fragment fragments
 
+-- what the type of an action's parent refers to that is settled: what is defined under it alone
+abbrev pub settled_action_type : ReferenceType → EntityType → Reference
+settled_action_type kind ty = reference_to_one kind (type_name ty)
+
 -- the declarations of a definition over full names
-abbrev pub settled_definition : ValidatorNamespaceDef InternalName InternalName → Bag
-settled_definition = definition_declarations InternalName settled_reference InternalName settled_reference
+abbrev pub settled_definition : ValidatorNamespaceDef InternalName EntityType → Bag
+settled_definition = definition_declarations InternalName settled_reference EntityType settled_action_type
 
 -- the declarations of a fragment over full names
-abbrev pub settled_fragment : ValidatorSchemaFragment InternalName InternalName → Bag
-settled_fragment = fragment_declarations InternalName settled_reference InternalName settled_reference
+abbrev pub settled_fragment : ValidatorSchemaFragment InternalName EntityType → Bag
+settled_fragment = fragment_declarations InternalName settled_reference EntityType settled_action_type

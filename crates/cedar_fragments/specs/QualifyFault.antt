@@ -3,11 +3,12 @@ use Rattle.cedar_below.specs.PlainName.{PlainName, IsReserved}
 use Rattle.cedar_below.specs.PlainUid.{PlainUid}
 use Rattle.cedar_below.specs.Text.{Text}
 use Rattle.cedar_declared.specs.Bag.{Bag}
-use Rattle.cedar_declared.specs.Counted.{CountsIn, HasToResolve, IsEntityPlace, IsPrincipalOrResource}
+use Rattle.cedar_declared.specs.Counted.{CountsIn, CountsInRequests, HasToResolve, IsEntityPlace, IsPrincipalOrResource}
 use Rattle.cedar_declared.specs.Fault.{Fault, type_not_defined, action_not_defined, reserved_name, want_of_memory}
 use Rattle.cedar_declared.specs.Mentions.{Refers}
 use Rattle.cedar_declared.specs.Names.{Names, ResolvesTo, IsUnresolved, NamesNoAction}
-use Rattle.cedar_names.specs.Declaration.{Declaration, Body, common_type, entity_type, action}
+use Rattle.cedar_names.specs.ActionBody.{Requests}
+use Rattle.cedar_names.specs.Declaration.{Declaration, Body, action}
 use Rattle.cedar_names.specs.Expr.{Expr}
 use Rattle.cedar_names.specs.Reference.{Reference, ActionReference}
 
@@ -15,6 +16,11 @@ use Rattle.cedar_names.specs.Reference.{Reference, ActionReference}
 -- entity type
 abbrev pub HasToResolveIn : Body → Reference → Type 0
 HasToResolveIn body reference = ((expr : Expr) × CountsIn body expr × Refers expr reference) ⊎ IsEntityPlace body reference
+
+-- the reference has to name something in requests: it stands in their context, or is to a principal or a resource
+abbrev pub HasToResolveFor : Requests → Reference → Type 0
+HasToResolveFor it reference =
+    ((expr : Expr) × CountsInRequests it expr × Refers expr reference) ⊎ IsPrincipalOrResource it reference
 
 -- the reference is to a parent of the action that is declared
 abbrev pub IsParentIn : Body → ActionReference → Type 0

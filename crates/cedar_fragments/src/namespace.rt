@@ -4,17 +4,18 @@
 //! full name of what it names. The parameter `A` is the same of the type of an action's parent.
 
 pub use actions::{ActionFragment, ActionsDef};
-pub use apply_spec::ValidatorApplySpec;
 pub use common_types::CommonTypeDefs;
 pub use definition::ValidatorNamespaceDef;
 pub use entity_types::{EntityTypeFragment, EntityTypesDef};
 pub use fragment::ValidatorSchemaFragment;
 
 mod actions;
-mod apply_spec;
 mod common_types;
 mod definition;
 mod entity_types;
 mod fragment;
 mod full_name;
+mod qualify_actions;
+mod qualify_definitions;
+mod qualify_entities;
 mod qualify_types;

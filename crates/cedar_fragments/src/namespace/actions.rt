@@ -26,7 +26,6 @@ ghost use Rattle.cedar_names.specs.declared.json_schema.reference_type.Reference
 ghost use Rattle.cedar_names.specs.declared.json_schema.conditional_name.ConditionalName.{ConditionalName as Conditional};
 ghost use Rattle.cedar_names.specs.declared.json_schema.raw_name.RawName.{RawName as Raw};
 
-use crate::namespace::apply_spec::ValidatorApplySpec;
 use crate::namespace::entity_types::entity_references;
 use crate::namespace::full_name::full_name;
 use cedar_below::{Eid, EntityType, EntityUID, Id, InternalName, Loc, M, Name};
@@ -59,10 +58,12 @@ pub struct ActionFragment<N, A> {
     pub(crate) loc: Option<Loc>,
 }
 
-/// The requests that an action is for, and the record type of their context.
+/// The requests that an action is for: the entity types that their principal and their resource may
+/// have, and the record type of their context.
 #[derive(Debug, Drop)]
 pub(crate) struct ActionRequests<N> {
-    pub(crate) applies_to: ValidatorApplySpec<N>,
+    pub(crate) principals: Vec<N>,
+    pub(crate) resources: Vec<N>,
     pub(crate) context: Type<N>,
 }
 
@@ -149,10 +150,8 @@ fn action_requests(
             additional_attributes: false,
         };
         return Ok(ActionRequests {
-            applies_to: ValidatorApplySpec {
-                principal_types: Vec::new(alloc),
-                resource_types: Vec::new(alloc),
-            },
+            principals: Vec::new(alloc),
+            resources: Vec::new(alloc),
             context: Type::Plain {
                 ty: TypeVariant::Record(no_attributes),
                 loc: None,
@@ -164,15 +163,14 @@ fn action_requests(
         resource_types,
         context,
     } = written;
-    let applies_to = ValidatorApplySpec {
-        principal_types: entity_references(alloc, namespace, principal_types)?,
-        resource_types: entity_references(alloc, namespace, resource_types)?,
-    };
+    let principals = entity_references(alloc, namespace, principal_types)?;
+    let resources = entity_references(alloc, namespace, resource_types)?;
     let context = context
         .0
         .conditionally_qualify_type_references(alloc, namespace)?;
     Ok(ActionRequests {
-        applies_to,
+        principals,
+        resources,
         context,
     })
 }

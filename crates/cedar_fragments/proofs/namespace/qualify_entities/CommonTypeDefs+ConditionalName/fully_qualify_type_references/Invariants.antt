@@ -1,0 +1,16 @@
+use Rattle.std.specs.Vec.Iter.{into_iter_items}
+use Rattle.cedar_below.specs.InternalName.{name_of}
+use Rattle.cedar_declared.specs.Settled.{SettlesDeclaration}
+use Rattle.cedar_declared.specs.SettledExpr.{settled_expr}
+use Rattle.cedar_fragments.proofs.InTurn.{TurnSoFar}
+use Rattle.cedar_fragments.specs.DeclaredAs.{declared_as}
+use Rattle.cedar_fragments.specs.HeldNames.{held_names}
+use Rattle.cedar_names.specs.ConditionalExpr.{placed_expr}
+use Rattle.cedar_names.specs.Declaration.{common_type}
+use Rattle.cedar_fragments.proofs.namespace.qualify_entities.CommonTypeDefs+ConditionalName.fully_qualify_type_references.Given as goal
+
+abbrev pub invariant-loop-def : goal.invariant-loop-def
+invariant-loop-def l =
+    TurnSoFar (SettlesDeclaration (held_names l.all_defs)) (λ def. declared_as (name_of def.name) (common_type (placed_expr def.ty)))
+    (λ def. declared_as (name_of def.name) (common_type (settled_expr def.ty))) l.fn.self.defs.items l.defs.items
+    (into_iter_items l.def-iterator)

@@ -1,0 +1,66 @@
+use Rattle.std.proofs.Common.{ap, sym, subst, refl, inl, inr, map, Contains, Some, ◌≡◌}
+use Rattle.std.proofs.lemmas.Result.{err_from_is_err_and}
+use Rattle.std.specs.Option.{option_map}
+use Rattle.cedar_declared.specs.Mentions.{Refers}
+use Rattle.cedar_fragments.proofs.QualifiedLemmas.{refused_wider}
+use Rattle.cedar_fragments.specs.HeldNames.{held_names}
+use Rattle.cedar_fragments.specs.QualifyFault.{HasToResolveIn}
+use Rattle.cedar_fragments.specs.Refused.{IsRefusedAmong}
+use Rattle.cedar_fragments.specs.TypeDeclarations.{fragment_body}
+use Rattle.cedar_names.specs.ConditionalExpr.{placed_reference, placed_expr}
+use Rattle.cedar_names.specs.Declaration.{entity_type}
+use Rattle.cedar_names.specs.EntityBody.{EntityBody, standard, external}
+use Rattle.cedar_names.specs.Expr.{Expr}
+use Rattle.cedar_names.specs.Reference.{Reference}
+use Rattle.cedar_names.specs.declared.json_schema.conditional_name.ConditionalName.{ConditionalName}
+use Rattle.cedar_names.specs.declared.json_schema.reference_type.ReferenceType.TheVariants.{Entity}
+use Rattle.cedar_fragments.proofs.namespace.qualify_entities.EntityTypeFragment+ConditionalName.fully_qualify_type_references.Goals as goal
+
+pub returns-in_err-parents-in-Standard-clause-refused : goal.returns-in_err-parents-in-Standard-clause-refused
+returns-in_err-parents-in-Standard-clause-refused c =
+    let names = held_names c.args.all_defs.now in
+    let it = c.in-Standard in
+    let body = standard (map (placed_reference Entity) it.parents.items) (placed_expr it.attributes.0) (option_map placed_expr it.tags) in
+    let P : EntityBody → Type 0 = λ each. IsRefusedAmong names (HasToResolveIn (entity_type each)) (c.in_err-parents-in-Standard).field-0.0 in
+    let refused = subst P (sym (ap (fragment_body ConditionalName placed_reference) it.is))
+    (refused_wider names (Contains (map (placed_reference Entity) it.parents.items)) (HasToResolveIn (entity_type body))
+    (λ reference among. inr among) _ (c.in_err-parents-in-Standard).ensures.refused) in
+    let p = err_from_is_err_and (c.from_residual).result (c.from_residual).ensures.1 in
+    rw (p.1, p.2) refused
+
+pub returns-in_err-attributes-in-Standard-clause-refused : goal.returns-in_err-attributes-in-Standard-clause-refused
+returns-in_err-attributes-in-Standard-clause-refused c =
+    let names = held_names c.args.all_defs.now in
+    let it = c.in-Standard in
+    let body = standard (map (placed_reference Entity) it.parents.items) (placed_expr it.attributes.0) (option_map placed_expr it.tags) in
+    let P : EntityBody → Type 0 = λ each. IsRefusedAmong names (HasToResolveIn (entity_type each)) (c.in_err-attributes-in-Standard).field-0.0 in
+    let refused = subst P (sym (ap (fragment_body ConditionalName placed_reference) it.is))
+    (refused_wider names (Refers (placed_expr it.attributes.0)) (HasToResolveIn (entity_type body))
+    (λ reference refers. inl (placed_expr it.attributes.0, inl refl, refers)) _ (c.in_err-attributes-in-Standard).ensures.refused) in
+    let p = err_from_is_err_and (c.from_residual-in_err-attributes-in-Standard).result (c.from_residual-in_err-attributes-in-Standard).ensures.1 in
+    rw (p.1, p.2) refused
+
+pub returns-in_err-tags-in-Standard-clause-refused : goal.returns-in_err-tags-in-Standard-clause-refused
+returns-in_err-tags-in-Standard-clause-refused c =
+    let names = held_names c.args.all_defs.now in
+    let it = c.in-Standard in
+    let body = standard (map (placed_reference Entity) it.parents.items) (placed_expr it.attributes.0) (option_map placed_expr it.tags) in
+    let P : EntityBody → Type 0 = λ each. IsRefusedAmong names (HasToResolveIn (entity_type each)) (c.in_err-tags-in-Standard).field-0.0 in
+    let Q : Reference → Type 0 = λ reference. (expr : Expr) × (option_map placed_expr it.tags ≡ Some expr) × Refers expr reference in
+    let refused = subst P (sym (ap (fragment_body ConditionalName placed_reference) it.is))
+    (refused_wider names Q (HasToResolveIn (entity_type body))
+    (λ reference found. inl (found.0, inr found.1, found.2)) _ (c.in_err-tags-in-Standard).ensures.refused) in
+    let p = err_from_is_err_and (c.from_residual-in_err-tags-in-Standard).result (c.from_residual-in_err-tags-in-Standard).ensures.1 in
+    rw (p.1, p.2) refused
+
+pub returns-in_err-parents-in-External-clause-refused : goal.returns-in_err-parents-in-External-clause-refused
+returns-in_err-parents-in-External-clause-refused c =
+    let names = held_names c.args.all_defs.now in
+    let it = c.in-External in
+    let P : EntityBody → Type 0 = λ each. IsRefusedAmong names (HasToResolveIn (entity_type each)) (c.in_err-parents-in-External).field-0.0 in
+    let refused = subst P (sym (ap (fragment_body ConditionalName placed_reference) it.is))
+    (refused_wider names (Contains (map (placed_reference Entity) it.parents.items))
+    (HasToResolveIn (entity_type (external (map (placed_reference Entity) it.parents.items))))
+    (λ reference among. inr among) _ (c.in_err-parents-in-External).ensures.refused) in
+    let p = err_from_is_err_and (c.from_residual-in_err-parents-in-External).result (c.from_residual-in_err-parents-in-External).ensures.1 in
+    rw (p.1, p.2) refused

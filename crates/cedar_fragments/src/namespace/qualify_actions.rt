@@ -1,0 +1,227 @@
+//! How actions come to name what is defined.
+
+ghost use Rattle.std.specs.Prelude.{◌≡◌, IfOk, IfErr, OnOk, MatchOption, Some, map, Contains, string_bytes};
+ghost use Rattle.cedar_below.specs.EntityType.{type_name};
+ghost use Rattle.cedar_below.specs.InternalName.{name_of};
+ghost use Rattle.cedar_below.specs.Lists.{HoldsInTurn};
+ghost use Rattle.cedar_below.specs.PlainName.{PlainName};
+ghost use Rattle.cedar_below.specs.declared.entity_type.EntityType.{EntityType as ActionEntityType};
+ghost use Rattle.cedar_below.specs.declared.internal_name.InternalName.{InternalName as Full};
+ghost use Rattle.cedar_declared.specs.Counted.{IsPrincipalOrResource};
+ghost use Rattle.cedar_declared.specs.Occurrences.{IsFirst};
+ghost use Rattle.cedar_declared.specs.SchemaError.{fault_of};
+ghost use Rattle.cedar_declared.specs.Settled.{SettlesReference, SettlesParent, SettlesRequests, SettlesBody, SettlesBag};
+ghost use Rattle.cedar_declared.specs.SettledExpr.{settled_reference};
+ghost use Rattle.cedar_fragments.specs.ActionDeclarations.{fragment_parent, fragment_requests, action_fragment_body, action_fragment_declarations};
+ghost use Rattle.cedar_fragments.specs.FragmentDeclarations.{settled_action_type};
+ghost use Rattle.cedar_fragments.specs.HeldNames.{held_names};
+ghost use Rattle.cedar_fragments.specs.QualifyFault.{HasToResolveFor, IsRequestedIn, IsRequested, IsUnsettled, IsUnsettledIn, IsUnsettledBag, NoneIsReserved};
+ghost use Rattle.cedar_names.specs.ConditionalExpr.{placed_reference};
+ghost use Rattle.cedar_names.specs.Declaration.{action};
+ghost use Rattle.cedar_names.specs.PossibleNames.{names_of};
+ghost use Rattle.cedar_names.specs.declared.json_schema.conditional_name.ConditionalName.{ConditionalName as Conditional};
+ghost use Rattle.cedar_names.specs.declared.json_schema.reference_type.ReferenceType.TheVariants.{Entity as entity};
+
+use crate::defs::AllDefs;
+use crate::namespace::actions::{
+    ActionDef, ActionFragment, ActionParent, ActionRequests, ActionsDef,
+};
+use crate::namespace::qualify_types::{qualify_entity_types, qualify_type};
+use cedar_below::{Eid, EntityType, EntityUID, InternalName, M, Name, NonEmpty};
+use cedar_declared::SchemaError;
+use cedar_names::json_schema::{ActionEntityUID, ConditionalName, ReferenceType};
+
+/// The type of the action that has the id and a type of the name, if there is one.
+fn action_type(name: &InternalName, id: &String, all_defs: &AllDefs) -> M<Option<EntityType>>
+    ensures { IfOk result (λ found. MatchOption found
+        (¬ Contains (held_names all_defs.now).actions (record { ty = name_of name.now; eid = string_bytes id.now }))
+        (λ ty. (type_name ty ≡ name_of name.now)
+        × Contains (held_names all_defs.now).actions (record { ty = name_of name.now; eid = string_bytes id.now }))) }
+{
+    let Some(name) = Name::new(name.clone()?) else {
+        return Ok(None);
+    };
+    let uid = EntityUID::new(EntityType::new(name), Eid(id.clone()?), None);
+    if !all_defs.is_defined_as_action(&uid) {
+        return Ok(None);
+    }
+    Ok(Some(uid.entity_type().clone()?))
+}
+
+/// The type of the first action that has the id and a type of some names, if there is one.
+fn first_action_type(
+    names: &NonEmpty<InternalName>,
+    id: &String,
+    all_defs: &AllDefs,
+) -> M<Option<EntityType>>
+    ensures { IfOk result (λ found. MatchOption found
+        ((name : PlainName) → Contains (names_of names.now) name
+        → ¬ Contains (held_names all_defs.now).actions (record { ty = name; eid = string_bytes id.now }))
+        (λ ty. IsFirst (λ name. Contains (held_names all_defs.now).actions (record { ty = name; eid = string_bytes id.now }))
+        (names_of names.now) (type_name ty))) }
+{
+    let found = action_type(&names.head, id, all_defs)?;
+    if found.is_some() {
+        return Ok(found);
+    }
+    for name in &names.tail {
+        let found = action_type(name, id, all_defs)?;
+        if found.is_some() {
+            return Ok(found);
+        }
+    }
+    Ok(None)
+}
+
+/// The same parent of an action, by the type of the action that it names.
+fn qualify_parent(
+    parent: ActionParent<ConditionalName>,
+    all_defs: &AllDefs,
+) -> Result<ActionParent<EntityType>, SchemaError>
+    ensures settled { IfOk result (λ it. SettlesParent (held_names all_defs.now)
+        (fragment_parent Conditional placed_reference parent) (fragment_parent ActionEntityType settled_action_type it)) }
+    ensures fault { IfErr result (λ error. IsUnsettled (held_names all_defs.now)
+        (λ reference. ⊥) (λ it. fragment_parent Conditional placed_reference parent ≡ it) (λ reference. ⊥) (fault_of error)) }
+{
+    let ActionParent { id, ty, loc } = parent;
+    match first_action_type(ty.possibilities(), &id, all_defs)? {
+        Some(ty) => Ok(ActionParent { id, ty, loc }),
+        None => {
+            let ty = ConditionalName::new(ty.into_possibilities(), ReferenceType::Entity);
+            Err(SchemaError::ActionNotDefined(NonEmpty {
+                head: ActionEntityUID {
+                    id,
+                    ty: Some(ty),
+                    loc,
+                },
+                tail: Vec::new(all_defs.alloc),
+            }))
+        }
+    }
+}
+
+/// The same parents of an action, by the types of the actions that they name.
+fn qualify_parents(
+    parents: Vec<ActionParent<ConditionalName>>,
+    all_defs: &AllDefs,
+) -> Result<Vec<ActionParent<EntityType>>, SchemaError>
+    ensures settled { IfOk result (λ it. HoldsInTurn (SettlesParent (held_names all_defs.now))
+        (map (fragment_parent Conditional placed_reference) parents.items) (map (fragment_parent ActionEntityType settled_action_type) it.items)) }
+    ensures fault { IfErr result (λ error. IsUnsettled (held_names all_defs.now)
+        (λ reference. ⊥) (Contains (map (fragment_parent Conditional placed_reference) parents.items)) (λ reference. ⊥) (fault_of error)) }
+{
+    let mut qualified = Vec::new(all_defs.alloc);
+    for parent in parents {
+        qualified.push(qualify_parent(parent, all_defs)?)?;
+    }
+    Ok(qualified)
+}
+
+/// The names of the entity types that principals or resources resolve to, which must not be
+/// reserved.
+fn qualify_requested(
+    names: Vec<ConditionalName>,
+    all_defs: &AllDefs,
+) -> Result<Vec<InternalName>, SchemaError>
+    ensures settled { IfOk result (λ it. HoldsInTurn (SettlesReference (held_names all_defs.now))
+        (map (placed_reference entity) names.items) (map (settled_reference entity) it.items)) }
+    ensures unreserved { OnOk result (NoneIsReserved (held_names all_defs.now) (Contains (map (placed_reference entity) names.items))) }
+    ensures fault { IfErr result (λ error. IsUnsettled (held_names all_defs.now)
+        (Contains (map (placed_reference entity) names.items)) (λ parent. ⊥) (Contains (map (placed_reference entity) names.items)) (fault_of error)) }
+{
+    let qualified = qualify_entity_types(names, all_defs)?;
+    for name in &qualified {
+        if name.is_reserved() {
+            return Err(SchemaError::ReservedName(name.clone()?));
+        }
+    }
+    Ok(qualified)
+}
+
+/// The same requests of an action, where each name is that of what it resolves to.
+fn qualify_requests(
+    requests: ActionRequests<ConditionalName>,
+    all_defs: &AllDefs,
+) -> Result<ActionRequests<InternalName>, SchemaError>
+    ensures settled { IfOk result (λ it. SettlesRequests (held_names all_defs.now)
+        (fragment_requests Conditional placed_reference (Some requests)) (fragment_requests Full settled_reference (Some it))) }
+    ensures unreserved { OnOk result (NoneIsReserved (held_names all_defs.now)
+        (IsPrincipalOrResource (fragment_requests Conditional placed_reference (Some requests)))) }
+    ensures fault { IfErr result (λ error. IsUnsettled (held_names all_defs.now)
+        (HasToResolveFor (fragment_requests Conditional placed_reference (Some requests))) (λ parent. ⊥)
+        (IsPrincipalOrResource (fragment_requests Conditional placed_reference (Some requests))) (fault_of error)) }
+{
+    let ActionRequests {
+        principals,
+        resources,
+        context,
+    } = requests;
+    let principals = qualify_requested(principals, all_defs)?;
+    let resources = qualify_requested(resources, all_defs)?;
+    let context = qualify_type(context, all_defs)?;
+    Ok(ActionRequests {
+        principals,
+        resources,
+        context,
+    })
+}
+
+impl ActionFragment<ConditionalName, ConditionalName> {
+    /// The same of the action, where each name is that of what it resolves to. It is refused with
+    /// `ActionNotDefined` if a parent names no action, with `TypeNotDefined` if another name
+    /// resolves to nothing, and with `ReservedName` if a principal or a resource resolves to a
+    /// reserved name.
+    pub fn fully_qualify_type_references(
+        self,
+        all_defs: &AllDefs,
+    ) -> Result<ActionFragment<InternalName, EntityType>, SchemaError>
+        ensures settled { IfOk result (λ it. SettlesBody (held_names all_defs.now)
+            (action (action_fragment_body Conditional placed_reference Conditional placed_reference self))
+            (action (action_fragment_body Full settled_reference ActionEntityType settled_action_type it))) }
+        ensures unreserved { OnOk result (NoneIsReserved (held_names all_defs.now)
+            (IsRequestedIn (action (action_fragment_body Conditional placed_reference Conditional placed_reference self)))) }
+        ensures fault { IfErr result (λ error. IsUnsettledIn (held_names all_defs.now)
+            (action (action_fragment_body Conditional placed_reference Conditional placed_reference self)) (fault_of error)) }
+    {
+        let ActionFragment {
+            requests,
+            parents,
+            loc,
+        } = self;
+        let parents = qualify_parents(parents, all_defs)?;
+        let requests = match requests {
+            None => None,
+            Some(requests) => Some(qualify_requests(requests, all_defs)?),
+        };
+        Ok(ActionFragment {
+            requests,
+            parents,
+            loc,
+        })
+    }
+}
+
+impl ActionsDef<ConditionalName, ConditionalName> {
+    /// The same actions, where each name is that of what it resolves to. It is refused as one of
+    /// them is.
+    pub fn fully_qualify_type_references(
+        self,
+        all_defs: &AllDefs,
+    ) -> Result<ActionsDef<InternalName, EntityType>, SchemaError>
+        ensures settled { IfOk result (λ it. SettlesBag (held_names all_defs.now)
+            (action_fragment_declarations Conditional placed_reference Conditional placed_reference self)
+            (action_fragment_declarations Full settled_reference ActionEntityType settled_action_type it)) }
+        ensures unreserved { OnOk result (NoneIsReserved (held_names all_defs.now)
+            (IsRequested (action_fragment_declarations Conditional placed_reference Conditional placed_reference self))) }
+        ensures fault { IfErr result (λ error. IsUnsettledBag (held_names all_defs.now)
+            (action_fragment_declarations Conditional placed_reference Conditional placed_reference self) (fault_of error)) }
+    {
+        let mut defs = Vec::new(all_defs.alloc);
+        for def in self.defs {
+            let ActionDef { uid, fragment } = def;
+            let fragment = fragment.fully_qualify_type_references(all_defs)?;
+            defs.push(ActionDef { uid, fragment })?;
+        }
+        Ok(ActionsDef { defs })
+    }
+}

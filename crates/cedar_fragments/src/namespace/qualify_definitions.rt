@@ -1,0 +1,71 @@
+//! How definitions of namespaces, and fragments, come to name what is defined.
+
+ghost use Rattle.std.specs.Prelude.{◌≡◌, IfOk, IfErr, OnOk};
+ghost use Rattle.cedar_below.specs.declared.entity_type.EntityType.{EntityType as ActionEntityType};
+ghost use Rattle.cedar_below.specs.declared.internal_name.InternalName.{InternalName as Full};
+ghost use Rattle.cedar_declared.specs.SchemaError.{fault_of};
+ghost use Rattle.cedar_declared.specs.Settled.{SettlesBag};
+ghost use Rattle.cedar_fragments.specs.FragmentDeclarations.{definition_namespace, conditional_definition, conditional_fragment, settled_definition, settled_fragment};
+ghost use Rattle.cedar_fragments.specs.HeldNames.{held_names};
+ghost use Rattle.cedar_fragments.specs.QualifyFault.{IsRequested, IsUnsettledBag, NoneIsReserved};
+ghost use Rattle.cedar_names.specs.declared.json_schema.conditional_name.ConditionalName.{ConditionalName as Conditional};
+
+use crate::defs::AllDefs;
+use crate::namespace::definition::ValidatorNamespaceDef;
+use crate::namespace::fragment::ValidatorSchemaFragment;
+use cedar_below::{EntityType, InternalName};
+use cedar_declared::SchemaError;
+use cedar_names::json_schema::ConditionalName;
+
+impl ValidatorNamespaceDef<ConditionalName, ConditionalName> {
+    /// The same definition, where each name is that of what it resolves to. It is refused with
+    /// `ActionNotDefined` if a parent of an action names no action, with `TypeNotDefined` if another
+    /// name resolves to nothing, and with `ReservedName` if a principal or a resource resolves to a
+    /// reserved name.
+    pub fn fully_qualify_type_references(
+        self,
+        all_defs: &AllDefs,
+    ) -> Result<ValidatorNamespaceDef<InternalName, EntityType>, SchemaError>
+        ensures settled { IfOk result (λ it. SettlesBag (held_names all_defs.now) (conditional_definition self) (settled_definition it)) }
+        ensures namespace { IfOk result (λ it. definition_namespace Full ActionEntityType it ≡ definition_namespace Conditional Conditional self) }
+        ensures unreserved { OnOk result (NoneIsReserved (held_names all_defs.now) (IsRequested (conditional_definition self))) }
+        ensures fault { IfErr result (λ error. IsUnsettledBag (held_names all_defs.now) (conditional_definition self) (fault_of error)) }
+    {
+        let ValidatorNamespaceDef {
+            namespace,
+            common_types,
+            entity_types,
+            actions,
+            loc,
+        } = self;
+        let common_types = common_types.fully_qualify_type_references(all_defs)?;
+        let entity_types = entity_types.fully_qualify_type_references(all_defs)?;
+        let actions = actions.fully_qualify_type_references(all_defs)?;
+        Ok(ValidatorNamespaceDef {
+            namespace,
+            common_types,
+            entity_types,
+            actions,
+            loc,
+        })
+    }
+}
+
+impl ValidatorSchemaFragment<ConditionalName, ConditionalName> {
+    /// The same fragment, where each name is that of what it resolves to. It is refused as one of
+    /// its definitions is.
+    pub fn fully_qualify_type_references(
+        self,
+        all_defs: &AllDefs,
+    ) -> Result<ValidatorSchemaFragment<InternalName, EntityType>, SchemaError>
+        ensures settled { IfOk result (λ it. SettlesBag (held_names all_defs.now) (conditional_fragment self) (settled_fragment it)) }
+        ensures unreserved { OnOk result (NoneIsReserved (held_names all_defs.now) (IsRequested (conditional_fragment self))) }
+        ensures fault { IfErr result (λ error. IsUnsettledBag (held_names all_defs.now) (conditional_fragment self) (fault_of error)) }
+    {
+        let mut definitions = Vec::new(all_defs.alloc);
+        for definition in self.definitions {
+            definitions.push(definition.fully_qualify_type_references(all_defs)?)?;
+        }
+        Ok(ValidatorSchemaFragment { definitions })
+    }
+}

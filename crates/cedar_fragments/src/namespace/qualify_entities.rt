@@ -1,0 +1,122 @@
+//! How common types and entity types come to name what is defined.
+
+ghost use Rattle.std.specs.Prelude.{◌≡◌, IfOk, IfErr, Some};
+ghost use Rattle.std.specs.Option.{option_map};
+ghost use Rattle.cedar_below.specs.declared.internal_name.InternalName.{InternalName as Full};
+ghost use Rattle.cedar_declared.specs.Counted.{HasToResolve};
+ghost use Rattle.cedar_declared.specs.Mentions.{Refers};
+ghost use Rattle.cedar_declared.specs.Settled.{SettlesTags, SettlesEntityBody, SettlesBag};
+ghost use Rattle.cedar_declared.specs.SettledExpr.{settled_reference, settled_expr};
+ghost use Rattle.cedar_fragments.specs.HeldNames.{held_names};
+ghost use Rattle.cedar_fragments.specs.QualifyFault.{HasToResolveIn};
+ghost use Rattle.cedar_fragments.specs.Refused.{IsRefusedAmong};
+ghost use Rattle.cedar_fragments.specs.TypeDeclarations.{common_type_declarations, fragment_body, entity_type_declarations};
+ghost use Rattle.cedar_names.specs.ConditionalExpr.{placed_reference, placed_expr};
+ghost use Rattle.cedar_names.specs.Declaration.{entity_type};
+ghost use Rattle.cedar_names.specs.Expr.{Expr};
+ghost use Rattle.cedar_names.specs.declared.json_schema.conditional_name.ConditionalName.{ConditionalName as Conditional};
+
+use crate::defs::AllDefs;
+use crate::namespace::common_types::{CommonTypeDef, CommonTypeDefs};
+use crate::namespace::entity_types::{EntityTypeDef, EntityTypeFragment, EntityTypesDef};
+use crate::namespace::qualify_types::{qualify_entity_types, qualify_type};
+use cedar_below::InternalName;
+use cedar_names::json_schema::{AttributesOrContext, ConditionalName, QualifyError, Type};
+
+impl CommonTypeDefs<ConditionalName> {
+    /// The same common types, where each name is that of what it resolves to. It is refused with
+    /// `TypeNotDefined` if a name resolves to nothing.
+    pub fn fully_qualify_type_references(
+        self,
+        all_defs: &AllDefs,
+    ) -> Result<CommonTypeDefs<InternalName>, QualifyError>
+        ensures settled { IfOk result (λ it. SettlesBag (held_names all_defs.now)
+            (common_type_declarations Conditional placed_reference self) (common_type_declarations Full settled_reference it)) }
+        ensures refused { IfErr result (IsRefusedAmong (held_names all_defs.now)
+            (HasToResolve (common_type_declarations Conditional placed_reference self))) }
+    {
+        let mut defs = Vec::new(all_defs.alloc);
+        for def in self.defs {
+            let CommonTypeDef { name, ty } = def;
+            let ty = qualify_type(ty, all_defs)?;
+            defs.push(CommonTypeDef { name, ty })?;
+        }
+        Ok(CommonTypeDefs { defs })
+    }
+}
+
+/// The same type of tags, if there is one, where each name is that of what it resolves to.
+fn qualify_tags(
+    tags: Option<Type<ConditionalName>>,
+    all_defs: &AllDefs,
+) -> Result<Option<Type<InternalName>>, QualifyError>
+    ensures settled { IfOk result (λ it. SettlesTags (held_names all_defs.now) (option_map placed_expr tags) (option_map settled_expr it)) }
+    ensures refused { IfErr result (IsRefusedAmong (held_names all_defs.now)
+        (λ reference. (expr : Expr) × (option_map placed_expr tags ≡ Some expr) × Refers expr reference)) }
+{
+    match tags {
+        None => Ok(None),
+        Some(ty) => {
+            let ty = qualify_type(ty, all_defs)?;
+            Ok(Some(ty))
+        }
+    }
+}
+
+impl EntityTypeFragment<ConditionalName> {
+    /// The same of the entity type, where each name is that of what it resolves to. It is refused
+    /// with `TypeNotDefined` if a name resolves to nothing.
+    pub fn fully_qualify_type_references(
+        self,
+        all_defs: &AllDefs,
+    ) -> Result<EntityTypeFragment<InternalName>, QualifyError>
+        ensures settled { IfOk result (λ it. SettlesEntityBody (held_names all_defs.now)
+            (fragment_body Conditional placed_reference self) (fragment_body Full settled_reference it)) }
+        ensures refused { IfErr result (IsRefusedAmong (held_names all_defs.now)
+            (HasToResolveIn (entity_type (fragment_body Conditional placed_reference self)))) }
+    {
+        match self {
+            EntityTypeFragment::Standard {
+                attributes,
+                parents,
+                tags,
+            } => {
+                let parents = qualify_entity_types(parents, all_defs)?;
+                let attributes = qualify_type(attributes.0, all_defs)?;
+                let tags = qualify_tags(tags, all_defs)?;
+                Ok(EntityTypeFragment::Standard {
+                    attributes: AttributesOrContext(attributes),
+                    parents,
+                    tags,
+                })
+            }
+            EntityTypeFragment::Enum(choices) => Ok(EntityTypeFragment::Enum(choices)),
+            EntityTypeFragment::External { parents } => {
+                let parents = qualify_entity_types(parents, all_defs)?;
+                Ok(EntityTypeFragment::External { parents })
+            }
+        }
+    }
+}
+
+impl EntityTypesDef<ConditionalName> {
+    /// The same entity types, where each name is that of what it resolves to. It is refused with
+    /// `TypeNotDefined` if a name resolves to nothing.
+    pub fn fully_qualify_type_references(
+        self,
+        all_defs: &AllDefs,
+    ) -> Result<EntityTypesDef<InternalName>, QualifyError>
+        ensures settled { IfOk result (λ it. SettlesBag (held_names all_defs.now)
+            (entity_type_declarations Conditional placed_reference self) (entity_type_declarations Full settled_reference it)) }
+        ensures refused { IfErr result (IsRefusedAmong (held_names all_defs.now)
+            (HasToResolve (entity_type_declarations Conditional placed_reference self))) }
+    {
+        let mut defs = Vec::new(all_defs.alloc);
+        for def in self.defs {
+            let EntityTypeDef { name, fragment } = def;
+            let fragment = fragment.fully_qualify_type_references(all_defs)?;
+            defs.push(EntityTypeDef { name, fragment })?;
+        }
+        Ok(EntityTypesDef { defs })
+    }
+}
