@@ -4,3 +4,4 @@ pub mod DefinedLemmas
 pub mod OccurrenceLemmas
 pub mod ResolutionLemmas
 pub mod TogetherLemmas
+pub mod TurnLemmas

@@ -18,7 +18,8 @@ use Rattle.cedar_names.specs.Expr.{Expr, extension_expr}
 use Rattle.cedar_declared.proofs.BuiltInLemmas.{alias_of}
 use Rattle.cedar_declared.proofs.DeclarationLemmas.{entity_declaration, action_declaration, common_declaration, declares_entity, declares_action, declares_common}
 use Rattle.cedar_laws.proofs.MeaningLemmas.{AreAlike, alike_text, alike_long, alike_truth, alike_extension}
-use Rattle.cedar_laws.proofs.MovedLemmas.{turn_forth, keys_in_turn, DeclarationsAlike, BodiesAlike, EntitiesAlike, RequestsAlike, alike_name, alike_uid, common_keys, entity_keys, action_keys}
+use Rattle.cedar_declared.proofs.TurnLemmas.{turn_forth}
+use Rattle.cedar_laws.proofs.MovedLemmas.{keys_in_turn, DeclarationsAlike, BodiesAlike, EntitiesAlike, RequestsAlike, alike_name, alike_uid, common_keys, entity_keys, action_keys}
 use Rattle.cedar_laws.proofs.OrderLaws.{nested}
 use Rattle.cedar_declared.specs.Bag.{Bag, common_in, entity_in, action_in, declared_name, declared_uid, declared_common, declared_entities, declared_actions, declared_types, action_uids, built_in_types, built_in_name, built_ins, alias_name, aliases, definitions, defined_names}
 use Rattle.cedar_declared.specs.Names.{Names}

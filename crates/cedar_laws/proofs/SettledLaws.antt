@@ -16,8 +16,9 @@ use Rattle.cedar_names.specs.Expr.{Expr}
 use Rattle.cedar_names.specs.Reference.{Reference, ActionReference}
 use Rattle.cedar_laws.proofs.MeaningLemmas.{MeansTheSame, MeansTheSame-sym, AreAlike, open_alike, extension_alike, refers_alike, MovesTo, written_alike, no_record_alike}
 use Rattle.cedar_laws.proofs.MovedBags.{common_same, entity_same, action_same, defined_entity_same, defined_action_same, types_same, names_same, entity_moved, action_moved, definition_moved}
-use Rattle.cedar_laws.proofs.MovedLemmas.{turn_forth, turn_back, turn_weaker, NamesTheSame, TagsAlike, EntitiesAlike, RequestsAlike, BodiesAlike, DeclarationsAlike, declarations-sym, settled_declaration}
+use Rattle.cedar_laws.proofs.MovedLemmas.{NamesTheSame, TagsAlike, EntitiesAlike, RequestsAlike, BodiesAlike, DeclarationsAlike, declarations-sym, settled_declaration}
 use Rattle.cedar_declared.proofs.ResolutionLemmas.{first_defined}
+use Rattle.cedar_declared.proofs.TurnLemmas.{turn_forth, turn_back, turn_weaker}
 use Rattle.cedar_declared.proofs.TogetherLemmas.{AreRequests, declared_definition, definition_declared, declared_action_definition, action_definition_declared}
 use Rattle.cedar_declared.specs.Bag.{Bag, declared_common, declared_entities, built_ins, definitions, defined_names}
 use Rattle.cedar_declared.specs.Counted.{CountsInEntity, CountsInRequests, CountsIn, IsCounted, entity_parents, IsPrincipalOrResource, IsEntityPlace, IsPlaced, HasToResolve}

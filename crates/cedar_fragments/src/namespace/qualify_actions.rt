@@ -42,10 +42,10 @@ fn action_type(name: &InternalName, id: &String, all_defs: &AllDefs) -> M<Option
         return Ok(None);
     };
     let uid = EntityUID::new(EntityType::new(name), Eid(id.clone()?), None);
-    if !all_defs.is_defined_as_action(&uid) {
-        return Ok(None);
+    if all_defs.is_defined_as_action(&uid) {
+        return Ok(Some(uid.entity_type().clone()?));
     }
-    Ok(Some(uid.entity_type().clone()?))
+    Ok(None)
 }
 
 /// The type of the first action that has the id and a type of some names, if there is one.
@@ -60,14 +60,12 @@ fn first_action_type(
         (λ ty. IsFirst (λ name. Contains (held_names all_defs.now).actions (record { ty = name; eid = string_bytes id.now }))
         (names_of names.now) (type_name ty))) }
 {
-    let found = action_type(&names.head, id, all_defs)?;
-    if found.is_some() {
-        return Ok(found);
+    if let Some(ty) = action_type(&names.head, id, all_defs)? {
+        return Ok(Some(ty));
     }
     for name in &names.tail {
-        let found = action_type(name, id, all_defs)?;
-        if found.is_some() {
-            return Ok(found);
+        if let Some(ty) = action_type(name, id, all_defs)? {
+            return Ok(Some(ty));
         }
     }
     Ok(None)

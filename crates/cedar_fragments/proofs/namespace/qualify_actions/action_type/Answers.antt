@@ -1,0 +1,23 @@
+use Rattle.std.proofs.Common.{◌≡◌, ap, sym, subst, ◌∙◌, Contains, string_bytes}
+use Rattle.std.proofs.lemmas.Bool.{false≢true}
+use Rattle.cedar_below.specs.EntityUID.{uid_of}
+use Rattle.cedar_below.specs.InternalName.{name_of}
+use Rattle.cedar_below.specs.PlainName.{PlainName, IsReserved}
+use Rattle.cedar_below.specs.PlainUid.{PlainUid}
+use Rattle.cedar_fragments.proofs.UnsettledLemmas.{action_unreserved}
+use Rattle.cedar_fragments.specs.HeldNames.{held_names}
+use Rattle.cedar_fragments.proofs.namespace.qualify_actions.action_type.Goals as goal
+
+pub returns-in_default : goal.returns-in_default
+returns-in_default c among =
+    let P : PlainName → Type 0 = λ each. ¬ IsReserved each in
+    false≢true (c.in_default.ensures.valid.1 (subst P (sym c.in_ok-clone.ensures.name)
+    (action_unreserved c.args.all_defs.now (record { ty = name_of c.args.name.now; eid = string_bytes c.args.id.now }) among)))
+
+pub returns : goal.returns
+returns c among =
+    let P : PlainUid → Type 0 = Contains (held_names c.args.all_defs.now).actions in
+    let ty = c.new-uid.ensures.ty ∙ (c.new-2.ensures.name ∙ (c.in-Some.ensures.name ∙ c.in_ok-clone.ensures.name)) in
+    let eid = c.new-uid.ensures.eid ∙ c.in_ok-clone-2.ensures.cases in
+    false≢true (sym c.if-is_defined_as_action.false
+    ∙ c.is_defined_as_action.ensures.1 (subst P (sym (λ i. record { ty = ty i; eid = eid i })) among))

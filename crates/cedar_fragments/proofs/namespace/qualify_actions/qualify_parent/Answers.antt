@@ -1,0 +1,56 @@
+use Rattle.std.proofs.Common.{◌≡◌, List, [], ◌∷◌, Option, Some, map, ap, sym, subst, ◌∙◌, refl, ⊎_elim, Contains, string_bytes, arith}
+use Rattle.std.specs.Option.{MatchOption}
+use Rattle.cedar_below.proofs.Lists.{Contains-cons_cases}
+use Rattle.cedar_below.specs.EntityType.{type_name}
+use Rattle.cedar_below.specs.PlainName.{PlainName}
+use Rattle.cedar_below.specs.Text.{Text}
+use Rattle.cedar_below.specs.declared.entity_type.EntityType.{EntityType}
+use Rattle.cedar_declared.specs.Names.{NamesNoAction}
+use Rattle.cedar_declared.specs.Occurrences.{IsFirst}
+use Rattle.cedar_declared.specs.SchemaError.{carried_action}
+use Rattle.cedar_fragments.specs.ActionDeclarations.{fragment_parent}
+use Rattle.cedar_fragments.specs.HeldNames.{held_names}
+use Rattle.cedar_names.specs.ConditionalExpr.{placed_reference}
+use Rattle.cedar_names.specs.ConditionalName.{possibilities_of, conditional_reference}
+use Rattle.cedar_names.specs.PossibleNames.{names_of}
+use Rattle.cedar_names.specs.Reference.{Reference, ActionReference}
+use Rattle.cedar_names.specs.declared.json_schema.conditional_name.ConditionalName.{ConditionalName}
+use Rattle.cedar_names.specs.declared.json_schema.reference_type.ReferenceType.TheVariants.{Entity}
+use Rattle.cedar_fragments.proofs.namespace.qualify_actions.qualify_parent.Goals as goal
+
+pub returns-in-Some-clause-settled : goal.returns-in-Some-clause-settled
+returns-in-Some-clause-settled c =
+    let id = string_bytes c.args.parent.id in
+    let P : PlainName → Type 0 = λ ty. Contains (held_names c.args.all_defs.now).actions (record { ty = ty; eid = id }) in
+    let names = names_of c.possibilities.result.now in
+    let M : Option EntityType → Type 0 = λ found. MatchOption found ((name : PlainName) → Contains names name → ¬ P name)
+    (λ ty. IsFirst P names (type_name ty)) in
+    let first : IsFirst P names (type_name c.in-Some.ty) = subst M c.in-Some.is c.in_ok-ty.ensures in
+    let Q : List PlainName → Type 0 = λ each. IsFirst P each (type_name c.in-Some.ty) in
+    (record { ty = type_name c.in-Some.ty; eid = id }, (subst Q c.possibilities.ensures.names first, refl), refl)
+
+pub returns-in-None-clause-fault : goal.returns-in-None-clause-fault
+returns-in-None-clause-fault c =
+    let id = string_bytes c.args.parent.id in
+    let parent = fragment_parent ConditionalName placed_reference c.args.parent in
+    let actions = (held_names c.args.all_defs.now).actions in
+    let P : PlainName → Type 0 = λ ty. Contains actions (record { ty = ty; eid = id }) in
+    let names = names_of c.possibilities.result.now in
+    let M : Option EntityType → Type 0 = λ found. MatchOption found ((name : PlainName) → Contains names name → ¬ P name)
+    (λ ty. IsFirst P names (type_name ty)) in
+    let none : (name : PlainName) → Contains names name → ¬ P name = subst M c.in-None.is c.in_ok-ty.ensures in
+    let Q : List PlainName → Type 0 = λ each. (name : PlainName) → Contains each name → ¬ P name in
+    let nothing : NamesNoAction actions parent = subst Q c.possibilities.ensures.names none in
+    let possibilities : possibilities_of c.new-ty.result ≡ possibilities_of c.args.parent.ty =
+    c.new-ty.ensures.possibilities ∙ c.into_possibilities.ensures.names in
+    let same : conditional_reference c.new-ty.result ≡ placed_reference Entity c.args.parent.ty =
+    (λ i. record { possibilities = possibilities i; kind = c.new-ty.ensures.reference_type i }) in
+    let carries : Text × Option Reference = (id, Some (conditional_reference c.new-ty.result)) in
+    let R : List (Text × Option Reference) → Text × Option Reference → Type 0 = λ each carried. Contains each carried in
+    ((λ empty. cc),
+    λ carried among.
+        let is : carries ≡ carried =
+        ⊎_elim (λ here. here) (λ later. absurd (omega (arith, later.1)))
+        (Contains-cons_cases carries [] carried
+        (subst (λ each. R (carries ∷ map carried_action each) carried) c.new.ensures.items among)) in
+        (parent, refl, sym is ∙ ap (λ reference. (id, Some reference)) same, nothing))

@@ -1,0 +1,8 @@
+use Rattle.std.proofs.Common.{map, take}
+use Rattle.std.specs.List.{AllByRecursion}
+use Rattle.cedar_below.specs.InternalName.{name_of}
+use Rattle.cedar_below.specs.PlainName.{IsReserved}
+use Rattle.cedar_fragments.proofs.namespace.qualify_actions.qualify_requested.Given as goal
+
+abbrev pub invariant-loop-name : goal.invariant-loop-name
+invariant-loop-name l = AllByRecursion (λ name. ¬ IsReserved name) (map name_of (take l.name-index l.name-items))
