@@ -9,6 +9,7 @@ pub mod OneMore
 pub mod QualifiedLemmas
 pub mod ResolveLemmas
 pub mod SetLemmas
+pub mod SettledBags
 pub mod ShadowLemmas
 pub mod SoundLemmas
 pub mod UnsettledLemmas

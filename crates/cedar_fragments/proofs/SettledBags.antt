@@ -1,0 +1,91 @@
+-- Bags that are settled part by part.
+use Rattle.std.proofs.Common.{◌≡◌, ◌⊎◌, List, [], ◌∷◌, ◌++◌, map, ap, sym, subst, refl, inl, inr, ⊎_elim, Contains, arith}
+use Rattle.std.proofs.lemmas.List.Elements.{Contains-append_cases}
+use Rattle.std.specs.List.{flat_map}
+use Rattle.cedar_below.proofs.Lists.{Contains-cons, Contains-cons_cases, Contains-preimage}
+use Rattle.cedar_below.specs.Lists.{HoldsInTurn, Included}
+use Rattle.cedar_below.specs.PlainName.{PlainName, IsReserved}
+use Rattle.cedar_declared.proofs.TurnLemmas.{turn_forth, turn_weaker}
+use Rattle.cedar_declared.specs.Bag.{Bag}
+use Rattle.cedar_declared.specs.Counted.{HasToResolve}
+use Rattle.cedar_declared.specs.Fault.{Fault}
+use Rattle.cedar_declared.specs.Names.{Names, ResolvesTo}
+use Rattle.cedar_declared.specs.SchemaError.{qualify_fault}
+use Rattle.cedar_declared.specs.Settled.{SettlesDeclaration, SettlesBag}
+use Rattle.cedar_fragments.proofs.InTurn.{in_turn_append}
+use Rattle.cedar_fragments.proofs.UnsettledLemmas.{to_resolve, unsettled_wider, refused_unsettled}
+use Rattle.cedar_fragments.specs.QualifyFault.{HasToResolveIn, IsParentIn, IsRequestedIn, IsAnyParent, IsRequested, IsUnsettledIn, IsUnsettledBag, NoneIsReserved}
+use Rattle.cedar_fragments.specs.Refused.{IsRefusedAmong}
+use Rattle.cedar_names.specs.Declaration.{Declaration, Body}
+use Rattle.cedar_names.specs.Reference.{Reference, ActionReference}
+use Rattle.cedar_names.specs.declared.json_schema.qualify_error.QualifyError.{QualifyError}
+
+module _ (names : Names) where
+  -- a declaration is settled, and none of its principals and resources resolves to a reserved name
+  abbrev pub SettlesUnreserved : Declaration → Declaration → Type 0
+  SettlesUnreserved it settled = SettlesDeclaration names it settled × NoneIsReserved names (IsRequestedIn it.body)
+
+  -- the same of a bag
+  abbrev pub SettlesUnreservedBag : Bag → Bag → Type 0
+  SettlesUnreservedBag bag settled = SettlesBag names bag settled × NoneIsReserved names (IsRequested bag)
+
+  -- declarations that are settled in turn are a bag that is
+  pub settled_turn : (bag settled : Bag) → HoldsInTurn SettlesUnreserved bag settled → SettlesUnreservedBag bag settled
+  settled_turn bag settled turn = (
+    turn_weaker SettlesUnreserved (SettlesDeclaration names) (λ it other both. both.0) bag settled turn,
+    λ reference name requested resolves.
+        let found = turn_forth SettlesUnreserved bag settled turn requested.0 requested.1 in
+        found.2.1 reference name requested.2 resolves,
+  )
+
+  -- what can't be settled in a part of a bag can't be in the bag
+  pub unsettled_included : (part bag : Bag) → Included part bag → (fault : Fault) → IsUnsettledBag names part fault → IsUnsettledBag names bag fault
+  unsettled_included part bag included fault =
+      unsettled_wider names (HasToResolve part) (HasToResolve bag) (IsAnyParent part) (IsAnyParent bag) (IsRequested part) (IsRequested bag)
+      (λ reference. ⊎_elim
+      (λ stands. inl (stands.0, (stands.1.0, included stands.1.0 stands.1.1, stands.1.2), stands.2))
+      (λ place. inr (place.0, included place.0 place.1, place.2)))
+      (λ parent found. (found.0, included found.0 found.1, found.2)) (λ reference found. (found.0, included found.0 found.1, found.2)) fault
+
+  -- references of a part of a bag that are refused can't be settled in the bag
+  pub refused_included : (part bag : Bag) → Included part bag → (refused : QualifyError) → IsRefusedAmong names (HasToResolve part) refused
+      → IsUnsettledBag names bag (qualify_fault refused)
+  refused_included part bag included refused among =
+      unsettled_included part bag included (qualify_fault refused)
+      (refused_unsettled names (HasToResolve part) (IsAnyParent part) (IsRequested part) refused among)
+
+  -- two parts that are settled are settled together
+  pub settled_append : (xs xs' ys ys' : Bag) → SettlesUnreservedBag xs ys → SettlesUnreservedBag xs' ys'
+      → SettlesUnreservedBag (xs ++ xs') (ys ++ ys')
+  settled_append xs xs' ys ys' front back = (
+    in_turn_append (SettlesDeclaration names) xs xs' ys ys' front.0 back.0,
+    λ reference name requested resolves.
+        ⊎_elim
+        (λ here. front.1 reference name (requested.0, here, requested.2) resolves)
+        (λ there. back.1 reference name (requested.0, there, requested.2) resolves)
+        (Contains-append_cases xs xs' requested.0 requested.1),
+  )
+
+  -- several bags that are settled in turn are settled together
+  pub settled_together : {X Y : Type 0} (f : X → Bag) (g : Y → Bag) (xs : List X) (ys : List Y)
+      → HoldsInTurn SettlesUnreservedBag (map f xs) (map g ys) → SettlesUnreservedBag (flat_map f xs) (flat_map g ys)
+  settled_together f g [] [] turn = (tt, λ reference name requested. absurd (omega (arith, requested.1.1)))
+  settled_together f g [] (y ∷ ys) turn = absurd turn
+  settled_together f g (x ∷ xs) [] turn = absurd turn
+  settled_together f g (x ∷ xs) (y ∷ ys) turn =
+      settled_append (f x) (flat_map f xs) (g y) (flat_map g ys) turn.0 (settled_together f g xs ys turn.1)
+
+  -- in declarations none of which is of an action nothing is requested
+  pub none_requested : {X : Type 0} (f : X → Declaration) (xs : List X) → ((x : X) (reference : Reference) → ¬ IsRequestedIn (f x).body reference)
+      → NoneIsReserved names (IsRequested (map f xs))
+  none_requested f xs none reference name requested resolves =
+      let found = Contains-preimage f xs requested.0 requested.1 in
+      let P : Declaration → Type 0 = λ it. IsRequestedIn it.body reference in
+      absurd (none found.0 reference (subst P (sym found.2) requested.2))
+
+-- what can't be settled in a declaration can't be in a bag that has it
+pub unsettled_declaration : (names : Names) (bag : Bag) (it : Declaration) → Contains bag it → (fault : Fault)
+    → IsUnsettledIn names it.body fault → IsUnsettledBag names bag fault
+unsettled_declaration names bag it among fault =
+    unsettled_wider names (HasToResolveIn it.body) (HasToResolve bag) (IsParentIn it.body) (IsAnyParent bag) (IsRequestedIn it.body)
+    (IsRequested bag) (to_resolve bag it among) (λ parent found. (it, among, found)) (λ reference found. (it, among, found)) fault

@@ -1,0 +1,46 @@
+use Rattle.std.proofs.Common.{arith}
+use Rattle.std.proofs.lemmas.List.{nil_from_length}
+use Rattle.std.proofs.lemmas.Result.{err_from_is_err_and}
+use Rattle.cedar_declared.specs.SchemaError.{fault_of}
+use Rattle.cedar_fragments.proofs.FragmentLemmas.{flat_map-included}
+use Rattle.cedar_fragments.proofs.InTurn.{turn_none, turn_more, turn_all, turn_next}
+use Rattle.cedar_fragments.proofs.SettledBags.{settled_together, unsettled_included}
+use Rattle.cedar_fragments.specs.FragmentDeclarations.{conditional_definition, settled_definition, conditional_fragment}
+use Rattle.cedar_fragments.specs.HeldNames.{held_names}
+use Rattle.cedar_fragments.specs.QualifyFault.{IsUnsettledBag}
+use Rattle.cedar_fragments.proofs.namespace.qualify_definitions.ValidatorSchemaFragment+ConditionalName+ConditionalName.fully_qualify_type_references.Goals as goal
+
+pub loop-definition-init : goal.loop-definition-init
+loop-definition-init c = turn_none _ _ _ _ _ _ c.into_iter-definition-iterator.ensures.into_iter_gives.0 c.new-definitions.ensures.items
+
+pub returns-in_err-fully_qualify_type_references-clause-fault : goal.returns-in_err-fully_qualify_type_references-clause-fault
+returns-in_err-fully_qualify_type_references-clause-fault c =
+    let names = held_names c.args.all_defs.now in
+    let items = c.args.self.definitions.items in
+    let among = turn_next _ _ _ _ _ _ _ c.in-Some.definition c.in-Some.ensures.steps.0 c.loop-definition.invariant in
+    let at_fault : IsUnsettledBag names (conditional_fragment c.args.self) (fault_of c.in_err-fully_qualify_type_references.field-0.0) =
+    unsettled_included names (conditional_definition c.in-Some.definition) (conditional_fragment c.args.self)
+    (flat_map-included conditional_definition items c.in-Some.definition among) _ c.in_err-fully_qualify_type_references.ensures.fault in
+    let p = err_from_is_err_and c.from_residual.result c.from_residual.ensures.1 in
+    rw (p.1, p.2) at_fault
+
+pub loop-definition-preserved : goal.loop-definition-preserved
+loop-definition-preserved c =
+    turn_more _ _ _ _ _ _ _ _ c.in-Some.definition c.in_ok-fully_qualify_type_references.field-0 c.in-Some.ensures.steps.0
+    c.in_ok-push.ensures.items
+    (c.in_ok-fully_qualify_type_references.ensures.settled, c.in_ok-fully_qualify_type_references.ensures.unreserved)
+    c.loop-definition.invariant
+
+pub returns-clause-settled : goal.returns-clause-settled
+returns-clause-settled c =
+    (settled_together (held_names c.args.all_defs.now) conditional_definition settled_definition c.args.self.definitions.items
+    c.loop-definition.definitions.items
+    (turn_all _ _ _ _ _ _ (nil_from_length _ (omega (arith, c.in-None.ensures.steps.0, c.loop-definition.definition-iterator.rest.ok.0)))
+    c.loop-definition.invariant)).0
+
+pub returns-clause-unreserved : goal.returns-clause-unreserved
+returns-clause-unreserved c =
+    (settled_together (held_names c.args.all_defs.now) conditional_definition settled_definition c.args.self.definitions.items
+    c.loop-definition.definitions.items
+    (turn_all _ _ _ _ _ _ (nil_from_length _ (omega (arith, c.in-None.ensures.steps.0, c.loop-definition.definition-iterator.rest.ok.0)))
+    c.loop-definition.invariant)).1
