@@ -1,5 +1,6 @@
 pub mod AttributeLemmas
 pub mod DeclaredAsLemmas
+pub mod DeclaredNames
 pub mod FragmentLemmas
 pub mod FragmentsSoFar
 pub mod InTurn

@@ -1,12 +1,10 @@
 -- Types and references that are settled one after another.
-use Rattle.std.proofs.Common.{◌≡◌, ◌≢◌, ◌⊎◌, Bool, List, [], ◌∷◌, ◌++◌, map, ap, sym, subst, ◌∙◌, refl, inl, inr, ⊎_elim, Contains, string_bytes, arith}
+use Rattle.std.proofs.Common.{◌≡◌, Bool, List, [], ◌∷◌, ◌++◌, map, ap, sym, subst, ◌∙◌, refl, inl, inr, ⊎_elim, Contains, string_bytes, arith}
 use Rattle.std.specs.declared.alloc.Global.{Global}
 use Rattle.std.specs.declared.string.String.{String}
 use Rattle.cedar_below.proofs.Lists.{Contains-cons_cases}
 use Rattle.cedar_below.specs.Lists.{HoldsInTurn}
 use Rattle.cedar_below.specs.InternalName.{name_of}
-use Rattle.cedar_below.specs.NonEmpty.{items_of}
-use Rattle.cedar_below.specs.PlainName.{PlainName}
 use Rattle.cedar_below.specs.declared.internal_name.InternalName.{InternalName}
 use Rattle.cedar_declared.specs.Mentions.{Refers, MembersRefer}
 use Rattle.cedar_declared.specs.Names.{Names, ResolvesTo, IsUnresolved}
@@ -16,8 +14,7 @@ use Rattle.cedar_fragments.proofs.InTurn.{SameKey}
 use Rattle.cedar_fragments.specs.Refused.{IsRefused, IsRefusedAmong}
 use Rattle.cedar_names.proofs.ExprLemmas.{written_record-entries, written_record-made, written_attribute-parts}
 use Rattle.cedar_names.specs.ConditionalExpr.{placed_reference, placed_expr, placed_record, placed_attribute}
-use Rattle.cedar_names.specs.ConditionalName.{conditional_reference}
-use Rattle.cedar_names.specs.Expr.{Expr, Members, members_from, record_expr, named, member}
+use Rattle.cedar_names.specs.Expr.{Expr, members_from, record_expr, named, member}
 use Rattle.cedar_names.specs.Reference.{Reference}
 use Rattle.cedar_names.specs.WrittenExpr.{written_attribute}
 use Rattle.cedar_names.specs.declared.json_schema.conditional_name.ConditionalName.{ConditionalName}

@@ -1,6 +1,6 @@
 -- Sets of names and of uids, by what they stand for.
-use Rattle.std.proofs.Common.{◌≡◌, ◌⊎◌, ◌↔◌, true, List, [], ◌∷◌, ◌++◌, map, ap, sym, subst, ◌∙◌, refl, inl, inr, ⊎_elim, Contains, arith, ℕ, ◌+◌, ◌<◌, ◌≤◌, length, get_or, take}
-use Rattle.std.proofs.lemmas.List.{map_more, take_more, take_all, flat_map_more}
+use Rattle.std.proofs.Common.{◌≡◌, ◌⊎◌, ◌↔◌, true, List, [], ◌∷◌, ◌++◌, map, ap, sym, subst, ◌∙◌, refl, inl, inr, ⊎_elim, Contains, arith, ℕ, ◌+◌, ◌<◌, ◌≤◌, length, get_or, take, append_assoc}
+use Rattle.std.proofs.lemmas.List.{map_more, take_more, take_all, flat_map_more, map-append, append-nil}
 use Rattle.std.proofs.lemmas.List.Elements.{Contains-append_left, Contains-append_right, Contains-append_cases}
 use Rattle.std.specs.BTreeSet.{insert_key}
 use Rattle.std.specs.Bool.{Decides}
@@ -125,3 +125,32 @@ SameItems-from_none {P = P} after before more nothing also item =
       λ among. ⊎_elim (λ here. absurd (omega (arith, (subst Q nothing here).1))) (λ there. there) ((also item).0 among),
       λ there. (also item).1 (inr there),
     )
+
+-- what some items give was added, and others are left
+pub record AddedSoFar {D P : Type 0} (f : D → P) (before : List P) (all : List D) (after : List P) (left : List D) : Type 0 where
+  pub done : List D
+  pub split : all ≡ done ++ left
+  pub added : HasAlso after before (map f done)
+
+module _ {D P : Type 0} (f : D → P) (before : List P) where
+  -- at first nothing was
+  pub added_none : (all left : List D) → all ≡ left → AddedSoFar f before all before left
+  added_none all left same = record { done = []; split = same; added = HasAlso-none before }
+
+  -- one more was
+  pub added_more : (all left rest : List D) (middle after : List P) (item : D) (name : P) → left ≡ item ∷ rest → name ≡ f item
+      → HasAlso after middle (name ∷ []) → AddedSoFar f before all middle left → AddedSoFar f before all after rest
+  added_more all left rest middle after item name is named also so_far =
+      let Q : List P → Type 0 = HasAlso after before in
+      record {
+        done = so_far.done ++ item ∷ [];
+        split = so_far.split ∙ (ap (λ others. so_far.done ++ others) is ∙ sym (append_assoc so_far.done (item ∷ []) rest));
+        added = subst Q ((λ i. map f so_far.done ++ named i ∷ []) ∙ sym (map-append f so_far.done (item ∷ [])))
+            (HasAlso-more before middle after (map f so_far.done) (name ∷ []) so_far.added also);
+      }
+
+  -- where none is left, all were
+  pub added_all : (all left : List D) (after : List P) → left ≡ [] → AddedSoFar f before all after left → HasAlso after before (map f all)
+  added_all all left after nothing so_far =
+      let Q : List D → Type 0 = λ items. HasAlso after before (map f items) in
+      subst Q (sym (so_far.split ∙ (ap (λ others. so_far.done ++ others) nothing ∙ append-nil so_far.done))) so_far.added

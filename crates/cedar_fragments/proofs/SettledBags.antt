@@ -1,23 +1,22 @@
 -- Bags that are settled part by part.
-use Rattle.std.proofs.Common.{◌≡◌, ◌⊎◌, List, [], ◌∷◌, ◌++◌, map, ap, sym, subst, refl, inl, inr, ⊎_elim, Contains, arith}
+use Rattle.std.proofs.Common.{List, [], ◌∷◌, ◌++◌, map, sym, subst, inl, inr, ⊎_elim, Contains, arith}
 use Rattle.std.proofs.lemmas.List.Elements.{Contains-append_cases}
 use Rattle.std.specs.List.{flat_map}
-use Rattle.cedar_below.proofs.Lists.{Contains-cons, Contains-cons_cases, Contains-preimage}
+use Rattle.cedar_below.proofs.Lists.{Contains-preimage}
 use Rattle.cedar_below.specs.Lists.{HoldsInTurn, Included}
-use Rattle.cedar_below.specs.PlainName.{PlainName, IsReserved}
 use Rattle.cedar_declared.proofs.TurnLemmas.{turn_forth, turn_weaker}
 use Rattle.cedar_declared.specs.Bag.{Bag}
 use Rattle.cedar_declared.specs.Counted.{HasToResolve}
 use Rattle.cedar_declared.specs.Fault.{Fault}
-use Rattle.cedar_declared.specs.Names.{Names, ResolvesTo}
+use Rattle.cedar_declared.specs.Names.{Names}
 use Rattle.cedar_declared.specs.SchemaError.{qualify_fault}
 use Rattle.cedar_declared.specs.Settled.{SettlesDeclaration, SettlesBag}
 use Rattle.cedar_fragments.proofs.InTurn.{in_turn_append}
 use Rattle.cedar_fragments.proofs.UnsettledLemmas.{to_resolve, unsettled_wider, refused_unsettled}
 use Rattle.cedar_fragments.specs.QualifyFault.{HasToResolveIn, IsParentIn, IsRequestedIn, IsAnyParent, IsRequested, IsUnsettledIn, IsUnsettledBag, NoneIsReserved}
 use Rattle.cedar_fragments.specs.Refused.{IsRefusedAmong}
-use Rattle.cedar_names.specs.Declaration.{Declaration, Body}
-use Rattle.cedar_names.specs.Reference.{Reference, ActionReference}
+use Rattle.cedar_names.specs.Declaration.{Declaration}
+use Rattle.cedar_names.specs.Reference.{Reference}
 use Rattle.cedar_names.specs.declared.json_schema.qualify_error.QualifyError.{QualifyError}
 
 module _ (names : Names) where

@@ -1,11 +1,17 @@
-use Rattle.std.specs.Prelude.{◌⊎◌, ◌↔◌, List, map, Contains}
+use Rattle.std.specs.Prelude.{◌≡◌, ◌⊎◌, ◌↔◌, List, map, Contains}
 use Rattle.std.specs.List.{flat_map}
 use Rattle.cedar_below.specs.EntityType.{type_name}
 use Rattle.cedar_below.specs.EntityUID.{uid_of}
 use Rattle.cedar_below.specs.InternalName.{name_of}
 use Rattle.cedar_below.specs.Lists.{SameItems}
+use Rattle.cedar_below.specs.PlainName.{PlainName}
+use Rattle.cedar_below.specs.PlainUid.{PlainUid}
+use Rattle.cedar_declared.specs.Bag.{Bag, declared_common, declared_entities, action_uids}
 use Rattle.cedar_declared.specs.Names.{Names}
 use Rattle.cedar_fragments.specs.declared.defs.all_defs.AllDefs.{AllDefs}
+use Rattle.cedar_fragments.specs.declared.namespace.actions.ActionsDef.{ActionsDef}
+use Rattle.cedar_fragments.specs.declared.namespace.common_types.CommonTypeDefs.{CommonTypeDefs}
+use Rattle.cedar_fragments.specs.declared.namespace.entity_types.EntityTypesDef.{EntityTypesDef}
 use Rattle.cedar_fragments.specs.declared.namespace.definition.ValidatorNamespaceDef.{ValidatorNamespaceDef}
 use Rattle.cedar_fragments.specs.declared.namespace.fragment.ValidatorSchemaFragment.{ValidatorSchemaFragment}
 
@@ -17,14 +23,26 @@ held_names it = record {
   actions = map uid_of it.actions.keys;
 }
 
+-- the names of some common types
+abbrev pub common_type_names : (N : Type 0) → CommonTypeDefs N → List PlainName
+common_type_names N it = map (λ def. name_of def.name) it.defs.items
+
+-- the names of some entity types
+abbrev pub entity_type_names : (N : Type 0) → EntityTypesDef N → List PlainName
+entity_type_names N it = map (λ def. type_name def.name) it.defs.items
+
+-- the uids of some actions
+abbrev pub uids_of_actions : (N A : Type 0) → ActionsDef N A → List PlainUid
+uids_of_actions N A it = map (λ def. uid_of def.uid) it.defs.items
+
 -- over names of some form, and names of the types of actions of another
 module _ (N A : Type 0) where
   -- the names that a definition itself declares: no types of actions, no built-in types and no aliases
   abbrev pub definition_names : ValidatorNamespaceDef N A → Names
   definition_names it = record {
-    common = map (λ def. name_of def.name) it.common_types.defs.items;
-    entities = map (λ def. type_name def.name) it.entity_types.defs.items;
-    actions = map (λ def. uid_of def.uid) it.actions.defs.items;
+    common = common_type_names N it.common_types;
+    entities = entity_type_names N it.entity_types;
+    actions = uids_of_actions N A it.actions;
   }
 
   -- the names that some definitions themselves declare
@@ -62,3 +80,9 @@ pub record HoldsJust (held names : Names) : Type 0 where
   pub common : SameItems held.common names.common
   pub entities : SameItems held.entities names.entities
   pub actions : SameItems held.actions names.actions
+
+-- names are just those that the declarations of a bag give: of common types, of entity types, and the uids of actions
+pub record AreTheDeclaredNames (names : Names) (bag : Bag) : Type 0 where
+  pub common : names.common ≡ map (λ it. it.0) (declared_common bag)
+  pub entities : names.entities ≡ map (λ it. it.0) (declared_entities bag)
+  pub actions : names.actions ≡ action_uids bag

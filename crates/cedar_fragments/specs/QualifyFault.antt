@@ -1,6 +1,5 @@
-use Rattle.std.specs.Prelude.{◌≡◌, ◌≢◌, ◌⊎◌, List, [], Some, Option, Contains}
+use Rattle.std.specs.Prelude.{◌≡◌, ◌≢◌, ◌⊎◌, [], Some, Option, Contains}
 use Rattle.cedar_below.specs.PlainName.{PlainName, IsReserved}
-use Rattle.cedar_below.specs.PlainUid.{PlainUid}
 use Rattle.cedar_below.specs.Text.{Text}
 use Rattle.cedar_declared.specs.Bag.{Bag}
 use Rattle.cedar_declared.specs.Counted.{CountsIn, CountsInRequests, HasToResolve, IsEntityPlace, IsPrincipalOrResource}

@@ -3,3 +3,4 @@
 
 pub mod defs;
 pub mod namespace;
+pub mod theorems;

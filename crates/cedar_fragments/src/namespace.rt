@@ -9,6 +9,7 @@ pub use definition::ValidatorNamespaceDef;
 pub use entity_types::{EntityTypeFragment, EntityTypesDef};
 pub use fragment::ValidatorSchemaFragment;
 
+mod action_def;
 mod actions;
 mod common_types;
 mod definition;

@@ -1,11 +1,10 @@
 //! What the defined names hold, and how names are added to them.
 
 ghost use Rattle.std.specs.Prelude.{◌≡◌, ◌↔◌, IsTrue, IfOk, OnOk, OnErr, map, Contains, [], ◌∷◌};
-ghost use Rattle.cedar_below.specs.EntityType.{type_name};
 ghost use Rattle.cedar_below.specs.EntityUID.{uid_of};
 ghost use Rattle.cedar_below.specs.InternalName.{name_of};
 ghost use Rattle.cedar_declared.specs.Names.{Names};
-ghost use Rattle.cedar_fragments.specs.HeldNames.{held_names, definition_names, fragment_names, declared_names, HasAlso, HoldsAlso, HoldsJust};
+ghost use Rattle.cedar_fragments.specs.HeldNames.{held_names, common_type_names, entity_type_names, uids_of_actions, definition_names, fragment_names, declared_names, HasAlso, HoldsAlso, HoldsJust};
 
 use crate::defs::all_defs::AllDefs;
 use crate::namespace::{
@@ -80,7 +79,7 @@ impl AllDefs {
 /// Adds the names of some common types.
 fn add_common_types<N>(names: &mut BTreeSet<InternalName>, defs: &CommonTypeDefs<N>) -> M<()>
     ensures { OnOk result (HasAlso (map name_of names.new.keys) (map name_of names.old.keys)
-        (map (λ def. name_of def.name) defs.now.defs.items)) }
+        (common_type_names N defs.now)) }
 {
     for def in &defs.defs {
         add_name(names, def.name.clone()?)?;
@@ -91,7 +90,7 @@ fn add_common_types<N>(names: &mut BTreeSet<InternalName>, defs: &CommonTypeDefs
 /// Adds the names of some entity types.
 fn add_entity_types<N>(names: &mut BTreeSet<InternalName>, defs: &EntityTypesDef<N>) -> M<()>
     ensures { OnOk result (HasAlso (map name_of names.new.keys) (map name_of names.old.keys)
-        (map (λ def. type_name def.name) defs.now.defs.items)) }
+        (entity_type_names N defs.now)) }
 {
     for def in &defs.defs {
         add_name(names, def.name.clone()?.into_name().into_internal())?;
@@ -102,7 +101,7 @@ fn add_entity_types<N>(names: &mut BTreeSet<InternalName>, defs: &EntityTypesDef
 /// Adds the uids of some actions.
 fn add_actions<N, A>(uids: &mut BTreeSet<EntityUID>, defs: &ActionsDef<N, A>) -> M<()>
     ensures { OnOk result (HasAlso (map uid_of uids.new.keys) (map uid_of uids.old.keys)
-        (map (λ def. uid_of def.uid) defs.now.defs.items)) }
+        (uids_of_actions N A defs.now)) }
 {
     for def in &defs.defs {
         add_uid(uids, def.uid.clone()?)?;
@@ -162,5 +161,32 @@ impl AllDefs {
         let mut defs = AllDefs::none(alloc);
         defs.add_fragment(fragment)?;
         Ok(defs)
+    }
+}
+
+impl AllDefs {
+    /// The same names, and among those of entity types also the type of each action.
+    pub fn with_action_types(self) -> M<Self>
+        ensures entities { IfOk result (λ defs. HasAlso (held_names defs).entities (held_names self).entities
+            (map (λ uid. uid.ty) (held_names self).actions)) }
+        ensures common_stay { IfOk result (λ defs. (held_names defs).common ≡ (held_names self).common) }
+        ensures actions_stay { IfOk result (λ defs. (held_names defs).actions ≡ (held_names self).actions) }
+    {
+        let AllDefs {
+            mut entity_types,
+            common_types,
+            actions,
+            alloc,
+        } = self;
+        for uid in &actions {
+            let name = uid.entity_type().clone()?.into_name().into_internal();
+            add_name(&mut entity_types, name)?;
+        }
+        Ok(AllDefs {
+            entity_types,
+            common_types,
+            actions,
+            alloc,
+        })
     }
 }

@@ -26,6 +26,7 @@ ghost use Rattle.cedar_names.specs.declared.json_schema.reference_type.Reference
 ghost use Rattle.cedar_names.specs.declared.json_schema.conditional_name.ConditionalName.{ConditionalName as Conditional};
 ghost use Rattle.cedar_names.specs.declared.json_schema.raw_name.RawName.{RawName as Raw};
 
+use crate::namespace::action_def::ActionDef;
 use crate::namespace::entity_types::entity_references;
 use crate::namespace::full_name::full_name;
 use cedar_below::{Eid, EntityType, EntityUID, Id, InternalName, Loc, M, Name};
@@ -41,13 +42,6 @@ use std::collections::BTreeMap;
 #[derive(Debug, Drop)]
 pub struct ActionsDef<N, A> {
     pub(crate) defs: Vec<ActionDef<N, A>>,
-}
-
-/// An action under its uid, whose location is that of the whole declaration.
-#[derive(Debug, Drop)]
-pub(crate) struct ActionDef<N, A> {
-    pub(crate) uid: EntityUID,
-    pub(crate) fragment: ActionFragment<N, A>,
 }
 
 /// What is declared of an action.

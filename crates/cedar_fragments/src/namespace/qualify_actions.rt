@@ -23,9 +23,8 @@ ghost use Rattle.cedar_names.specs.declared.json_schema.conditional_name.Conditi
 ghost use Rattle.cedar_names.specs.declared.json_schema.reference_type.ReferenceType.TheVariants.{Entity as entity};
 
 use crate::defs::AllDefs;
-use crate::namespace::actions::{
-    ActionDef, ActionFragment, ActionParent, ActionRequests, ActionsDef,
-};
+use crate::namespace::action_def::ActionDef;
+use crate::namespace::actions::{ActionFragment, ActionParent, ActionRequests, ActionsDef};
 use crate::namespace::qualify_types::{qualify_entity_types, qualify_type};
 use cedar_below::{Eid, EntityType, EntityUID, InternalName, M, Name, NonEmpty};
 use cedar_declared::SchemaError;

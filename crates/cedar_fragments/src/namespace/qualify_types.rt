@@ -11,8 +11,7 @@ ghost use Rattle.cedar_fragments.specs.Refused.{IsRefusedAmong};
 ghost use Rattle.cedar_names.specs.ConditionalExpr.{placed_reference, placed_expr, placed_variant, placed_record};
 ghost use Rattle.cedar_names.specs.declared.json_schema.reference_type.ReferenceType.TheVariants.{Entity as entity};
 
-use crate::defs::AllDefs;
-use crate::defs::resolve_at;
+use crate::defs::{AllDefs, resolve_at};
 use cedar_below::{InternalName, M};
 use cedar_names::json_schema::{
     ConditionalName, QualifyError, RecordType, ReferenceType, Type, TypeOfAttribute, TypeVariant,

@@ -3,7 +3,7 @@ use Rattle.cedar_below.specs.EntityUID.{uid_of}
 use Rattle.cedar_below.specs.PlainUid.{PlainUid}
 use Rattle.cedar_fragments.proofs.SetLemmas.{HasAlso-next, HasAlso-all}
 use Rattle.cedar_fragments.specs.HeldNames.{HasAlso}
-use Rattle.cedar_fragments.specs.declared.namespace.actions.ActionDef.{ActionDef}
+use Rattle.cedar_fragments.specs.declared.namespace.action_def.ActionDef.{ActionDef}
 use Rattle.cedar_fragments.proofs.defs.names.add_actions.Goals as goal
 
 pub loop-def-preserved : goal.loop-def-preserved

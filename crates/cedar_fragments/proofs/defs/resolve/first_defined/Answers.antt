@@ -20,12 +20,13 @@ returns-then-is_defined-2-clause-found c =
 
 pub loop-number-preserved : goal.loop-number-preserved
 loop-number-preserved c =
-    let P : PlainName → Type 0 = IsDefined (held_names c.args.all_defs.now) c.args.kind in
-    (c.loop-number.invariant.0,
-    none_more P name_of c.args.names.tail.items c.loop-number.number c.index.result.now
-    (omega (arith, c.loop-number-test.true, c.len-number-end.ensures, c.args.names.tail.ok.0))
-    (c.index.ensures ∙ ap (λ tail. get_or tail.items c.loop-number.number c.index.result.now) c.loop-number.invariant.0)
-    (λ defined. false≢true (sym c.if-is_defined-2.false ∙ c.is_defined-in-loop-number.ensures.1 defined)) c.loop-number.invariant.1)
+    let P : PlainName → Type 0 = IsDefined (held_names c.args.all_defs.now) c.args.kind in (
+      c.loop-number.invariant.0,
+      none_more P name_of c.args.names.tail.items c.loop-number.number c.index.result.now
+          (omega (arith, c.loop-number-test.true, c.len-number-end.ensures, c.args.names.tail.ok.0))
+          (c.index.ensures ∙ ap (λ tail. get_or tail.items c.loop-number.number c.index.result.now) c.loop-number.invariant.0)
+          (λ defined. false≢true (sym c.if-is_defined-2.false ∙ c.is_defined-in-loop-number.ensures.1 defined)) c.loop-number.invariant.1,
+    )
 
 pub returns-clause-none : goal.returns-clause-none
 returns-clause-none c =

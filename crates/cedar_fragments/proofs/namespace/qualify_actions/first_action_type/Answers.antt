@@ -1,4 +1,4 @@
-use Rattle.std.proofs.Common.{◌≡◌, ◌∷◌, List, Option, map, ap, sym, subst, Contains, string_bytes}
+use Rattle.std.proofs.Common.{◌≡◌, ◌∷◌, List, Option, map, sym, subst, Contains, string_bytes}
 use Rattle.std.specs.Option.{MatchOption}
 use Rattle.cedar_below.specs.EntityType.{type_name}
 use Rattle.cedar_below.specs.InternalName.{name_of}

@@ -13,7 +13,7 @@ use Rattle.cedar_fragments.specs.HeldNames.{held_names}
 use Rattle.cedar_names.specs.ConditionalExpr.{placed_reference}
 use Rattle.cedar_names.specs.ConditionalName.{possibilities_of, conditional_reference}
 use Rattle.cedar_names.specs.PossibleNames.{names_of}
-use Rattle.cedar_names.specs.Reference.{Reference, ActionReference}
+use Rattle.cedar_names.specs.Reference.{Reference}
 use Rattle.cedar_names.specs.declared.json_schema.conditional_name.ConditionalName.{ConditionalName}
 use Rattle.cedar_names.specs.declared.json_schema.reference_type.ReferenceType.TheVariants.{Entity}
 use Rattle.cedar_fragments.proofs.namespace.qualify_actions.qualify_parent.Goals as goal
@@ -46,11 +46,12 @@ returns-in-None-clause-fault c =
     let same : conditional_reference c.new-ty.result ≡ placed_reference Entity c.args.parent.ty =
     (λ i. record { possibilities = possibilities i; kind = c.new-ty.ensures.reference_type i }) in
     let carries : Text × Option Reference = (id, Some (conditional_reference c.new-ty.result)) in
-    let R : List (Text × Option Reference) → Text × Option Reference → Type 0 = λ each carried. Contains each carried in
-    ((λ empty. cc),
-    λ carried among.
-        let is : carries ≡ carried =
-        ⊎_elim (λ here. here) (λ later. absurd (omega (arith, later.1)))
-        (Contains-cons_cases carries [] carried
-        (subst (λ each. R (carries ∷ map carried_action each) carried) c.new.ensures.items among)) in
-        (parent, refl, sym is ∙ ap (λ reference. (id, Some reference)) same, nothing))
+    let R : List (Text × Option Reference) → Text × Option Reference → Type 0 = λ each carried. Contains each carried in (
+      (λ empty. cc),
+      λ carried among.
+          let is : carries ≡ carried =
+          ⊎_elim (λ here. here) (λ later. absurd (omega (arith, later.1)))
+          (Contains-cons_cases carries [] carried
+          (subst (λ each. R (carries ∷ map carried_action each) carried) c.new.ensures.items among)) in
+          (parent, refl, sym is ∙ ap (λ reference. (id, Some reference)) same, nothing),
+    )

@@ -2,7 +2,6 @@ use Rattle.std.proofs.Common.{◌≡◌, map, Contains, subst, arith}
 use Rattle.std.proofs.lemmas.List.{nil_from_length}
 use Rattle.std.proofs.lemmas.Result.{err_from_is_err_and}
 use Rattle.cedar_declared.proofs.OccurrenceLemmas.{Contains-image}
-use Rattle.cedar_declared.specs.Fault.{Fault}
 use Rattle.cedar_declared.specs.SchemaError.{fault_of}
 use Rattle.cedar_fragments.proofs.InTurn.{turn_none, turn_more, turn_all, turn_next}
 use Rattle.cedar_fragments.proofs.UnsettledLemmas.{unsettled_wider}

@@ -1,4 +1,4 @@
-use Rattle.std.proofs.Common.{Option, Some, map, Contains, sym, subst}
+use Rattle.std.proofs.Common.{Option, map, Contains, sym, subst}
 use Rattle.std.proofs.lemmas.Result.{err_from_is_err_and}
 use Rattle.cedar_declared.specs.Counted.{IsPrincipalOrResource}
 use Rattle.cedar_declared.specs.SchemaError.{fault_of}

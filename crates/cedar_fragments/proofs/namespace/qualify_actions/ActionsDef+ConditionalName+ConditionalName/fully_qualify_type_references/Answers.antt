@@ -1,4 +1,4 @@
-use Rattle.std.proofs.Common.{Contains, arith}
+use Rattle.std.proofs.Common.{arith}
 use Rattle.std.proofs.lemmas.List.{nil_from_length}
 use Rattle.std.proofs.lemmas.Result.{err_from_is_err_and}
 use Rattle.cedar_below.specs.EntityUID.{uid_of}
@@ -35,11 +35,13 @@ returns-in_err-fragment-clause-fault c =
 
 pub loop-def-preserved : goal.loop-def-preserved
 loop-def-preserved c =
-    turn_more _ _ _ _ _ _ _ _ c.in-Some.def _ c.in-Some.ensures.steps.0 c.in_ok-push.ensures.items
-    (settles_declared_action (held_names c.args.all_defs.now) (uid_of c.in-Some.def.uid)
-    (action (action_fragment_body ConditionalName placed_reference ConditionalName placed_reference c.in-Some.def.fragment))
-    (action (action_fragment_body InternalName settled_reference EntityType settled_action_type c.in_ok-fragment.fragment))
-    c.in_ok-fragment.ensures.settled, c.in_ok-fragment.ensures.unreserved) c.loop-def.invariant
+    turn_more _ _ _ _ _ _ _ _ c.in-Some.def _ c.in-Some.ensures.steps.0 c.in_ok-push.ensures.items (
+      settles_declared_action (held_names c.args.all_defs.now) (uid_of c.in-Some.def.uid)
+          (action (action_fragment_body ConditionalName placed_reference ConditionalName placed_reference c.in-Some.def.fragment))
+          (action (action_fragment_body InternalName settled_reference EntityType settled_action_type c.in_ok-fragment.fragment))
+          c.in_ok-fragment.ensures.settled,
+      c.in_ok-fragment.ensures.unreserved,
+    ) c.loop-def.invariant
 
 pub returns-clause-settled : goal.returns-clause-settled
 returns-clause-settled c =

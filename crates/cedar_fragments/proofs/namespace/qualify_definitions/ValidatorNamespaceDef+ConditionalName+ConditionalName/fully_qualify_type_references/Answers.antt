@@ -58,12 +58,12 @@ returns-in_err-actions-clause-fault c =
 -- the parts that are settled, together
 whole : (c : goal.In_ok-actions) → SettlesUnreservedBag (held_names c.args.all_defs.now) (conditional_definition c.args.self)
     (settled_definition (record {
-    namespace = c.args.self.namespace;
-    common_types = c.in_ok-common_types.common_types;
-    entity_types = c.in_ok-entity_types.entity_types;
-    actions = c.in_ok-actions.actions;
-    loc = c.args.self.loc;
-  }))
+      namespace = c.args.self.namespace;
+      common_types = c.in_ok-common_types.common_types;
+      entity_types = c.in_ok-entity_types.entity_types;
+      actions = c.in_ok-actions.actions;
+      loc = c.args.self.loc;
+    }))
 whole c =
     let names = held_names c.args.all_defs.now in
     let it = c.args.self in

@@ -1,4 +1,4 @@
-use Rattle.std.proofs.Common.{Contains, refl, inl, arith}
+use Rattle.std.proofs.Common.{refl, inl, arith}
 use Rattle.std.proofs.lemmas.List.{nil_from_length}
 use Rattle.std.proofs.lemmas.Result.{err_from_is_err_and}
 use Rattle.cedar_below.specs.InternalName.{name_of}

@@ -1,0 +1,155 @@
+-- The names that fragments declare are those of their bag.
+use Rattle.std.proofs.Common.{◌≡◌, List, [], ◌∷◌, ◌++◌, map, ap, sym, ◌∙◌, refl}
+use Rattle.std.proofs.lemmas.Grind.{flat_map-append}
+use Rattle.std.proofs.lemmas.List.{map-append, append-nil}
+use Rattle.std.specs.List.{flat_map}
+use Rattle.cedar_below.specs.EntityType.{type_name}
+use Rattle.cedar_below.specs.EntityUID.{uid_of}
+use Rattle.cedar_below.specs.InternalName.{name_of}
+use Rattle.cedar_below.specs.PlainName.{PlainName, IsActionType}
+use Rattle.cedar_below.specs.PlainUid.{PlainUid}
+use Rattle.cedar_declared.specs.Bag.{Bag, common_in, entity_in, action_in, declared_name, declared_uid}
+use Rattle.cedar_fragments.proofs.DeclaredAsLemmas.{path_within-namespace_of}
+use Rattle.cedar_fragments.specs.ActionDeclarations.{action_fragment_body}
+use Rattle.cedar_fragments.specs.DeclaredAs.{declared_as, declared_action}
+use Rattle.cedar_fragments.specs.FragmentDeclarations.{definition_declarations, fragment_declarations}
+use Rattle.cedar_fragments.specs.HeldNames.{definition_names, declared_names, AreTheDeclaredNames}
+use Rattle.cedar_fragments.specs.TypeDeclarations.{fragment_body}
+use Rattle.cedar_fragments.specs.declared.namespace.action_def.ActionDef.{ActionDef}
+use Rattle.cedar_fragments.specs.declared.namespace.common_types.CommonTypeDef.{CommonTypeDef}
+use Rattle.cedar_fragments.specs.declared.namespace.definition.ValidatorNamespaceDef.{ValidatorNamespaceDef}
+use Rattle.cedar_fragments.specs.declared.namespace.entity_types.EntityTypeDef.{EntityTypeDef}
+use Rattle.cedar_fragments.specs.declared.namespace.fragment.ValidatorSchemaFragment.{ValidatorSchemaFragment}
+use Rattle.cedar_names.specs.Declaration.{Declaration, Body, common_type, entity_type, action}
+use Rattle.cedar_names.specs.Reference.{Reference}
+use Rattle.cedar_names.specs.WrittenExpr.{written_type}
+use Rattle.cedar_names.specs.declared.json_schema.reference_type.ReferenceType.{ReferenceType}
+
+-- what is declared under a name has that name
+pub name_declared : (name : PlainName) (body : Body) → declared_name (declared_as name body) ≡ name
+name_declared name body = (λ i. record { base = name.base; path = path_within-namespace_of name.path i })
+
+-- what is declared of an action has its uid
+pub uid_declared : (uid : PlainUid) (body : Body) → IsActionType uid.ty → declared_uid (declared_action uid body) ≡ uid
+uid_declared uid body is =
+    (λ i. record { ty = record { base = sym is i; path = path_within-namespace_of uid.ty.path i }; eid = uid.eid })
+
+module _ {P : Type 0} (read : Declaration → List P) where
+  -- what is read of a bag
+  abbrev read_all : Bag → List P
+  read_all bag = flat_map read bag
+
+  -- where each declaration gives a name, some give those names
+  each_read : {D : Type 0} (f : D → Declaration) (key : D → P) → ((d : D) → read (f d) ≡ key d ∷ []) → (defs : List D)
+      → flat_map read (map f defs) ≡ map key defs
+  each_read f key one [] = refl
+  each_read f key one (def ∷ defs) = (λ i. one def i ++ each_read f key one defs i)
+
+  -- where none gives one, some give none
+  none_read : {D : Type 0} (f : D → Declaration) → ((d : D) → read (f d) ≡ []) → (defs : List D) → flat_map read (map f defs) ≡ []
+  none_read f none [] = refl
+  none_read f none (def ∷ defs) = (λ i. none def i ++ none_read f none defs i)
+
+  -- several bags give what each gives in turn
+  read_together : {X : Type 0} (f : X → Bag) (xs : List X) → flat_map read (flat_map f xs) ≡ flat_map (λ x. flat_map read (f x)) xs
+  read_together f [] = refl
+  read_together f (x ∷ xs) = flat_map-append read (f x) (flat_map f xs) ∙ ap (λ others. flat_map read (f x) ++ others) (read_together f xs)
+
+-- where each gives the same, all do
+same_together : {X P : Type 0} (f g : X → List P) → ((x : X) → f x ≡ g x) → (xs : List X) → flat_map f xs ≡ flat_map g xs
+same_together f g same [] = refl
+same_together f g same (x ∷ xs) = (λ i. same x i ++ same_together f g same xs i)
+
+-- the keys of what is read are read
+keys_read : {P Q : Type 0} (read : Declaration → List (P × Q)) (bag : Bag)
+    → map (λ it. it.0) (flat_map read bag) ≡ flat_map (λ it. map (λ each. each.0) (read it)) bag
+keys_read read [] = refl
+keys_read read (it ∷ bag) = map-append (λ each. each.0) (read it) (flat_map read bag) ∙ ap (λ others. map (λ each. each.0) (read it) ++ others) (keys_read read bag)
+
+-- the names that a declaration gives
+abbrev common_name : Declaration → List PlainName
+common_name it = map (λ each. each.0) (common_in (declared_name it) it.body)
+
+abbrev entity_name : Declaration → List PlainName
+entity_name it = map (λ each. each.0) (entity_in (declared_name it) it.body)
+
+abbrev action_uid : Declaration → List PlainUid
+action_uid it = map (λ each. each.0) (action_in (declared_uid it) it.body)
+
+module _ (N : Type 0) (refer : ReferenceType → N → Reference) (A : Type 0) (refer_action : ReferenceType → A → Reference) where
+  -- a common type, an entity type and an action as declarations
+  abbrev of_common : CommonTypeDef N → Declaration
+  of_common def = declared_as (name_of def.name) (common_type (written_type N refer def.ty))
+
+  abbrev of_entity : EntityTypeDef N → Declaration
+  of_entity def = declared_as (type_name def.name) (entity_type (fragment_body N refer def.fragment))
+
+  abbrev of_action : ActionDef N A → Declaration
+  of_action def = declared_action (uid_of def.uid) (action (action_fragment_body N refer A refer_action def.fragment))
+
+  -- what three parts give together
+  three : {P : Type 0} (read : Declaration → List P) (xs ys zs : Bag)
+      → flat_map read (xs ++ ys ++ zs) ≡ flat_map read xs ++ flat_map read ys ++ flat_map read zs
+  three read xs ys zs = flat_map-append read (xs ++ ys) zs ∙ ap (λ front. front ++ flat_map read zs) (flat_map-append read xs ys)
+
+  -- the names of common types of a definition
+  common_of : (it : ValidatorNamespaceDef N A)
+      → flat_map common_name (definition_declarations N refer A refer_action it) ≡ (definition_names N A it).common
+  common_of it =
+      three common_name (map of_common it.common_types.defs.items) (map of_entity it.entity_types.defs.items) (map of_action it.actions.defs.items)
+      ∙ ((λ i.
+      each_read common_name of_common (λ def. name_of def.name)
+      (λ def. ap (λ name. name ∷ []) (name_declared (name_of def.name) (common_type (written_type N refer def.ty)))) it.common_types.defs.items i
+      ++ none_read common_name of_entity (λ def. refl) it.entity_types.defs.items i
+      ++ none_read common_name of_action (λ def. refl) it.actions.defs.items i)
+      ∙ (append-nil _ ∙ append-nil _))
+
+  -- the names of entity types of a definition
+  entities_of : (it : ValidatorNamespaceDef N A)
+      → flat_map entity_name (definition_declarations N refer A refer_action it) ≡ (definition_names N A it).entities
+  entities_of it =
+      three entity_name (map of_common it.common_types.defs.items) (map of_entity it.entity_types.defs.items) (map of_action it.actions.defs.items)
+      ∙ ((λ i.
+      none_read entity_name of_common (λ def. refl) it.common_types.defs.items i
+      ++ each_read entity_name of_entity (λ def. type_name def.name)
+      (λ def. ap (λ name. name ∷ []) (name_declared (type_name def.name) (entity_type (fragment_body N refer def.fragment)))) it.entity_types.defs.items i
+      ++ none_read entity_name of_action (λ def. refl) it.actions.defs.items i)
+      ∙ append-nil _)
+
+  -- the uids of actions of a definition
+  actions_of : (it : ValidatorNamespaceDef N A)
+      → flat_map action_uid (definition_declarations N refer A refer_action it) ≡ (definition_names N A it).actions
+  actions_of it =
+      three action_uid (map of_common it.common_types.defs.items) (map of_entity it.entity_types.defs.items) (map of_action it.actions.defs.items)
+      ∙ (λ i.
+      none_read action_uid of_common (λ def. refl) it.common_types.defs.items i
+      ++ none_read action_uid of_entity (λ def. refl) it.entity_types.defs.items i
+      ++ each_read action_uid of_action (λ def. uid_of def.uid)
+      (λ def. ap (λ uid. uid ∷ []) (uid_declared (uid_of def.uid) (action (action_fragment_body N refer A refer_action def.fragment)) def.is_action))
+      it.actions.defs.items i)
+
+  -- the names of a bag of fragments, read definition by definition
+  all_of : {P : Type 0} (read : Declaration → List P) (names : ValidatorNamespaceDef N A → List P)
+      → ((it : ValidatorNamespaceDef N A) → flat_map read (definition_declarations N refer A refer_action it) ≡ names it)
+      → (fragments : List (ValidatorSchemaFragment N A))
+      → flat_map read (flat_map (fragment_declarations N refer A refer_action) fragments)
+      ≡ flat_map (λ fragment. flat_map names fragment.definitions.items) fragments
+  all_of read names each fragments =
+      read_together read (fragment_declarations N refer A refer_action) fragments
+      ∙ same_together _ (λ fragment. flat_map names fragment.definitions.items)
+      (λ fragment. read_together read (definition_declarations N refer A refer_action) fragment.definitions.items
+      ∙ same_together _ names each fragment.definitions.items) fragments
+
+  -- the names that fragments declare are those of their bag
+  pub names_are_declared : (fragments : List (ValidatorSchemaFragment N A))
+      → AreTheDeclaredNames (declared_names N A fragments) (flat_map (fragment_declarations N refer A refer_action) fragments)
+  names_are_declared fragments =
+      let bag = flat_map (fragment_declarations N refer A refer_action) fragments in
+      record {
+        common = sym (keys_read (λ it. common_in (declared_name it) it.body) bag
+            ∙ all_of common_name (λ it. (definition_names N A it).common) common_of fragments);
+        entities = sym (keys_read (λ it. entity_in (declared_name it) it.body) bag
+            ∙ all_of entity_name (λ it. (definition_names N A it).entities) entities_of fragments);
+        actions = sym (keys_read (λ it. action_in (declared_uid it) it.body) bag
+            ∙ all_of action_uid (λ it. (definition_names N A it).actions) actions_of fragments);
+      }

@@ -1,0 +1,23 @@
+use Rattle.std.proofs.Common.{sym, subst, ◌∙◌, map, List}
+use Rattle.std.proofs.lemmas.Simd.{map-map}
+use Rattle.cedar_below.specs.EntityUID.{uid_of}
+use Rattle.cedar_below.specs.InternalName.{name_of}
+use Rattle.cedar_below.specs.PlainName.{PlainName}
+use Rattle.cedar_fragments.proofs.SetLemmas.{added_none, added_more, added_all}
+use Rattle.cedar_fragments.specs.HeldNames.{HasAlso}
+use Rattle.cedar_fragments.proofs.defs.all_defs.AllDefs.with_action_types.Goals as goal
+
+pub loop-uid-init : goal.loop-uid-init
+loop-uid-init c = added_none _ _ _ _ (sym c.into_iter-uid-iterator.ensures.into_iter_gives.0)
+
+pub loop-uid-preserved : goal.loop-uid-preserved
+loop-uid-preserved c =
+    added_more _ _ _ _ c.next.new.self _ _ c.in-Some.uid.now _ c.in-Some.ensures.steps
+    (c.into_internal-name.ensures.name ∙ (c.into_name.ensures.name ∙ (c.in_ok-clone.ensures.name ∙ c.entity_type.ensures)))
+    c.in_ok-add_name.ensures.added c.loop-uid.invariant
+
+pub returns-clause-entities : goal.returns-clause-entities
+returns-clause-entities c =
+    let P : List PlainName → Type 0 = HasAlso (map name_of c.loop-uid.entity_types.keys) (map name_of c.args.self.entity_types.keys) in
+    subst P (sym (map-map _ _ c.args.self.actions.keys))
+    (added_all (λ uid. (uid_of uid).ty) (map name_of c.args.self.entity_types.keys) c.args.self.actions.keys c.loop-uid.uid-iterator _ c.in-None.ensures.steps.0 c.loop-uid.invariant)

@@ -1,0 +1,10 @@
+use Rattle.std.proofs.Common.{map}
+use Rattle.cedar_below.specs.EntityUID.{uid_of}
+use Rattle.cedar_below.specs.InternalName.{name_of}
+use Rattle.cedar_fragments.proofs.SetLemmas.{AddedSoFar}
+use Rattle.cedar_fragments.proofs.defs.all_defs.AllDefs.with_action_types.Given as goal
+
+abbrev pub invariant-loop-uid : goal.invariant-loop-uid
+invariant-loop-uid l =
+    AddedSoFar (λ uid. (uid_of uid).ty) (map name_of l.initial.entity_types.keys) l.fn.self.actions.keys
+    (map name_of l.entity_types.keys) l.uid-iterator
