@@ -28,14 +28,16 @@ use Rattle.cedar_actions.specs.declared.apply_spec.ValidatorApplySpec.{Validator
 
 -- apply specs are equal exactly where they have the same principals and resources
 pub apply_specs-Decides : (a b : ValidatorApplySpec EntityType)
-    → Decides (hash_set_eq (entity_type_eq.ghosts).eq a.principals b.principals && hash_set_eq (entity_type_eq.ghosts).eq a.resources b.resources)
+    → Decides (hash_set_eq (entity_type_eq.ghosts).eq a.principals b.principals
+    && hash_set_eq (entity_type_eq.ghosts).eq a.resources b.resources)
     (SameItems (principal_names a) (principal_names b) × SameItems (resource_names a) (resource_names b))
 apply_specs-Decides a b =
     let same = sets-Decides (entity_type_eq.ghosts).eq type_name entity_type_equal.Laws.laws-law entity_type_eq-same in
     Decides-and _ _ (same a.principals b.principals) (same a.resources b.resources)
 
 -- kinds of actions are equal exactly where they are for the same requests
-pub kinds-Decides : (a b : ValidatorActionKind) → Decides ((kind_eq.ghosts).eq a b) (SameActionKind (plain_kind a) (plain_kind b))
+pub kinds-Decides : (a b : ValidatorActionKind)
+    → Decides ((kind_eq.ghosts).eq a b) (SameActionKind (plain_kind a) (plain_kind b))
 kinds-Decides (variant.Defined a context) (variant.Defined b other) =
     Decides-like _ (λ both. (both.0.0, both.0.1, both.1)) (λ all. ((all.0, all.1), all.2))
     (Decides-and _ _ (apply_specs-Decides a b) (types-Decides context other))

@@ -7,5 +7,6 @@ use Rattle.cedar_actions.proofs.apply_spec.ValidatorApplySpec+EntityType.is_appl
 
 pub returns : goal.returns
 returns c =
-    let P : Bool → Type 0 = λ found. Decides found (Contains (principal_names c.args.self.now) (type_name c.args.ty.now)) in
+    let P : Bool → Type 0 =
+    λ found. Decides found (Contains (principal_names c.args.self.now) (type_name c.args.ty.now)) in
     subst P (sym c.contains.ensures) (list_any-names c.args.ty.now c.args.self.now.principals.keys)
