@@ -5,7 +5,7 @@ ghost use Rattle.std.specs.HashSet.{hash_set_len};
 
 use crate::action_kind::ValidatorActionKind;
 use crate::apply_spec::ValidatorApplySpec;
-use crate::sets::{clone_uids, type_set, uid_set};
+use crate::sets::{copied, type_set, uid_set};
 use cedar_below::{EntityType, EntityUID, Loc, M};
 use cedar_types::Type;
 use std::alloc::Global;
@@ -246,7 +246,7 @@ impl ValidatorActionId {
         Ok(ValidatorActionId {
             name: self.name.clone()?,
             kind: self.kind.clone()?,
-            descendants: clone_uids(&self.descendants)?,
+            descendants: copied(&self.descendants, EntityUID::clone)?,
             loc: self.loc,
             no_types: HashSet::emptied(&self.no_types)?,
         })

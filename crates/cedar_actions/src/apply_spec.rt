@@ -1,7 +1,8 @@
 //! The requests that an action is for.
 
-use crate::sets::clone_types;
+use crate::sets::copied;
 use cedar_below::{EntityType, M};
+use cedar_names::json_schema::ConditionalName;
 use std::collections::{HashSet, hash_set};
 use std::hash::Hash;
 
@@ -74,8 +75,25 @@ impl ValidatorApplySpec<EntityType> {
         ensures resources { IfOk result (λ copy. SameItems (resource_names copy) (resource_names self.now)) }
     {
         Ok(ValidatorApplySpec {
-            principals: clone_types(&self.principals)?,
-            resources: clone_types(&self.resources)?,
+            principals: copied(&self.principals, EntityType::clone)?,
+            resources: copied(&self.resources, EntityType::clone)?,
+        })
+    }
+}
+
+impl ValidatorApplySpec<ConditionalName> {
+    ghost use Rattle.std.specs.Prelude.{IfOk};
+    ghost use Rattle.cedar_actions.specs.ValidatorApplySpec.{principal_references, resource_references};
+    ghost use Rattle.cedar_below.specs.Lists.{SameItems};
+
+    /// Equal sets, or want of memory.
+    pub fn clone(&self) -> M<Self>
+        ensures principals { IfOk result (λ copy. SameItems (principal_references copy) (principal_references self.now)) }
+        ensures resources { IfOk result (λ copy. SameItems (resource_references copy) (resource_references self.now)) }
+    {
+        Ok(ValidatorApplySpec {
+            principals: copied(&self.principals, ConditionalName::clone)?,
+            resources: copied(&self.resources, ConditionalName::clone)?,
         })
     }
 }

@@ -1,17 +1,21 @@
 //! Sets of entity types and of uids.
 
-ghost use Rattle.std.specs.Prelude.{◌≡◌, IfOk, List, map};
+ghost use Rattle.std.specs.Prelude.{◌≡◌, IsTrue, IfOk, Result, List, map};
+ghost use Rattle.std.specs.Fn.{FnReturnsAt};
+ghost use Rattle.std.specs.HashSet.{contains};
 ghost use Rattle.std.specs.Iterator.{IsFinite, Drains};
 ghost use Rattle.cedar_below.specs.EntityType.{type_name};
 ghost use Rattle.cedar_below.specs.EntityUID.{uid_of};
 ghost use Rattle.cedar_below.specs.Lists.{SameItems};
 ghost use Rattle.cedar_below.specs.declared.entity_type.EntityType.{EntityType};
 ghost use Rattle.cedar_below.specs.declared.entity_uid.EntityUID.{EntityUID};
+ghost use Rattle.cedar_below.specs.declared.memory.Memory.{Memory};
 
 use cedar_below::{EntityType, EntityUID, M};
 use std::alloc::Global;
 use std::collections::HashSet;
 use std::default::Emptied;
+use std::hash::Hash;
 
 /// The set of some entity types, or want of memory. The entity types have to come to an end.
 pub(crate) fn type_set<I: IntoIterator<Item = EntityType>>(
@@ -37,24 +41,19 @@ pub(crate) fn uid_set<I: IntoIterator<Item = EntityUID>>(
     Ok(HashSet::from_iter(alloc, uids)?)
 }
 
-/// Equal entity types, or want of memory.
-pub(crate) fn clone_types(types: &HashSet<EntityType>) -> M<HashSet<EntityType>>
-    ensures { IfOk result (λ copy. SameItems (map type_name copy.keys) (map type_name types.now.keys)) }
+/// The set of copies of the items of a set, or want of memory. Each copy has to equal its item.
+pub(crate) fn copied<K: Eq + Hash + Drop, F: Fn(&K) -> M<K> + Drop>(
+    items: &HashSet<K>,
+    copy: F,
+) -> M<HashSet<K>>
+    requires callable { F.IsAlwaysCallable copy }
+    requires equal { (item : K) (answer : Result K Memory) → FnReturnsAt F.Fn copy item answer
+        → IfOk answer (λ other. IsTrue (K.eq other item)) }
+    ensures { IfOk result (λ set. (other : K) → contains K.eq set other ≡ contains K.eq items.now other) }
 {
-    let mut copy = HashSet::emptied(types)?;
-    for ty in types {
-        copy.insert(ty.clone()?)?;
+    let mut set = HashSet::emptied(items)?;
+    for item in items {
+        set.insert(copy(item)?)?;
     }
-    Ok(copy)
-}
-
-/// Equal uids, or want of memory.
-pub(crate) fn clone_uids(uids: &HashSet<EntityUID>) -> M<HashSet<EntityUID>>
-    ensures { IfOk result (λ copy. SameItems (map uid_of copy.keys) (map uid_of uids.now.keys)) }
-{
-    let mut copy = HashSet::emptied(uids)?;
-    for uid in uids {
-        copy.insert(uid.clone()?)?;
-    }
-    Ok(copy)
+    Ok(set)
 }
