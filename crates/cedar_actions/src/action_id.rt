@@ -138,7 +138,7 @@ impl ValidatorActionId {
         self.loc
     }
 
-    /// The uids of the actions that may stand below this one in the hierarchy, each once.
+    /// The uids of the descendants of the action in the hierarchy, each once.
     pub fn descendants(&self) -> hash_set::Iter<'_, EntityUID>
         ensures uids { map uid_of result ≡ (action_of self.now).descendants }
         ensures once { AllPairs (λ a b. a ≢ b) (action_of self.now).descendants }
