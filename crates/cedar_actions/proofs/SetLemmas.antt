@@ -57,7 +57,8 @@ AnswersAlike {K = K} eq xs ys = (q : K) → list_any (eq q) xs ≡ list_any (eq 
 -- where an equal item is inserted, the lists still answer alike
 pub AnswersAlike-insert : {K : Type 0} {eq : K → K → Bool} → IsEquivalence eq → (before old new : List K) (x copy : K)
     → AnswersAlike eq old before → eq copy x ≡ true
-    → ((q : K) → list_any (eq q) new ≡ cond (eq copy q) true (list_any (eq q) old)) → AnswersAlike eq new (before ++ x ∷ [])
+    → ((q : K) → list_any (eq q) new ≡ cond (eq copy q) true (list_any (eq q) old))
+    → AnswersAlike eq new (before ++ x ∷ [])
 AnswersAlike-insert {eq = eq} laws before old new x copy answers same inserted q =
     inserted q
     ∙ ap (λ b. cond b true (list_any (eq q) old)) (laws.congr copy x q same ∙ laws.symm x q)
@@ -80,7 +81,8 @@ module _ {K B : Type 0} (eq : K → K → Bool) (f : K → B) (laws : IsEquivale
       let x = found.0 in
       let P : B → Type 0 = Contains (map f ys) in
       let Q : B → Type 0 = Contains (map f xs) in
-      let searched : list_any (eq x) ys ≡ true = sym (answers x) ∙ (list_any-items x xs).1 (subst Q (sym found.2) among) in
+      let searched : list_any (eq x) ys ≡ true =
+      sym (answers x) ∙ (list_any-items x xs).1 (subst Q (sym found.2) among) in
       subst P found.2 ((list_any-items x ys).0 searched)
 
   -- where two lists answer alike, they stand for the same items
@@ -123,7 +125,8 @@ SameItems-types =
 
 -- a copy of an entity type is equal
 pub equal-type : {E : Type 0} (ty shown : EntityType) (answer : Result EntityType E) → shown ≡ ty
-    → IfOk answer (λ copy. type_name copy ≡ type_name shown) → IfOk answer (λ copy. IsTrue ((entity_type_eq.ghosts).eq copy ty))
+    → IfOk answer (λ copy. type_name copy ≡ type_name shown)
+    → IfOk answer (λ copy. IsTrue ((entity_type_eq.ghosts).eq copy ty))
 equal-type = equal-copy (entity_type_eq.ghosts).eq type_name entity_type_equal.Laws.laws-law entity_type_eq-same
 
 -- uids that answer alike stand for the same
@@ -151,11 +154,12 @@ pub SameItems-references : (references others : List ConditionalName)
     → AnswersAlike (conditional_name_eq.ghosts).eq references others
     → SameItems (map conditional_reference references) (map conditional_reference others)
 SameItems-references =
-    SameItems-searches (conditional_name_eq.ghosts).eq conditional_reference conditional_name_equal.Laws.laws-law reference-Decides
+    SameItems-searches (conditional_name_eq.ghosts).eq conditional_reference conditional_name_equal.Laws.laws-law
+    reference-Decides
 
 -- a copy of a reference is equal
-pub equal-reference : {E : Type 0} (reference shown : ConditionalName) (answer : Result ConditionalName E) → shown ≡ reference
-    → IfOk answer (λ copy. possibilities_of copy ≡ possibilities_of shown)
+pub equal-reference : {E : Type 0} (reference shown : ConditionalName) (answer : Result ConditionalName E)
+    → shown ≡ reference → IfOk answer (λ copy. possibilities_of copy ≡ possibilities_of shown)
     → IfOk answer (λ copy. reference_type_of copy ≡ reference_type_of shown)
     → IfOk answer (λ copy. IsTrue ((conditional_name_eq.ghosts).eq copy reference))
 equal-reference reference shown (Ok copy) shows names kind =
