@@ -1,12 +1,15 @@
 -- Comparisons of uids, by the plain uids that they stand for.
-use Rattle.std.proofs.Common.{◌≡◌, ◌↔◌, IsTrue, ap, sym, subst}
+use Rattle.std.proofs.Common.{◌≡◌, ◌↔◌, IsTrue, List, ap, sym, subst}
 use Rattle.std.proofs.lemmas.Bool.Decides.{Decides-and, Decides-like}
+use Rattle.std.proofs.lemmas.Map.Steps.{list_any_congr}
+use Rattle.std.specs.List.{list_any}
 use Rattle.std.specs.Ordering.{ordering_then}
 use Rattle.std.specs.declared.cmp.Ordering.TheVariants.{Equal}
 use Rattle.cedar_below.specs.Eid.{eid_text}
 use Rattle.cedar_below.specs.EntityUID.{uid_of}
 use Rattle.cedar_below.specs.PlainUid.{PlainUid, uid_cmp}
 use Rattle.cedar_below.specs.Text.{text_cmp}
+use Rattle.cedar_below.specs.contracts.entity_uid.EntityUIDEq.TheImpl as entity_uid_equal
 use Rattle.cedar_below.specs.contracts.entity_uid.EntityUIDHash.TheImpl as entity_uid_hash
 use Rattle.cedar_below.specs.contracts.entity_uid.EntityUIDOrd.TheImpl as entity_uid_ord
 use Rattle.cedar_below.specs.contracts.entity_uid.EntityUIDPartialEq.TheImpl as entity_uid_eq
@@ -23,6 +26,11 @@ entity_uid_eq-same a b =
     (λ both i. record { ty = both.0 i; eid = both.1 i })
     (λ e. (ap (λ (uid : PlainUid). uid.ty) e, ap (λ (uid : PlainUid). uid.eid) e))
     (Decides-and _ _ (entity_type_eq-same a.ty b.ty) (eid_eq-same a.eid b.eid))
+
+-- equal uids are found alike
+pub entity_uid_searches-respect_eq : (uids : List EntityUID) (a b : EntityUID) → IsTrue ((entity_uid_eq.ghosts).eq a b)
+    → list_any ((entity_uid_eq.ghosts).eq a) uids ≡ list_any ((entity_uid_eq.ghosts).eq b) uids
+entity_uid_searches-respect_eq uids a b same = list_any_congr entity_uid_equal.Laws.laws-law a b uids same
 
 -- uids order as what they stand for
 pub entity_uid_ord-uid_cmp : (a b : EntityUID) → (entity_uid_ord.ghosts).cmp a b ≡ uid_cmp (uid_of a) (uid_of b)

@@ -1,0 +1,2 @@
+pub mod ActionEquality
+pub mod SetLemmas

@@ -1,0 +1,3 @@
+pub mod ActionKind
+pub mod ValidatorActionId
+pub mod ValidatorApplySpec

@@ -1,0 +1,37 @@
+//! Laws of actions: comparisons, and edges.
+
+ghost use Rattle.std.specs.Prelude.{◌≡◌, ◌↔◌, IsTrue, Contains};
+ghost use Rattle.cedar_actions.specs.ValidatorActionId.{action_of};
+ghost use Rattle.cedar_actions.specs.ValidatorApplySpec.{principal_names, resource_names};
+ghost use Rattle.cedar_actions.specs.declared.action_id.ValidatorActionId.{ValidatorActionId};
+ghost use Rattle.cedar_actions.specs.declared.apply_spec.ValidatorApplySpec.{ValidatorApplySpec};
+ghost use Rattle.cedar_below.specs.EntityUID.{uid_of};
+ghost use Rattle.cedar_below.specs.Lists.{SameItems};
+ghost use Rattle.cedar_below.specs.declared.entity_type.EntityType.{EntityType};
+ghost use Rattle.cedar_below.specs.declared.entity_uid.EntityUID.{EntityUID};
+ghost use Rattle.cedar_declared.specs.SameSchema.{SameActionKind};
+
+use crate::action_id::ValidatorActionId;
+use crate::apply_spec::ValidatorApplySpec;
+use cedar_below::{EntityType, EntityUID};
+use cedar_closure::TCNode;
+
+/// Apply specs are equal exactly where they have the same principals and the same resources.
+pub fn apply_specs_compare_as_sets()
+    ensures { (a b : ValidatorApplySpec EntityType) → IsTrue (⟦<ValidatorApplySpec<EntityType> as PartialEq>⟧.eq a b)
+        ↔ (SameItems (principal_names a) (principal_names b) × SameItems (resource_names a) (resource_names b)) }
+{}
+
+/// Actions of schemas are equal exactly where they have one uid, are for the same requests and have
+/// the same descendants, whatever their locations.
+pub fn actions_compare_by_what_they_are()
+    ensures { (a b : ValidatorActionId) → IsTrue (⟦<ValidatorActionId as PartialEq>⟧.eq a b)
+        ↔ (((action_of a).uid ≡ (action_of b).uid) × SameActionKind (action_of a).kind (action_of b).kind
+        × SameItems (action_of a).descendants (action_of b).descendants) }
+{}
+
+/// As a node of the hierarchy an action has an edge to just its descendants.
+pub fn edges_are_descendants()
+    ensures { (node : ValidatorActionId) (key : EntityUID)
+        → IsTrue (⟦<ValidatorActionId as TCNode<EntityUID>>⟧.has_edge node key) ↔ Contains (action_of node).descendants (uid_of key) }
+{}
