@@ -2,5 +2,6 @@
 #![tactic(auto)]
 
 pub mod defs;
+mod maps;
 pub mod namespace;
 pub mod theorems;

@@ -1,6 +1,7 @@
 //! Schemas of the Cedar policy language: declarations in, a schema or a refusal out.
 #![tactic(auto)]
 
+pub use cedar_actions::{ValidatorActionId, ValidatorApplySpec};
 pub use cedar_closure::{TCNode, TcError, compute_tc, compute_tc_counted};
 pub use cedar_declared::{ContextOrShape, SchemaError, UnsupportedFeature};
 pub use cedar_entities::{

@@ -1,8 +1,6 @@
-//! Tests of types, of entity types and of actions.
+//! Tests of types and of entity types.
 #![tactic(auto)]
 
-#[cfg(test)]
-mod actions;
 #[cfg(test)]
 mod attributes;
 #[cfg(test)]

@@ -1,7 +1,6 @@
 //! The check that no declared name would shadow another.
 
 ghost use Rattle.std.specs.Prelude.{◌≡◌, ◌⊎◌, IfOk, IfErr, OnOk, MatchOption, map, Contains, string_bytes};
-ghost use Rattle.std.specs.BTreeMap.{insert_entry};
 ghost use Rattle.std.specs.List.{AllByRecursion};
 ghost use Rattle.cedar_below.specs.EntityUID.{uid_of};
 ghost use Rattle.cedar_below.specs.InternalName.{name_of};
@@ -14,17 +13,10 @@ ghost use Rattle.cedar_fragments.specs.HeldNames.{held_names};
 ghost use Rattle.cedar_fragments.specs.ShadowedNames.{type_names, IsShadowing, NoTypeShadows, NoActionShadows, IsPlainAction};
 
 use crate::defs::all_defs::AllDefs;
+use crate::maps::put;
 use cedar_below::{EntityUID, InternalName, M};
 use cedar_declared::SchemaError;
 use std::collections::{BTreeMap, BTreeSet};
-
-/// Puts a value under a key, or answers want of memory.
-fn put<K: Ord + Drop, V: Drop>(map: &mut BTreeMap<K, V>, key: K, value: V) -> M<()>
-    ensures { OnOk result (map.new.entries ≡ insert_entry K.cmp map.old.entries key value) }
-{
-    let _old = map.insert(key, value)?;
-    Ok(())
-}
 
 impl AllDefs {
     /// The unqualified name of a type that would shadow a name, if there is one.

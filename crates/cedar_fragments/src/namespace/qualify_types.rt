@@ -1,7 +1,6 @@
 //! How types whose names say what they may stand for come to name what is defined.
 
-ghost use Rattle.std.specs.BTreeMap.{insert_entry};
-ghost use Rattle.std.specs.Prelude.{◌≡◌, IfOk, IfErr, OnOk, map, Contains};
+ghost use Rattle.std.specs.Prelude.{IfOk, IfErr, map, Contains};
 ghost use Rattle.cedar_below.specs.Lists.{HoldsInTurn};
 ghost use Rattle.cedar_declared.specs.Mentions.{Refers};
 ghost use Rattle.cedar_declared.specs.Settled.{Settles, SettlesReference};
@@ -12,19 +11,12 @@ ghost use Rattle.cedar_names.specs.ConditionalExpr.{placed_reference, placed_exp
 ghost use Rattle.cedar_names.specs.declared.json_schema.reference_type.ReferenceType.TheVariants.{Entity as entity};
 
 use crate::defs::{AllDefs, resolve_at};
-use cedar_below::{InternalName, M};
+use crate::maps::put;
+use cedar_below::InternalName;
 use cedar_names::json_schema::{
     ConditionalName, QualifyError, RecordType, ReferenceType, Type, TypeOfAttribute, TypeVariant,
 };
 use std::collections::BTreeMap;
-
-/// Puts a value under a key, or answers want of memory.
-fn put<K: Ord + Drop, V: Drop>(map: &mut BTreeMap<K, V>, key: K, value: V) -> M<()>
-    ensures { OnOk result (map.new.entries ≡ insert_entry K.cmp map.old.entries key value) }
-{
-    let _old = map.insert(key, value)?;
-    Ok(())
-}
 
 /// The same type, where each name is that of what it resolves to. It is refused with
 /// `TypeNotDefined` if a name resolves to nothing.

@@ -1,0 +1,7 @@
+//! Tests of actions of a schema.
+#![tactic(auto)]
+
+#[cfg(test)]
+mod actions;
+#[cfg(test)]
+mod test_values;
