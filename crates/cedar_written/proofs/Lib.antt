@@ -1,0 +1,4 @@
+mod Entries
+mod KnownLemmas
+mod SettledLemmas
+mod RecordLemmas
