@@ -109,3 +109,12 @@ module _ {K P : Type 0} (R : K → K → Ordering) (f : K → P) (tie : (a b : K
             (⊎_elim (λ old. ⊎_elim (λ here. inl here) (λ there. inr (later (inl there)))
             (Contains-cons_cases (f entry.0) (map f (keys_of entries)) name old))
             (λ same. inr (later (inr same))) among)
+
+    -- a map has a key exactly where something stands under what the key stands for
+    pub found_name : (entries : List (K × V)) (key : K) (found : Bool) → found ≡ is_some (lookup (is_at (R key)) entries)
+        → Decides found (Contains (map (λ it. it.0) (seen f g entries)) (f key))
+    found_name entries key found is =
+        let D : Bool → Type 0 = λ each. Decides each (Contains (map f (keys_of entries)) (f key)) in
+        let Q : List P → Type 0 = λ names. Decides found (Contains names (f key)) in
+        subst Q (sym (seen_names f g entries))
+        (subst D (sym (is ∙ is_some-lookup (is_at (R key)) entries)) (found-Decides (keys_of entries) key))

@@ -1,4 +1,8 @@
 mod Entries
 mod KnownLemmas
-mod SettledLemmas
+mod OrderLemmas
+mod PlacesLemmas
 mod RecordLemmas
+mod ReferringLemmas
+mod SettledLemmas
+mod WritingLemmas

@@ -30,7 +30,7 @@ pub struct KnownTypes<'a> {
 }
 
 /// Whether a reference of the kind may name a common type.
-fn may_name_common(kind: ReferenceType) -> bool
+pub(crate) fn may_name_common(kind: ReferenceType) -> bool
     ensures { IsTrue result ↔ MayNameCommon kind }
 {
     match kind {
