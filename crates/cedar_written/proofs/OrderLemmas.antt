@@ -1,25 +1,23 @@
 -- The order of common types, by the order of their places.
-use Rattle.std.proofs.Common.{◌≡◌, ◌⊎◌, ◌<◌, ◌++◌, ℕ, zero, suc, List, [], ◌∷◌, Vec, map, length, Some, ap, sym, subst, ◌∙◌, refl, inl, inr, ⊎_elim, Contains, arith}
+use Rattle.std.proofs.Common.{◌≡◌, ◌<◌, ◌++◌, ℕ, zero, suc, List, [], ◌∷◌, Vec, length, Some, ap, sym, subst, ◌∙◌, refl, inl, ⊎_elim, Contains, arith}
 use Rattle.std.proofs.Math.ListN.{length-map}
 use Rattle.std.proofs.lemmas.Option.{slice_get-map, slice_get_within}
 use Rattle.std.specs.Option.{option_map}
 use Rattle.std.specs.Prelude.{slice_get}
-use Rattle.cedar_below.proofs.Chains.{joined}
 use Rattle.cedar_below.proofs.Lists.{Contains-preimage}
 use Rattle.cedar_below.specs.Chain.{Chain, one, more}
 use Rattle.cedar_below.specs.Lists.{HoldsInTurn}
 use Rattle.cedar_below.specs.PlainName.{PlainName}
-use Rattle.cedar_closure.specs.Numbered.{IsTarget, items_at}
+use Rattle.cedar_closure.specs.Numbered.{items_at}
 use Rattle.cedar_closure.specs.Order.{IsOrder, LeadsTo}
 use Rattle.cedar_declared.proofs.OccurrenceLemmas.{Contains-image}
 use Rattle.cedar_declared.proofs.ResolutionLemmas.{first_defined}
-use Rattle.cedar_declared.specs.Defined.{Defined, names_of}
+use Rattle.cedar_declared.specs.Defined.{names_of}
 use Rattle.cedar_declared.specs.IllFormed.{RefersToCommon}
 use Rattle.cedar_declared.specs.Mentions.{Refers}
 use Rattle.cedar_declared.specs.Names.{IsDefined}
 use Rattle.cedar_declared.specs.Occurrences.{IsFirst, Twice}
 use Rattle.cedar_names.specs.Expr.{Expr}
-use Rattle.cedar_names.specs.Reference.{Reference}
 use Rattle.cedar_written.proofs.PlacesLemmas.{Contains-at, place_of, place_once}
 use Rattle.cedar_written.specs.Order.{HasNoCycle, IsWritingOrder}
 use Rattle.cedar_written.specs.Places.{AddsPlaces, ArePlaces, defined_over, item_names}

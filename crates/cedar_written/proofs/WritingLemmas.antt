@@ -1,5 +1,5 @@
 -- Common types that are written out one after another.
-use Rattle.std.proofs.Common.{◌≡◌, ◌⊎◌, ◌+◌, ◌++◌, ◌<◌, ℕ, List, [], ◌∷◌, map, length, take, get_or, Some, ap, sym, subst, ◌∙◌, refl, inl, inr, ⊎_elim, Contains, arith, Result, Ok, Err, IfOk}
+use Rattle.std.proofs.Common.{◌≡◌, ◌⊎◌, ◌++◌, ℕ, List, [], ◌∷◌, map, Some, ap, sym, subst, ◌∙◌, inl, inr, ⊎_elim, Contains, arith, Result, Ok, Err, IfOk}
 use Rattle.std.proofs.lemmas.List.Elements.{Contains-append_cases}
 use Rattle.std.specs.BTreeMap.{BTreeMap, insert_entry}
 use Rattle.std.specs.Prelude.{slice_get}
@@ -19,9 +19,9 @@ use Rattle.cedar_rules.specs.Ty.{Ty}
 use Rattle.cedar_types.specs.Meaning.{ty_of}
 use Rattle.cedar_types.specs.declared.types.Type.{«Type»}
 use Rattle.cedar_written.proofs.Entries.{inserted_cases, inserted_names, seen, seen_names}
-use Rattle.cedar_written.proofs.PlacesLemmas.{Contains-at, place_of}
-use Rattle.cedar_written.specs.Common.{AreSound, IsCommonFault, IsSoundExpr}
-use Rattle.cedar_written.specs.Known.{HoldsWritten, IsWrittenAs, Knows, set_names, written_types}
+use Rattle.cedar_written.proofs.PlacesLemmas.{Contains-at}
+use Rattle.cedar_written.specs.Common.{IsCommonFault, IsSoundExpr}
+use Rattle.cedar_written.specs.Known.{HoldsWritten, Knows, set_names, written_types}
 use Rattle.cedar_written.specs.Order.{IsWritingOrder}
 use Rattle.cedar_written.specs.Places.{defined_over, item_names}
 use Rattle.cedar_written.specs.Refusals.{IsExprFault}

@@ -1,6 +1,7 @@
 -- Common types by their places among those that are declared.
 use Rattle.std.specs.Prelude.{◌≡◌, ◌⊎◌, ℕ, List, [], ◌∷◌, Some, map, Contains, slice_get}
 use Rattle.std.specs.BTreeMap.{BTreeMap}
+use Rattle.std.specs.BTreeSet.{BTreeSet}
 use Rattle.cedar_below.specs.InternalName.{name_of}
 use Rattle.cedar_below.specs.Lists.{Included}
 use Rattle.cedar_below.specs.PlainName.{PlainName}
@@ -11,6 +12,7 @@ use Rattle.cedar_declared.specs.SettledExpr.{settled_expr}
 use Rattle.cedar_names.specs.Expr.{Expr}
 use Rattle.cedar_names.specs.Reference.{Reference}
 use Rattle.cedar_names.specs.declared.json_schema.type_of.Type.{«Type»}
+use Rattle.cedar_written.specs.Known.{set_names}
 
 -- common types by full name, with what the type of each stands for
 abbrev pub common_items : List (InternalName × «Type» InternalName) → List (PlainName × Expr)
@@ -23,6 +25,10 @@ item_names items = map (λ it. it.0) items
 -- what is defined by common types and by entity types of these names
 abbrev pub defined_over : List (PlainName × Expr) → List PlainName → Defined
 defined_over items entities = record { common = items; entities = entities; actions = [] }
+
+-- what is defined by declared common types, and by entity types of the names of a set
+abbrev pub defined_by : List (InternalName × «Type» InternalName) → BTreeSet InternalName → Defined
+defined_by declared entities = defined_over (common_items declared) (set_names entities)
 
 -- the places of a map, each with the name that it stands under
 abbrev pub placed_names : BTreeMap InternalName ℕ → List (PlainName × ℕ)

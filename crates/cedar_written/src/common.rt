@@ -12,9 +12,9 @@ ghost use Rattle.cedar_declared.specs.WrittenOut.{WrittenOut};
 ghost use Rattle.cedar_names.specs.Expr.{Expr};
 ghost use Rattle.cedar_rules.specs.Ty.{Ty};
 ghost use Rattle.cedar_written.specs.Common.{AreSound, IsCommonFault};
-ghost use Rattle.cedar_written.specs.Known.{HoldsWritten, set_names, written_types};
+ghost use Rattle.cedar_written.specs.Known.{HoldsWritten, written_types};
 ghost use Rattle.cedar_written.specs.Order.{IsWritingOrder};
-ghost use Rattle.cedar_written.specs.Places.{common_items, defined_over, item_names};
+ghost use Rattle.cedar_written.specs.Places.{common_items, defined_by, item_names};
 
 use crate::known_types::KnownTypes;
 use crate::maps::put;
@@ -37,13 +37,10 @@ fn write_in_order(
     extensions: &Extensions,
 ) -> Result<BTreeMap<InternalName, Type>, SchemaError>
     requires { IsWritingOrder (common_items declared.now) order.now }
-    ensures holds { IfOk result (λ types. let defined = defined_over (common_items declared.now) (set_names entities.now)
-        in HoldsWritten defined (written_types types)) }
+    ensures holds { IfOk result (λ types. HoldsWritten (defined_by declared.now entities.now) (written_types types)) }
     ensures each { IfOk result (λ types. Included (item_names (common_items declared.now)) (map (λ it. it.0) (written_types types))) }
-    ensures sound { OnOk result (let defined = defined_over (common_items declared.now) (set_names entities.now)
-        in AreSound defined (extension_types extensions.now)) }
-    ensures fault { IfErr result (λ error. let defined = defined_over (common_items declared.now) (set_names entities.now)
-        in IsCommonFault defined (extension_types extensions.now) (fault_of error)) }
+    ensures sound { OnOk result (AreSound (defined_by declared.now entities.now) (extension_types extensions.now)) }
+    ensures fault { IfErr result (λ error. IsCommonFault (defined_by declared.now entities.now) (extension_types extensions.now) (fault_of error)) }
 {
     let mut common = BTreeMap::new(alloc);
     for place in order {
@@ -74,18 +71,13 @@ pub fn common_types(
 ) -> Result<BTreeMap<InternalName, Type>, SchemaError>
     ensures names { IfOk result (λ types.
         SameItems (map (λ it. it.0) (written_types types)) (item_names (common_items declared.now))) }
-    ensures holds { IfOk result (λ types. let defined = defined_over (common_items declared.now) (set_names entities.now)
-        in HoldsWritten defined (written_types types)) }
-    ensures written_out { IfOk result (λ types. let defined = defined_over (common_items declared.now) (set_names entities.now)
-        in (name : PlainName) (expr : Expr) → Contains (common_items declared.now) (name, expr)
-        → (ty : Ty) × Contains (written_types types) (name, ty) × WrittenOut defined expr ty) }
+    ensures holds { IfOk result (λ types. HoldsWritten (defined_by declared.now entities.now) (written_types types)) }
+    ensures written_out { IfOk result (λ types. (name : PlainName) (expr : Expr) → Contains (common_items declared.now) (name, expr)
+        → (ty : Ty) × Contains (written_types types) (name, ty) × WrittenOut (defined_by declared.now entities.now) expr ty) }
     ensures once { OnOk result ((name : PlainName) → ¬ Twice (item_names (common_items declared.now)) name) }
-    ensures no_cycle { OnOk result (let defined = defined_over (common_items declared.now) (set_names entities.now)
-        in (name : PlainName) → ¬ Chain (RefersToCommon defined) name name) }
-    ensures sound { OnOk result (let defined = defined_over (common_items declared.now) (set_names entities.now)
-        in AreSound defined (extension_types extensions.now)) }
-    ensures fault { IfErr result (λ error. let defined = defined_over (common_items declared.now) (set_names entities.now)
-        in IsCommonFault defined (extension_types extensions.now) (fault_of error)) }
+    ensures no_cycle { OnOk result ((name : PlainName) → ¬ Chain (RefersToCommon (defined_by declared.now entities.now)) name name) }
+    ensures sound { OnOk result (AreSound (defined_by declared.now entities.now) (extension_types extensions.now)) }
+    ensures fault { IfErr result (λ error. IsCommonFault (defined_by declared.now entities.now) (extension_types extensions.now) (fault_of error)) }
 {
     let order = writing_order(alloc, declared)?;
     write_in_order(alloc, declared, &order, entities, extensions)

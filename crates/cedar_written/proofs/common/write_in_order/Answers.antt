@@ -1,14 +1,11 @@
-use Rattle.std.proofs.Common.{◌≡◌, ◌+◌, ◌++◌, ◌<◌, ℕ, List, [], ◌∷◌, map, length, take, drop, get_or, sym, subst, ◌∙◌, refl, arith, rules, Contains, Some}
+use Rattle.std.proofs.Common.{◌++◌, ◌<◌, ℕ, List, [], ◌∷◌, length, take, get_or, sym, subst, refl, rules, Contains}
 use Rattle.std.proofs.Math.ListN.{length-map}
 use Rattle.std.proofs.lemmas.List.{get_or_default, take_all, take_more}
 use Rattle.std.proofs.lemmas.List.Elements.{Contains-get_or}
 use Rattle.std.proofs.lemmas.Option.{slice_get_within}
-use Rattle.std.specs.Prelude.{slice_get}
 use Rattle.cedar_below.specs.Extensions.{extension_types}
 use Rattle.cedar_below.specs.InternalName.{name_of}
-use Rattle.cedar_below.specs.PlainName.{PlainName}
 use Rattle.cedar_declared.specs.SettledExpr.{settled_expr}
-use Rattle.cedar_names.specs.Expr.{Expr}
 use Rattle.cedar_written.proofs.PlacesLemmas.{item_at_place, place_of, split_at}
 use Rattle.cedar_written.proofs.WritingLemmas.{Knows-next, WrittenInOrder, WrittenInOrder-more, fault_at, types_seen}
 use Rattle.cedar_written.specs.Known.{set_names}

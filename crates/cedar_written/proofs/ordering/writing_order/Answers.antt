@@ -1,11 +1,10 @@
-use Rattle.std.proofs.Common.{◌<◌, ℕ, length, ap, sym, subst, ◌∙◌, refl, arith, rules}
+use Rattle.std.proofs.Common.{◌<◌, ℕ, length, ap, sym, subst, ◌∙◌, rules}
 use Rattle.std.proofs.Math.ListN.{length-map}
 use Rattle.cedar_below.proofs.Chains.{last_step}
 use Rattle.cedar_below.specs.Chain.{Chain}
 use Rattle.cedar_below.specs.InternalName.{name_of}
 use Rattle.cedar_below.specs.PlainName.{PlainName}
-use Rattle.cedar_closure.specs.Order.{IsOrdered, LeadsTo}
-use Rattle.cedar_closure.specs.declared.ordering.Ordered.{Ordered}
+use Rattle.cedar_closure.specs.Order.{LeadsTo}
 use Rattle.cedar_declared.specs.IllFormed.{RefersToCommon}
 use Rattle.cedar_declared.specs.SettledExpr.{settled_expr}
 use Rattle.cedar_written.proofs.OrderLemmas.{as_many, cycle_found, name_at, no_cycle_among, order_of_places}

@@ -1,8 +1,4 @@
-use Rattle.std.proofs.Common.{◌≡◌, ◌+◌, ◌++◌, List, [], ◌∷◌, map, length, take, drop, get_or, ap, sym, subst, ◌∙◌, inr, refl, Contains, arith, ℕ}
-use Rattle.std.specs.BTreeMap.{is_at}
-use Rattle.std.specs.Map.{keys_of}
-use Rattle.std.specs.List.{list_any}
-use Rattle.std.proofs.lemmas.Map.Made.{is_some-lookup}
+use Rattle.std.proofs.Common.{◌++◌, List, [], ◌∷◌, map, take, sym, subst, ◌∙◌, inr, refl}
 use Rattle.std.proofs.lemmas.Bool.{false≢true}
 use Rattle.cedar_below.proofs.Names.{internal_name_ord-Equal}
 use Rattle.cedar_below.specs.InternalName.{name_of}

@@ -1,4 +1,4 @@
-use Rattle.std.proofs.Common.{[], ◌∷◌, sym, subst, rules}
+use Rattle.std.proofs.Common.{sym, subst, rules}
 use Rattle.cedar_below.specs.InternalName.{name_of}
 use Rattle.cedar_declared.specs.SettledExpr.{settled_reference}
 use Rattle.cedar_declared.specs.WrittenOut.{WrittenOut}
