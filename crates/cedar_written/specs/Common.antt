@@ -19,7 +19,8 @@ use Rattle.cedar_written.specs.Refusals.{IsExprFault}
 pub record IsSoundExpr (defined : Defined) (extensions : List PlainName) (expr : Expr) : Type 0 where
   pub closed : ¬ HasOpenRecord expr
   pub known : (word : Text) → MentionsExtension expr word → Contains extensions (extension_name word)
-  pub resolved : (reference : Reference) → Refers expr reference → (name : PlainName) × ResolvesTo (names_of defined) reference name
+  pub resolved : (reference : Reference) → Refers expr reference
+      → (name : PlainName) × ResolvesTo (names_of defined) reference name
 
 -- each definition of a common type is sound
 abbrev pub AreSound : Defined → List PlainName → Type 0

@@ -15,7 +15,8 @@ use Rattle.cedar_written.specs.Places.{defined_over, item_names}
 pub record IsWritingOrder (items : List (PlainName × Expr)) (order : List ℕ) : Type 0 where
   pub places : (place : ℕ) → Contains order place ↔ (place < length items)
   pub after : (before rest : List ℕ) (place : ℕ) (item : PlainName × Expr) → order ≡ before ++ place ∷ rest
-      → slice_get items place ≡ Some item → (reference : Reference) → Refers item.1 reference → MayNameCommon reference.kind
+      → slice_get items place ≡ Some item → (reference : Reference) → Refers item.1 reference
+      → MayNameCommon reference.kind
       → (name : PlainName) → Contains reference.possibilities name → Contains (item_names items) name
       → (to : ℕ) × Contains before to × (slice_get (item_names items) to ≡ Some name)
 

@@ -42,10 +42,12 @@ pub record ArePlaces (names : List PlainName) (places : List (PlainName × ℕ))
 -- the reference is to one name alone, which may be that of a common type and is that of the one at the place
 abbrev pub NamesPlace : List (PlainName × ℕ) → Reference → ℕ → Type 0
 NamesPlace places reference place =
-    MayNameCommon reference.kind × (name : PlainName) × (reference.possibilities ≡ name ∷ []) × Contains places (name, place)
+    MayNameCommon reference.kind × (name : PlainName) × (reference.possibilities ≡ name ∷ [])
+    × Contains places (name, place)
 
 -- after as before, but for places of common types that some references may name, of each name one
-pub record AddsPlaces (places : List (PlainName × ℕ)) (Refers : Reference → Type 0) (before after : List ℕ) : Type 0 where
+pub record AddsPlaces (places : List (PlainName × ℕ)) (Refers : Reference → Type 0)
+    (before after : List ℕ) : Type 0 where
   pub kept : Included before after
   pub only : (place : ℕ) → Contains after place
       → Contains before place ⊎ ((reference : Reference) × Refers reference × NamesPlace places reference place)
