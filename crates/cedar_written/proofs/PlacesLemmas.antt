@@ -1,0 +1,172 @@
+-- Items by their places, and names that get places one after another.
+use Rattle.std.proofs.Common.{◌≡◌, ◌⊎◌, ◌+◌, ◌<◌, ℕ, zero, suc, List, [], ◌∷◌, ◌++◌, map, length, take, drop, get_or, Some, ap, sym, subst, ◌∙◌, refl, inl, inr, ⊎_elim, Contains, arith}
+use Rattle.std.proofs.Math.ListN.{length-map}
+use Rattle.std.proofs.Math.Seq.{drop-cons}
+use Rattle.std.proofs.lemmas.List.{length-take-le, map-append, take-append-drop, take_more}
+use Rattle.std.proofs.lemmas.List.Elements.{Contains-append_cases}
+use Rattle.std.proofs.lemmas.Option.{slice_get-get_or, slice_get-map}
+use Rattle.std.specs.BTreeMap.{insert_entry}
+use Rattle.std.specs.Option.{option_map}
+use Rattle.std.specs.Prelude.{slice_get}
+use Rattle.cedar_below.proofs.Lists.{Contains-cons, Contains-cons_cases}
+use Rattle.cedar_below.proofs.Names.{internal_name_ord-Equal}
+use Rattle.cedar_below.specs.InternalName.{name_of}
+use Rattle.cedar_below.specs.PlainName.{PlainName}
+use Rattle.cedar_below.specs.contracts.internal_name.InternalNameOrd.TheImpl as order
+use Rattle.cedar_below.specs.declared.internal_name.InternalName.{InternalName}
+use Rattle.cedar_declared.proofs.OccurrenceLemmas.{Contains-single, Twice-append, Twice-both}
+use Rattle.cedar_declared.specs.Occurrences.{Twice}
+use Rattle.cedar_written.proofs.Entries.{inserted_cases, inserted_names, seen, seen_names}
+use Rattle.cedar_declared.specs.SettledExpr.{settled_expr}
+use Rattle.cedar_names.specs.declared.json_schema.type_of.Type.{«Type»}
+use Rattle.cedar_written.specs.Places.{ArePlaces, common_items, item_names}
+
+-- an item stays at its place as others come after
+pub slice_get-front : {X : Type 0} (xs ys : List X) (i : ℕ) (x : X) → slice_get xs i ≡ Some x → slice_get (xs ++ ys) i ≡ Some x
+slice_get-front [] ys i x is = cc
+slice_get-front (y ∷ xs) ys zero x is = is
+slice_get-front (y ∷ xs) ys (suc i) x is = slice_get-front xs ys i x is
+
+-- the next item stands at the place after all before it
+pub slice_get-next : {X : Type 0} (xs ys : List X) (x : X) → slice_get (xs ++ x ∷ ys) (length xs) ≡ Some x
+slice_get-next [] ys x = refl
+slice_get-next (y ∷ xs) ys x = slice_get-next xs ys x
+
+-- what stands in a list stands at a place of it
+pub place_of : {X : Type 0} (xs : List X) (x : X) → Contains xs x → (i : ℕ) × (slice_get xs i ≡ Some x)
+place_of [] x among = absurd (omega (arith, among.1))
+place_of (y ∷ xs) x among =
+    ⊎_elim (λ here. (zero, ap Some here)) (λ later. let it = place_of xs x later in (suc it.0, it.1))
+    (Contains-cons_cases y xs x among)
+
+-- what stands at a place of a list stands in it
+pub Contains-at : {X : Type 0} (xs : List X) (i : ℕ) (x : X) → slice_get xs i ≡ Some x → Contains xs x
+Contains-at [] i x is = cc
+Contains-at (y ∷ xs) zero x is = let same : y ≡ x = cc in Contains-cons y xs x (inl same)
+Contains-at (y ∷ xs) (suc i) x is = Contains-cons y xs x (inr (Contains-at xs i x is))
+
+-- where no item stands twice, each has one place
+pub place_once : {X : Type 0} (xs : List X) → ((x : X) → ¬ Twice xs x) → (i j : ℕ) (x : X) → slice_get xs i ≡ Some x
+    → slice_get xs j ≡ Some x → i ≡ j
+place_once [] once i j x is is' = cc
+place_once (y ∷ xs) once zero zero x is is' = refl
+place_once (y ∷ xs) once zero (suc j) x is is' =
+    let same : y ≡ x = cc in absurd (once x (inl (same, Contains-at xs j x is')))
+place_once (y ∷ xs) once (suc i) zero x is is' =
+    let same : y ≡ x = cc in absurd (once x (inl (same, Contains-at xs i x is)))
+place_once (y ∷ xs) once (suc i) (suc j) x is is' = ap suc (place_once xs (λ z twice. once z (inr twice)) i j x is is')
+
+-- a list around one of its items
+pub split_at : {X : Type 0} (xs : List X) (i : ℕ) (x : X) → i < length xs → x ≡ get_or xs i x
+    → xs ≡ take i xs ++ x ∷ drop (suc i) xs
+split_at xs i x within is =
+    sym (take-append-drop i xs) ∙ ap (λ rest. take i xs ++ rest)
+    (drop-cons xs i x within ∙ ap (λ it. it ∷ drop (suc i) xs) (sym is))
+
+-- each of some names has its place, and none stands twice
+pub record NumberedSoFar (names : List PlainName) (places : List (PlainName × ℕ)) : Type 0 where
+  pub numbered : ArePlaces names places
+  pub once : (name : PlainName) → ¬ Twice names name
+
+-- the names under which places stand
+abbrev pub places_seen : List (InternalName × ℕ) → List (PlainName × ℕ)
+places_seen entries = seen name_of (λ place. place) entries
+
+-- at first there are no names and no places
+pub NumberedSoFar-none : (entries : List (InternalName × ℕ)) → entries ≡ [] → NumberedSoFar [] (places_seen entries)
+NumberedSoFar-none entries nothing =
+    let P : List (InternalName × ℕ) → Type 0 = λ each. NumberedSoFar [] (places_seen each) in
+    subst P (sym nothing) (record {
+      numbered = record {
+        each = λ name among. absurd (omega (arith, among.1));
+        sound = λ name place among. absurd (omega (arith, among.1));
+      };
+      once = λ name twice. twice;
+    })
+
+-- one more name gets the next place
+pub NumberedSoFar-more : (names : List PlainName) (entries : List (InternalName × ℕ)) (key : InternalName) (name : PlainName)
+    (place : ℕ) → name_of key ≡ name → place ≡ length names → (¬ Contains (map (λ it. it.0) (places_seen entries)) name)
+    → NumberedSoFar names (places_seen entries)
+    → NumberedSoFar (names ++ name ∷ []) (places_seen (insert_entry ((order.ghosts).cmp) entries key place))
+NumberedSoFar-more names entries key name place same next absent so_far =
+    let cmp = (order.ghosts).cmp in
+    let more : List (PlainName × ℕ) = places_seen (insert_entry cmp entries key place) in
+    let P : List PlainName → PlainName → Type 0 = λ all each. Contains all each in
+    let there : (each : PlainName) → Contains (map (λ it. it.0) (places_seen entries)) each ⊎ (name_of key ≡ each)
+    → Contains (map (λ it. it.0) more) each =
+    λ each among. let Q : List PlainName → Type 0 = λ all. Contains all each in
+    subst Q (sym (seen_names name_of (λ it. it) (insert_entry cmp entries key place)))
+    (inserted_names cmp name_of internal_name_ord-Equal (λ it. it) entries key place each
+    (⊎_elim (λ old. inl (subst Q (seen_names name_of (λ it. it) entries) old)) (λ new. inr new) among)) in
+    record {
+      numbered = record {
+        each = λ each among. ⊎_elim (λ old. there each (inl (so_far.numbered.each each old)))
+            (λ new. there each (inr (same ∙ Contains-single name each new))) (Contains-append_cases names (name ∷ []) each among);
+        sound = λ each at among. ⊎_elim (λ old. slice_get-front names (name ∷ []) at each (so_far.numbered.sound each at old))
+            (λ new. let R : ℕ → Type 0 = λ k. slice_get (names ++ name ∷ []) k ≡ Some each in
+            let it : name ≡ each = sym same ∙ ap (λ pair. pair.0) new in
+            subst R (sym next ∙ ap (λ pair. pair.1) new) (slice_get-next names [] name ∙ ap Some it))
+            (inserted_cases cmp name_of internal_name_ord-Equal (λ it. it) entries key place (each, at) among);
+      };
+      once = λ each twice. ⊎_elim (λ old. so_far.once each old)
+          (λ others. ⊎_elim (λ last. ⊎_elim (λ none. omega (arith, none.1.1)) (λ none. none) last)
+          (λ both. let R : PlainName → Type 0 = λ it. Contains names it in
+          absent (so_far.numbered.each name (subst R (sym (Contains-single name each both.1)) both.0))) others)
+          (Twice-append names (name ∷ []) each twice);
+    }
+
+-- a name that has a place stands twice if it comes again
+pub repeated_name : (front rest : List PlainName) (name : PlainName) (places : List (PlainName × ℕ)) → NumberedSoFar front places
+    → Contains (map (λ it. it.0) places) name → Twice (front ++ name ∷ rest) name
+repeated_name front rest name places so_far among =
+    let at = place_of_name places name among in
+    Twice-both front (name ∷ rest) name
+    (Contains-at front at.0 name (so_far.numbered.sound name at.0 at.1)) (Contains-cons name rest name (inl refl))
+  where
+    place_of_name : (entries : List (PlainName × ℕ)) (each : PlainName) → Contains (map (λ it. it.0) entries) each
+        → (at : ℕ) × Contains entries (each, at)
+    place_of_name [] each none = absurd (omega (arith, none.1))
+    place_of_name (entry ∷ entries) each there =
+        ⊎_elim (λ here. (entry.1, Contains-cons entry entries (each, entry.1) (inl (λ i. (here i, entry.1)))))
+        (λ later. let it = place_of_name entries each later in (it.0, Contains-cons entry entries (each, it.0) (inr it.1)))
+        (Contains-cons_cases entry.0 (map (λ it. it.0) entries) each there)
+
+-- the declared common types up to a place, and the one at it
+pub items_more : (declared : List (InternalName × «Type» InternalName)) (place : ℕ) (item : InternalName × «Type» InternalName)
+    → place < length declared → item ≡ get_or declared place item
+    → common_items (take (place + 1) declared) ≡ common_items (take place declared) ++ (name_of item.0, settled_expr item.1) ∷ []
+items_more declared place item within is =
+    ap common_items (take_more declared place item within ∙ ap (λ it. take place declared ++ it ∷ []) (sym is))
+    ∙ map-append (λ it. (name_of it.0, settled_expr it.1)) (take place declared) (item ∷ [])
+
+-- their names, and how many there are before it
+pub names_more : (declared : List (InternalName × «Type» InternalName)) (place : ℕ) (item : InternalName × «Type» InternalName)
+    → place < length declared → item ≡ get_or declared place item
+    → (item_names (common_items (take (place + 1) declared))
+    ≡ item_names (common_items (take place declared)) ++ name_of item.0 ∷ [])
+    × (place ≡ length (item_names (common_items (take place declared))))
+names_more declared place item within is = (
+  ap item_names (items_more declared place item within is)
+      ∙ map-append (λ it. it.0) (common_items (take place declared)) ((name_of item.0, settled_expr item.1) ∷ []),
+  sym (length-map (common_items (take place declared)) (λ it. it.0)
+      ∙ (length-map (take place declared) (λ it. (name_of it.0, settled_expr it.1)) ∙ length-take-le place declared (omega (arith, within)))),
+)
+
+-- the names of declared common types, around that of one of them
+pub names_split : (declared : List (InternalName × «Type» InternalName)) (place : ℕ) (item : InternalName × «Type» InternalName)
+    → place < length declared → item ≡ get_or declared place item
+    → item_names (common_items declared)
+    ≡ item_names (common_items (take place declared)) ++ name_of item.0 ∷ item_names (common_items (drop (suc place) declared))
+names_split declared place item within is =
+    ap (λ all. item_names (common_items all)) (split_at declared place item within is)
+    ∙ (ap item_names (map-append (λ it. (name_of it.0, settled_expr it.1)) (take place declared) (item ∷ drop (suc place) declared))
+    ∙ map-append (λ it. it.0) (common_items (take place declared)) (common_items (item ∷ drop (suc place) declared)))
+
+-- a declared common type at a place, as plain data
+pub item_at_place : (declared : List (InternalName × «Type» InternalName)) (place : ℕ) (item : InternalName × «Type» InternalName)
+    → place < length declared → item ≡ get_or declared place item
+    → slice_get (common_items declared) place ≡ Some (name_of item.0, settled_expr item.1)
+item_at_place declared place item within is =
+    slice_get-map (λ it. (name_of it.0, settled_expr it.1)) declared place
+    ∙ ap (option_map (λ it. (name_of it.0, settled_expr it.1))) (slice_get-get_or declared place item within ∙ ap Some (sym is))

@@ -1,0 +1,5 @@
+pub mod Common
+pub mod Known
+pub mod Order
+pub mod Places
+pub mod Refusals
