@@ -3,6 +3,7 @@ pub mod DeclaredAs
 pub mod DefinitionFault
 pub mod FragmentDeclarations
 pub mod FragmentFault
+pub mod FragmentNamespaces
 pub mod HeldNames
 pub mod QualifyFault
 pub mod Refused
