@@ -4,6 +4,7 @@ pub mod DefinitionFault
 pub mod FragmentDeclarations
 pub mod FragmentFault
 pub mod FragmentNamespaces
+pub mod GivenCommonTypes
 pub mod HeldNames
 pub mod QualifyFault
 pub mod Refused

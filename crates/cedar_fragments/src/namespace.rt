@@ -18,6 +18,7 @@ mod definition;
 mod entity_types;
 mod fragment;
 mod full_name;
+mod given_common_types;
 mod namespaces;
 mod qualify_actions;
 mod qualify_definitions;
