@@ -3,6 +3,8 @@ pub mod DeclaredAs
 pub mod DefinitionFault
 pub mod FragmentDeclarations
 pub mod FragmentFault
+pub mod FragmentNamespaces
+pub mod GivenCommonTypes
 pub mod HeldNames
 pub mod QualifyFault
 pub mod Refused

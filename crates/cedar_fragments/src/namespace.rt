@@ -5,17 +5,22 @@
 
 pub use actions::{ActionFragment, ActionsDef};
 pub use common_types::CommonTypeDefs;
+pub use declared_names::{ActionNames, CommonTypeNames, EntityTypeNames};
 pub use definition::ValidatorNamespaceDef;
 pub use entity_types::{EntityTypeFragment, EntityTypesDef};
 pub use fragment::ValidatorSchemaFragment;
+pub use namespaces::Namespaces;
 
 mod action_def;
 mod actions;
 mod common_types;
+mod declared_names;
 mod definition;
 mod entity_types;
 mod fragment;
 mod full_name;
+mod given_common_types;
+mod namespaces;
 mod qualify_actions;
 mod qualify_definitions;
 mod qualify_entities;

@@ -40,7 +40,7 @@ impl<N, A> ValidatorNamespaceDef<N, A> {
 }
 
 /// The name of a namespace, lent.
-fn lend(namespace: &Option<InternalName>) -> Option<&InternalName>
+pub(crate) fn lend(namespace: &Option<InternalName>) -> Option<&InternalName>
     ensures { namespace_name result ≡ option_map name_of namespace.now }
 {
     namespace.as_ref()
