@@ -1,0 +1,2 @@
+pub mod AlsoLemmas
+pub mod DefinedNames
