@@ -9,7 +9,7 @@ ghost use Rattle.cedar_below.specs.EntityUID.{uid_of};
 ghost use Rattle.cedar_below.specs.InternalName.{name_of};
 ghost use Rattle.cedar_fragments.specs.HeldNames.{definition_names};
 
-use crate::namespace::actions::ActionDef;
+use crate::namespace::action_def::ActionDef;
 use crate::namespace::common_types::CommonTypeDef;
 use crate::namespace::definition::ValidatorNamespaceDef;
 use crate::namespace::entity_types::EntityTypeDef;
