@@ -4,7 +4,15 @@
 #[cfg(test)]
 mod declarations;
 #[cfg(test)]
+mod given;
+#[cfg(test)]
+mod kinds;
+#[cfg(test)]
 mod names;
+#[cfg(test)]
+mod parents;
+#[cfg(test)]
+mod qualified;
 #[cfg(test)]
 mod refusals;
 #[cfg(test)]
