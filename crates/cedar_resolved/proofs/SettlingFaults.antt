@@ -32,7 +32,8 @@ use Rattle.cedar_names.specs.declared.json_schema.reference_type.ReferenceType.T
 use Rattle.cedar_resolved.proofs.SameNames.{unresolved_alike, no_action_alike, defined_there}
 
 -- a parent of some action is one of an action of a uid
-parent_of : (bag : Bag) (parent : ActionReference) → IsAnyParent bag parent → (uid : PlainUid) × IsActionParent bag uid parent
+parent_of : (bag : Bag) (parent : ActionReference) → IsAnyParent bag parent
+    → (uid : PlainUid) × IsActionParent bag uid parent
 parent_of bag parent found = by found.0.body refl found.2 where
   by : (body : Body) → found.0.body ≡ body → IsParentIn body parent → (uid : PlainUid) × IsActionParent bag uid parent
   by (common_type definition) is none = absurd none
@@ -50,10 +51,12 @@ parent_of bag parent found = by found.0.body refl found.2 where
       )
 
 -- references that are placed as those to entity types are of that kind
-placed_kind : (names : List ConditionalName) (reference : Reference) → Contains (map (placed_reference Entity) names) reference
+placed_kind : (names : List ConditionalName) (reference : Reference)
+    → Contains (map (placed_reference Entity) names) reference
     → reference.kind ≡ Entity
 placed_kind names reference among =
-    let found = Contains-preimage (placed_reference Entity) names reference among in ap (λ (each : Reference). each.kind) (sym found.2)
+    let found = Contains-preimage (placed_reference Entity) names reference among in ap (λ
+    (each : Reference). each.kind) (sym found.2)
 
 -- the principals and the resources of requests are references to entity types
 requests_kind : (it : Option (ActionRequests ConditionalName)) (reference : Reference)
@@ -68,7 +71,8 @@ definition_kind : (it : ValidatorNamespaceDef ConditionalName ConditionalName) (
 definition_kind it reference requested =
     let common = common_type_declarations ConditionalName placed_reference it.common_types in
     let entities = entity_type_declarations ConditionalName placed_reference it.entity_types in
-    let actions = action_fragment_declarations ConditionalName placed_reference ConditionalName placed_reference it.actions in
+    let actions = action_fragment_declarations ConditionalName placed_reference ConditionalName placed_reference
+    it.actions in
     let declaration = requested.0 in
     let P : Declaration → Type 0 = λ each. IsRequestedIn each.body reference in
     ⊎_elim
@@ -94,18 +98,23 @@ module _ (fragments : List (ValidatorSchemaFragment ConditionalName ConditionalN
       definition_kind definition.0 reference (requested.0, definition.2, requested.2)
 
   -- no name of an entity type that fragments declare is reserved
-  type_unreserved : (name : PlainName) → Contains (declared_names ConditionalName ConditionalName fragments).entities name → ¬ IsReserved name
+  type_unreserved : (name : PlainName) → Contains (declared_names ConditionalName ConditionalName fragments).entities
+      name → ¬ IsReserved name
   type_unreserved name among =
-      let fragment = Contains-flat_map (λ each. (fragment_names ConditionalName ConditionalName each).entities) fragments name among in
+      let fragment = Contains-flat_map (λ each. (fragment_names ConditionalName ConditionalName each).entities)
+      fragments name among in
       let definition = Contains-flat_map (λ each. (definition_names ConditionalName ConditionalName each).entities)
       fragment.0.definitions.items name fragment.2 in
-      let def = Contains-preimage (λ each. type_name each.name) definition.0.entity_types.defs.items name definition.2 in
+      let def = Contains-preimage (λ each. type_name each.name) definition.0.entity_types.defs.items name definition.2
+      in
       let P : PlainName → Type 0 = λ each. ¬ IsReserved each in subst P def.2 def.0.name.0.unreserved
 
   -- no type of an action that fragments declare is reserved
-  action_unreserved : (uid : PlainUid) → Contains (declared_names ConditionalName ConditionalName fragments).actions uid → ¬ IsReserved uid.ty
+  action_unreserved : (uid : PlainUid) → Contains (declared_names ConditionalName ConditionalName fragments).actions
+      uid → ¬ IsReserved uid.ty
   action_unreserved uid among =
-      let fragment = Contains-flat_map (λ each. (fragment_names ConditionalName ConditionalName each).actions) fragments uid among in
+      let fragment = Contains-flat_map (λ each. (fragment_names ConditionalName ConditionalName each).actions)
+      fragments uid among in
       let definition = Contains-flat_map (λ each. (definition_names ConditionalName ConditionalName each).actions)
       fragment.0.definitions.items uid fragment.2 in
       let def = Contains-preimage (λ each. uid_of each.uid) definition.0.actions.defs.items uid definition.2 in
@@ -125,9 +134,11 @@ module _ (fragments : List (ValidatorSchemaFragment ConditionalName ConditionalN
       let Q : List PlainUid → Type 0 = λ uids. Contains uids uid.0 in
       let R : PlainName → Type 0 = λ each. ¬ IsReserved each in
       subst R uid.2 (action_unreserved uid.0 (subst Q (sym are.actions) uid.1)))
-      (Contains-append_cases (map (λ it. it.0) (declared_entities bag)) (map (λ uid. uid.ty) (action_uids bag)) name among)
+      (Contains-append_cases (map (λ it. it.0) (declared_entities bag)) (map (λ uid. uid.ty)
+      (action_uids bag)) name among)
 
-  module _ (extensions : Extensions) (held : Names) (just : HoldsJust held (defined_names (conditional_bag fragments) extensions)) where
+  module _ (extensions : Extensions) (held : Names) (just : HoldsJust held (defined_names
+      (conditional_bag fragments) extensions)) where
     -- no principal and no resource resolves to a reserved name
     none_reserved : (reference : Reference) (name : PlainName) → IsRequested (conditional_bag fragments) reference
         → ResolvesTo held reference name → ¬ IsReserved name
@@ -155,8 +166,14 @@ module _ (fragments : List (ValidatorSchemaFragment ConditionalName ConditionalN
           unsettled.0,
           λ carried among.
               let each = unsettled.1 carried among in
-              let parent = parent_of bag each.0 each.1 in
-              (parent.0, each.0, parent.1, each.2, no_action_alike held (defined_names bag extensions) just each.0 each.3),
+              let parent = parent_of bag each.0 each.1 in (
+                parent.0,
+                each.0,
+                parent.1,
+                each.2,
+                no_action_alike held (defined_names bag extensions) just each.0
+                    each.3,
+              ),
         )
     settling_fault (reserved_name name) unsettled =
         absurd (none_reserved unsettled.0 name unsettled.1 unsettled.2 unsettled.3)

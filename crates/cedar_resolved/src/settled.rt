@@ -57,6 +57,5 @@ pub fn settle(
         ⊎ IsFault (conditional_bag fragments.items) extensions.now (fault_of error)) }
 {
     let defs = defined_names(alloc, &fragments, extensions)?;
-    let settled = qualify_fragments(alloc, fragments, &defs)?;
-    Ok(settled)
+    qualify_fragments(alloc, fragments, &defs)
 }

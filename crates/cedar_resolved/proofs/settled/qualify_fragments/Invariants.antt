@@ -7,5 +7,6 @@ use Rattle.cedar_resolved.proofs.settled.qualify_fragments.Given as goal
 
 abbrev pub invariant-loop-fragment : goal.invariant-loop-fragment
 invariant-loop-fragment l =
-    TurnSoFar (SettlesUnreservedBag (held_names l.defs)) conditional_fragment settled_fragment l.fn.fragments.items l.qualified.items
+    TurnSoFar (SettlesUnreservedBag (held_names l.defs)) conditional_fragment settled_fragment l.fn.fragments.items
+    l.qualified.items
     (into_iter_items l.fragment-iterator)
