@@ -10,20 +10,26 @@ use Rattle.cedar_resolved.specs.AlsoUnless.{HasAlsoUnless}
 pub also_none : {P : Type 0} (items taken : List P) → HasAlsoUnless items items [] taken
 also_none items taken item = (λ among. inl among, ⊎_elim (λ among. among) (λ both. absurd (omega (arith, both.0.1))))
 
-module _ {P : Type 0} (before taken middle more : List P) (name : P) (so_far : HasAlsoUnless middle before more taken) where
+module _ {P : Type 0} (before taken middle more : List P) (name : P)
+    (so_far : HasAlsoUnless middle before more taken) where
   -- one more, which isn't taken
   also_free : (after : List P) → HasAlso after middle (name ∷ []) → ¬ Contains taken name
       → HasAlsoUnless after before (more ++ name ∷ []) taken
   also_free after added free item =
       let Q : P → Type 0 = λ each. ¬ Contains taken each in (
         λ among. ⊎_elim
-            (λ there. ⊎_elim (λ here. inl here) (λ here. inr (Contains-append_left more (name ∷ []) item here.0, here.1)) ((so_far item).0 there))
+            (λ there. ⊎_elim (λ here. inl here) (λ here. inr (
+              Contains-append_left more
+                  (name ∷ []) item here.0,
+              here.1,
+            )) ((so_far item).0 there))
             (λ one. inr (Contains-append_right more (name ∷ []) item one, subst Q (Contains-single name item one) free))
             ((added item).0 among),
         ⊎_elim
             (λ here. (added item).1 (inl ((so_far item).1 (inl here))))
             (λ both. ⊎_elim
-            (λ there. (added item).1 (inl ((so_far item).1 (inr (there, both.1))))) (λ there. (added item).1 (inr there))
+            (λ there. (added item).1 (inl ((so_far item).1 (inr (there, both.1))))) (λ there. (added item).1
+            (inr there))
             (Contains-append_cases more (name ∷ []) item both.0)),
       )
 
@@ -31,7 +37,8 @@ module _ {P : Type 0} (before taken middle more : List P) (name : P) (so_far : H
   also_taken : Contains taken name → HasAlsoUnless middle before (more ++ name ∷ []) taken
   also_taken is_taken item =
       let Q : P → Type 0 = Contains taken in (
-        λ among. ⊎_elim (λ here. inl here) (λ here. inr (Contains-append_left more (name ∷ []) item here.0, here.1)) ((so_far item).0 among),
+        λ among. ⊎_elim (λ here. inl here) (λ here. inr (Contains-append_left more (name ∷ []) item here.0, here.1))
+            ((so_far item).0 among),
         ⊎_elim
             (λ here. (so_far item).1 (inl here))
             (λ both. ⊎_elim
@@ -44,7 +51,8 @@ module _ {D P : Type 0} (f : D → P) (before taken : List P) (items : List D) w
   -- the next one more, which isn't taken
   pub also_next : (middle after : List P) (i : ℕ) (item : D) (name : P) → i < length items → item ≡ get_or items i item
       → name ≡ f item → HasAlso after middle (name ∷ []) → ¬ Contains taken name
-      → HasAlsoUnless middle before (map f (take i items)) taken → HasAlsoUnless after before (map f (take (i + 1) items)) taken
+      → HasAlsoUnless middle before (map f (take i items)) taken → HasAlsoUnless after before (map f (take
+      (i + 1) items)) taken
   also_next middle after i item name lt is named added free so_far =
       let Q : List P → Type 0 = λ more. HasAlsoUnless after before more taken in
       subst Q ((λ j. map f (take i items) ++ (named ∙ ap f is) j ∷ []) ∙ sym (map_more f items i item lt))

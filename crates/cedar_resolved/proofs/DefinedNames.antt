@@ -26,19 +26,26 @@ use Rattle.cedar_resolved.specs.AlsoUnless.{HasAlsoUnless}
 -- an item that passes a test is kept by it
 kept : {A : Type 0} (p : A → Bool) (xs : List A) (x : A) → Contains xs x → p x ≡ true → Contains (filter p xs) x
 kept p [] x among passes = absurd (omega (arith, among.1))
-kept {A = A} p (first ∷ rest) x among passes = by (p first) refl (Contains-cons_cases first rest x among) (λ later. kept p rest x later passes)
+kept {A = A} p (first ∷ rest) x among passes = by (p first) refl (Contains-cons_cases first rest x among)
+    (λ later. kept p rest x later passes)
   where
-    by : (answer : Bool) → p first ≡ answer → (first ≡ x) ⊎ Contains rest x → (Contains rest x → Contains (filter p rest) x)
+    by : (answer : Bool) → p first ≡ answer → (first ≡ x) ⊎ Contains rest x → (Contains rest x
+        → Contains (filter p rest) x)
         → Contains (cond answer (first ∷ filter p rest) (filter p rest)) x
-    by true is found later = Contains-cons first (filter p rest) x (⊎_elim (λ here. inl here) (λ there. inr (later there)) found)
-    by false is found later = ⊎_elim (λ here. absurd (false≢true (sym is ∙ (ap p here ∙ passes)))) (λ there. later there) found
+    by true is found later = Contains-cons first (filter p rest) x (⊎_elim (λ here. inl here) (λ there. inr
+        (later there)) found)
+    by false is found later = ⊎_elim (λ here. absurd (false≢true (sym is ∙ (ap p here
+        ∙ passes)))) (λ there. later there) found
 
 -- lists with the same items, after one another
-SameItems-append : {A : Type 0} (xs ys xs' ys' : List A) → SameItems xs ys → SameItems xs' ys' → SameItems (xs ++ xs') (ys ++ ys')
+SameItems-append : {A : Type 0} (xs ys xs' ys' : List A) → SameItems xs ys → SameItems xs' ys'
+    → SameItems (xs ++ xs') (ys ++ ys')
 SameItems-append xs ys xs' ys' front back item = (
-  λ among. ⊎_elim (λ here. Contains-append_left ys ys' item ((front item).0 here)) (λ there. Contains-append_right ys ys' item ((back item).0 there))
+  λ among. ⊎_elim (λ here. Contains-append_left ys ys' item ((front item).0 here))
+      (λ there. Contains-append_right ys ys' item ((back item).0 there))
       (Contains-append_cases xs xs' item among),
-  λ among. ⊎_elim (λ here. Contains-append_left xs xs' item ((front item).1 here)) (λ there. Contains-append_right xs xs' item ((back item).1 there))
+  λ among. ⊎_elim (λ here. Contains-append_left xs xs' item ((front item).1 here))
+      (λ there. Contains-append_right xs xs' item ((back item).1 there))
       (Contains-append_cases ys ys' item among),
 )
 
@@ -66,17 +73,24 @@ names_in bag = record {
 }
 
 -- names that are just some others are just those of the bag, where those are
-pub just_declared : (held names : Names) (bag : Bag) → HoldsJust held names → AreTheDeclaredNames names bag → HoldsJust held (names_in bag)
+pub just_declared : (held names : Names) (bag : Bag) → HoldsJust held names → AreTheDeclaredNames names bag
+    → HoldsJust held (names_in bag)
 just_declared held names bag just declared =
     let P : List PlainName → Type 0 = SameItems held.common in
     let Q : List PlainName → Type 0 = SameItems held.entities in
     let R : List PlainUid → Type 0 = SameItems held.actions in
-    record { common = subst P declared.common just.common; entities = subst Q declared.entities just.entities; actions = subst R declared.actions just.actions }
+    record {
+      common = subst P declared.common just.common;
+      entities = subst Q declared.entities just.entities;
+      actions
+          = subst R declared.actions just.actions;
+    }
 
 module _ (bag : Bag) (extensions : Extensions) (held : Names) (just : HoldsJust held (names_in bag)) where
   -- the names of types are those that are declared
   same_types : SameItems (type_names held) (declared_types bag)
-  same_types = SameItems-append held.common (names_in bag).common held.entities (names_in bag).entities just.common just.entities
+  same_types = SameItems-append held.common (names_in bag).common held.entities
+      (names_in bag).entities just.common just.entities
 
   -- names that shadow each other are a fault of the bag
   pub shadowing_fault : (fault : Fault) → IsShadowing held fault → IsFault bag extensions fault
@@ -104,13 +118,16 @@ module _ (bag : Bag) (extensions : Extensions) (held : Names) (just : HoldsJust 
         → (it : Text × Expr) × Contains (built_in_types extensions) it × (it.0 ≡ id_text word)
     word_stands word among =
         let P : List Text → Type 0 = λ texts. Contains texts (id_text word) in
-        Contains-preimage (λ it. it.0) (built_in_types extensions) (id_text word) (subst P are (Contains-image id_text words word among))
+        Contains-preimage (λ it. it.0) (built_in_types extensions) (id_text word) (subst P are
+        (Contains-image id_text words word among))
 
     -- the base name of a built-in type is that of a word
-    word_of : (it : Text × Expr) → Contains (built_in_types extensions) it → (word : Id) × Contains words word × (id_text word ≡ it.0)
+    word_of : (it : Text × Expr) → Contains (built_in_types extensions) it
+        → (word : Id) × Contains words word × (id_text word ≡ it.0)
     word_of it among =
         let P : List Text → Type 0 = λ texts. Contains texts it.0 in
-        Contains-preimage id_text words it.0 (subst P (sym are) (Contains-image (λ (each : Text × Expr). each.0) (built_in_types extensions) it among))
+        Contains-preimage id_text words it.0 (subst P (sym are) (Contains-image (λ (each : Text × Expr). each.0)
+        (built_in_types extensions) it among))
 
     -- over what is held with the built-in types and then with the aliases
     module _ (built_in aliased : List PlainName) (taken : List PlainName) (same : taken ≡ held.entities)
@@ -124,7 +141,8 @@ module _ (bag : Bag) (extensions : Extensions) (held : Names) (just : HoldsJust 
           let all = front ++ aliases bag extensions in
           let declared : Contains (names_in bag).common name → Contains (map key all) name = λ there.
           image_included key (declared_common bag) all
-          (λ it here. Contains-append_left front (aliases bag extensions) it (Contains-append_left (declared_common bag) (built_ins extensions) it here))
+          (λ it here. Contains-append_left front (aliases bag extensions) it (Contains-append_left
+          (declared_common bag) (built_ins extensions) it here))
           name there in
           let P : PlainName → Type 0 = Contains (map key all) in
           ⊎_elim
@@ -135,8 +153,10 @@ module _ (bag : Bag) (extensions : Extensions) (held : Names) (just : HoldsJust 
           let it = word_stands word.0 word.1 in
           subst P (ap built_in_name it.2 ∙ word.2)
           (Contains-image key all (built_in_name it.0.0, it.0.1)
-          (Contains-append_left front (aliases bag extensions) _ (Contains-append_right (declared_common bag) (built_ins extensions) _
-          (Contains-image (λ (each : Text × Expr). (built_in_name each.0, each.1)) (built_in_types extensions) it.0 it.1)))))
+          (Contains-append_left front (aliases bag extensions) _ (Contains-append_right (declared_common bag)
+          (built_ins extensions) _
+          (Contains-image (λ (each : Text × Expr). (built_in_name each.0, each.1))
+          (built_in_types extensions) it.0 it.1)))))
           ((first name).0 earlier))
           (λ alias.
           let word = Contains-preimage (λ word. alias_name (id_text word)) words name alias.0 in
@@ -145,7 +165,8 @@ module _ (bag : Bag) (extensions : Extensions) (held : Names) (just : HoldsJust 
           by_answer name it.0 it.1 named (is_declared_here bag it.0.0) refl alias.1 declared)
           ((second name).0 among)
         where
-          by_answer : (name : PlainName) (it : Text × Expr) → Contains (built_in_types extensions) it → alias_name it.0 ≡ name
+          by_answer : (name : PlainName) (it : Text × Expr) → Contains (built_in_types extensions) it
+              → alias_name it.0 ≡ name
               → (answer : Bool) → is_declared_here bag it.0 ≡ answer → ¬ Contains taken name
               → (Contains (names_in bag).common name → Contains (defined_names bag extensions).common name)
               → Contains (defined_names bag extensions).common name
@@ -171,7 +192,8 @@ module _ (bag : Bag) (extensions : Extensions) (held : Names) (just : HoldsJust 
       defined_held : (name : PlainName) → Contains (defined_names bag extensions).common name → Contains aliased name
       defined_held name among =
           let key = λ (it : PlainName × Expr). it.0 in
-          let found = Contains-preimage key (declared_common bag ++ built_ins extensions ++ aliases bag extensions) name among in
+          let found = Contains-preimage key (declared_common bag ++ built_ins extensions ++ aliases bag extensions)
+          name among in
           let P : PlainName → Type 0 = Contains aliased in
           subst P found.2
           (⊎_elim
@@ -186,7 +208,8 @@ module _ (bag : Bag) (extensions : Extensions) (held : Names) (just : HoldsJust 
           built_in_named : (it : PlainName × Expr) → Contains (built_ins extensions) it
               → Contains (map (λ word. built_in_name (id_text word)) words) it.0
           built_in_named it there =
-              let type = Contains-preimage (λ (each : Text × Expr). (built_in_name each.0, each.1)) (built_in_types extensions) it there in
+              let type = Contains-preimage (λ (each : Text × Expr). (built_in_name each.0, each.1))
+              (built_in_types extensions) it there in
               let word = word_of type.0 type.1 in
               let P : PlainName → Type 0 = Contains (map (λ word. built_in_name (id_text word)) words) in
               subst P (ap built_in_name word.2 ∙ ap (λ (each : PlainName × Expr). each.0) type.2)
@@ -200,9 +223,12 @@ module _ (bag : Bag) (extensions : Extensions) (held : Names) (just : HoldsJust 
               let named : alias_name it.0.base ≡ it.0 = (λ i. record { base = it.0.base; path = sym type.1 i }) in
               let P : PlainName → Type 0 = Contains (map (λ word. alias_name (id_text word)) words) in
               let Q : List PlainName → Type 0 = λ names. Contains names it.0 in (
-                subst P (ap alias_name word.2 ∙ named) (Contains-image (λ word. alias_name (id_text word)) words word.0 word.1),
-                λ is_taken. false≢true (sym type.2 ∙ any_of (λ each. is_eq (name_cmp (alias_name it.0.base) each)) (declared_types bag) it.0
-                    (Contains-append_right (names_in bag).common (names_in bag).entities it.0 ((just.entities it.0).0 (subst Q same is_taken)))
+                subst P (ap alias_name word.2 ∙ named) (Contains-image (λ word. alias_name
+                    (id_text word)) words word.0 word.1),
+                λ is_taken. false≢true (sym type.2 ∙ any_of (λ each. is_eq (name_cmp (alias_name it.0.base) each))
+                    (declared_types bag) it.0
+                    (Contains-append_right (names_in bag).common (names_in bag).entities it.0 ((just.entities it.0).0
+                    (subst Q same is_taken)))
                     ((name_test (alias_name it.0.base) it.0).1 named)),
               )
 
@@ -219,7 +245,8 @@ module _ (bag : Bag) (extensions : Extensions) (held : Names) (just : HoldsJust 
       let of_actions = map types (action_uids bag) in (
         λ among. ⊎_elim
             (λ here. Contains-append_left declared of_actions name ((just.entities name).0 here))
-            (λ there. Contains-append_right declared of_actions name ((SameItems-image types held.actions (action_uids bag) just.actions name).0 there))
+            (λ there. Contains-append_right declared of_actions name ((SameItems-image types held.actions
+            (action_uids bag) just.actions name).0 there))
             ((also name).0 among),
         λ among. (also name).1 (⊎_elim
             (λ here. inl ((just.entities name).1 here))

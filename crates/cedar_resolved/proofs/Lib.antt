@@ -1,2 +1,4 @@
 pub mod AlsoLemmas
 pub mod DefinedNames
+pub mod SameNames
+pub mod SettlingFaults

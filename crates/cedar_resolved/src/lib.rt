@@ -2,6 +2,8 @@
 #![tactic(auto)]
 
 pub use defined::defined_names;
+pub use settled::settle;
 
 mod built_in;
 mod defined;
+mod settled;

@@ -18,4 +18,5 @@ returns c =
     ∙ ap (λ words. primitive_words ++ words)
     (ap (map base) (take_all c.loop-name.name-index items c.loop-name-test.false)
     ∙ (sym (map-map (λ (name : PlainName). name.base) plain_name items)
-    ∙ (ap (map (λ (name : PlainName). name.base)) c.ext_types-name-items.ensures ∙ sym (map-map (λ (it : Text × Expr). it.0) entry _))))
+    ∙ (ap (map (λ (name : PlainName). name.base)) c.ext_types-name-items.ensures
+    ∙ sym (map-map (λ (it : Text × Expr). it.0) entry _))))

@@ -25,7 +25,8 @@ declared_just : (fragments : List (ValidatorSchemaFragment ConditionalName Condi
     → HoldsJust (held_names defs) (declared_names ConditionalName ConditionalName fragments)
     → HoldsJust (held_names defs) (names_in (conditional_bag fragments))
 declared_just fragments defs just =
-    just_declared (held_names defs) (declared_names ConditionalName ConditionalName fragments) (conditional_bag fragments) just
+    just_declared (held_names defs) (declared_names ConditionalName ConditionalName fragments)
+    (conditional_bag fragments) just
     (names_are_declared ConditionalName placed_reference ConditionalName placed_reference fragments)
 
 pub returns-in_err-rfc_70_shadowing_checks-clause-fault :
@@ -39,7 +40,8 @@ returns-in_err-rfc_70_shadowing_checks-clause-fault c =
     (λ shadowing. inr (shadowing_fault bag extensions (held_names c.in_ok-declared.declared)
     (declared_just c.args.fragments.now c.in_ok-declared.declared c.in_ok-declared.ensures) found shadowing))
     c.in_err-rfc_70_shadowing_checks.ensures.fault in
-    let p = err_from_is_err_and c.from_residual-in_err-rfc_70_shadowing_checks.result c.from_residual-in_err-rfc_70_shadowing_checks.ensures.1 in
+    let p = err_from_is_err_and c.from_residual-in_err-rfc_70_shadowing_checks.result
+    c.from_residual-in_err-rfc_70_shadowing_checks.ensures.1 in
     rw (p.1, p.2) at_fault
 
 pub returns-clause-names : goal.returns-clause-names
@@ -52,30 +54,36 @@ returns-clause-names c =
     let all = held_names c.in_ok-with_action_types.field-0 in
     let just = declared_just c.args.fragments.now c.in_ok-declared.declared c.in_ok-declared.ensures in
     let Common : List PlainName → Type 0 = λ names. SameItems names (defined_names bag extensions).common in
-    let BuiltIn : List Id → Type 0 = λ words. HasAlso built_in.common held.common (map (λ word. built_in_name (id_text word)) words) in
+    let BuiltIn : List Id → Type 0 = λ words. HasAlso built_in.common held.common (map (λ word. built_in_name
+    (id_text word)) words) in
     let Alias : List Id → Type 0 = λ words.
     HasAlsoUnless aliased.common built_in.common (map (λ word. alias_name (id_text word)) words) built_in.entities in
-    let Entities : List PlainName → Type 0 = λ names. HasAlso all.entities names (map (λ uid. uid.ty) aliased.actions) in
+    let Entities : List PlainName → Type 0 = λ names. HasAlso all.entities names (map
+    (λ uid. uid.ty) aliased.actions) in
     let Types : List PlainUid → Type 0 = λ uids. HasAlso all.entities held.entities (map (λ uid. uid.ty) uids) in
     let Actions : List PlainUid → Type 0 = λ uids. SameItems uids (action_uids bag) in
     let actions_stay = c.in_ok-defined.ensures.actions_stay ∙ c.in_ok-built_in.ensures.actions_stay in
     record {
       common = subst Common (sym c.in_ok-with_action_types.ensures.common_stay)
-          (same_common bag extensions held just c.in_ok-words.words.items c.in_ok-words.ensures built_in.common aliased.common built_in.entities
+          (same_common bag extensions held just c.in_ok-words.words.items c.in_ok-words.ensures built_in.common
+          aliased.common built_in.entities
           c.in_ok-built_in.ensures.entities_stay (subst BuiltIn c.deref.ensures.value c.in_ok-built_in.ensures.common)
           (subst Alias c.deref-2.ensures.value c.in_ok-defined.ensures.common));
       entities = same_entities bag extensions held just all.entities
           (subst Types actions_stay
-          (subst Entities (c.in_ok-defined.ensures.entities_stay ∙ c.in_ok-built_in.ensures.entities_stay) c.in_ok-with_action_types.ensures.entities));
+          (subst Entities (c.in_ok-defined.ensures.entities_stay ∙ c.in_ok-built_in.ensures.entities_stay)
+          c.in_ok-with_action_types.ensures.entities));
       actions = subst Actions (sym (c.in_ok-with_action_types.ensures.actions_stay ∙ actions_stay)) just.actions;
     }
 
 pub returns-clause-no_type_shadows : goal.returns-clause-no_type_shadows
 returns-clause-no_type_shadows c =
     no_type_fault (conditional_bag c.args.fragments.now) c.args.extensions.now (held_names c.in_ok-declared.declared)
-    (declared_just c.args.fragments.now c.in_ok-declared.declared c.in_ok-declared.ensures) c.in_ok-rfc_70_shadowing_checks.ensures.types
+    (declared_just c.args.fragments.now c.in_ok-declared.declared c.in_ok-declared.ensures)
+    c.in_ok-rfc_70_shadowing_checks.ensures.types
 
 pub returns-clause-no_action_shadows : goal.returns-clause-no_action_shadows
 returns-clause-no_action_shadows c =
     no_action_fault (conditional_bag c.args.fragments.now) c.args.extensions.now (held_names c.in_ok-declared.declared)
-    (declared_just c.args.fragments.now c.in_ok-declared.declared c.in_ok-declared.ensures) c.in_ok-rfc_70_shadowing_checks.ensures.actions
+    (declared_just c.args.fragments.now c.in_ok-declared.declared c.in_ok-declared.ensures)
+    c.in_ok-rfc_70_shadowing_checks.ensures.actions

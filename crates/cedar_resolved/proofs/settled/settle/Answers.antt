@@ -1,0 +1,71 @@
+use Rattle.std.proofs.Common.{◌≡◌, ◌⊎◌, List, subst}
+use Rattle.std.proofs.lemmas.Result.{err_from_is_err_and, IfOk-weaker, IfErr-weaker}
+use Rattle.cedar_below.specs.PlainName.{PlainName}
+use Rattle.cedar_below.specs.PlainUid.{PlainUid}
+use Rattle.cedar_below.specs.declared.extension.Extensions.{Extensions}
+use Rattle.cedar_declared.specs.Bag.{defined_names}
+use Rattle.cedar_declared.specs.Fault.{Fault, want_of_memory, type_shadowing, action_shadowing}
+use Rattle.cedar_declared.specs.IllFormed.{IsFault}
+use Rattle.cedar_declared.specs.SchemaError.{fault_of}
+use Rattle.cedar_fragments.specs.FragmentDeclarations.{conditional_bag, settled_fragment}
+use Rattle.cedar_fragments.specs.HeldNames.{held_names, HoldsJust}
+use Rattle.cedar_fragments.specs.declared.defs.all_defs.AllDefs.{AllDefs}
+use Rattle.cedar_fragments.specs.declared.namespace.fragment.ValidatorSchemaFragment.{ValidatorSchemaFragment}
+use Rattle.cedar_names.specs.declared.json_schema.conditional_name.ConditionalName.{ConditionalName}
+use Rattle.cedar_resolved.proofs.SameNames.{bag_alike}
+use Rattle.cedar_resolved.proofs.SettlingFaults.{settling_fault}
+use Rattle.cedar_resolved.proofs.settled.settle.Goals as goal
+use Rattle.std.specs.List.{flat_map}
+
+-- fragments whose names say what they may stand for
+abbrev Fragments : Type 0
+Fragments = List (ValidatorSchemaFragment ConditionalName ConditionalName)
+
+-- the names are just those that the fragments define
+abbrev Defines : AllDefs → Extensions → Fragments → Type 0
+Defines defs extensions fragments = HoldsJust (held_names defs) (defined_names (conditional_bag fragments) extensions)
+
+-- the refusal is want of memory, or names a fault of the fragments' bag
+abbrev Refuses : Extensions → Fault → Fragments → Type 0
+Refuses extensions fault fragments = (fault ≡ want_of_memory) ⊎ IsFault (conditional_bag fragments) extensions fault
+
+pub returns-in_err-defs-clause-fault : goal.returns-in_err-defs-clause-fault
+returns-in_err-defs-clause-fault c =
+    let found = fault_of c.in_err-defs.field-0.0 in
+    let P : Fragments → Type 0 = Refuses c.args.extensions.now found in
+    let at_fault : P c.args.fragments.items = subst P c.deref.ensures.value c.in_err-defs.ensures.fault in
+    let p = err_from_is_err_and c.from_residual.result c.from_residual.ensures.1 in
+    rw (p.1, p.2) at_fault
+
+pub returns-clause-settled : goal.returns-clause-settled
+returns-clause-settled c =
+    let bag = conditional_bag c.args.fragments.items in
+    let P : Fragments → Type 0 = Defines c.in_ok-defs.defs c.args.extensions.now in
+    IfOk-weaker c.qualify_fragments.result _ _
+    (λ settled. bag_alike (held_names c.in_ok-defs.defs) (defined_names bag c.args.extensions.now)
+    (subst P c.deref.ensures.value c.in_ok-defs.ensures.names) bag (flat_map settled_fragment settled.items))
+    c.qualify_fragments.ensures.settled
+
+pub returns-clause-fault : goal.returns-clause-fault
+returns-clause-fault c =
+    let P : Fragments → Type 0 = Defines c.in_ok-defs.defs c.args.extensions.now in
+    IfErr-weaker c.qualify_fragments.result _ _
+    (λ error. settling_fault c.args.fragments.items c.args.extensions.now (held_names c.in_ok-defs.defs)
+    (subst P c.deref.ensures.value c.in_ok-defs.ensures.names) (fault_of error))
+    c.qualify_fragments.ensures.fault
+
+pub returns-clause-no_type_shadows : goal.returns-clause-no_type_shadows
+returns-clause-no_type_shadows c =
+    let P : Fragments → Type 0 = λ fragments.
+    (plain qualified : PlainName) → ¬ IsFault (conditional_bag fragments) c.args.extensions.now
+    (type_shadowing plain qualified) in
+    let none : P c.args.fragments.items = subst P c.deref.ensures.value c.in_ok-defs.ensures.no_type_shadows in
+    IfOk-weaker c.qualify_fragments.result _ _ (λ settled settles. none) c.qualify_fragments.ensures.settled
+
+pub returns-clause-no_action_shadows : goal.returns-clause-no_action_shadows
+returns-clause-no_action_shadows c =
+    let P : Fragments → Type 0 = λ fragments.
+    (plain qualified : PlainUid) → ¬ IsFault (conditional_bag fragments) c.args.extensions.now
+    (action_shadowing plain qualified) in
+    let none : P c.args.fragments.items = subst P c.deref.ensures.value c.in_ok-defs.ensures.no_action_shadows in
+    IfOk-weaker c.qualify_fragments.result _ _ (λ settled settles. none) c.qualify_fragments.ensures.settled
