@@ -152,7 +152,7 @@ built_in_path extensions name body among plain =
     qualified wrong = cc
 
 -- an alias and what is declared or built in have different names
-alias_apart : (bag : Bag) (extensions : Extensions) (name : PlainName) (body other : Expr)
+pub alias_apart : (bag : Bag) (extensions : Extensions) (name : PlainName) (body other : Expr)
     → Contains (aliases bag extensions) (name, body) → ¬ Contains (declared_common bag ++ built_ins extensions) (name, other)
 alias_apart bag extensions name body other alias among =
     let found = alias_of bag extensions name body alias in

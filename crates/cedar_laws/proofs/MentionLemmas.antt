@@ -121,7 +121,7 @@ known_counted bag extensions well expr counted word mentions =
     (known_or_not extensions (alias_name word))
 
 -- what a built-in base name stands for mentions known extension types alone
-known_built_in : (extensions : Extensions) → TypeNamesFit (extension_types extensions) → (word : Text) (body : Expr)
+pub known_built_in : (extensions : Extensions) → TypeNamesFit (extension_types extensions) → (word : Text) (body : Expr)
     → Contains (built_in_types extensions) (word, body) → HasKnownExtensions extensions body
 known_built_in extensions fit word body (zero, below, is) other mentions =
     let P : Text × Expr → Type 0 = λ each. MentionsExtension each.1 other in absurd (subst P (sym is) mentions)

@@ -20,7 +20,7 @@ use Rattle.cedar_laws.proofs.MovedLemmas.{NamesTheSame, TagsAlike, EntitiesAlike
 use Rattle.cedar_declared.proofs.ResolutionLemmas.{first_defined}
 use Rattle.cedar_declared.proofs.TurnLemmas.{turn_forth, turn_back, turn_weaker}
 use Rattle.cedar_declared.proofs.TogetherLemmas.{AreRequests, declared_definition, definition_declared, declared_action_definition, action_definition_declared}
-use Rattle.cedar_declared.specs.Bag.{Bag, declared_common, declared_entities, built_ins, definitions, defined_names}
+use Rattle.cedar_declared.specs.Bag.{Bag, action_uids, declared_common, declared_entities, built_ins, definitions, defined_names}
 use Rattle.cedar_declared.specs.Counted.{CountsInEntity, CountsInRequests, CountsIn, IsCounted, entity_parents, IsPrincipalOrResource, IsEntityPlace, IsPlaced, HasToResolve}
 use Rattle.cedar_declared.specs.DeclaredSchema.{AreDeclaredTags, IsDeclaredKind, IsDeclaredEntityType, IsNamedBy, IsDeclaredActionKind, IsDeclaredAction, IsDeclaredSchema}
 use Rattle.cedar_declared.specs.Descent.{HasParent, HasParentAction, IsDescendant, IsDescendantAction}
@@ -31,7 +31,7 @@ use Rattle.cedar_declared.specs.IllFormed.{HasAttributes, RefersToCommon, IsFaul
 use Rattle.cedar_declared.specs.Names.{Names, MayNameCommon, ResolvesTo, IsUnresolved, NamesAction, NamesNoAction}
 use Rattle.cedar_declared.specs.Occurrences.{Twice, IsFirst}
 use Rattle.cedar_declared.specs.PlainSchema.{SchemaEntityType, ActionKind, defined_action, external_action, SchemaAction, PlainSchema}
-use Rattle.cedar_declared.specs.Settled.{SettlesDeclaration}
+use Rattle.cedar_declared.specs.Settled.{SettlesBag, SettlesDeclaration}
 use Rattle.cedar_declared.specs.Together.{defined_actions, IsExternalType, IsParent, IsActionParent, EntitySays, ActionSays}
 use Rattle.cedar_rules.specs.Ty.{Ty}
 
@@ -556,14 +556,33 @@ module _ (bag other : Bag) (extensions : Extensions)
         action_entities = declared.action_entities;
       }
 
--- settling the references of a bag changes nothing
-pub settling : SettlingChangesNothing
-settling bag settled extensions it =
+-- a bag and the settled one are alike in turn, each over the names that it defines
+settled_turn : (bag settled : Bag) (extensions : Extensions) → SettlesBag (defined_names bag extensions) bag settled
+    → HoldsInTurn (DeclarationsAlike (defined_names bag extensions) (defined_names settled extensions)) bag settled
+settled_turn bag settled extensions it =
     let names = defined_names bag extensions in
     let alike = turn_weaker (SettlesDeclaration names) (DeclarationsAlike names names) (settled_declaration names) bag settled it in
     let P : Names → Type 0 = λ others. HoldsInTurn (DeclarationsAlike names others) bag settled in
-    let turn = subst P (names_same names names bag settled alike extensions) alike in
+    subst P (names_same names names bag settled alike extensions) alike
+
+-- settling the references of a bag changes nothing
+pub settling : SettlingChangesNothing
+settling bag settled extensions it =
+    let turn = settled_turn bag settled extensions it in
     let back = reversed bag settled extensions turn in (
       λ fault. (fault_moved bag settled extensions turn fault, fault_moved settled bag extensions back fault),
       λ schema. (schema_moved bag settled extensions turn schema, schema_moved settled bag extensions back schema),
     )
+
+module _ (bag settled : Bag) (extensions : Extensions) (it : SettlesBag (defined_names bag extensions) bag settled) where
+  -- what has to name something in the settled bag does
+  pub settled_resolves : (reference : Reference) → HasToResolve settled reference
+      → (name : PlainName) × ResolvesTo (defined_names settled extensions) reference name
+  settled_resolves = has_to_resolves settled bag extensions (reversed bag settled extensions (settled_turn bag settled extensions it))
+
+  -- a parent of an action in the settled bag names one
+  pub settled_parent_names : (uid : PlainUid) (parent : ActionReference) → IsActionParent settled uid parent
+      → (upper : PlainUid) × NamesAction (action_uids settled) parent upper
+  settled_parent_names uid parent is =
+      (action_parent_moved settled bag extensions (reversed bag settled extensions (settled_turn bag settled extensions it))
+      uid parent is).2.2

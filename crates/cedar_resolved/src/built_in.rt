@@ -12,8 +12,8 @@ use cedar_below::{Extensions, Id, InternalName, M};
 use cedar_fragments::defs::AllDefs;
 use std::alloc::Global;
 
-/// The identifier that a text spells.
-fn identifier(alloc: Global, text: &str) -> M<Id>
+/// The identifier that a text spells. Or want of memory.
+pub fn identifier(alloc: Global, text: &str) -> M<Id>
     requires { IsIdentifier text.now }
     ensures { IfOk result (λ id. id_text id ≡ text.now) }
 {
@@ -38,8 +38,8 @@ pub(crate) fn built_in_words(alloc: Global, extensions: &Extensions) -> M<Vec<Id
     Ok(words)
 }
 
-/// The full name of a built-in type.
-fn built_in_type_name(alloc: Global, word: &Id) -> M<InternalName>
+/// The full name of a built-in type: its base name in the namespace `__cedar`. Or want of memory.
+pub fn built_in_type_name(alloc: Global, word: &Id) -> M<InternalName>
     ensures { IfOk result (λ name. name_of name ≡ built_in_name (id_text word.now)) }
 {
     let mut path = Vec::new(alloc);

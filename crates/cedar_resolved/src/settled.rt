@@ -10,7 +10,7 @@ ghost use Rattle.cedar_declared.specs.IllFormed.{IsFault};
 ghost use Rattle.cedar_declared.specs.SchemaError.{fault_of};
 ghost use Rattle.cedar_declared.specs.Settled.{SettlesBag};
 ghost use Rattle.cedar_fragments.specs.FragmentDeclarations.{conditional_bag, settled_fragment};
-ghost use Rattle.cedar_fragments.specs.HeldNames.{held_names};
+ghost use Rattle.cedar_fragments.specs.HeldNames.{held_names, HoldsJust};
 ghost use Rattle.cedar_fragments.specs.QualifyFault.{IsUnsettledBag};
 
 use crate::defined::defined_names;
@@ -38,17 +38,28 @@ fn qualify_fragments(
     Ok(qualified)
 }
 
+/// Fragments over full names, with all names that they define.
+#[derive(Debug, Drop)]
+pub struct Settled {
+    /// The fragments, where each name is that of what it resolves to.
+    pub fragments: Vec<ValidatorSchemaFragment<InternalName, EntityType>>,
+    /// The names that the fragments define, with built-in types, aliases and types of actions.
+    pub defs: AllDefs,
+}
+
 /// The same fragments, where each name is that of what it resolves to among all that the fragments
-/// define over some extensions. Refused with `TypeShadowing` or `ActionShadowing` if a declared
-/// name would shadow another, with `ActionNotDefined` if a parent of an action names no action, and
-/// with `TypeNotDefined` if another name resolves to nothing.
+/// define over some extensions, with these names. Refused with `TypeShadowing` or `ActionShadowing`
+/// if a declared name would shadow another, with `ActionNotDefined` if a parent of an action names no
+/// action, and with `TypeNotDefined` if another name resolves to nothing.
 pub fn settle(
     alloc: Global,
     fragments: Vec<ValidatorSchemaFragment<ConditionalName, ConditionalName>>,
     extensions: &Extensions,
-) -> Result<Vec<ValidatorSchemaFragment<InternalName, EntityType>>, SchemaError>
+) -> Result<Settled, SchemaError>
     ensures settled { IfOk result (λ settled. SettlesBag (defined_names (conditional_bag fragments.items) extensions.now)
-        (conditional_bag fragments.items) (flat_map settled_fragment settled.items)) }
+        (conditional_bag fragments.items) (flat_map settled_fragment settled.fragments.items)) }
+    ensures names { IfOk result (λ settled.
+        HoldsJust (held_names settled.defs) (defined_names (conditional_bag fragments.items) extensions.now)) }
     ensures no_type_shadows { OnOk result ((plain qualified : PlainName)
         → ¬ IsFault (conditional_bag fragments.items) extensions.now (type_shadowing plain qualified)) }
     ensures no_action_shadows { OnOk result ((plain qualified : PlainUid)
@@ -57,5 +68,6 @@ pub fn settle(
         ⊎ IsFault (conditional_bag fragments.items) extensions.now (fault_of error)) }
 {
     let defs = defined_names(alloc, &fragments, extensions)?;
-    qualify_fragments(alloc, fragments, &defs)
+    let fragments = qualify_fragments(alloc, fragments, &defs)?;
+    Ok(Settled { fragments, defs })
 }

@@ -116,15 +116,16 @@ pub(crate) fn add_common(
     Ok(())
 }
 
-/// Declares an entity type without parents, attributes and tags.
-pub(crate) fn add_entity(
+/// Declares an entity type with parents, and without attributes and tags.
+fn add_with_parents(
     alloc: Global,
     definition: &mut NamespaceDefinition<RawName>,
     text: &str,
+    member_of_types: Vec<RawName>,
     external: bool,
 ) -> Result<(), Fail> {
     let standard = StandardEntityType {
-        member_of_types: Vec::new(alloc),
+        member_of_types,
         shape: AttributesOrContext(record(BTreeMap::new(alloc))),
         tags: None,
     };
@@ -135,6 +136,30 @@ pub(crate) fn add_entity(
     };
     definition.entity_types.insert(id(alloc, text)?, declared)?;
     Ok(())
+}
+
+/// Declares an entity type without parents, attributes and tags.
+pub(crate) fn add_entity(
+    alloc: Global,
+    definition: &mut NamespaceDefinition<RawName>,
+    text: &str,
+    external: bool,
+) -> Result<(), Fail> {
+    add_with_parents(alloc, definition, text, Vec::new(alloc), external)
+}
+
+/// Declares an entity type without attributes and tags, below another if one is given.
+pub(crate) fn add_below(
+    alloc: Global,
+    definition: &mut NamespaceDefinition<RawName>,
+    text: &str,
+    parent: &str,
+) -> Result<(), Fail> {
+    let mut parents = Vec::new(alloc);
+    if !parent.is_empty() {
+        parents.push(RawName::new(full(alloc, parent)?))?;
+    }
+    add_with_parents(alloc, definition, text, parents, false)
 }
 
 /// The closed record type of some attributes.

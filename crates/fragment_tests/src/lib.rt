@@ -1,6 +1,11 @@
-//! Tests of fragments, of the names that they declare, and of what references resolve to.
+//! Tests of fragments, of the names that they declare and define, of what references resolve to, and of
+//! common types that are written out.
 #![tactic(auto)]
 
+#[cfg(test)]
+mod common;
+#[cfg(test)]
+mod common_types;
 #[cfg(test)]
 mod declarations;
 #[cfg(test)]
@@ -15,5 +20,7 @@ mod parents;
 mod qualified;
 #[cfg(test)]
 mod refusals;
+#[cfg(test)]
+mod settled;
 #[cfg(test)]
 mod types;

@@ -1,6 +1,8 @@
-//! Tests of types and of entity types.
+//! Tests of types, of entity types and of actions.
 #![tactic(auto)]
 
+#[cfg(test)]
+mod actions;
 #[cfg(test)]
 mod attributes;
 #[cfg(test)]

@@ -55,6 +55,13 @@ impl AllDefs {
         self.actions.contains(uid)
     }
 
+    /// The names of the entity types that are defined, in order.
+    pub fn entity_type_names(&self) -> &BTreeSet<InternalName>
+        ensures { map name_of result.now.keys ≡ (held_names self.now).entities }
+    {
+        &self.entity_types
+    }
+
     /// Adds the name to those of entity types. After want of memory all names are as before.
     pub fn mark_as_defined_as_entity_type(&mut self, name: InternalName) -> M<()>
         ensures added { OnOk result (HasAlso (held_names self.new).entities (held_names self.old).entities (name_of name ∷ [])) }

@@ -1,5 +1,5 @@
 use Rattle.std.proofs.Common.{◌≡◌, ◌⊎◌, List, subst}
-use Rattle.std.proofs.lemmas.Result.{err_from_is_err_and, IfOk-weaker, IfErr-weaker}
+use Rattle.std.proofs.lemmas.Result.{err_from_is_err_and}
 use Rattle.cedar_below.specs.PlainName.{PlainName}
 use Rattle.cedar_below.specs.PlainUid.{PlainUid}
 use Rattle.cedar_below.specs.declared.extension.Extensions.{Extensions}
@@ -37,35 +37,39 @@ returns-in_err-defs-clause-fault c =
     let p = err_from_is_err_and c.from_residual.result c.from_residual.ensures.1 in
     rw (p.1, p.2) at_fault
 
+pub returns-in_err-fragments-clause-fault : goal.returns-in_err-fragments-clause-fault
+returns-in_err-fragments-clause-fault c =
+    let found = fault_of c.in_err-fragments.field-0.0 in
+    let P : Fragments → Type 0 = Defines c.in_ok-defs.defs c.args.extensions.now in
+    let at_fault : Refuses c.args.extensions.now found c.args.fragments.items =
+    settling_fault c.args.fragments.items c.args.extensions.now (held_names c.in_ok-defs.defs)
+    (subst P c.deref.ensures.value c.in_ok-defs.ensures.names) found c.in_err-fragments.ensures.fault in
+    let p = err_from_is_err_and c.from_residual-in_err-fragments.result c.from_residual-in_err-fragments.ensures.1 in
+    rw (p.1, p.2) at_fault
+
 pub returns-clause-settled : goal.returns-clause-settled
 returns-clause-settled c =
     let bag = conditional_bag c.args.fragments.items in
     let P : Fragments → Type 0 = Defines c.in_ok-defs.defs c.args.extensions.now in
-    IfOk-weaker c.qualify_fragments.result _ _
-    (λ settled. bag_alike (held_names c.in_ok-defs.defs) (defined_names bag c.args.extensions.now)
-    (subst P c.deref.ensures.value c.in_ok-defs.ensures.names) bag (flat_map settled_fragment settled.items))
-    c.qualify_fragments.ensures.settled
+    bag_alike (held_names c.in_ok-defs.defs) (defined_names bag c.args.extensions.now)
+    (subst P c.deref.ensures.value c.in_ok-defs.ensures.names) bag
+    (flat_map settled_fragment c.in_ok-fragments.fragments.items) c.in_ok-fragments.ensures.settled
 
-pub returns-clause-fault : goal.returns-clause-fault
-returns-clause-fault c =
+pub returns-clause-names : goal.returns-clause-names
+returns-clause-names c =
     let P : Fragments → Type 0 = Defines c.in_ok-defs.defs c.args.extensions.now in
-    IfErr-weaker c.qualify_fragments.result _ _
-    (λ error. settling_fault c.args.fragments.items c.args.extensions.now (held_names c.in_ok-defs.defs)
-    (subst P c.deref.ensures.value c.in_ok-defs.ensures.names) (fault_of error))
-    c.qualify_fragments.ensures.fault
+    subst P c.deref.ensures.value c.in_ok-defs.ensures.names
 
 pub returns-clause-no_type_shadows : goal.returns-clause-no_type_shadows
 returns-clause-no_type_shadows c =
     let P : Fragments → Type 0 = λ fragments.
     (plain qualified : PlainName) → ¬ IsFault (conditional_bag fragments) c.args.extensions.now
     (type_shadowing plain qualified) in
-    let none : P c.args.fragments.items = subst P c.deref.ensures.value c.in_ok-defs.ensures.no_type_shadows in
-    IfOk-weaker c.qualify_fragments.result _ _ (λ settled settles. none) c.qualify_fragments.ensures.settled
+    subst P c.deref.ensures.value c.in_ok-defs.ensures.no_type_shadows
 
 pub returns-clause-no_action_shadows : goal.returns-clause-no_action_shadows
 returns-clause-no_action_shadows c =
     let P : Fragments → Type 0 = λ fragments.
     (plain qualified : PlainUid) → ¬ IsFault (conditional_bag fragments) c.args.extensions.now
     (action_shadowing plain qualified) in
-    let none : P c.args.fragments.items = subst P c.deref.ensures.value c.in_ok-defs.ensures.no_action_shadows in
-    IfOk-weaker c.qualify_fragments.result _ _ (λ settled settles. none) c.qualify_fragments.ensures.settled
+    subst P c.deref.ensures.value c.in_ok-defs.ensures.no_action_shadows

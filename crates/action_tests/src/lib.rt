@@ -1,7 +1,0 @@
-//! Tests of actions of a schema.
-#![tactic(auto)]
-
-#[cfg(test)]
-mod actions;
-#[cfg(test)]
-mod test_values;

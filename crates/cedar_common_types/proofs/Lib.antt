@@ -1,0 +1,4 @@
+pub mod AliasLemmas
+pub mod CommonFaults
+pub mod Results
+pub mod TakenLemmas

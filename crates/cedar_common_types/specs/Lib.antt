@@ -1,0 +1,3 @@
+pub mod BuiltIn
+pub mod DeclaredTypes
+pub mod SoundTypes
