@@ -4,6 +4,8 @@
 #[cfg(test)]
 mod declarations;
 #[cfg(test)]
+mod gathered;
+#[cfg(test)]
 mod given;
 #[cfg(test)]
 mod kinds;
