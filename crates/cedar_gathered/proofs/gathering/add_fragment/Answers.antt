@@ -8,7 +8,8 @@ use Rattle.cedar_gathered.proofs.gathering.add_fragment.Goals as goal
 
 pub loop-definition-init : goal.loop-definition-init
 loop-definition-init c =
-    gather_none settled_definition _ _ _ _ c.into_iter-definition-iterator.ensures.into_iter_gives.0 (c.into_definitions-definition-items.ensures settled_reference settled_action_type)
+    gather_none settled_definition _ _ _ _ c.into_iter-definition-iterator.ensures.into_iter_gives.0
+    (c.into_definitions-definition-items.ensures settled_reference settled_action_type)
 
 pub loop-definition-preserved : goal.loop-definition-preserved
 loop-definition-preserved c =
