@@ -10,15 +10,12 @@ use Rattle.cedar_below.specs.PlainName.{PlainName, IsActionType}
 use Rattle.cedar_below.specs.PlainUid.{PlainUid}
 use Rattle.cedar_declared.specs.Bag.{Bag, common_in, entity_in, action_in, declared_name, declared_uid}
 use Rattle.cedar_fragments.proofs.DeclaredAsLemmas.{path_within-namespace_of}
-use Rattle.cedar_fragments.specs.ActionDeclarations.{action_fragment_body}
+use Rattle.cedar_fragments.specs.ActionDeclarations.{action_fragment_body, action_fragment_declaration, action_fragment_declarations}
 use Rattle.cedar_fragments.specs.DeclaredAs.{declared_as, declared_action}
 use Rattle.cedar_fragments.specs.FragmentDeclarations.{definition_declarations, fragment_declarations}
 use Rattle.cedar_fragments.specs.HeldNames.{definition_names, declared_names, AreTheDeclaredNames}
-use Rattle.cedar_fragments.specs.TypeDeclarations.{fragment_body}
-use Rattle.cedar_fragments.specs.declared.namespace.action_def.ActionDef.{ActionDef}
-use Rattle.cedar_fragments.specs.declared.namespace.common_types.CommonTypeDef.{CommonTypeDef}
+use Rattle.cedar_fragments.specs.TypeDeclarations.{fragment_body, common_type_declaration, common_type_declarations, entity_type_declaration, entity_type_declarations}
 use Rattle.cedar_fragments.specs.declared.namespace.definition.ValidatorNamespaceDef.{ValidatorNamespaceDef}
-use Rattle.cedar_fragments.specs.declared.namespace.entity_types.EntityTypeDef.{EntityTypeDef}
 use Rattle.cedar_fragments.specs.declared.namespace.fragment.ValidatorSchemaFragment.{ValidatorSchemaFragment}
 use Rattle.cedar_names.specs.Declaration.{Declaration, Body, common_type, entity_type, action}
 use Rattle.cedar_names.specs.Reference.{Reference}
@@ -40,15 +37,19 @@ module _ {P : Type 0} (read : Declaration → List P) where
   read_all bag = flat_map read bag
 
   -- where each declaration gives a name, some give those names
-  each_read : {D : Type 0} (f : D → Declaration) (key : D → P) → ((d : D) → read (f d) ≡ key d ∷ []) → (defs : List D)
+  pub each_read : {D : Type 0} (f : D → Declaration) (key : D → P) → ((d : D) → read (f d) ≡ key d ∷ []) → (defs : List D)
       → flat_map read (map f defs) ≡ map key defs
   each_read f key one [] = refl
   each_read f key one (def ∷ defs) = (λ i. one def i ++ each_read f key one defs i)
 
   -- where none gives one, some give none
-  none_read : {D : Type 0} (f : D → Declaration) → ((d : D) → read (f d) ≡ []) → (defs : List D) → flat_map read (map f defs) ≡ []
+  pub none_read : {D : Type 0} (f : D → Declaration) → ((d : D) → read (f d) ≡ []) → (defs : List D) → flat_map read (map f defs) ≡ []
   none_read f none [] = refl
   none_read f none (def ∷ defs) = (λ i. none def i ++ none_read f none defs i)
+
+  -- what three bags give together
+  pub three_read : (xs ys zs : Bag) → flat_map read (xs ++ ys ++ zs) ≡ flat_map read xs ++ flat_map read ys ++ flat_map read zs
+  three_read xs ys zs = flat_map-append read (xs ++ ys) zs ∙ ap (λ front. front ++ flat_map read zs) (flat_map-append read xs ys)
 
   -- several bags give what each gives in turn
   read_together : {X : Type 0} (f : X → Bag) (xs : List X) → flat_map read (flat_map f xs) ≡ flat_map (λ x. flat_map read (f x)) xs
@@ -77,54 +78,42 @@ abbrev action_uid : Declaration → List PlainUid
 action_uid it = map (λ each. each.0) (action_in (declared_uid it) it.body)
 
 module _ (N : Type 0) (refer : ReferenceType → N → Reference) (A : Type 0) (refer_action : ReferenceType → A → Reference) where
-  -- a common type, an entity type and an action as declarations
-  abbrev of_common : CommonTypeDef N → Declaration
-  of_common def = declared_as (name_of def.name) (common_type (written_type N refer def.ty))
-
-  abbrev of_entity : EntityTypeDef N → Declaration
-  of_entity def = declared_as (type_name def.name) (entity_type (fragment_body N refer def.fragment))
-
-  abbrev of_action : ActionDef N A → Declaration
-  of_action def = declared_action (uid_of def.uid) (action (action_fragment_body N refer A refer_action def.fragment))
-
-  -- what three parts give together
-  three : {P : Type 0} (read : Declaration → List P) (xs ys zs : Bag)
-      → flat_map read (xs ++ ys ++ zs) ≡ flat_map read xs ++ flat_map read ys ++ flat_map read zs
-  three read xs ys zs = flat_map-append read (xs ++ ys) zs ∙ ap (λ front. front ++ flat_map read zs) (flat_map-append read xs ys)
-
   -- the names of common types of a definition
   common_of : (it : ValidatorNamespaceDef N A)
       → flat_map common_name (definition_declarations N refer A refer_action it) ≡ (definition_names N A it).common
   common_of it =
-      three common_name (map of_common it.common_types.defs.items) (map of_entity it.entity_types.defs.items) (map of_action it.actions.defs.items)
+      three_read common_name (common_type_declarations N refer it.common_types) (entity_type_declarations N refer it.entity_types)
+      (action_fragment_declarations N refer A refer_action it.actions)
       ∙ ((λ i.
-      each_read common_name of_common (λ def. name_of def.name)
+      each_read common_name (common_type_declaration N refer) (λ def. name_of def.name)
       (λ def. ap (λ name. name ∷ []) (name_declared (name_of def.name) (common_type (written_type N refer def.ty)))) it.common_types.defs.items i
-      ++ none_read common_name of_entity (λ def. refl) it.entity_types.defs.items i
-      ++ none_read common_name of_action (λ def. refl) it.actions.defs.items i)
+      ++ none_read common_name (entity_type_declaration N refer) (λ def. refl) it.entity_types.defs.items i
+      ++ none_read common_name (action_fragment_declaration N refer A refer_action) (λ def. refl) it.actions.defs.items i)
       ∙ (append-nil _ ∙ append-nil _))
 
   -- the names of entity types of a definition
   entities_of : (it : ValidatorNamespaceDef N A)
       → flat_map entity_name (definition_declarations N refer A refer_action it) ≡ (definition_names N A it).entities
   entities_of it =
-      three entity_name (map of_common it.common_types.defs.items) (map of_entity it.entity_types.defs.items) (map of_action it.actions.defs.items)
+      three_read entity_name (common_type_declarations N refer it.common_types) (entity_type_declarations N refer it.entity_types)
+      (action_fragment_declarations N refer A refer_action it.actions)
       ∙ ((λ i.
-      none_read entity_name of_common (λ def. refl) it.common_types.defs.items i
-      ++ each_read entity_name of_entity (λ def. type_name def.name)
+      none_read entity_name (common_type_declaration N refer) (λ def. refl) it.common_types.defs.items i
+      ++ each_read entity_name (entity_type_declaration N refer) (λ def. type_name def.name)
       (λ def. ap (λ name. name ∷ []) (name_declared (type_name def.name) (entity_type (fragment_body N refer def.fragment)))) it.entity_types.defs.items i
-      ++ none_read entity_name of_action (λ def. refl) it.actions.defs.items i)
+      ++ none_read entity_name (action_fragment_declaration N refer A refer_action) (λ def. refl) it.actions.defs.items i)
       ∙ append-nil _)
 
   -- the uids of actions of a definition
   actions_of : (it : ValidatorNamespaceDef N A)
       → flat_map action_uid (definition_declarations N refer A refer_action it) ≡ (definition_names N A it).actions
   actions_of it =
-      three action_uid (map of_common it.common_types.defs.items) (map of_entity it.entity_types.defs.items) (map of_action it.actions.defs.items)
+      three_read action_uid (common_type_declarations N refer it.common_types) (entity_type_declarations N refer it.entity_types)
+      (action_fragment_declarations N refer A refer_action it.actions)
       ∙ (λ i.
-      none_read action_uid of_common (λ def. refl) it.common_types.defs.items i
-      ++ none_read action_uid of_entity (λ def. refl) it.entity_types.defs.items i
-      ++ each_read action_uid of_action (λ def. uid_of def.uid)
+      none_read action_uid (common_type_declaration N refer) (λ def. refl) it.common_types.defs.items i
+      ++ none_read action_uid (entity_type_declaration N refer) (λ def. refl) it.entity_types.defs.items i
+      ++ each_read action_uid (action_fragment_declaration N refer A refer_action) (λ def. uid_of def.uid)
       (λ def. ap (λ uid. uid ∷ []) (uid_declared (uid_of def.uid) (action (action_fragment_body N refer A refer_action def.fragment)) def.is_action))
       it.actions.defs.items i)
 

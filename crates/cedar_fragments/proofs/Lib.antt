@@ -1,6 +1,7 @@
 pub mod AttributeLemmas
 pub mod DeclaredAsLemmas
 pub mod DeclaredNames
+pub mod DeclaredParts
 pub mod FragmentLemmas
 pub mod FragmentsSoFar
 pub mod InTurn
@@ -12,5 +13,6 @@ pub mod ResolveLemmas
 pub mod SetLemmas
 pub mod SettledBags
 pub mod ShadowLemmas
+pub mod SoundFragments
 pub mod SoundLemmas
 pub mod UnsettledLemmas

@@ -1,6 +1,7 @@
 use Rattle.std.specs.Prelude.{false, List, map, Option, None, Some, string_bytes}
 use Rattle.cedar_below.specs.EntityUID.{uid_of}
 use Rattle.cedar_fragments.specs.DeclaredAs.{declared_action}
+use Rattle.cedar_fragments.specs.declared.namespace.action_def.ActionDef.{ActionDef}
 use Rattle.cedar_fragments.specs.declared.namespace.actions.ActionFragment.{ActionFragment}
 use Rattle.cedar_fragments.specs.declared.namespace.actions.ActionParent.{ActionParent}
 use Rattle.cedar_fragments.specs.declared.namespace.actions.ActionRequests.{ActionRequests}
@@ -34,6 +35,10 @@ module _ (N : Type 0) (refer : ReferenceType → N → Reference) (A : Type 0) (
     applies_to = fragment_requests N refer it.requests;
   }
 
+  -- the declaration of an action
+  abbrev pub action_fragment_declaration : ActionDef N A → Declaration
+  action_fragment_declaration def = declared_action (uid_of def.uid) (action (action_fragment_body def.fragment))
+
   -- the declarations of the actions
   abbrev pub action_fragment_declarations : ActionsDef N A → List Declaration
-  action_fragment_declarations it = map (λ def. declared_action (uid_of def.uid) (action (action_fragment_body def.fragment))) it.defs.items
+  action_fragment_declarations it = map action_fragment_declaration it.defs.items

@@ -3,10 +3,12 @@
 //! The parameter `N` is the form of a reference to a type: a name that isn't settled yet, or the
 //! full name of what it names. The parameter `A` is the same of the type of an action's parent.
 
-pub use actions::{ActionFragment, ActionsDef};
-pub use common_types::CommonTypeDefs;
+pub use action_def::ActionDef;
+pub use actions::{ActionFragment, ActionParent, ActionRequests, ActionsDef};
+pub use common_types::{CommonTypeDef, CommonTypeDefs};
 pub use declared_names::{ActionNames, CommonTypeNames, EntityTypeNames};
 pub use definition::ValidatorNamespaceDef;
+pub use entity_type_def::EntityTypeDef;
 pub use entity_types::{EntityTypeFragment, EntityTypesDef};
 pub use fragment::ValidatorSchemaFragment;
 pub use namespaces::Namespaces;
@@ -16,10 +18,12 @@ mod actions;
 mod common_types;
 mod declared_names;
 mod definition;
+mod entity_type_def;
 mod entity_types;
 mod fragment;
 mod full_name;
 mod given_common_types;
+mod into_parts;
 mod namespaces;
 mod qualify_actions;
 mod qualify_definitions;

@@ -9,6 +9,8 @@ mod common_types;
 #[cfg(test)]
 mod declarations;
 #[cfg(test)]
+mod gathered;
+#[cfg(test)]
 mod given;
 #[cfg(test)]
 mod kinds;

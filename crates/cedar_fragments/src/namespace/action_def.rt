@@ -8,8 +8,10 @@ use cedar_below::EntityUID;
 
 /// An action under its uid, whose location is that of the whole declaration.
 #[derive(Debug, Drop)]
-pub(crate) struct ActionDef<N, A> {
-    pub(crate) uid: EntityUID,
-    pub(crate) fragment: ActionFragment<N, A>,
-    ghost is_action: { IsActionType (uid_of uid).ty },
+pub struct ActionDef<N, A> {
+    /// The uid.
+    pub uid: EntityUID,
+    /// What is declared of the action.
+    pub fragment: ActionFragment<N, A>,
+    pub ghost is_action: { IsActionType (uid_of uid).ty },
 }

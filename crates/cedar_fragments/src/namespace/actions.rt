@@ -47,26 +47,35 @@ pub struct ActionsDef<N, A> {
 /// What is declared of an action.
 #[derive(Debug, Drop)]
 pub struct ActionFragment<N, A> {
-    pub(crate) requests: Option<ActionRequests<N>>,
-    pub(crate) parents: Vec<ActionParent<A>>,
-    pub(crate) loc: Option<Loc>,
+    /// The requests that the action is for, or None where the action is defined elsewhere.
+    pub requests: Option<ActionRequests<N>>,
+    /// The actions that are direct parents of the action.
+    pub parents: Vec<ActionParent<A>>,
+    /// Where the name of the action was written, if that is known.
+    pub loc: Option<Loc>,
 }
 
 /// The requests that an action is for: the entity types that their principal and their resource may
 /// have, and the record type of their context.
 #[derive(Debug, Drop)]
-pub(crate) struct ActionRequests<N> {
-    pub(crate) principals: Vec<N>,
-    pub(crate) resources: Vec<N>,
-    pub(crate) context: Type<N>,
+pub struct ActionRequests<N> {
+    /// The entity types that the principal may have.
+    pub principals: Vec<N>,
+    /// The entity types that the resource may have.
+    pub resources: Vec<N>,
+    /// The record type of the context.
+    pub context: Type<N>,
 }
 
 /// A parent of an action: its id, and the name of its type.
 #[derive(Debug, Drop)]
-pub(crate) struct ActionParent<A> {
-    pub(crate) id: String,
-    pub(crate) ty: A,
-    pub(crate) loc: Option<Loc>,
+pub struct ActionParent<A> {
+    /// The id of the parent.
+    pub id: String,
+    /// The name of the parent's type.
+    pub ty: A,
+    /// Where the reference was written, if that is known.
+    pub loc: Option<Loc>,
 }
 
 impl<N, A> ActionsDef<N, A> {

@@ -23,9 +23,11 @@ pub struct CommonTypeDefs<N> {
 
 /// A common type under its full name, whose location is that of the declaration.
 #[derive(Debug, Drop)]
-pub(crate) struct CommonTypeDef<N> {
-    pub(crate) name: InternalName,
-    pub(crate) ty: Type<N>,
+pub struct CommonTypeDef<N> {
+    /// The full name.
+    pub name: InternalName,
+    /// The type that it is defined as.
+    pub ty: Type<N>,
 }
 
 impl CommonTypeDefs<ConditionalName> {

@@ -12,7 +12,7 @@ ghost use Rattle.cedar_fragments.specs.HeldNames.{definition_names};
 use crate::namespace::action_def::ActionDef;
 use crate::namespace::common_types::CommonTypeDef;
 use crate::namespace::definition::ValidatorNamespaceDef;
-use crate::namespace::entity_types::EntityTypeDef;
+use crate::namespace::entity_type_def::EntityTypeDef;
 use cedar_below::{EntityType, EntityUID, InternalName};
 use std::iter::FusedIterator;
 use std::marker::Model;

@@ -24,6 +24,7 @@ ghost use Rattle.cedar_names.specs.RawExpr.{raw_reference, raw_expr};
 ghost use Rattle.cedar_names.specs.declared.json_schema.conditional_name.ConditionalName.{ConditionalName as Conditional};
 ghost use Rattle.cedar_names.specs.declared.json_schema.reference_type.ReferenceType.TheVariants.{Entity as entity};
 
+use crate::namespace::entity_type_def::EntityTypeDef;
 use crate::namespace::full_name::full_name;
 use cedar_below::{Eid, EntityType, InternalName, Loc, M, Name, NonEmpty, UnreservedId};
 use cedar_declared::SchemaError;
@@ -39,13 +40,6 @@ use std::collections::BTreeMap;
 #[derive(Debug, Drop)]
 pub struct EntityTypesDef<N> {
     pub(crate) defs: Vec<EntityTypeDef<N>>,
-}
-
-/// An entity type under its full name, whose location is that of the declaration.
-#[derive(Debug, Drop)]
-pub(crate) struct EntityTypeDef<N> {
-    pub(crate) name: EntityType,
-    pub(crate) fragment: EntityTypeFragment<N>,
 }
 
 /// What is declared of an entity type.

@@ -18,7 +18,8 @@ ghost use Rattle.cedar_names.specs.declared.json_schema.conditional_name.Conditi
 
 use crate::defs::AllDefs;
 use crate::namespace::common_types::{CommonTypeDef, CommonTypeDefs};
-use crate::namespace::entity_types::{EntityTypeDef, EntityTypeFragment, EntityTypesDef};
+use crate::namespace::entity_type_def::EntityTypeDef;
+use crate::namespace::entity_types::{EntityTypeFragment, EntityTypesDef};
 use crate::namespace::qualify_types::{qualify_entity_types, qualify_type};
 use cedar_below::InternalName;
 use cedar_names::json_schema::{AttributesOrContext, ConditionalName, QualifyError, Type};

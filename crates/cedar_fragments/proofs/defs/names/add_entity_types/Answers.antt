@@ -4,7 +4,7 @@ use Rattle.cedar_below.specs.EntityType.{type_name}
 use Rattle.cedar_below.specs.PlainName.{PlainName}
 use Rattle.cedar_fragments.proofs.SetLemmas.{HasAlso-next, HasAlso-all}
 use Rattle.cedar_fragments.specs.HeldNames.{HasAlso}
-use Rattle.cedar_fragments.specs.declared.namespace.entity_types.EntityTypeDef.{EntityTypeDef}
+use Rattle.cedar_fragments.specs.declared.namespace.entity_type_def.EntityTypeDef.{EntityTypeDef}
 use Rattle.cedar_fragments.proofs.defs.names.add_entity_types.Goals as goal
 
 pub loop-def-preserved : goal.loop-def-preserved

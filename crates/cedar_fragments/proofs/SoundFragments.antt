@@ -1,0 +1,72 @@
+-- What fragments declare gives no cause for the refusal of a definition.
+use Rattle.std.proofs.Common.{List, [], ◌∷◌, map, sym, subst, refl, inr, Contains}
+use Rattle.std.specs.List.{AllByRecursion, flat_map}
+use Rattle.cedar_below.proofs.ValueLemmas.{IsName-type_name}
+use Rattle.cedar_below.specs.EntityType.{type_name}
+use Rattle.cedar_below.specs.EntityUID.{uid_of}
+use Rattle.cedar_below.specs.Identifier.{reserved_word}
+use Rattle.cedar_below.specs.PlainName.{PlainName, IsActionType}
+use Rattle.cedar_below.specs.PlainUid.{PlainUid}
+use Rattle.cedar_fragments.proofs.DeclaredNames.{name_declared, uid_declared}
+use Rattle.cedar_fragments.proofs.FragmentLemmas.{flat_map-each}
+use Rattle.cedar_fragments.proofs.SoundLemmas.{AllByRecursion-append, sound_bag}
+use Rattle.cedar_fragments.specs.ActionDeclarations.{action_fragment_body, action_fragment_declaration, action_fragment_declarations}
+use Rattle.cedar_fragments.specs.DefinitionFault.{HasNoDefinitionFault, IsSound}
+use Rattle.cedar_fragments.specs.FragmentDeclarations.{definition_declarations, fragment_declarations}
+use Rattle.cedar_fragments.specs.TypeDeclarations.{fragment_body, common_type_declaration, common_type_declarations, entity_type_declaration, entity_type_declarations}
+use Rattle.cedar_fragments.specs.declared.namespace.action_def.ActionDef.{ActionDef}
+use Rattle.cedar_fragments.specs.declared.namespace.definition.ValidatorNamespaceDef.{ValidatorNamespaceDef}
+use Rattle.cedar_fragments.specs.declared.namespace.entity_type_def.EntityTypeDef.{EntityTypeDef}
+use Rattle.cedar_fragments.specs.declared.namespace.fragment.ValidatorSchemaFragment.{ValidatorSchemaFragment}
+use Rattle.cedar_names.specs.Declaration.{entity_type, action}
+use Rattle.cedar_names.specs.Reference.{Reference}
+use Rattle.cedar_names.specs.declared.json_schema.reference_type.ReferenceType.{ReferenceType}
+
+-- what holds of all images holds of those of a list
+all_images : {X C : Type 0} (P : C → Type 0) (f : X → C) → ((x : X) → P (f x)) → (xs : List X) → AllByRecursion P (map f xs)
+all_images P f holds [] = tt
+all_images P f holds (x ∷ xs) = (holds x, all_images P f holds xs)
+
+module _ (N : Type 0) (refer : ReferenceType → N → Reference) (A : Type 0) (refer_action : ReferenceType → A → Reference) where
+  -- an entity type of a definition is no type of actions, and its name isn't reserved
+  entity_sound : (def : EntityTypeDef N) → IsSound (entity_type_declaration N refer def)
+  entity_sound def =
+      let P : PlainName → Type 0 = λ name. (¬ IsActionType name) × ¬ Contains name.path reserved_word in
+      subst P (sym (name_declared (type_name def.name) (entity_type (fragment_body N refer def.fragment))))
+      (def.no_action, λ among. (IsName-type_name def.name).2 (inr among))
+
+  -- an action of a definition has no attributes, and the name of its type isn't reserved
+  action_sound : (def : ActionDef N A) → IsSound (action_fragment_declaration N refer A refer_action def)
+  action_sound def =
+      let P : PlainUid → Type 0 = λ uid. ¬ Contains uid.ty.path reserved_word in (
+        refl,
+        subst P (sym (uid_declared (uid_of def.uid) (action (action_fragment_body N refer A refer_action def.fragment)) def.is_action))
+            (λ among. (IsName-type_name def.uid.ty).2 (inr among)),
+      )
+
+  -- a definition gives no cause
+  definition_sound : (it : ValidatorNamespaceDef N A) → AllByRecursion IsSound (definition_declarations N refer A refer_action it)
+  definition_sound it =
+      AllByRecursion-append IsSound _ (action_fragment_declarations N refer A refer_action it.actions)
+      (AllByRecursion-append IsSound (common_type_declarations N refer it.common_types) (entity_type_declarations N refer it.entity_types)
+      (all_images IsSound (common_type_declaration N refer) (λ def. tt) it.common_types.defs.items)
+      (all_images IsSound (entity_type_declaration N refer) entity_sound it.entity_types.defs.items))
+      (all_images IsSound (action_fragment_declaration N refer A refer_action) action_sound it.actions.defs.items)
+
+  -- a fragment gives no cause
+  fragment_sound : (it : ValidatorSchemaFragment N A) → AllByRecursion IsSound (fragment_declarations N refer A refer_action it)
+  fragment_sound it =
+      flat_map-each (definition_declarations N refer A refer_action) IsSound it.definitions.items
+      (all_images (AllByRecursion IsSound) (definition_declarations N refer A refer_action) definition_sound it.definitions.items)
+
+  -- some fragments give no cause
+  pub fragments_sound : (fragments : List (ValidatorSchemaFragment N A))
+      → AllByRecursion IsSound (flat_map (fragment_declarations N refer A refer_action) fragments)
+  fragments_sound fragments =
+      flat_map-each (fragment_declarations N refer A refer_action) IsSound fragments
+      (all_images (AllByRecursion IsSound) (fragment_declarations N refer A refer_action) fragment_sound fragments)
+
+  -- so the bag of some fragments has none of the faults of definitions
+  pub fragments_have_no_fault : (fragments : List (ValidatorSchemaFragment N A))
+      → HasNoDefinitionFault (flat_map (fragment_declarations N refer A refer_action) fragments)
+  fragments_have_no_fault fragments = sound_bag _ (fragments_sound fragments)
