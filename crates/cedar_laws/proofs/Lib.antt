@@ -15,4 +15,5 @@ pub mod SaidLemmas
 pub mod SameBagLaws
 pub mod SchemaLaws
 pub mod SettledLaws
+pub mod SureBags
 pub mod ValidLaws

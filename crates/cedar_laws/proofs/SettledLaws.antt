@@ -36,18 +36,18 @@ use Rattle.cedar_declared.specs.Together.{defined_actions, IsExternalType, IsPar
 use Rattle.cedar_rules.specs.Ty.{Ty}
 
 -- some list isn't none
-some_first : {A : Type 0} (items : List A) → items ≢ [] → (item : A) × Contains items item
+pub some_first : {A : Type 0} (items : List A) → items ≢ [] → (item : A) × Contains items item
 some_first [] some = absurd (some refl)
 some_first (first ∷ rest) some = (first, Contains-cons first rest first (inl refl))
 
 -- what a reference resolves to is among its possibilities and defined, so it isn't unresolved
-resolved : (names : Names) (reference : Reference) → ((name : PlainName) × ResolvesTo names reference name)
+pub resolved : (names : Names) (reference : Reference) → ((name : PlainName) × ResolvesTo names reference name)
     → ¬ IsUnresolved names reference
 resolved names reference (name, resolves) unresolved =
     let found = first_defined names reference.kind reference.possibilities name resolves in unresolved name found.0 found.1
 
 -- a reference to an action that names one doesn't name none
-named : (actions : List PlainUid) (reference : ActionReference) → ((uid : PlainUid) × NamesAction actions reference uid)
+pub named : (actions : List PlainUid) (reference : ActionReference) → ((uid : PlainUid) × NamesAction actions reference uid)
     → ¬ NamesNoAction actions reference
 named actions reference (uid, names) none = by reference.ty.possibilities names.0 none where
   by : (xs : List PlainName) → IsFirst (λ ty. Contains actions (record { ty = ty; eid = reference.id })) xs uid.ty
