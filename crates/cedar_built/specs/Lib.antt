@@ -1,0 +1,6 @@
+pub mod DeclaredTypes
+pub mod Gathered
+pub mod Nodes
+pub mod Ready
+pub mod Sound
+pub mod Steps
