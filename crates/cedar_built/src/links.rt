@@ -1,6 +1,6 @@
 //! Entity types linked with their descendants.
 
-ghost use Rattle.std.specs.Prelude.{◌≡◌, ◌⊎◌, ◌↔◌, Contains, IfErr, IfOk, IsSome, OnOk, map};
+ghost use Rattle.std.specs.Prelude.{◌≡◌, ◌⊎◌, ◌↔◌, IfErr, IfOk, IsSome, OnOk};
 ghost use Rattle.cedar_below.specs.Chain.{Chain};
 ghost use Rattle.cedar_below.specs.EntityType.{type_name};
 ghost use Rattle.cedar_below.specs.declared.entity_type.EntityType.{EntityType as Key};
