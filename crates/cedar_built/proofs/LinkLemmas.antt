@@ -21,6 +21,7 @@ use Rattle.cedar_entities.specs.ValidatorEntityType.{PlainEntityType, entity_typ
 use Rattle.cedar_entities.specs.declared.entity_type.ValidatorEntityType.{ValidatorEntityType}
 use Rattle.cedar_names.specs.Reference.{Reference}
 use Rattle.cedar_names.specs.declared.json_schema.reference_type.ReferenceType.TheVariants.{Entity}
+use Rattle.cedar_built.proofs.PutLemmas.{node_alike}
 use Rattle.cedar_built.specs.Nodes.{AreLinked, AreTheSame, IsAbove, IsEdgeSound, IsEnumerated, IsEnumeratedAt, IsExternalAt, IsLinkFault, IsLinkingFault, LeadsTo, has_descendant, node_at}
 use Rattle.cedar_built.specs.Steps.{plain_edge}
 
@@ -297,12 +298,9 @@ module _ {S : Type 0} (edges : List (EntityType × EntityType)) (before added af
       let over : type_name it.0.1 ≡ type_name upper = one_name (ap (λ (each : PlainName × Reference). each.1) it.2) in
       let P : Option ValidatorEntityType → Type 0 = IsSome in
       let Q : Option ValidatorEntityType → Type 0 = λ o. ¬ IsEnumeratedAt o in (
-        subst P (at_name it.0.1 upper over) one.stands,
-        subst Q (at_name it.0.0 lower below) one.not_enumerated,
+        subst P (node_alike before it.0.1 upper over) one.stands,
+        subst Q (node_alike before it.0.0 lower below) one.not_enumerated,
       )
-    where
-      at_name : (a b : EntityType) → type_name a ≡ type_name b → node_at before a ≡ node_at before b
-      at_name a b same = get_alike entity_type_equal.Laws.laws-law before a b ((entity_type_eq-same a b).1 same)
 
   -- what is the same before and after all
   same_after_all : (key : EntityType) → AreTheSame (node_at before key) (node_at after key)

@@ -1,5 +1,5 @@
 -- What stands in a map once an entity type is put under its name.
-use Rattle.std.proofs.Common.{◌≡◌, Bool, true, false, cond, Option, None, Some, HashMap, sym, subst, ◌∙◌, refl, inl, inr}
+use Rattle.std.proofs.Common.{◌≡◌, cond, Option, None, Some, HashMap, sym, subst, ◌∙◌, refl, inl, inr}
 use Rattle.std.proofs.lemmas.Bool.{cond-true, cond-false}
 use Rattle.cedar_below.proofs.Names.{entity_type_eq-same}
 use Rattle.cedar_below.specs.EntityType.{type_name}
@@ -10,17 +10,13 @@ use Rattle.cedar_closure.proofs.Numbers.{get_alike}
 use Rattle.cedar_declared.specs.EntityTypeKind.{external_kind}
 use Rattle.cedar_entities.specs.ValidatorEntityType.{entity_type_of}
 use Rattle.cedar_entities.specs.declared.entity_type.ValidatorEntityType.{ValidatorEntityType}
+use Rattle.cedar_types.proofs.SearchLemmas.{never-true}
 use Rattle.cedar_built.specs.Nodes.{IsDefinedAt, IsPut, node_at}
 
 -- under one name one entity type stands
 pub node_alike : {S : Type 0} (nodes : HashMap EntityType ValidatorEntityType S) (a b : EntityType) → type_name a ≡ type_name b
     → node_at nodes a ≡ node_at nodes b
 node_alike nodes a b same = get_alike entity_type_equal.Laws.laws-law nodes a b ((entity_type_eq-same a b).1 same)
-
--- what isn't true is false
-false_from : (b : Bool) → ¬ (b ≡ true) → b ≡ false
-false_from true never = absurd (never refl)
-false_from false never = refl
 
 module _ {S : Type 0} (before : HashMap EntityType ValidatorEntityType S) (name key : EntityType) (it : ValidatorEntityType)
     (named : type_name name ≡ (entity_type_of it).name) (same : type_name key ≡ (entity_type_of it).name) where
@@ -58,7 +54,7 @@ module _ {S : Type 0} (before after : HashMap EntityType ValidatorEntityType S) 
   pub at_another : (key : EntityType) → ¬ (type_name key ≡ (entity_type_of it).name) → node_at after key ≡ node_at before key
   at_another key apart =
       updated key ∙ cond-false ((entity_type_eq.ghosts).eq name key) (Some it) (node_at before key)
-      (false_from ((entity_type_eq.ghosts).eq name key) (λ same. apart (sym ((entity_type_eq-same name key).0 same) ∙ named)))
+      (never-true ((entity_type_eq.ghosts).eq name key) (λ same. apart (sym ((entity_type_eq-same name key).0 same) ∙ named)))
 
   -- under its own name there stands the entity type
   pub at_its_own : (key : EntityType) → type_name key ≡ (entity_type_of it).name → node_at after key ≡ Some it
