@@ -1,0 +1,12 @@
+mod CheckLemmas
+mod DescentLemmas
+mod EdgeLemmas
+mod GatheringLemmas
+mod LinkLemmas
+mod ParentLemmas
+mod PutLemmas
+mod ReadyLemmas
+mod TogetherLemmas
+mod TypeCases
+mod TypesLemmas
+mod WrittenLemmas

@@ -1,0 +1,97 @@
+use Rattle.std.proofs.Common.{◌≡◌, ◌⊎◌, List, map, subst, ap, ◌∙◌, Contains}
+use Rattle.std.proofs.lemmas.Result.{err_from_is_err_and}
+use Rattle.std.specs.BTreeMap.{IsFromIterResult}
+use Rattle.cedar_below.specs.EntityType.{type_name}
+use Rattle.cedar_below.specs.contracts.entity_type.EntityTypeOrd.TheImpl as entity_type_ord
+use Rattle.cedar_below.specs.PlainName.{PlainName}
+use Rattle.cedar_below.specs.declared.entity_type.EntityType.{EntityType}
+use Rattle.cedar_below.specs.declared.extension.Extensions.{Extensions}
+use Rattle.cedar_below.specs.declared.internal_name.InternalName.{InternalName}
+use Rattle.cedar_declared.specs.Bag.{Bag}
+use Rattle.cedar_declared.specs.Fault.{want_of_memory}
+use Rattle.cedar_declared.specs.IllFormed.{IsFault}
+use Rattle.cedar_declared.specs.SchemaError.{fault_of}
+use Rattle.cedar_entities.specs.declared.entity_type.ValidatorEntityType.{ValidatorEntityType}
+use Rattle.cedar_fragments.specs.declared.namespace.entity_types.EntityTypeFragment.{EntityTypeFragment}
+use Rattle.cedar_built.proofs.ReadyLemmas.{certain, declared_at, gathered_apart, gathering_fault, linking_fault, parent_fault, stands_after}
+use Rattle.cedar_built.proofs.TypesLemmas.{entry_at_node, given_all, node_has_entry}
+use Rattle.cedar_gathered.specs.Gathered.{gathered_entities}
+use Rattle.cedar_built.specs.Ready.{IsReady}
+use Rattle.cedar_built.specs.Steps.{IsParentFault, parents_in, plain_edge}
+use Rattle.cedar_built.proofs.building.entity_types.Goals as goal
+
+pub returns-clause-declared : goal.returns-clause-declared
+returns-clause-declared c = λ bag extensions ready.
+    let declared = c.args.declared.items in
+    let known = c.args.known.now in
+    let before = c.in_ok-nodes.nodes in
+    let edges = c.in_ok-edges.edges.items in
+    let after = c.in_ok-linked.linked in
+    let types = c.in_ok-from_iter.field-0 in
+    let ran = c.in_ok-from_iter.ensures.ran in
+    let all : ran.1 ≡ after.entries = given_all after.entries ran.0 ran.1 ran.2.0 ran.3 in
+    let P : List (EntityType × ValidatorEntityType) → Type 0 = λ entries. IsFromIterResult ((entity_type_ord.ghosts).cmp) entries types in
+    let made : P after.entries = subst P all ran.4 in
+    let gathered = c.in_ok-nodes.ensures.gathered in
+    let once = c.in_ok-nodes.ensures.once in
+    let are : map plain_edge edges ≡ parents_in (gathered_entities declared) =
+    c.in_ok-edges.ensures.edges ∙ ap (λ items. parents_in (gathered_entities items)) c.deref.ensures.value in
+    let linked = c.in_ok-linked.ensures.linked (gathered_apart known (gathered_entities declared) before gathered) in
+    let Q : PlainName → Type 0 = Contains (map (λ (it : EntityType × ValidatorEntityType). type_name it.0) types.entries) in
+    record {
+      each = λ ty it among. declared_at bag extensions declared known ready before gathered once edges are after linked ty it
+          (entry_at_node after ran.2.4 types made ty it among);
+      complete = λ name among.
+          let found = stands_after bag extensions declared known ready before gathered once edges are after linked name among in
+          subst Q found.1 (node_has_entry after ran.2.4 types made found.0 found.2);
+    }
+
+pub returns-clause-sound : goal.returns-clause-sound
+returns-clause-sound c = λ bag extensions ready.
+    let declared = c.args.declared.items in
+    let known = c.args.known.now in
+    let before = c.in_ok-nodes.nodes in
+    let edges = c.in_ok-edges.edges.items in
+    let gathered = c.in_ok-nodes.ensures.gathered in
+    let are : map plain_edge edges ≡ parents_in (gathered_entities declared) =
+    c.in_ok-edges.ensures.edges ∙ ap (λ items. parents_in (gathered_entities items)) c.deref.ensures.value in
+    let linked = c.in_ok-linked.ensures.linked (gathered_apart known (gathered_entities declared) before gathered) in
+    certain bag extensions declared known ready before gathered c.in_ok-nodes.ensures.once edges are c.in_ok-linked.linked linked
+    c.in_ok-nodes.ensures.sound
+
+pub returns-in_err-edges-clause-fault : goal.returns-in_err-edges-clause-fault
+returns-in_err-edges-clause-fault c =
+    let fault = fault_of c.in_err-edges.field-0.0 in
+    let P : List (EntityType × EntityTypeFragment InternalName) → Type 0 = λ items. IsParentFault (parents_in (gathered_entities items)) fault in
+    let at_fault : (bag : Bag) (extensions : Extensions) → IsReady bag extensions c.args.declared.items c.args.known.now
+    → (fault ≡ want_of_memory) ⊎ IsFault bag extensions fault =
+    λ bag extensions ready. parent_fault bag extensions c.args.declared.items c.args.known.now ready fault
+    (subst P c.deref.ensures.value c.in_err-edges.ensures.fault) in
+    let p = err_from_is_err_and c.from_residual.result c.from_residual.ensures.1 in
+    rw (p.1, p.2) at_fault
+
+pub returns-in_err-nodes-clause-fault : goal.returns-in_err-nodes-clause-fault
+returns-in_err-nodes-clause-fault c =
+    let fault = fault_of c.in_err-nodes.field-0.0 in
+    let at_fault : (bag : Bag) (extensions : Extensions) → IsReady bag extensions c.args.declared.items c.args.known.now
+    → (fault ≡ want_of_memory) ⊎ IsFault bag extensions fault =
+    λ bag extensions ready. gathering_fault bag extensions c.args.declared.items c.args.known.now ready fault c.in_err-nodes.ensures.fault in
+    let p = err_from_is_err_and c.from_residual-in_err-nodes.result c.from_residual-in_err-nodes.ensures.1 in
+    rw (p.1, p.2) at_fault
+
+pub returns-in_err-linked-clause-fault : goal.returns-in_err-linked-clause-fault
+returns-in_err-linked-clause-fault c =
+    let declared = c.args.declared.items in
+    let known = c.args.known.now in
+    let before = c.in_ok-nodes.nodes in
+    let edges = c.in_ok-edges.edges.items in
+    let gathered = c.in_ok-nodes.ensures.gathered in
+    let fault = fault_of c.in_err-linked.field-0.0 in
+    let are : map plain_edge edges ≡ parents_in (gathered_entities declared) =
+    c.in_ok-edges.ensures.edges ∙ ap (λ items. parents_in (gathered_entities items)) c.deref.ensures.value in
+    let refused = c.in_err-linked.ensures.fault (gathered_apart known (gathered_entities declared) before gathered) in
+    let at_fault : (bag : Bag) (extensions : Extensions) → IsReady bag extensions c.args.declared.items c.args.known.now
+    → (fault ≡ want_of_memory) ⊎ IsFault bag extensions fault =
+    λ bag extensions ready. linking_fault bag extensions declared known ready before gathered c.in_ok-nodes.ensures.once edges are fault refused in
+    let p = err_from_is_err_and c.from_residual-in_err-linked.result c.from_residual-in_err-linked.ensures.1 in
+    rw (p.1, p.2) at_fault

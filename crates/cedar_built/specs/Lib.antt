@@ -1,0 +1,5 @@
+pub mod DeclaredTypes
+pub mod Nodes
+pub mod Ready
+pub mod Sound
+pub mod Steps

@@ -1,0 +1,48 @@
+//! The entity types of a schema.
+
+ghost use Rattle.std.specs.Prelude.{◌≡◌, ◌⊎◌, IfErr, IfOk, OnOk};
+ghost use Rattle.cedar_below.specs.declared.extension.Extensions.{Extensions};
+ghost use Rattle.cedar_declared.specs.Bag.{Bag};
+ghost use Rattle.cedar_declared.specs.Fault.{want_of_memory};
+ghost use Rattle.cedar_declared.specs.IllFormed.{IsFault};
+ghost use Rattle.cedar_declared.specs.SchemaError.{fault_of};
+ghost use Rattle.cedar_built.specs.DeclaredTypes.{AreDeclaredEntityTypes};
+ghost use Rattle.cedar_built.specs.Ready.{IsReady};
+ghost use Rattle.cedar_built.specs.Sound.{EntityTypesAreSound};
+
+use crate::links::linked_nodes;
+use crate::nodes::gathered_nodes;
+use crate::parents::parent_edges;
+use cedar_below::{EntityType, InternalName};
+use cedar_declared::SchemaError;
+use cedar_entities::ValidatorEntityType;
+use cedar_fragments::namespace::EntityTypeFragment;
+use cedar_written::KnownTypes;
+use std::alloc::Global;
+use std::collections::BTreeMap;
+
+/// The entity types of a schema, each with all its descendants: what the definition of a name says, or
+/// an external one where there are only external declarations of it. A name may have one definition and
+/// any number of external declarations beside it, and the parents of all of them count.
+///
+/// It errs where a name has two definitions, a shape is no record type, a shape or a type of tags can't
+/// be written out, a parent is no declared entity type or has a reserved name, an enumerated entity type
+/// has a parent, an external entity type has an enumerated one above it, or memory is wanting.
+pub fn entity_types(
+    alloc: Global,
+    declared: Vec<(EntityType, EntityTypeFragment<InternalName>)>,
+    known: &KnownTypes,
+) -> Result<BTreeMap<EntityType, ValidatorEntityType>, SchemaError>
+    ensures declared { IfOk result (λ types. (bag : Bag) (extensions : Extensions)
+        → IsReady bag extensions declared.items known.now → AreDeclaredEntityTypes bag extensions types.entries) }
+    ensures sound { OnOk result ((bag : Bag) (extensions : Extensions)
+        → IsReady bag extensions declared.items known.now → EntityTypesAreSound bag extensions) }
+    ensures fault { IfErr result (λ error. (bag : Bag) (extensions : Extensions)
+        → IsReady bag extensions declared.items known.now
+        → (fault_of error ≡ want_of_memory) ⊎ IsFault bag extensions (fault_of error)) }
+{
+    let edges = parent_edges(alloc, &declared)?;
+    let nodes = gathered_nodes(alloc, declared, known)?;
+    let linked = linked_nodes(alloc, nodes, edges)?;
+    Ok(BTreeMap::from_iter(alloc, linked)?)
+}

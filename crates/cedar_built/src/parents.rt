@@ -1,0 +1,67 @@
+//! The parents of entity types, as edges.
+
+ghost use Rattle.std.specs.Prelude.{◌≡◌, ◌⊎◌, ◌++◌, IfErr, IfOk, OnOk, map};
+ghost use Rattle.cedar_below.specs.EntityType.{type_name};
+ghost use Rattle.cedar_below.specs.InternalName.{name_of};
+ghost use Rattle.cedar_below.specs.PlainName.{IsReserved};
+ghost use Rattle.cedar_declared.specs.Fault.{reserved_name, want_of_memory};
+ghost use Rattle.cedar_declared.specs.SchemaError.{fault_of};
+ghost use Rattle.cedar_declared.specs.SettledExpr.{settled_reference};
+ghost use Rattle.cedar_names.specs.declared.json_schema.reference_type.ReferenceType.TheVariants.{Entity};
+ghost use Rattle.cedar_gathered.specs.Gathered.{gathered_entities};
+ghost use Rattle.cedar_built.specs.Steps.{IsParentFault, parents_in, parents_of, plain_edge};
+
+use cedar_below::{EntityType, InternalName, Name};
+use cedar_declared::SchemaError;
+use cedar_fragments::namespace::EntityTypeFragment;
+use std::alloc::Global;
+
+/// An entity type, and a parent of it.
+pub(crate) type Edge = (EntityType, EntityType);
+
+/// The entity type of a name, which must not be reserved.
+fn named_type(name: &InternalName) -> Result<EntityType, SchemaError>
+    ensures name { IfOk result (λ ty. type_name ty ≡ name_of name.now) }
+    ensures fault { IfErr result (λ error. (fault_of error ≡ want_of_memory)
+        ⊎ ((fault_of error ≡ reserved_name (name_of name.now)) × IsReserved (name_of name.now))) }
+{
+    if name.is_reserved() {
+        return Err(SchemaError::ReservedName(name.clone()?));
+    }
+    match Name::new(name.clone()?) {
+        Some(name) => Ok(EntityType::new(name)),
+        None => unreachable!(),
+    }
+}
+
+/// Adds an edge to each of the parents.
+fn add_parents(
+    edges: &mut Vec<Edge>,
+    lower: &EntityType,
+    parents: &[InternalName],
+) -> Result<(), SchemaError>
+    ensures added { OnOk result (map plain_edge edges.new.items
+        ≡ map plain_edge edges.old.items ++ parents_of (type_name lower.now) (map (settled_reference Entity) parents.now)) }
+    ensures fault { IfErr result (λ error. IsParentFault (parents_of (type_name lower.now) (map (settled_reference Entity) parents.now)) (fault_of error)) }
+{
+    for parent in parents {
+        let upper = named_type(parent)?;
+        edges.push((lower.clone()?, upper))?;
+    }
+    Ok(())
+}
+
+/// An edge from each declared entity type to each of its parents.
+pub(crate) fn parent_edges(
+    alloc: Global,
+    declared: &[(EntityType, EntityTypeFragment<InternalName>)],
+) -> Result<Vec<Edge>, SchemaError>
+    ensures edges { IfOk result (λ edges. map plain_edge edges.items ≡ parents_in (gathered_entities declared.now)) }
+    ensures fault { IfErr result (λ error. IsParentFault (parents_in (gathered_entities declared.now)) (fault_of error)) }
+{
+    let mut edges = Vec::new(alloc);
+    for item in declared {
+        add_parents(&mut edges, &item.0, item.1.parents())?;
+    }
+    Ok(edges)
+}
