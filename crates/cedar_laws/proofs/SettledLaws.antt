@@ -586,3 +586,10 @@ module _ (bag settled : Bag) (extensions : Extensions) (it : SettlesBag (defined
   settled_parent_names uid parent is =
       (action_parent_moved settled bag extensions (reversed bag settled extensions (settled_turn bag settled extensions it))
       uid parent is).2.2
+
+  -- it defines what the bag does
+  pub settled_defines : defined_names bag extensions ≡ defined_names settled extensions
+  settled_defines =
+      let names = defined_names bag extensions in
+      names_same names names bag settled
+      (turn_weaker (SettlesDeclaration names) (DeclarationsAlike names names) (settled_declaration names) bag settled it) extensions

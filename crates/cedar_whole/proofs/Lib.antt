@@ -1,0 +1,3 @@
+pub mod GatheredBags
+pub mod KnownBags
+pub mod SettledOver

@@ -1,0 +1,2 @@
+//! The builder whole.
+#![tactic(auto)]
