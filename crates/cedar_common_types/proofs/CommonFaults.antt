@@ -38,9 +38,15 @@ use Rattle.cedar_written.specs.Places.{common_items, defined_by, item_names}
 -- a step from a common type to one that it refers to is one where the same is defined
 refers_there : (defined other : Defined) → SameDefined defined other → (name to : PlainName)
     → RefersToCommon defined name to → RefersToCommon other name to
-refers_there defined other same name to (definition, reference, body, stands, refers, resolves, is_common) =
-    (definition, reference, body, same.common (name, definition) stands, refers,
-    resolves_there defined other same reference to resolves, (is_common.0, same.common (to, body) is_common.1))
+refers_there defined other same name to (definition, reference, body, stands, refers, resolves, is_common) = (
+  definition,
+  reference,
+  body,
+  same.common (name, definition) stands,
+  refers,
+  resolves_there defined other same reference to resolves,
+  (is_common.0, same.common (to, body) is_common.1),
+)
 
 -- a common type that is declared counts
 common_counts : (bag : Bag) (it : PlainName × Expr) → Contains (declared_common bag) it → IsCounted bag it.1
@@ -54,7 +60,7 @@ module _ (bag : Bag) (extensions : Extensions) (declared : List (InternalName ×
     (are : AreTypesOf bag extensions declared entity_types entity_names)
     (types : List (InternalName × «Type» InternalName))
     (all : common_items types ≡ common_items declared ++ built_ins extensions
-        ++ free_aliases (names_of_types declared entity_types) (built_in_types extensions)) where
+    ++ free_aliases (names_of_types declared entity_types) (built_in_types extensions)) where
   -- the names are those of the types that the bag declares
   names_declared : names_of_types declared entity_types ≡ declared_types bag
   names_declared = (λ i. item_names (are.common i) ++ are.entities i)
@@ -88,12 +94,19 @@ module _ (bag : Bag) (extensions : Extensions) (declared : List (InternalName ×
       (λ built_in. absurd (built_in_closed extensions built_in.0 it.1 built_in.1 is_open))
       (declared_or_built_in bag extensions it (same_defined.common it stands))
   common_fault (type_not_defined references) (it, stands, (some, each)) =
-      inr (some, λ reference among.
-          let unresolved = each reference among in (
-            inl (it.1, common_counts bag it (refers_declared bag extensions it.0 it.1 reference
-                (same_defined.common it stands) unresolved.0), unresolved.0),
-            unresolved_there _ _ same_defined reference unresolved.1,
-          ))
+      inr (
+        some,
+        λ reference among.
+            let unresolved = each reference among in (
+              inl (
+                it.1,
+                common_counts bag it (refers_declared bag extensions it.0 it.1 reference
+                    (same_defined.common it stands) unresolved.0),
+                unresolved.0,
+              ),
+              unresolved_there _ _ same_defined reference unresolved.1,
+            ),
+      )
   common_fault (unknown_extension_type name) (it, stands, (mentions, unqualified, unknown)) =
       ⊎_elim
       (λ declared. inr (it.1, common_counts bag it declared, mentions, unqualified, unknown))

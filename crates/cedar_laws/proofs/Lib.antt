@@ -1,5 +1,6 @@
 pub mod ActionEntityLaws
 pub mod AdmitsLemmas
+pub mod BuiltFrom
 pub mod CountLemmas
 pub mod EnumeratedLemmas
 pub mod EnvironmentLaws
