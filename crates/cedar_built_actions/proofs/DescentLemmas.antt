@@ -1,0 +1,71 @@
+-- Chains of edges between actions, and descent in the bag.
+use Rattle.std.proofs.Common.{◌≡◌, List, map, sym, subst, ◌∙◌, refl, Contains}
+use Rattle.std.specs.BTreeMap.{BTreeMap}
+use Rattle.cedar_below.proofs.Chains.{joined}
+use Rattle.cedar_below.specs.Chain.{Chain, one, more}
+use Rattle.cedar_below.specs.EntityUID.{uid_of}
+use Rattle.cedar_below.specs.PlainUid.{PlainUid}
+use Rattle.cedar_below.specs.declared.entity_type.EntityType.{EntityType}
+use Rattle.cedar_below.specs.declared.entity_uid.EntityUID.{EntityUID}
+use Rattle.cedar_below.specs.declared.extension.Extensions.{Extensions}
+use Rattle.cedar_below.specs.declared.internal_name.InternalName.{InternalName}
+use Rattle.cedar_declared.proofs.OccurrenceLemmas.{Contains-image}
+use Rattle.cedar_declared.specs.Bag.{Bag, action_uids, declared_actions}
+use Rattle.cedar_declared.specs.Descent.{IsDescendantAction}
+use Rattle.cedar_entities.specs.declared.entity_type.ValidatorEntityType.{ValidatorEntityType}
+use Rattle.cedar_fragments.specs.declared.namespace.actions.ActionFragment.{ActionFragment}
+use Rattle.cedar_gathered.specs.Gathered.{gathered_actions}
+use Rattle.cedar_names.specs.ActionBody.{ActionBody}
+use Rattle.cedar_names.specs.Reference.{ActionReference}
+use Rattle.cedar_built_actions.proofs.ParentLemmas.{edge_has_parent, parent_edge}
+use Rattle.cedar_built_actions.specs.Nodes.{IsAbove}
+use Rattle.cedar_built_actions.specs.Ready.{AreActionsOf}
+use Rattle.cedar_built_actions.specs.Steps.{parents_in, plain_edge, reference_to_action}
+use Rattle.cedar_written.specs.declared.known_types.KnownTypes.{KnownTypes}
+
+-- an edge between actions of the same uids is one
+edge_above : (edges : List (EntityUID × EntityUID)) (edge : EntityUID × EntityUID) (upper lower : EntityUID)
+    → Contains edges edge → uid_of edge.0 ≡ uid_of lower → uid_of edge.1 ≡ uid_of upper → IsAbove edges upper lower
+edge_above edges edge upper lower among below above =
+    let P : PlainUid × ActionReference → Type 0 = Contains (map plain_edge edges) in
+    subst P (λ i. (below i, reference_to_action (above i))) (Contains-image plain_edge edges edge among)
+
+-- a chain of edges to an action is one to each of the same uid
+pub chain_to_same : (edges : List (EntityUID × EntityUID)) {upper lower : EntityUID} (other : EntityUID)
+    → Chain (IsAbove edges) upper lower → uid_of lower ≡ uid_of other → Chain (IsAbove edges) upper other
+chain_to_same edges {upper = upper} {lower = lower} other (one step) same =
+    let P : PlainUid → Type 0 = λ uid. Contains (map plain_edge edges) (uid, reference_to_action (uid_of upper)) in
+    one (subst P same step)
+chain_to_same edges other (more step rest) same = more step (chain_to_same edges other rest same)
+
+-- a descendant is declared
+pub descendant_declared : (bag : Bag) {lower upper : PlainUid} → IsDescendantAction bag lower upper → Contains (action_uids bag) lower
+descendant_declared bag {lower = lower} (one step) =
+    Contains-image (λ (it : PlainUid × ActionBody). it.0) (declared_actions bag) (lower, step.1.0) step.1.1
+descendant_declared bag {lower = lower} (more step rest) =
+    Contains-image (λ (it : PlainUid × ActionBody). it.0) (declared_actions bag) (lower, step.1.0) step.1.1
+
+module _ (bag : Bag) (extensions : Extensions) (declared : List (EntityUID × ActionFragment InternalName EntityType))
+    (types : BTreeMap EntityType ValidatorEntityType) (known : KnownTypes)
+    (ready : AreActionsOf bag extensions declared types known) (edges : List (EntityUID × EntityUID))
+    (are : map plain_edge edges ≡ parents_in (gathered_actions declared)) where
+  -- what a chain of edges leads to is a descendant
+  pub chain_descends : {upper lower : EntityUID} → Chain (IsAbove edges) upper lower
+      → IsDescendantAction bag (uid_of lower) (uid_of upper)
+  chain_descends {upper = upper} {lower = lower} (one step) =
+      one (edge_has_parent bag extensions declared types known ready edges are upper lower step)
+  chain_descends {upper = upper} (more {b = between} step rest) =
+      joined (chain_descends rest) (one (edge_has_parent bag extensions declared types known ready edges are upper between step))
+
+  -- a chain of edges leads to each descendant
+  pub descends_by_chain : {lower upper : PlainUid} → IsDescendantAction bag lower upper → (key : EntityUID)
+      → upper ≡ uid_of key → (uid : EntityUID) × (uid_of uid ≡ lower) × Chain (IsAbove edges) key uid
+  descends_by_chain {lower = lower} {upper = upper} (one step) key is =
+      let found = parent_edge bag extensions declared types known ready edges are lower upper step in
+      (found.0.0, found.2, one (edge_above edges found.0 key found.0.0 found.1 refl (found.3 ∙ is)))
+  descends_by_chain {lower = lower} (more {b = between} step rest) key is =
+      let above = descends_by_chain rest key is in
+      let found = parent_edge bag extensions declared types known ready edges are lower between step in
+      let last : Chain (IsAbove edges) above.0 found.0.0 =
+      one (edge_above edges found.0 above.0 found.0.0 found.1 refl (found.3 ∙ sym above.1)) in
+      (found.0.0, found.2, joined above.2 last)

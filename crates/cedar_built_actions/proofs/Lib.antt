@@ -1,0 +1,11 @@
+mod ActionsLemmas
+mod DescentLemmas
+mod EdgeLemmas
+mod GatheringLemmas
+mod LinkLemmas
+mod ParentLemmas
+mod PlaceLemmas
+mod PutLemmas
+mod ReadyLemmas
+mod TogetherLemmas
+mod WrittenLemmas

@@ -1,0 +1,95 @@
+use Rattle.std.proofs.Common.{◌≡◌, ◌⊎◌, List, map, subst, ap, ◌∙◌, Contains}
+use Rattle.std.proofs.lemmas.Result.{err_from_is_err_and}
+use Rattle.std.specs.BTreeMap.{IsFromIterResult}
+use Rattle.cedar_actions.specs.declared.action_id.ValidatorActionId.{ValidatorActionId}
+use Rattle.cedar_below.specs.EntityUID.{uid_of}
+use Rattle.cedar_below.specs.PlainUid.{PlainUid}
+use Rattle.cedar_below.specs.contracts.entity_uid.EntityUIDOrd.TheImpl as uid_ord
+use Rattle.cedar_below.specs.declared.entity_uid.EntityUID.{EntityUID}
+use Rattle.cedar_below.specs.declared.extension.Extensions.{Extensions}
+use Rattle.cedar_declared.specs.Bag.{Bag}
+use Rattle.cedar_declared.specs.Fault.{want_of_memory}
+use Rattle.cedar_declared.specs.IllFormed.{IsFault}
+use Rattle.cedar_declared.specs.SchemaError.{fault_of}
+use Rattle.cedar_gathered.specs.Gathered.{gathered_actions}
+use Rattle.cedar_built_actions.proofs.ActionsLemmas.{entry_at_node, given_all, node_has_entry}
+use Rattle.cedar_built_actions.proofs.ReadyLemmas.{certain, declared_at, gathering_fault, linking_fault, ready_to_link, stands_after}
+use Rattle.cedar_built_actions.specs.Ready.{AreActionsOf}
+use Rattle.cedar_built_actions.specs.Steps.{parents_in, plain_edge}
+use Rattle.cedar_built_actions.proofs.building.actions.Goals as goal
+
+pub returns-clause-declared : goal.returns-clause-declared
+returns-clause-declared c = λ bag extensions ready.
+    let declared = c.args.declared.items in
+    let types = c.args.entity_types.now in
+    let known = c.args.known.now in
+    let before = c.in_ok-nodes.nodes in
+    let edges = c.in_ok-edges.edges.items in
+    let after = c.in_ok-linked.linked in
+    let actions = c.in_ok-from_iter.field-0 in
+    let ran = c.in_ok-from_iter.ensures.ran in
+    let all : ran.1 ≡ after.entries = given_all after.entries ran.0 ran.1 ran.2.0 ran.3 in
+    let P : List (EntityUID × ValidatorActionId) → Type 0 = λ entries. IsFromIterResult ((uid_ord.ghosts).cmp) entries actions in
+    let made : P after.entries = subst P all ran.4 in
+    let gathered = c.in_ok-nodes.ensures.gathered in
+    let once = c.in_ok-nodes.ensures.once in
+    let are : map plain_edge edges ≡ parents_in (gathered_actions declared) =
+    c.in_ok-edges.ensures ∙ ap (λ items. parents_in (gathered_actions items)) c.deref.ensures.value in
+    let linked =
+    c.in_ok-linked.ensures.linked (ready_to_link bag extensions declared types known ready before gathered once edges are) in
+    let Q : PlainUid → Type 0 = Contains (map (λ (it : EntityUID × ValidatorActionId). uid_of it.0) actions.entries) in
+    record {
+      each = λ uid it among.
+          declared_at bag extensions declared types known ready before gathered once edges are after linked uid it
+          (entry_at_node after ran.2.4 actions made uid it among);
+      complete = λ uid among.
+          let found = stands_after bag extensions declared types known ready before gathered once edges are after linked uid among in
+          subst Q found.1 (node_has_entry after ran.2.4 actions made found.0 found.2);
+    }
+
+pub returns-clause-sound : goal.returns-clause-sound
+returns-clause-sound c = λ bag extensions ready.
+    let declared = c.args.declared.items in
+    let types = c.args.entity_types.now in
+    let known = c.args.known.now in
+    let before = c.in_ok-nodes.nodes in
+    let edges = c.in_ok-edges.edges.items in
+    let gathered = c.in_ok-nodes.ensures.gathered in
+    let once = c.in_ok-nodes.ensures.once in
+    let are : map plain_edge edges ≡ parents_in (gathered_actions declared) =
+    c.in_ok-edges.ensures ∙ ap (λ items. parents_in (gathered_actions items)) c.deref.ensures.value in
+    let linked =
+    c.in_ok-linked.ensures.linked (ready_to_link bag extensions declared types known ready before gathered once edges are) in
+    certain bag extensions declared types known ready before gathered once edges are c.in_ok-linked.linked linked
+    c.in_ok-nodes.ensures.sound
+
+pub returns-in_err-nodes-clause-fault : goal.returns-in_err-nodes-clause-fault
+returns-in_err-nodes-clause-fault c =
+    let declared = c.args.declared.items in
+    let types = c.args.entity_types.now in
+    let known = c.args.known.now in
+    let fault = fault_of c.in_err-nodes.field-0.0 in
+    let at_fault : (bag : Bag) (extensions : Extensions) → AreActionsOf bag extensions declared types known
+    → (fault ≡ want_of_memory) ⊎ IsFault bag extensions fault =
+    λ bag extensions ready. gathering_fault bag extensions declared types known ready fault c.in_err-nodes.ensures.fault in
+    let p = err_from_is_err_and c.from_residual-in_err-nodes.result c.from_residual-in_err-nodes.ensures.1 in
+    rw (p.1, p.2) at_fault
+
+pub returns-in_err-linked-clause-fault : goal.returns-in_err-linked-clause-fault
+returns-in_err-linked-clause-fault c =
+    let declared = c.args.declared.items in
+    let types = c.args.entity_types.now in
+    let known = c.args.known.now in
+    let before = c.in_ok-nodes.nodes in
+    let edges = c.in_ok-edges.edges.items in
+    let gathered = c.in_ok-nodes.ensures.gathered in
+    let once = c.in_ok-nodes.ensures.once in
+    let fault = fault_of c.in_err-linked.field-0.0 in
+    let are : map plain_edge edges ≡ parents_in (gathered_actions declared) =
+    c.in_ok-edges.ensures ∙ ap (λ items. parents_in (gathered_actions items)) c.deref.ensures.value in
+    let at_fault : (bag : Bag) (extensions : Extensions) → AreActionsOf bag extensions declared types known
+    → (fault ≡ want_of_memory) ⊎ IsFault bag extensions fault =
+    λ bag extensions ready. linking_fault bag extensions declared types known ready before gathered once edges are fault
+    (c.in_err-linked.ensures.fault (ready_to_link bag extensions declared types known ready before gathered once edges are)) in
+    let p = err_from_is_err_and c.from_residual-in_err-linked.result c.from_residual-in_err-linked.ensures.1 in
+    rw (p.1, p.2) at_fault

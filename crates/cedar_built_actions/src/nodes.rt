@@ -1,0 +1,78 @@
+//! Actions gathered in a map, each under its uid.
+
+ghost use Rattle.std.specs.Prelude.{◌≡◌, ◌⊎◌, Contains, IfErr, IfOk, OnOk};
+ghost use Rattle.cedar_actions.specs.ValidatorActionId.{action_of};
+ghost use Rattle.cedar_below.specs.EntityUID.{uid_of};
+ghost use Rattle.cedar_below.specs.PlainUid.{PlainUid};
+ghost use Rattle.cedar_below.specs.declared.entity_uid.EntityUID.{EntityUID as Key};
+ghost use Rattle.cedar_declared.specs.Fault.{duplicate_action, want_of_memory};
+ghost use Rattle.cedar_declared.specs.Occurrences.{Twice};
+ghost use Rattle.cedar_declared.specs.PlainSchema.{external_action};
+ghost use Rattle.cedar_declared.specs.SchemaError.{fault_of};
+ghost use Rattle.cedar_gathered.specs.Gathered.{gathered_actions};
+ghost use Rattle.cedar_names.specs.ActionBody.{Requests};
+ghost use Rattle.cedar_built_actions.specs.Nodes.{AreGathered, IsDefinedAt, IsPut, node_at};
+ghost use Rattle.cedar_built_actions.specs.Steps.{AreSoundRequests, IsGatheringFault, definitions_in, entry_uids, names_in, requests_in};
+
+use crate::written::written_action;
+use cedar_actions::ValidatorActionId;
+use cedar_below::{EntityType, EntityUID, InternalName};
+use cedar_declared::SchemaError;
+use cedar_entities::ValidatorEntityType;
+use cedar_fragments::namespace::ActionFragment;
+use cedar_written::KnownTypes;
+use std::alloc::Global;
+use std::collections::{BTreeMap, HashMap};
+
+/// Actions, each under its uid.
+pub(crate) type Nodes = HashMap<EntityUID, ValidatorActionId>;
+
+/// Puts an action under its uid. An external one changes nothing where one stands; any other
+/// replaces an external one, and is refused where a definition stands.
+fn put_action(nodes: &mut Nodes, action: ValidatorActionId) -> Result<(), SchemaError>
+    ensures other { OnOk result ((key : Key) → ¬ (uid_of key ≡ (action_of action).uid)
+        → node_at nodes.new key ≡ node_at nodes.old key) }
+    ensures put { OnOk result ((key : Key) → uid_of key ≡ (action_of action).uid
+        → IsPut action (node_at nodes.old key) (node_at nodes.new key)) }
+    ensures fault { IfErr result (λ error. (fault_of error ≡ want_of_memory)
+        ⊎ ((fault_of error ≡ duplicate_action (action_of action).uid)
+        × (¬ ((action_of action).kind ≡ external_action))
+        × ((key : Key) × (uid_of key ≡ (action_of action).uid) × IsDefinedAt (node_at nodes.old key)))) }
+{
+    if let Some(old) = nodes.get(action.name()) {
+        if action.is_external() {
+            return Ok(());
+        }
+        if !old.is_external() {
+            return Err(SchemaError::DuplicateAction(action.name().clone()?));
+        }
+    }
+    let key = action.name().clone()?;
+    nodes.insert(key, action)?;
+    Ok(())
+}
+
+/// The declared actions, each under its uid: what its definition says, or an external one where
+/// there is none.
+pub(crate) fn gathered_nodes(
+    alloc: Global,
+    declared: Vec<(EntityUID, ActionFragment<InternalName, EntityType>)>,
+    entity_types: &BTreeMap<EntityType, ValidatorEntityType>,
+    known: &KnownTypes,
+) -> Result<Nodes, SchemaError>
+    ensures gathered { IfOk result (λ nodes. AreGathered known.now (requests_in (gathered_actions declared.items)) nodes) }
+    ensures once { OnOk result ((uid : PlainUid)
+        → ¬ Twice (entry_uids (definitions_in (requests_in (gathered_actions declared.items)))) uid) }
+    ensures sound { OnOk result ((uid : PlainUid) (applies_to : Requests)
+        → Contains (requests_in (gathered_actions declared.items)) (uid, applies_to)
+        → AreSoundRequests known.now (names_in entity_types.now) applies_to) }
+    ensures fault { IfErr result (λ error. IsGatheringFault known.now (names_in entity_types.now)
+        (requests_in (gathered_actions declared.items)) (fault_of error)) }
+{
+    let mut nodes = HashMap::new(alloc);
+    for (uid, fragment) in declared {
+        let action = written_action(alloc, uid, &fragment, entity_types, known)?;
+        put_action(&mut nodes, action)?;
+    }
+    Ok(nodes)
+}
