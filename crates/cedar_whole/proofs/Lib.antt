@@ -1,3 +1,5 @@
 pub mod GatheredBags
 pub mod KnownBags
+pub mod Mapped
 pub mod SettledOver
+pub mod SurePieces

@@ -1,2 +1,7 @@
-//! The builder whole.
+//! The builder whole: from fragments to the entity types, the actions and the entities of actions of
+//! the schema that they declare.
 #![tactic(auto)]
+
+pub use building::{SchemaParts, build};
+
+mod building;
