@@ -115,7 +115,8 @@ module _ (known : KnownTypes) (entries : List Entry) (uid : PlainUid) (applies_t
       uid_defined entries uid gathered.applies_to is (said_definition entries uid gathered.applies_to is gathered.says)
 
 -- some declarations are gathered in the map, and others are left
-pub record GatheredSoFar {S : Type 0} (known : KnownTypes) (types : List PlainName) (all : List Entry) (nodes : HashMap EntityUID ValidatorActionId S)
+pub record GatheredSoFar {S : Type 0} (known : KnownTypes) (types : List PlainName) (all : List Entry)
+    (nodes : HashMap EntityUID ValidatorActionId S)
     (left : List Entry) : Type 0 where
   pub done : List Entry
   pub split : all ≡ done ++ left
@@ -140,7 +141,8 @@ module _ {S : Type 0} (known : KnownTypes) (types : List PlainName) (all : List 
 
   -- what the next one is refused for, the declarations are
   pub next_fault : (old : HashMap EntityUID ValidatorActionId S) (left rest : List Entry) (uid : PlainUid) (applies_to : Requests)
-      (fault : Fault) → left ≡ (uid, applies_to) ∷ rest → GatheredSoFar known types all old left → IsRequestsFault known types uid applies_to fault
+      (fault : Fault) → left ≡ (uid, applies_to) ∷ rest → GatheredSoFar known types all old left
+      → IsRequestsFault known types uid applies_to fault
       → IsGatheringFault known types all fault
   next_fault old left rest uid applies_to fault is so_far refused =
       let P : List Entry → Type 0 = λ entries. Contains entries (uid, applies_to) in
@@ -226,7 +228,9 @@ module _ {S : Type 0} (known : KnownTypes) (types : List PlainName) (all : List 
 
   -- and the fact of each holds of all
   pub gathered_sound : (nodes : HashMap EntityUID ValidatorActionId S) (left : List Entry) → left ≡ []
-      → GatheredSoFar known types all nodes left → (uid : PlainUid) (applies_to : Requests) → Contains all (uid, applies_to) → AreSoundRequests known types applies_to
+      → GatheredSoFar known types all nodes left
+      → (uid : PlainUid) (applies_to : Requests) → Contains all (uid, applies_to) → AreSoundRequests known types applies_to
   gathered_sound nodes left nothing so_far =
-      let P : List Entry → Type 0 = λ entries. (uid : PlainUid) (applies_to : Requests) → Contains entries (uid, applies_to) → AreSoundRequests known types applies_to in
+      let P : List Entry → Type 0 = λ entries. (uid : PlainUid) (applies_to : Requests) → Contains entries (uid, applies_to)
+      → AreSoundRequests known types applies_to in
       subst P (gathered_all nodes left nothing so_far) so_far.sound

@@ -1,6 +1,7 @@
 mod ActionsLemmas
 mod DescentLemmas
 mod EdgeLemmas
+mod EntityLemmas
 mod GatheringLemmas
 mod LinkLemmas
 mod ParentLemmas

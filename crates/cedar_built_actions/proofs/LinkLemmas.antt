@@ -18,9 +18,9 @@ use Rattle.cedar_names.specs.Reference.{ActionReference}
 use Rattle.cedar_built_actions.specs.Nodes.{AreLinked, AreReady, AreTheSame, IsAbove, LeadsTo, has_descendant, node_at}
 use Rattle.cedar_built_actions.specs.Steps.{plain_edge, reference_to_action}
 
--- whether actions are equal
-abbrev pub same_type : EntityUID → EntityUID → Bool
-same_type = (uid_eq.ghosts).eq
+-- whether uids are equal
+abbrev pub same_uid : EntityUID → EntityUID → Bool
+same_uid = (uid_eq.ghosts).eq
 
 -- what stands at a key is the same as itself
 pub same_itself : (o : Option ValidatorActionId) → AreTheSame o o
@@ -58,21 +58,21 @@ or_right false c is = is
 
 module _ {S : Type 0} (before after : HashMap EntityUID ValidatorActionId S) (upper : EntityUID)
     (old new : ValidatorActionId) (found : node_at before upper ≡ Some old)
-    (updated : (key : EntityUID) → node_at after key ≡ cond (same_type upper key) (Some new) (node_at before key)) where
+    (updated : (key : EntityUID) → node_at after key ≡ cond (same_uid upper key) (Some new) (node_at before key)) where
   -- what stands at the key of an updated node, and at another
-  at_upper : (key : EntityUID) → same_type upper key ≡ true → (node_at before key ≡ Some old) × (node_at after key ≡ Some new)
+  at_upper : (key : EntityUID) → same_uid upper key ≡ true → (node_at before key ≡ Some old) × (node_at after key ≡ Some new)
   at_upper key same = (
     sym (get_alike uid_equal.Laws.laws-law before upper key same) ∙ found,
-    updated key ∙ cond-true (same_type upper key) (Some new) (node_at before key) same,
+    updated key ∙ cond-true (same_uid upper key) (Some new) (node_at before key) same,
   )
 
-  at_other : (key : EntityUID) → same_type upper key ≡ false → node_at after key ≡ node_at before key
-  at_other key apart = updated key ∙ cond-false (same_type upper key) (Some new) (node_at before key) apart
+  at_other : (key : EntityUID) → same_uid upper key ≡ false → node_at after key ≡ node_at before key
+  at_other key apart = updated key ∙ cond-false (same_uid upper key) (Some new) (node_at before key) apart
 
   -- each node stays the same, where the updated one does
   pub updated_same : AreTheSame (Some old) (Some new) → (key : EntityUID) → AreTheSame (node_at before key) (node_at after key)
-  updated_same alike key = by (same_type upper key) refl where
-    by : (b : Bool) → same_type upper key ≡ b → AreTheSame (node_at before key) (node_at after key)
+  updated_same alike key = by (same_uid upper key) refl where
+    by : (b : Bool) → same_uid upper key ≡ b → AreTheSame (node_at before key) (node_at after key)
     by true same =
         let both = at_upper key same in
         let P : Option ValidatorActionId → Type 0 = λ o. AreTheSame o (node_at after key) in
@@ -83,15 +83,15 @@ module _ {S : Type 0} (before after : HashMap EntityUID ValidatorActionId S) (up
         subst P (sym (at_other key apart)) (same_itself (node_at before key))
 
   module _ (lower : EntityUID)
-      (added : (to : EntityUID) → has_descendant new to ≡ (same_type lower to || has_descendant old to)) where
+      (added : (to : EntityUID) → has_descendant new to ≡ (same_uid lower to || has_descendant old to)) where
     -- the nodes lead where they led, and the upper action leads to the lower
     pub updated_leads : (from to : EntityUID) → LeadsTo after from to
         ↔ (LeadsTo before from to ⊎ (IsSome (node_at before from) × (uid_of from ≡ uid_of upper) × (uid_of to ≡ uid_of lower)))
-    updated_leads from to = by (same_type upper from) refl where
+    updated_leads from to = by (same_uid upper from) refl where
       More : Type 0
       More = IsSome (node_at before from) × (uid_of from ≡ uid_of upper) × (uid_of to ≡ uid_of lower)
 
-      by : (b : Bool) → same_type upper from ≡ b → LeadsTo after from to ↔ (LeadsTo before from to ⊎ More)
+      by : (b : Bool) → same_uid upper from ≡ b → LeadsTo after from to ↔ (LeadsTo before from to ⊎ More)
       by true same =
           let both = at_upper from same in
           let P : Option ValidatorActionId → Type 0 = λ o. IsSomeAnd o (λ node. IsTrue (has_descendant node to)) in (
@@ -104,12 +104,12 @@ module _ {S : Type 0} (before after : HashMap EntityUID ValidatorActionId S) (up
                   sym ((entity_uid_eq-same lower to).0 here),
                 ))
                 (λ there. inl (subst P (sym both.0) there))
-                (or_cases (same_type lower to) (has_descendant old to) (sym (added to) ∙ has)),
+                (or_cases (same_uid lower to) (has_descendant old to) (sym (added to) ∙ has)),
             λ either.
-                let has : IsTrue (same_type lower to || has_descendant old to) =
+                let has : IsTrue (same_uid lower to || has_descendant old to) =
                 ⊎_elim
-                (λ there. or_right (same_type lower to) (has_descendant old to) (subst P both.0 there))
-                (λ here. or_left (same_type lower to) (has_descendant old to) ((entity_uid_eq-same lower to).1 (sym here.2)))
+                (λ there. or_right (same_uid lower to) (has_descendant old to) (subst P both.0 there))
+                (λ here. or_left (same_uid lower to) (has_descendant old to) ((entity_uid_eq-same lower to).1 (sym here.2)))
                 either in
                 subst P (sym both.1) (added to ∙ has),
           )

@@ -1,3 +1,4 @@
+pub mod ActionEntities
 pub mod DeclaredActions
 pub mod Nodes
 pub mod Ready
