@@ -1,1 +1,2 @@
+pub mod SchemaParts
 pub mod SettledBag

@@ -1,7 +1,13 @@
 //! The steps of the builder, one after another.
 
-ghost use Rattle.std.specs.Prelude.{◌≡◌, ◌⊎◌, IfErr, IfOk, OnOk};
+ghost use Rattle.std.specs.Prelude.{◌≡◌, ◌⊎◌, IfErr, IfOk, OnOk, map};
+ghost use Rattle.std.specs.List.Sorted.{IsStrictlySortedBy};
+ghost use Rattle.std.specs.Map.{keys_of};
 ghost use Rattle.std.specs.Result.{result_map_both};
+ghost use Rattle.cedar_below.specs.EntityType.{type_name};
+ghost use Rattle.cedar_below.specs.EntityUID.{uid_of};
+ghost use Rattle.cedar_below.specs.PlainName.{name_cmp};
+ghost use Rattle.cedar_below.specs.PlainUid.{uid_cmp};
 ghost use Rattle.cedar_below.specs.Extensions.{extension_types};
 ghost use Rattle.cedar_below.specs.TypeNames.{TypeNamesFit};
 ghost use Rattle.cedar_declared.specs.DeclaredSchema.{IsDeclaredSchema};
@@ -12,12 +18,13 @@ ghost use Rattle.cedar_fragments.specs.FragmentDeclarations.{conditional_bag};
 ghost use Rattle.cedar_fragments.specs.HeldNames.{held_names};
 ghost use Rattle.cedar_gathered.specs.Gathered.{settled_bag};
 ghost use Rattle.cedar_laws.specs.EndToEnd.{IsBuiltFrom};
+ghost use Rattle.cedar_whole.specs.SchemaParts.{parts_schema};
 ghost use Rattle.cedar_whole.specs.SettledBag.{IsSettledOver};
 
 use cedar_actions::ValidatorActionId;
-use cedar_below::{EntityType, EntityUID, Extensions, InternalName};
+use cedar_below::{Entities, EntityType, EntityUID, Extensions, InternalName};
 use cedar_built::entity_types;
-use cedar_built_actions::actions;
+use cedar_built_actions::{action_entities, actions};
 use cedar_common_types::defined_common_types;
 use cedar_declared::SchemaError;
 use cedar_entities::ValidatorEntityType;
@@ -38,6 +45,22 @@ pub struct SchemaParts {
     pub entity_types: BTreeMap<EntityType, ValidatorEntityType>,
     /// The actions, each with all its descendants.
     pub actions: BTreeMap<EntityUID, ValidatorActionId>,
+    /// The entities of the actions that are defined, each below all its ancestors.
+    pub action_entities: Entities,
+}
+
+/// That the names of entity types ascend in their map.
+fn names_ascend(types: &BTreeMap<EntityType, ValidatorEntityType>)
+    ensures { IsStrictlySortedBy name_cmp (map type_name (keys_of types.now.entries)) }
+{
+    let _keys = types.keys();
+}
+
+/// That the uids of actions ascend in their map.
+fn uids_ascend(actions: &BTreeMap<EntityUID, ValidatorActionId>)
+    ensures { IsStrictlySortedBy uid_cmp (map uid_of (keys_of actions.now.entries)) }
+{
+    let _keys = actions.keys();
 }
 
 /// What fragments over full names declare, where the names of entity types are these.
@@ -47,6 +70,8 @@ fn build_settled(
     defs: &AllDefs,
     extensions: &Extensions,
 ) -> Result<SchemaParts, SchemaError>
+    ensures declared { IfOk result (λ parts. IsSettledOver (settled_bag fragments.items) extensions.now (held_names defs.now)
+        → IsDeclaredSchema (settled_bag fragments.items) extensions.now (parts_schema parts)) }
     ensures well_formed { OnOk result (IsSettledOver (settled_bag fragments.items) extensions.now (held_names defs.now)
         → ¬ IsIllFormed (settled_bag fragments.items) extensions.now) }
     ensures fault { IfErr result (λ error. IsSettledOver (settled_bag fragments.items) extensions.now (held_names defs.now)
@@ -66,9 +91,13 @@ fn build_settled(
     };
     let entity_types = entity_types(alloc, declared, &known)?;
     let actions = actions(alloc, declared_actions, &entity_types, &known)?;
+    let action_entities = action_entities(alloc, &actions)?;
+    names_ascend(&entity_types);
+    uids_ascend(&actions);
     Ok(SchemaParts {
         entity_types,
         actions,
+        action_entities,
     })
 }
 
@@ -82,6 +111,7 @@ pub fn build(
     extensions: &Extensions,
 ) -> Result<SchemaParts, SchemaError>
     requires { TypeNamesFit (extension_types extensions.now) }
+    ensures { IsBuiltFrom (conditional_bag fragments.items) extensions.now (result_map_both parts_schema fault_of result) }
 {
     let Settled { fragments, defs } = settle(alloc, fragments, extensions)?;
     build_settled(alloc, fragments, &defs, extensions)
