@@ -3,6 +3,8 @@
 #![tactic(auto)]
 
 #[cfg(test)]
+mod built;
+#[cfg(test)]
 mod common;
 #[cfg(test)]
 mod common_types;

@@ -10,14 +10,14 @@ use std::collections::BTreeMap;
 use std::test::Fail;
 
 /// The extension type `ipaddr`, without functions.
-fn addresses(alloc: Global) -> Result<Extensions, Fail> {
+pub(crate) fn addresses(alloc: Global) -> Result<Extensions, Fail> {
     let name = Name::new(full(alloc, "ipaddr")?).ok_or("a reserved name")?;
     Ok(Extensions::new(vec![in alloc; name]?, BTreeMap::new(alloc)))
 }
 
 /// The fragment that declares in a namespace an entity type, below another if one is given, and an
 /// action of an id, if one is given.
-fn fragment(
+pub(crate) fn fragment(
     alloc: Global,
     namespace: &str,
     word: &str,
