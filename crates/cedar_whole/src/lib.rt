@@ -3,5 +3,7 @@
 #![tactic(auto)]
 
 pub use building::{SchemaParts, build};
+pub use raw::build_raw;
 
 mod building;
+mod raw;
