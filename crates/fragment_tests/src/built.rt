@@ -31,7 +31,11 @@ fn built(
     alloc: Global,
     fragments: Vec<ValidatorSchemaFragment<ConditionalName, ConditionalName>>,
 ) -> Result<String, Fail> {
-    match build(alloc, fragments, &addresses(alloc)?) {
+    let extensions = addresses(alloc)?;
+    if !extensions.type_names_fit() {
+        return Err(Fail::from("unfit extension types"));
+    }
+    match build(alloc, fragments, &extensions) {
         Ok(parts) => descendants(alloc, &parts),
         Err(error) => Ok(String::from_str(alloc, error.kind())?),
     }
