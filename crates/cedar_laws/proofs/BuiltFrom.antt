@@ -24,8 +24,10 @@ built_from bag extensions fit (Ok schema) fault well declared =
       declared = declared;
       only = λ other is. one_schema bag extensions fit well other schema is declared;
       admits = types_admit bag extensions fit well schema declared;
-      environments = λ it. (environment_declared bag extensions fit well schema declared it,
-          declared_environment bag extensions fit well schema declared it);
+      environments = λ it. (
+        environment_declared bag extensions fit well schema declared it,
+        declared_environment bag extensions fit well schema declared it,
+      );
     }
 built_from bag extensions fit (Err error) fault well declared =
     record { fault = fault; well_formed = tt; declared = tt; only = tt; admits = tt; environments = tt }
