@@ -36,7 +36,8 @@ fn conditional_fragments(
     Ok(conditional)
 }
 
-/// What fragments declare over some extensions, whose names of extension types have to fit.
+/// What fragments declare over some extensions, whose names of extension types have to fit, as
+/// [`Extensions::type_names_fit`] tests.
 ///
 /// It is refused exactly where the bag of their declarations is ill-formed, with a fault of it by name,
 /// or where memory is wanting.
