@@ -27,7 +27,7 @@ use Rattle.cedar_declared.specs.Occurrences.{Twice}
 use Rattle.cedar_declared.specs.Settled.{reference_to_one}
 use Rattle.cedar_declared.specs.Together.{EntitySays, IsExternalType, IsParent}
 use Rattle.cedar_declared.specs.WrittenOut.{IsNoRecord, IsRecordType}
-use Rattle.cedar_entities.specs.ValidatorEntityType.{PlainEntityType, entity_type_of, descendant_names}
+use Rattle.cedar_entities.specs.ValidatorEntityType.{PlainEntityType, entity_type_of, descendant_names, plain_entry}
 use Rattle.cedar_entities.specs.declared.entity_type.ValidatorEntityType.{ValidatorEntityType}
 use Rattle.cedar_fragments.specs.declared.namespace.entity_types.EntityTypeFragment.{EntityTypeFragment}
 use Rattle.cedar_names.specs.Declaration.{Body}
@@ -40,7 +40,6 @@ use Rattle.cedar_types.proofs.MemberLemmas.{Contains-named, list_any-names}
 use Rattle.cedar_built.proofs.DescentLemmas.{chain_descends, descends_by_chain, edge_above}
 use Rattle.cedar_built.proofs.ParentLemmas.{edge_parent, edge_has_parent, one_resolves, parent_edge, parent_in_bag, parent_placed}
 use Rattle.cedar_built.proofs.TogetherLemmas.{declared_definition, name_defined, said_declared, said_definition}
-use Rattle.cedar_built.specs.DeclaredTypes.{plain_entry}
 use Rattle.cedar_gathered.specs.Gathered.{gathered_entities}
 use Rattle.cedar_built.specs.Nodes.{AreGathered, AreLinked, AreTheSame, IsAbove, IsEnumerated, IsEnumeratedAt, IsExternalAt, IsGathered, IsGatheredAt, IsLinkingFault, LeadsTo, has_descendant, node_at}
 use Rattle.cedar_built.specs.Ready.{IsReady}

@@ -1,7 +1,6 @@
 mod ActionsLemmas
 mod DescentLemmas
 mod EdgeLemmas
-mod EntityLemmas
 mod GatheringLemmas
 mod LinkLemmas
 mod ParentLemmas

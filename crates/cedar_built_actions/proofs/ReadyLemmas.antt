@@ -5,7 +5,7 @@ use Rattle.std.proofs.lemmas.List.Folds.{flat_map-map}
 use Rattle.std.proofs.lemmas.Simd.{map-map}
 use Rattle.std.specs.BTreeMap.{BTreeMap}
 use Rattle.cedar_actions.proofs.SetLemmas.{list_any-uids}
-use Rattle.cedar_actions.specs.ValidatorActionId.{action_of}
+use Rattle.cedar_actions.specs.ValidatorActionId.{action_of, plain_action_entry}
 use Rattle.cedar_actions.specs.declared.action_id.ValidatorActionId.{ValidatorActionId}
 use Rattle.cedar_below.proofs.Lists.{Contains-preimage}
 use Rattle.cedar_below.specs.EntityUID.{uid_of}
@@ -48,7 +48,6 @@ use Rattle.cedar_rules.specs.Ty.{Ty}
 use Rattle.cedar_built_actions.proofs.DescentLemmas.{chain_descends, chain_to_same, descendant_declared, descends_by_chain}
 use Rattle.cedar_built_actions.proofs.ParentLemmas.{edge_declared}
 use Rattle.cedar_built_actions.proofs.TogetherLemmas.{declared_definition, said_definition}
-use Rattle.cedar_built_actions.specs.DeclaredActions.{plain_action_entry}
 use Rattle.cedar_built_actions.specs.Nodes.{AreGathered, AreLinked, AreReady, AreTheSame, IsGathered, IsGatheredAt, IsLinkingFault, LeadsTo, has_descendant, node_at}
 use Rattle.cedar_built_actions.specs.Ready.{AreActionsOf}
 use Rattle.cedar_built_actions.specs.Sound.{ActionsAreSound}

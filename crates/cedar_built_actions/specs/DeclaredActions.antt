@@ -1,6 +1,6 @@
 -- The actions that a bag declares, as they stand in a schema.
 use Rattle.std.specs.Prelude.{List, Contains, map}
-use Rattle.cedar_actions.specs.ValidatorActionId.{action_of}
+use Rattle.cedar_actions.specs.ValidatorActionId.{plain_action_entry}
 use Rattle.cedar_actions.specs.declared.action_id.ValidatorActionId.{ValidatorActionId}
 use Rattle.cedar_below.specs.EntityUID.{uid_of}
 use Rattle.cedar_below.specs.PlainUid.{PlainUid}
@@ -8,11 +8,6 @@ use Rattle.cedar_below.specs.declared.entity_uid.EntityUID.{EntityUID}
 use Rattle.cedar_below.specs.declared.extension.Extensions.{Extensions}
 use Rattle.cedar_declared.specs.Bag.{Bag, declared_actions}
 use Rattle.cedar_declared.specs.DeclaredSchema.{IsDeclaredAction}
-use Rattle.cedar_declared.specs.PlainSchema.{SchemaAction}
-
--- an action of a schema under its uid, as plain data
-abbrev pub plain_action_entry : EntityUID × ValidatorActionId → PlainUid × SchemaAction
-plain_action_entry entry = (uid_of entry.0, action_of entry.1)
 
 -- each entry is what the bag declares of its uid, and each declared uid has an entry
 pub record AreDeclaredActions (bag : Bag) (extensions : Extensions) (entries : List (EntityUID × ValidatorActionId)) :

@@ -1,4 +1,3 @@
-pub mod ActionEntities
 pub mod DeclaredActions
 pub mod Nodes
 pub mod Ready

@@ -2,10 +2,8 @@
 #![tactic(auto)]
 
 pub use building::actions;
-pub use entities::action_entities;
 
 mod building;
-mod entities;
 mod links;
 mod nodes;
 mod parents;

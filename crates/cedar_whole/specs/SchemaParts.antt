@@ -1,8 +1,8 @@
 use Rattle.std.specs.Prelude.{map}
 use Rattle.cedar_below.specs.Entities.{entities_of}
-use Rattle.cedar_built.specs.DeclaredTypes.{plain_entry}
-use Rattle.cedar_built_actions.specs.ActionEntities.{schema_with}
 use Rattle.cedar_declared.specs.PlainSchema.{PlainSchema}
+use Rattle.cedar_derived.specs.ActionEntities.{schema_with}
+use Rattle.cedar_entities.specs.ValidatorEntityType.{plain_entry}
 use Rattle.cedar_whole.specs.declared.building.SchemaParts.{SchemaParts}
 
 -- what a schema holds, as plain data

@@ -5,12 +5,12 @@ use Rattle.cedar_below.specs.Entities.{entities_of}
 use Rattle.cedar_below.specs.declared.entity_type.EntityType.{EntityType}
 use Rattle.cedar_below.specs.declared.entity_uid.EntityUID.{EntityUID}
 use Rattle.cedar_below.specs.declared.internal_name.InternalName.{InternalName}
-use Rattle.cedar_built.specs.DeclaredTypes.{plain_entry}
 use Rattle.cedar_declared.specs.Bag.{declared_actions, declared_common, declared_entities}
 use Rattle.cedar_declared.specs.Fault.{want_of_memory}
 use Rattle.cedar_declared.specs.IllFormed.{IsFault}
 use Rattle.cedar_declared.specs.SchemaError.{fault_of}
 use Rattle.cedar_declared.specs.SettledExpr.{settled_reference}
+use Rattle.cedar_entities.specs.ValidatorEntityType.{plain_entry}
 use Rattle.cedar_fragments.proofs.SoundFragments.{fragments_have_no_fault}
 use Rattle.cedar_fragments.specs.FragmentDeclarations.{settled_action_type}
 use Rattle.cedar_fragments.specs.HeldNames.{held_names}

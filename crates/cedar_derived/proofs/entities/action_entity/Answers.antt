@@ -1,9 +1,9 @@
 use Rattle.std.proofs.Common.{◌↔◌, List, ap, sym, subst, ◌∙◌, Contains}
 use Rattle.cedar_below.specs.EntityUID.{uid_of}
 use Rattle.cedar_below.specs.PlainUid.{PlainUid}
-use Rattle.cedar_built_actions.proofs.EntityLemmas.{no_values}
-use Rattle.cedar_built_actions.specs.ActionEntities.{Lists, named_values}
-use Rattle.cedar_built_actions.proofs.entities.action_entity.Goals as goal
+use Rattle.cedar_derived.proofs.EntityLemmas.{no_values}
+use Rattle.cedar_derived.specs.ActionEntities.{Lists, named_values}
+use Rattle.cedar_derived.proofs.entities.action_entity.Goals as goal
 
 pub returns : goal.returns
 returns c =

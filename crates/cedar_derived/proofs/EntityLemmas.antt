@@ -1,18 +1,22 @@
 -- Actions that list others, and the entities of actions, as they are gathered one after another.
-use Rattle.std.proofs.Common.{◌≡◌, ◌≢◌, ◌⊎◌, ◌↔◌, ◌++◌, Bool, true, false, List, [], ◌∷◌, Option, Some, IsSome, is_some, find, string_bytes, map, ap, sym, subst, ◌∙◌, refl, inl, inr, ⊎_elim, arith, append_assoc, Contains}
+use Rattle.std.proofs.Common.{◌≡◌, ◌≢◌, ◌⊎◌, ◌↔◌, ◌++◌, Bool, true, false, cond, List, [], ◌∷◌, Option, Some, IsSome, is_some, find, string_bytes, map, ap, sym, subst, ◌∙◌, refl, inl, inr, ⊎_elim, arith, append_assoc, Contains}
 use Rattle.std.proofs.lemmas.Bool.{false≢true, cond-true, cond-false}
 use Rattle.std.proofs.lemmas.List.{append-nil, map-append}
 use Rattle.std.proofs.lemmas.List.Elements.{Contains-append_cases, Contains-append_left, Contains-append_right}
 use Rattle.std.proofs.lemmas.Simd.{map-map}
-use Rattle.std.specs.BTreeMap.{BTreeMap}
+use Rattle.std.specs.BTreeMap.{BTreeMap, is_at}
+use Rattle.std.specs.Bool.{Decides}
+use Rattle.std.specs.List.{list_any}
 use Rattle.std.specs.List.Sorted.{IsStrictlySortedBy}
 use Rattle.std.specs.Ordering.{is_eq}
 use Rattle.std.specs.declared.alloc.Global.{Global}
+use Rattle.std.specs.declared.cmp.Ordering.{Ordering}
 use Rattle.std.specs.declared.string.String.{String}
-use Rattle.cedar_actions.specs.ValidatorActionId.{action_of}
+use Rattle.cedar_actions.specs.ValidatorActionId.{action_of, plain_action_entry}
 use Rattle.cedar_actions.specs.declared.action_id.ValidatorActionId.{ValidatorActionId}
-use Rattle.cedar_below.proofs.Lists.{Contains-cons, Contains-cons_cases, Contains-preimage}
+use Rattle.cedar_below.proofs.Lists.{Contains-cons, Contains-cons_cases, Contains-preimage, list_any-Contains}
 use Rattle.cedar_below.proofs.PlainNames.{uid_cmp-total}
+use Rattle.cedar_below.proofs.Uids.{entity_uid_ord-uid_cmp}
 use Rattle.cedar_below.specs.Entities.{entities_of, entity_at}
 use Rattle.cedar_below.specs.Entity.{entity_uid}
 use Rattle.cedar_below.specs.EntityUID.{uid_of}
@@ -21,6 +25,7 @@ use Rattle.cedar_below.specs.PlainUid.{PlainUid, uid_cmp}
 use Rattle.cedar_below.specs.RestrictedExpr.{tree_of}
 use Rattle.cedar_below.specs.Tree.{entries_from, no_entry}
 use Rattle.cedar_below.specs.Value.{value_expr}
+use Rattle.cedar_below.specs.contracts.entity_uid.EntityUIDOrd.TheImpl as uid_ord
 use Rattle.cedar_below.specs.declared.entities.Entities.{Entities}
 use Rattle.cedar_below.specs.declared.entity.Entity.{Entity}
 use Rattle.cedar_below.specs.declared.entity_uid.EntityUID.{EntityUID}
@@ -29,8 +34,7 @@ use Rattle.cedar_declared.proofs.OccurrenceLemmas.{Contains-image, Contains-sing
 use Rattle.cedar_declared.specs.ActionEntities.{AreActionEntities, IsDefinedKind, IsEntityOfAction}
 use Rattle.cedar_declared.specs.Occurrences.{Twice}
 use Rattle.cedar_declared.specs.PlainSchema.{ActionKind, defined_action, external_action, ActionEntity, SchemaAction, SchemaEntityType}
-use Rattle.cedar_built_actions.specs.ActionEntities.{IsEntityOf, Lists, named_values, plain_action_entity, schema_with}
-use Rattle.cedar_built_actions.specs.DeclaredActions.{plain_action_entry}
+use Rattle.cedar_derived.specs.ActionEntities.{IsEntityOf, Lists, named_values, plain_action_entity, schema_with}
 
 abbrev Item : Type 0
 Item = EntityUID × ValidatorActionId
@@ -99,6 +103,57 @@ defines_more done key it uid = (
       (action_of it, subst P last.0 (entry_new done key it), last.1))
       either,
 )
+
+-- the order of uids in sets and maps
+abbrev pub cmp : EntityUID → EntityUID → Ordering
+cmp = (uid_ord.ghosts).cmp
+
+-- a key ties exactly where it stands for the same uid
+pub uid_tie : (q key : EntityUID) → Decides (is_at (cmp q) key) (uid_of key ≡ uid_of q)
+uid_tie q key = (
+  λ tie. sym ((uid_test (uid_of q) (uid_of key)).0 (sym (ap is_eq (entity_uid_ord-uid_cmp q key)) ∙ tie)),
+  λ same. ap is_eq (entity_uid_ord-uid_cmp q key) ∙ (uid_test (uid_of q) (uid_of key)).1 (sym same),
+)
+
+-- a set has a uid exactly where one of its keys stands for it
+held : (keys : List EntityUID) (q : EntityUID) → Decides (list_any (is_at (cmp q)) keys) (Contains (map uid_of keys) (uid_of q))
+held keys q = list_any-Contains uid_of (uid_of q) (is_at (cmp q)) (uid_tie q) keys
+
+-- after an insertion a set has the uids that it had, and the one that was put in
+pub inserted_uid : (old new : List EntityUID) (key : EntityUID)
+    → ((q : EntityUID) → list_any (is_at (cmp q)) new ≡ cond (is_at (cmp key) q) true (list_any (is_at (cmp q)) old))
+    → (it : PlainUid) → Contains (map uid_of new) it ↔ (Contains (map uid_of old) it ⊎ Contains (uid_of key ∷ []) it)
+inserted_uid old new key updates it = (
+  λ among.
+      let found = Contains-preimage uid_of new it among in
+      let P : PlainUid → Type 0 = λ uid. Contains (map uid_of old) uid ⊎ Contains (uid_of key ∷ []) uid in
+      subst P found.2
+      (was (is_at (cmp key) found.0) found.0 refl
+      (sym (updates found.0) ∙ (held new found.0).1 (Contains-image uid_of new found.0 found.1))),
+  ⊎_elim
+      (λ before.
+      let found = Contains-preimage uid_of old it before in
+      let P : PlainUid → Type 0 = Contains (map uid_of new) in
+      subst P found.2
+      ((held new found.0).0 (updates found.0
+      ∙ (ap (cond (is_at (cmp key) found.0) true) ((held old found.0).1 (Contains-image uid_of old found.0 found.1))
+      ∙ either (is_at (cmp key) found.0)))))
+      (λ one.
+      let P : PlainUid → Type 0 = Contains (map uid_of new) in
+      subst P (Contains-single (uid_of key) it one)
+      ((held new key).0 (updates key
+      ∙ cond-true (is_at (cmp key) key) true (list_any (is_at (cmp key)) old) ((uid_tie key key).1 refl)))),
+)
+  where
+    either : (b : Bool) → cond b true true ≡ true
+    either true = refl
+    either false = refl
+
+    was : (b : Bool) (q : EntityUID) → is_at (cmp key) q ≡ b → cond (is_at (cmp key) q) true (list_any (is_at (cmp q)) old) ≡ true
+        → Contains (map uid_of old) (uid_of q) ⊎ Contains (uid_of key ∷ []) (uid_of q)
+    was true q is answer = inr (Contains-cons (uid_of key) [] (uid_of q) (inl (sym ((uid_tie key q).0 is))))
+    was false q is answer =
+        inl ((held old q).0 (sym (cond-false (is_at (cmp key) q) true (list_any (is_at (cmp q)) old) is) ∙ answer))
 
 -- of some actions those that list another are found, and others are left
 pub record UppersSoFar (all : List Item) (lower : PlainUid) (uppers : List EntityUID) (left : List Item) : Type 0 where

@@ -8,7 +8,7 @@ ghost use Rattle.cedar_below.specs.PlainName.{PlainName};
 ghost use Rattle.cedar_below.specs.PlainUid.{PlainUid};
 ghost use Rattle.cedar_declared.specs.ActionEntities.{AreActionEntities};
 ghost use Rattle.cedar_declared.specs.PlainSchema.{SchemaEntityType};
-ghost use Rattle.cedar_built_actions.specs.ActionEntities.{IsEntityOf, Lists, plain_action_entity, schema_with};
+ghost use Rattle.cedar_derived.specs.ActionEntities.{IsEntityOf, Lists, plain_action_entity, schema_with};
 
 use cedar_actions::ValidatorActionId;
 use cedar_below::{Entities, Entity, EntityUID, M};

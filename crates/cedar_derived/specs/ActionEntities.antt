@@ -3,6 +3,7 @@ use Rattle.std.specs.Prelude.{◌≡◌, ◌↔◌, List, Contains, map, string_
 use Rattle.std.specs.BTreeMap.{BTreeMap}
 use Rattle.std.specs.declared.alloc.Global.{Global}
 use Rattle.std.specs.declared.string.String.{String}
+use Rattle.cedar_actions.specs.ValidatorActionId.{plain_action_entry}
 use Rattle.cedar_actions.specs.declared.action_id.ValidatorActionId.{ValidatorActionId}
 use Rattle.cedar_below.specs.Entity.{entity_uid, entity_attrs, entity_tags, entity_ancestors}
 use Rattle.cedar_below.specs.PlainName.{PlainName}
@@ -14,7 +15,6 @@ use Rattle.cedar_below.specs.declared.entity.Entity.{Entity}
 use Rattle.cedar_below.specs.declared.entity_uid.EntityUID.{EntityUID}
 use Rattle.cedar_below.specs.declared.value.Value.{Value}
 use Rattle.cedar_declared.specs.PlainSchema.{ActionEntity, PlainSchema, SchemaAction, SchemaEntityType}
-use Rattle.cedar_built_actions.specs.DeclaredActions.{plain_action_entry}
 
 -- the values of a map, each under its name
 abbrev pub named_values : BTreeMap (String Global) Value → Entries

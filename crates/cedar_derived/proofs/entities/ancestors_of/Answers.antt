@@ -1,14 +1,9 @@
-use Rattle.std.proofs.Common.{List, [], ◌∷◌, map, sym, subst, ◌∙◌}
+use Rattle.std.proofs.Common.{sym, ◌∙◌}
 use Rattle.std.proofs.lemmas.Bool.{false≢true}
 use Rattle.cedar_actions.proofs.SetLemmas.{list_any-uids}
-use Rattle.cedar_below.proofs.Uids.{entity_uid_ord-Equal}
 use Rattle.cedar_below.specs.EntityUID.{uid_of}
-use Rattle.cedar_below.specs.contracts.entity_uid.EntityUIDOrd.TheImpl as uid_ord
-use Rattle.cedar_below.specs.declared.entity_uid.EntityUID.{EntityUID}
-use Rattle.cedar_fragments.proofs.SetLemmas.{inserted}
-use Rattle.cedar_fragments.specs.HeldNames.{HasAlso}
-use Rattle.cedar_built_actions.proofs.EntityLemmas.{uppers_all, uppers_found, uppers_none, uppers_passed}
-use Rattle.cedar_built_actions.proofs.entities.ancestors_of.Goals as goal
+use Rattle.cedar_derived.proofs.EntityLemmas.{inserted_uid, uppers_all, uppers_found, uppers_none, uppers_passed}
+use Rattle.cedar_derived.proofs.entities.ancestors_of.Goals as goal
 
 pub loop-upper-init : goal.loop-upper-init
 loop-upper-init c =
@@ -26,13 +21,12 @@ pub loop-upper-preserved-in_ok-insert : goal.loop-upper-preserved-in_ok-insert
 loop-upper-preserved-in_ok-insert c =
     let old = c.loop-upper.uppers.keys in
     let copy = c.in_ok-clone.field-0 in
-    let P : List EntityUID → Type 0 = λ keys. HasAlso (map uid_of keys) (map uid_of old) (uid_of copy ∷ []) in
     uppers_found c.args.actions.now.entries (uid_of c.args.lower.now) _ _ old c.in-Some.upper.now c.in-Some.action.now
     c.in-Some.ensures.steps c.loop-upper.invariant
     ((list_any-uids c.args.lower.now c.in-Some.action.now.descendants.keys).0
     (sym c.has_edge_to.ensures ∙ c.if-has_edge_to.true))
     c.insert.new.self.keys copy c.in_ok-clone.ensures.uid
-    (subst P (sym c.in_ok-insert.ensures.keys) (inserted ((uid_ord.ghosts).cmp) uid_of entity_uid_ord-Equal old copy))
+    (inserted_uid old c.insert.new.self.keys copy c.in_ok-insert.ensures.updates.0)
 
 pub returns : goal.returns
 returns c =

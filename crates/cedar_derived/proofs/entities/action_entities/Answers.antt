@@ -1,7 +1,7 @@
 use Rattle.std.proofs.Common.{sym, ◌∙◌}
 use Rattle.std.proofs.lemmas.Bool.{false≢true}
-use Rattle.cedar_built_actions.proofs.EntityLemmas.{entities_all, entities_none, entities_passed, entities_put}
-use Rattle.cedar_built_actions.proofs.entities.action_entities.Goals as goal
+use Rattle.cedar_derived.proofs.EntityLemmas.{entities_all, entities_none, entities_passed, entities_put}
+use Rattle.cedar_derived.proofs.entities.action_entities.Goals as goal
 
 pub loop-uid-init : goal.loop-uid-init
 loop-uid-init c =

@@ -1,5 +1,0 @@
-use Rattle.cedar_built_actions.proofs.EntityLemmas.{EntitiesSoFar}
-use Rattle.cedar_built_actions.proofs.entities.action_entities.Given as goal
-
-abbrev pub invariant-loop-uid : goal.invariant-loop-uid
-invariant-loop-uid l = EntitiesSoFar l.actions.entries l.entities l.uid-iterator

@@ -1,0 +1,3 @@
+mod EntityLemmas
+mod EnvironmentLemmas
+mod GivenLemmas

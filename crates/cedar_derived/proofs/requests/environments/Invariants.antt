@@ -1,0 +1,11 @@
+use Rattle.std.proofs.Common.{[], map}
+use Rattle.cedar_actions.specs.ValidatorActionId.{plain_action_entry}
+use Rattle.cedar_derived.proofs.EnvironmentLemmas.{environments_under, under}
+use Rattle.cedar_derived.proofs.GivenLemmas.{GivenSoFar}
+use Rattle.cedar_entities.specs.RequestEnv.{owned_environment}
+use Rattle.cedar_derived.proofs.requests.environments.Given as goal
+
+abbrev pub invariant-loop-uid : goal.invariant-loop-uid
+invariant-loop-uid l =
+    GivenSoFar environments_under under [] (map plain_action_entry l.actions.entries)
+    (map owned_environment l.environments.items) (map plain_action_entry l.uid-iterator)

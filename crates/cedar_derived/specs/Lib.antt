@@ -1,0 +1,2 @@
+pub mod ActionEntities
+pub mod RequestEnvironments
