@@ -1,22 +1,20 @@
--- Actions that list others, and the entities of actions, as they are gathered one after another.
-use Rattle.std.proofs.Common.{◌≡◌, ◌≢◌, ◌⊎◌, ◌↔◌, ◌++◌, Bool, true, false, cond, List, [], ◌∷◌, Option, Some, IsSome, is_some, find, string_bytes, map, ap, sym, subst, ◌∙◌, refl, inl, inr, ⊎_elim, arith, append_assoc, Contains}
+-- Actions above their descendants, and the entities of actions, as they are gathered one after another.
+use Rattle.std.proofs.Common.{◌≡◌, ◌≢◌, ◌⊎◌, ◌↔◌, ◌++◌, Bool, true, false, List, [], ◌∷◌, Option, Some, IsSome, is_some, find, string_bytes, map, ap, sym, subst, ◌∙◌, refl, inl, inr, ⊎_elim, arith, append_assoc, Contains, IsSomeAnd}
 use Rattle.std.proofs.lemmas.Bool.{false≢true, cond-true, cond-false}
 use Rattle.std.proofs.lemmas.List.{append-nil, map-append}
 use Rattle.std.proofs.lemmas.List.Elements.{Contains-append_cases, Contains-append_left, Contains-append_right}
 use Rattle.std.proofs.lemmas.Simd.{map-map}
 use Rattle.std.specs.BTreeMap.{BTreeMap, is_at}
-use Rattle.std.specs.Bool.{Decides}
-use Rattle.std.specs.List.{list_any}
+use Rattle.std.specs.BTreeSet.{BTreeSet}
+use Rattle.std.specs.Map.{lookup}
 use Rattle.std.specs.List.Sorted.{IsStrictlySortedBy}
 use Rattle.std.specs.Ordering.{is_eq}
 use Rattle.std.specs.declared.alloc.Global.{Global}
-use Rattle.std.specs.declared.cmp.Ordering.{Ordering}
 use Rattle.std.specs.declared.string.String.{String}
 use Rattle.cedar_actions.specs.ValidatorActionId.{action_of, plain_action_entry}
 use Rattle.cedar_actions.specs.declared.action_id.ValidatorActionId.{ValidatorActionId}
-use Rattle.cedar_below.proofs.Lists.{Contains-cons, Contains-cons_cases, Contains-preimage, list_any-Contains}
+use Rattle.cedar_below.proofs.Lists.{Contains-cons, Contains-cons_cases, Contains-preimage}
 use Rattle.cedar_below.proofs.PlainNames.{uid_cmp-total}
-use Rattle.cedar_below.proofs.Uids.{entity_uid_ord-uid_cmp}
 use Rattle.cedar_below.specs.Entities.{entities_of, entity_at}
 use Rattle.cedar_below.specs.Entity.{entity_uid}
 use Rattle.cedar_below.specs.EntityUID.{uid_of}
@@ -25,7 +23,6 @@ use Rattle.cedar_below.specs.PlainUid.{PlainUid, uid_cmp}
 use Rattle.cedar_below.specs.RestrictedExpr.{tree_of}
 use Rattle.cedar_below.specs.Tree.{entries_from, no_entry}
 use Rattle.cedar_below.specs.Value.{value_expr}
-use Rattle.cedar_below.specs.contracts.entity_uid.EntityUIDOrd.TheImpl as uid_ord
 use Rattle.cedar_below.specs.declared.entities.Entities.{Entities}
 use Rattle.cedar_below.specs.declared.entity.Entity.{Entity}
 use Rattle.cedar_below.specs.declared.entity_uid.EntityUID.{EntityUID}
@@ -34,7 +31,9 @@ use Rattle.cedar_declared.proofs.OccurrenceLemmas.{Contains-image, Contains-sing
 use Rattle.cedar_declared.specs.ActionEntities.{AreActionEntities, IsDefinedKind, IsEntityOfAction}
 use Rattle.cedar_declared.specs.Occurrences.{Twice}
 use Rattle.cedar_declared.specs.PlainSchema.{ActionKind, defined_action, external_action, ActionEntity, SchemaAction, SchemaEntityType}
+use Rattle.cedar_derived.proofs.UidLemmas.{cmp, under}
 use Rattle.cedar_derived.specs.ActionEntities.{IsEntityOf, Lists, named_values, plain_action_entity, schema_with}
+use Rattle.cedar_derived.specs.Uppers.{IsUpper, upper_set}
 
 abbrev Item : Type 0
 Item = EntityUID × ValidatorActionId
@@ -104,116 +103,102 @@ defines_more done key it uid = (
       either,
 )
 
--- the order of uids in sets and maps
-abbrev pub cmp : EntityUID → EntityUID → Ordering
-cmp = (uid_ord.ghosts).cmp
-
--- a key ties exactly where it stands for the same uid
-pub uid_tie : (q key : EntityUID) → Decides (is_at (cmp q) key) (uid_of key ≡ uid_of q)
-uid_tie q key = (
-  λ tie. sym ((uid_test (uid_of q) (uid_of key)).0 (sym (ap is_eq (entity_uid_ord-uid_cmp q key)) ∙ tie)),
-  λ same. ap is_eq (entity_uid_ord-uid_cmp q key) ∙ (uid_test (uid_of q) (uid_of key)).1 (sym same),
-)
-
--- a set has a uid exactly where one of its keys stands for it
-held : (keys : List EntityUID) (q : EntityUID) → Decides (list_any (is_at (cmp q)) keys) (Contains (map uid_of keys) (uid_of q))
-held keys q = list_any-Contains uid_of (uid_of q) (is_at (cmp q)) (uid_tie q) keys
-
--- after an insertion a set has the uids that it had, and the one that was put in
-pub inserted_uid : (old new : List EntityUID) (key : EntityUID)
-    → ((q : EntityUID) → list_any (is_at (cmp q)) new ≡ cond (is_at (cmp key) q) true (list_any (is_at (cmp q)) old))
-    → (it : PlainUid) → Contains (map uid_of new) it ↔ (Contains (map uid_of old) it ⊎ Contains (uid_of key ∷ []) it)
-inserted_uid old new key updates it = (
-  λ among.
-      let found = Contains-preimage uid_of new it among in
-      let P : PlainUid → Type 0 = λ uid. Contains (map uid_of old) uid ⊎ Contains (uid_of key ∷ []) uid in
-      subst P found.2
-      (was (is_at (cmp key) found.0) found.0 refl
-      (sym (updates found.0) ∙ (held new found.0).1 (Contains-image uid_of new found.0 found.1))),
-  ⊎_elim
-      (λ before.
-      let found = Contains-preimage uid_of old it before in
-      let P : PlainUid → Type 0 = Contains (map uid_of new) in
-      subst P found.2
-      ((held new found.0).0 (updates found.0
-      ∙ (ap (cond (is_at (cmp key) found.0) true) ((held old found.0).1 (Contains-image uid_of old found.0 found.1))
-      ∙ either (is_at (cmp key) found.0)))))
-      (λ one.
-      let P : PlainUid → Type 0 = Contains (map uid_of new) in
-      subst P (Contains-single (uid_of key) it one)
-      ((held new key).0 (updates key
-      ∙ cond-true (is_at (cmp key) key) true (list_any (is_at (cmp key)) old) ((uid_tie key key).1 refl)))),
-)
-  where
-    either : (b : Bool) → cond b true true ≡ true
-    either true = refl
-    either false = refl
-
-    was : (b : Bool) (q : EntityUID) → is_at (cmp key) q ≡ b → cond (is_at (cmp key) q) true (list_any (is_at (cmp q)) old) ≡ true
-        → Contains (map uid_of old) (uid_of q) ⊎ Contains (uid_of key ∷ []) (uid_of q)
-    was true q is answer = inr (Contains-cons (uid_of key) [] (uid_of q) (inl (sym ((uid_tie key q).0 is))))
-    was false q is answer =
-        inl ((held old q).0 (sym (cond-false (is_at (cmp key) q) true (list_any (is_at (cmp q)) old) is) ∙ answer))
-
--- of some actions those that list another are found, and others are left
-pub record UppersSoFar (all : List Item) (lower : PlainUid) (uppers : List EntityUID) (left : List Item) : Type 0 where
+-- of some actions each stands above its descendants, and others are left
+pub record UppersSoFar (all : List Item) (uppers : BTreeMap EntityUID (BTreeSet EntityUID)) (left : List Item) : Type 0 where
   pub done : List Item
   pub split : all ≡ done ++ left
-  pub same : (upper : PlainUid) → Contains (map uid_of uppers) upper ↔ Lists done lower upper
+  pub same : (key : EntityUID) (above : PlainUid) → IsUpper uppers key above ↔ Lists done (uid_of key) above
 
-module _ (all : List Item) (lower : PlainUid) where
-  -- at first none is
-  pub uppers_none : (left : List Item) (uppers : List EntityUID) → left ≡ all → uppers ≡ [] → UppersSoFar all lower uppers left
-  uppers_none left uppers same nothing =
-      let P : List EntityUID → Type 0 = λ uids. (upper : PlainUid) → Contains (map uid_of uids) upper ↔ Lists [] lower upper in
-      record {
-        done = [];
-        split = sym same;
-        same = subst P (sym nothing) (λ upper. (λ among. absurd (omega (arith, among.1)), λ lists. absurd (omega (arith, lists.1.1))));
-      }
+module _ (all : List Item) where
+  -- at first none does
+  pub uppers_none : (left : List Item) (uppers : BTreeMap EntityUID (BTreeSet EntityUID)) → left ≡ all → uppers.entries ≡ []
+      → UppersSoFar all uppers left
+  uppers_none left uppers same nothing = record {
+    done = [];
+    split = sym same;
+    same = λ key above.
+        let P : Option (BTreeSet EntityUID) → Type 0 = λ o. IsSomeAnd o (λ set. Contains (map uid_of set.keys) above) in (
+          λ upper. absurd (subst P (ap (lookup (is_at (cmp key))) nothing) upper),
+          λ lists. absurd (omega (arith, lists.1.1)),
+        );
+  }
 
-  module _ (left rest : List Item) (uppers : List EntityUID) (key : EntityUID) (it : ValidatorActionId)
-      (is : left ≡ (key, it) ∷ rest) (so_far : UppersSoFar all lower uppers left) where
-    next_split : all ≡ (so_far.done ++ (key, it) ∷ []) ++ rest
-    next_split = so_far.split ∙ (ap (λ others. so_far.done ++ others) is ∙ sym (append_assoc so_far.done ((key, it) ∷ []) rest))
+  -- one more does
+  pub uppers_more : (left rest : List Item) (middle after : BTreeMap EntityUID (BTreeSet EntityUID)) (upper : EntityUID)
+      (it : ValidatorActionId) → left ≡ (upper, it) ∷ rest
+      → ((key : EntityUID) (above : PlainUid) → IsUpper after key above
+      ↔ (IsUpper middle key above ⊎ ((uid_of upper ≡ above) × Contains (action_of it).descendants (uid_of key))))
+      → UppersSoFar all middle left → UppersSoFar all after rest
+  uppers_more left rest middle after upper it is also so_far = record {
+    done = so_far.done ++ (upper, it) ∷ [];
+    split = so_far.split ∙ (ap (λ others. so_far.done ++ others) is ∙ sym (append_assoc so_far.done ((upper, it) ∷ []) rest));
+    same = λ key above. (
+      λ stands. (lists_more so_far.done upper it (uid_of key) above).1
+          (⊎_elim (λ before. inl ((so_far.same key above).0 before)) (λ last. inr last) ((also key above).0 stands)),
+      λ lists. (also key above).1
+          (⊎_elim (λ before. inl ((so_far.same key above).1 before)) (λ last. inr last)
+          ((lists_more so_far.done upper it (uid_of key) above).0 lists)),
+    );
+  }
 
-    -- one more is passed, which doesn't list it
-    pub uppers_passed : ¬ Contains (action_of it).descendants lower → UppersSoFar all lower uppers rest
-    uppers_passed none = record {
-      done = so_far.done ++ (key, it) ∷ [];
-      split = next_split;
-      same = λ upper. (
-        λ among. (lists_more so_far.done key it lower upper).1 (inl ((so_far.same upper).0 among)),
-        λ lists. ⊎_elim (λ before. (so_far.same upper).1 before) (λ last. absurd (none last.1))
-            ((lists_more so_far.done key it lower upper).0 lists),
-      );
-    }
-
-    -- one more is found
-    pub uppers_found : Contains (action_of it).descendants lower → (more : List EntityUID) (copy : EntityUID) → uid_of copy ≡ uid_of key
-        → ((upper : PlainUid) → Contains (map uid_of more) upper ↔ (Contains (map uid_of uppers) upper ⊎ Contains (uid_of copy ∷ []) upper))
-        → UppersSoFar all lower more rest
-    uppers_found there more copy same also = record {
-      done = so_far.done ++ (key, it) ∷ [];
-      split = next_split;
-      same = λ upper. (
-        λ among. (lists_more so_far.done key it lower upper).1 (⊎_elim
-            (λ before. inl ((so_far.same upper).0 before))
-            (λ last. inr (sym same ∙ Contains-single (uid_of copy) upper last, there))
-            ((also upper).0 among)),
-        λ lists. (also upper).1 (⊎_elim
-            (λ before. inl ((so_far.same upper).1 before))
-            (λ last. inr (Contains-cons (uid_of copy) [] upper (inl (same ∙ last.0))))
-            ((lists_more so_far.done key it lower upper).0 lists)),
-      );
-    }
-
-  -- where none is left, all are
-  pub uppers_all : (left : List Item) (uppers : List EntityUID) → left ≡ [] → UppersSoFar all lower uppers left
-      → (upper : PlainUid) → Contains (map uid_of uppers) upper ↔ Lists all lower upper
+  -- where none is left, all do
+  pub uppers_all : (left : List Item) (uppers : BTreeMap EntityUID (BTreeSet EntityUID)) → left ≡ [] → UppersSoFar all uppers left
+      → (key : EntityUID) (above : PlainUid) → IsUpper uppers key above ↔ Lists all (uid_of key) above
   uppers_all left uppers nothing so_far =
-      let P : List Item → Type 0 = λ items. (upper : PlainUid) → Contains (map uid_of uppers) upper ↔ Lists items lower upper in
+      let P : List Item → Type 0 = λ items. (key : EntityUID) (above : PlainUid) → IsUpper uppers key above
+      ↔ Lists items (uid_of key) above in
       subst P (sym (so_far.split ∙ (ap (λ others. so_far.done ++ others) nothing ∙ append-nil so_far.done))) so_far.same
+
+-- those above actions that are left are still there
+pub record UppersLeft (all : List Item) (uppers : BTreeMap EntityUID (BTreeSet EntityUID)) (left : List Item) : Type 0 where
+  pub distinct : (uid : PlainUid) → ¬ Twice (map under (map plain_action_entry left)) uid
+  pub still : (key : EntityUID) → Contains (map under (map plain_action_entry left)) (uid_of key) → (above : PlainUid)
+      → IsUpper uppers key above ↔ Lists all (uid_of key) above
+
+module _ (all : List Item) where
+  -- at first all are
+  pub left_all : (left : List Item) (uppers : BTreeMap EntityUID (BTreeSet EntityUID)) → left ≡ all
+      → ((uid : PlainUid) → ¬ Twice (map under (map plain_action_entry all)) uid)
+      → ((key : EntityUID) (above : PlainUid) → IsUpper uppers key above ↔ Lists all (uid_of key) above)
+      → UppersLeft all uppers left
+  left_all left uppers same distinct stands = record {
+    distinct =
+        let P : List Item → Type 0 = λ items. (uid : PlainUid) → ¬ Twice (map under (map plain_action_entry items)) uid in
+        subst P (sym same) distinct;
+    still = λ key among. stands key;
+  }
+
+  module _ (left rest : List Item) (uppers : BTreeMap EntityUID (BTreeSet EntityUID)) (key : EntityUID) (it : ValidatorActionId)
+      (is : left ≡ (key, it) ∷ rest) (so_far : UppersLeft all uppers left) where
+    -- those above the next one are
+    pub left_here : (above : PlainUid) → IsUpper uppers key above ↔ Lists all (uid_of key) above
+    left_here =
+        let P : List Item → Type 0 = λ items. Contains (map under (map plain_action_entry items)) (uid_of key) in
+        so_far.still key
+        (subst P (sym is) (Contains-cons (uid_of key) (map under (map plain_action_entry rest)) (uid_of key) (inl refl)))
+
+    -- where only these are taken out, the others are
+    pub left_rest : (new : BTreeMap EntityUID (BTreeSet EntityUID))
+        → ((other : EntityUID) → uid_of other ≢ uid_of key → upper_set new other ≡ upper_set uppers other)
+        → UppersLeft all new rest
+    left_rest new others = record {
+      distinct = λ uid twice. distinct_here uid (inr twice);
+      still = λ other among above.
+          let P : List Item → Type 0 = λ items. Contains (map under (map plain_action_entry items)) (uid_of other) in
+          let Q : PlainUid → Type 0 = Contains (map under (map plain_action_entry rest)) in
+          let R : Option (BTreeSet EntityUID) → Type 0 = λ o. IsSomeAnd o (λ set. Contains (map uid_of set.keys) above)
+          ↔ Lists all (uid_of other) above in
+          subst R
+          (sym (others other (λ same. distinct_here (uid_of key) (inl (refl, subst Q same among)))))
+          (so_far.still other
+          (subst P (sym is) (Contains-cons (uid_of key) (map under (map plain_action_entry rest)) (uid_of other) (inr among)))
+          above);
+    }
+      where
+        distinct_here : (uid : PlainUid) → ¬ Twice (uid_of key ∷ map under (map plain_action_entry rest)) uid
+        distinct_here =
+            let P : List Item → Type 0 = λ items. (uid : PlainUid) → ¬ Twice (map under (map plain_action_entry items)) uid in
+            subst P is so_far.distinct
 
 -- a kind that isn't external is that of a defined action
 pub defined_kind : (kind : ActionKind) → ¬ (kind ≡ external_action) → IsDefinedKind kind
@@ -223,6 +208,19 @@ defined_kind external_action other = absurd (other refl)
 -- and the external one is not
 pub external_undefined : (kind : ActionKind) → kind ≡ external_action → ¬ IsDefinedKind kind
 external_undefined kind is defined = let P : ActionKind → Type 0 = IsDefinedKind in subst P is defined
+
+-- an entity just below those that stand above is one just below others that are the same
+pub same_entity : (IsAbove Stands : PlainUid → Type 0) (uid : PlainUid) (it : ActionEntity)
+    → ((above : PlainUid) → IsAbove above ↔ Stands above) → IsEntityOf IsAbove uid it → IsEntityOf Stands uid it
+same_entity IsAbove Stands uid it same of_it = record {
+  uid = of_it.uid;
+  attributes = of_it.attributes;
+  tags = of_it.tags;
+  ancestors = λ above. (
+    λ among. (same above).0 ((of_it.ancestors above).0 among),
+    λ stands. (of_it.ancestors above).1 ((same above).1 stands),
+  );
+}
 
 -- an empty map has no values
 pub no_values : (values : BTreeMap (String Global) Value) → values.entries ≡ [] → named_values values ≡ no_entry
@@ -279,7 +277,7 @@ pub record EntitiesSoFar (all : List Item) (entities : Entities) (left : List It
   pub done : List Item
   pub split : all ≡ done ++ left
   pub each : (uid : PlainUid) (entity : Entity) → entity_at entities uid ≡ Some entity
-      → IsEntityOf all uid (plain_action_entity entity) × Defines done uid
+      → IsEntityOf (Lists all uid) uid (plain_action_entity entity) × Defines done uid
   pub complete : (uid : PlainUid) → Defines done uid → IsSome (entity_at entities uid)
 
 module _ (all : List Item) where
@@ -315,7 +313,7 @@ module _ (all : List Item) where
 
     -- the entity of one more is put in
     pub entities_put : ¬ ((action_of it).kind ≡ external_action) → (new : Entities) (entity : Entity)
-        → IsEntityOf all (uid_of key) (plain_action_entity entity)
+        → IsEntityOf (Lists all (uid_of key)) (uid_of key) (plain_action_entity entity)
         → entity_at new (entity_uid entity) ≡ Some entity
         → ((uid : PlainUid) → uid ≢ entity_uid entity → entity_at new uid ≡ entity_at entities uid)
         → EntitiesSoFar all new rest
@@ -336,12 +334,12 @@ module _ (all : List Item) where
         apart uid is_other same = false≢true (sym is_other ∙ (uid_test uid (entity_uid entity)).1 same)
 
         each_at : (uid : PlainUid) (found_one : Entity) (b : Bool) → is_eq (uid_cmp uid (entity_uid entity)) ≡ b
-            → entity_at new uid ≡ Some found_one → IsEntityOf all uid (plain_action_entity found_one) × Defines More uid
+            → entity_at new uid ≡ Some found_one → IsEntityOf (Lists all uid) uid (plain_action_entity found_one) × Defines More uid
         each_at uid found_one true is_it found =
             let same = (uid_test uid (entity_uid entity)).0 is_it in
             let one : entity ≡ found_one = let both = sym (here uid same) ∙ found in cc in
-            let P : Entity → Type 0 = λ each. IsEntityOf all uid (plain_action_entity each) in
-            let Q : PlainUid → Type 0 = λ each. IsEntityOf all each (plain_action_entity entity) in
+            let P : Entity → Type 0 = λ each. IsEntityOf (Lists all uid) uid (plain_action_entity each) in
+            let Q : PlainUid → Type 0 = λ each. IsEntityOf (Lists all each) each (plain_action_entity entity) in
             let R : PlainUid → Type 0 = Defines More in (
               subst P one (subst Q (its_own ∙ sym same) of_it),
               subst R (its_own ∙ sym same)

@@ -1,23 +1,15 @@
 -- The environments that are listed for actions are those of the schema.
 use Rattle.std.proofs.Common.{◌≡◌, ◌≢◌, ◌↔◌, List, [], ◌∷◌, ◌++◌, Some, None, map, ap, sym, subst, ◌∙◌, refl, ⊎_elim, Contains, AllPairs, arith}
 use Rattle.std.proofs.lemmas.List.{map-append, map-id}
-use Rattle.std.proofs.lemmas.Simd.{map-map}
-use Rattle.std.specs.List.Sorted.{IsStrictlySortedBy}
-use Rattle.std.specs.Map.{keys_of}
 use Rattle.cedar_actions.specs.ActionKind.{kind_context, kind_principals, kind_resources}
 use Rattle.cedar_actions.specs.ValidatorActionId.{plain_action_entry}
 use Rattle.cedar_actions.specs.declared.action_id.ValidatorActionId.{ValidatorActionId}
 use Rattle.cedar_below.proofs.Lists.{Contains-preimage}
-use Rattle.cedar_below.proofs.Ordered.{IsStrictlySortedBy-map}
-use Rattle.cedar_below.proofs.PlainNames.{uid_cmp-total}
-use Rattle.cedar_below.proofs.Uids.{entity_uid_ord-uid_cmp}
-use Rattle.cedar_below.specs.EntityUID.{uid_of}
 use Rattle.cedar_below.specs.PlainName.{PlainName}
-use Rattle.cedar_below.specs.PlainUid.{PlainUid, uid_cmp}
-use Rattle.cedar_below.specs.contracts.entity_uid.EntityUIDOrd.TheImpl as uid_ord
+use Rattle.cedar_below.specs.PlainUid.{PlainUid}
 use Rattle.cedar_below.specs.declared.entity.Entity.{Entity}
 use Rattle.cedar_below.specs.declared.entity_uid.EntityUID.{EntityUID}
-use Rattle.cedar_declared.proofs.OccurrenceLemmas.{Contains-flat_map, Contains-given, Contains-image, Contains-single, Twice-ascending, Twice-distinct}
+use Rattle.cedar_declared.proofs.OccurrenceLemmas.{Contains-flat_map, Contains-given, Contains-image, Contains-single, Twice-distinct}
 use Rattle.cedar_declared.specs.Environments.{AreEnvironmentsOf, Environment, IsRequestOf}
 use Rattle.cedar_declared.specs.Occurrences.{Twice}
 use Rattle.cedar_declared.specs.PlainSchema.{ActionKind, SchemaAction, SchemaEntityType, defined_action, external_action}
@@ -112,24 +104,9 @@ of_actions actions it = (
 abbrev pub environments_under : PlainUid × SchemaAction → List Environment
 environments_under entry = kind_environments entry.0 entry.1.kind
 
--- the uid of an action
-abbrev pub under : PlainUid × SchemaAction → PlainUid
-under entry = entry.0
-
 -- its environments are under its uid
 pub of_action : (entry : PlainUid × SchemaAction) (it : Environment) → Contains (environments_under entry) it → it.action ≡ entry.0
 of_action entry it among = sym ((of_kind entry.0 entry.1.kind it).0 among).0
-
--- the uids of a map that is in order stand once
-pub uids_once : (entries : List (EntityUID × ValidatorActionId)) → IsStrictlySortedBy ((uid_ord.ghosts).cmp) (keys_of entries)
-    → (uid : PlainUid) → ¬ Twice (map under (map plain_action_entry entries)) uid
-uids_once entries ordered uid =
-    let keys : map uid_of (keys_of entries) ≡ map under (map plain_action_entry entries) =
-    map-map uid_of (λ (entry : EntityUID × ValidatorActionId). entry.0) entries ∙ sym (map-map under plain_action_entry entries) in
-    let P : List PlainUid → Type 0 = λ uids. ¬ Twice uids uid in
-    subst P keys
-    (Twice-ascending uid_cmp uid_cmp-total (map uid_of (keys_of entries)) uid
-    (IsStrictlySortedBy-map ((uid_ord.ghosts).cmp) uid_cmp uid_of entity_uid_ord-uid_cmp (keys_of entries) ordered))
 
 -- an action without a context has no environments
 pub without_context : (uid : PlainUid) (kind : ActionKind) → None ≡ kind_context kind → kind_environments uid kind ≡ []

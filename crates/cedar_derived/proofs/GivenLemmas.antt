@@ -17,7 +17,8 @@ all_differ {A = A} (first ∷ rest) once =
     (all_differ rest (λ x in_rest. once x (inr in_rest)))
 
 -- of some items, what they give was put behind what was there before, each once; others are left
-pub record GivenSoFar {A B K : Type 0} (f : A → List B) (key : A → K) (before : List B) (all : List A) (after : List B) (left : List A) : Type 0 where
+pub record GivenSoFar {A B K : Type 0} (f : A → List B) (key : A → K) (before : List B) (all : List A) (after : List B)
+    (left : List A) : Type 0 where
   pub done : List A
   pub split : all ≡ done ++ left
   pub distinct : (k : K) → ¬ Twice (map key all) k

@@ -1,3 +1,5 @@
 mod EntityLemmas
 mod EnvironmentLemmas
 mod GivenLemmas
+mod UidLemmas
+mod UpperLemmas

@@ -42,9 +42,9 @@ abbrev pub Lists : List (EntityUID × ValidatorActionId) → PlainUid → PlainU
 Lists actions lower upper =
     (it : SchemaAction) × Contains (map plain_action_entry actions) (upper, it) × Contains it.descendants lower
 
--- the entity is that of the uid: without attributes and tags, and just below the actions that list it
-pub record IsEntityOf (actions : List (EntityUID × ValidatorActionId)) (stated : PlainUid) (it : ActionEntity) : Type 0 where
+-- the entity is that of the uid: without attributes and tags, and just below those that stand above
+pub record IsEntityOf (IsAbove : PlainUid → Type 0) (stated : PlainUid) (it : ActionEntity) : Type 0 where
   pub uid : it.uid ≡ stated
   pub attributes : it.attributes ≡ no_entry
   pub tags : it.tags ≡ no_entry
-  pub ancestors : (upper : PlainUid) → Contains it.ancestors upper ↔ Lists actions stated upper
+  pub ancestors : (upper : PlainUid) → Contains it.ancestors upper ↔ IsAbove upper

@@ -1,2 +1,3 @@
 pub mod ActionEntities
 pub mod RequestEnvironments
+pub mod Uppers

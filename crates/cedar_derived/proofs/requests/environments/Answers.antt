@@ -3,8 +3,9 @@ use Rattle.cedar_actions.specs.ValidatorActionId.{action_of, plain_action_entry}
 use Rattle.cedar_below.specs.EntityUID.{uid_of}
 use Rattle.cedar_declared.specs.Environments.{Environment}
 use Rattle.cedar_declared.specs.Occurrences.{Twice}
-use Rattle.cedar_derived.proofs.EnvironmentLemmas.{are_environments, environments_under, of_action, uids_once, under, with_context, without_context}
+use Rattle.cedar_derived.proofs.EnvironmentLemmas.{are_environments, environments_under, of_action, with_context, without_context}
 use Rattle.cedar_derived.proofs.GivenLemmas.{given_all, given_more, given_none, given_nothing, given_once}
+use Rattle.cedar_derived.proofs.UidLemmas.{uids_once, under}
 use Rattle.cedar_entities.specs.RequestEnv.{owned_environment}
 use Rattle.cedar_types.specs.Meaning.{ty_of}
 use Rattle.cedar_derived.proofs.requests.environments.Goals as goal

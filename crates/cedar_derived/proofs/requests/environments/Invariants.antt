@@ -1,7 +1,8 @@
 use Rattle.std.proofs.Common.{[], map}
 use Rattle.cedar_actions.specs.ValidatorActionId.{plain_action_entry}
-use Rattle.cedar_derived.proofs.EnvironmentLemmas.{environments_under, under}
+use Rattle.cedar_derived.proofs.EnvironmentLemmas.{environments_under}
 use Rattle.cedar_derived.proofs.GivenLemmas.{GivenSoFar}
+use Rattle.cedar_derived.proofs.UidLemmas.{under}
 use Rattle.cedar_entities.specs.RequestEnv.{owned_environment}
 use Rattle.cedar_derived.proofs.requests.environments.Given as goal
 
