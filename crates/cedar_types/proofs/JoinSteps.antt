@@ -1,7 +1,8 @@
 -- Steps of the walks that join two records.
 use Rattle.std.proofs.Common.{◌↔◌, ◌≡◌, ◌⊎◌, ◌&&◌, ◌++◌, ℕ, Bool, refl, List, [], ◌∷◌, length, get_or, ap, sym, subst, ◌∙◌, inl, inr}
-use Rattle.std.proofs.Common.{string_bytes, arith, Contains, map, Err, Option, Some, None}
+use Rattle.std.proofs.Common.{string_bytes, arith, Contains, map, Err, Option, Some, None, true, false, cond, IfSome}
 use Rattle.std.proofs.lemmas.List.{append-nil, length-map}
+use Rattle.std.specs.List.{AllByRecursion}
 use Rattle.std.specs.List.Sorted.{IsStrictlySortedBy}
 use Rattle.std.specs.Option.{option_map}
 use Rattle.std.specs.declared.alloc.Global.{Global}
@@ -40,8 +41,9 @@ use Rattle.cedar_types.proofs.SearchLemmas.{text_of, value_at-place}
 use Rattle.cedar_types.proofs.SubtypeSteps.{Sought, IsAt}
 use Rattle.cedar_types.specs.Attributes.{plain_attributes}
 use Rattle.cedar_types.specs.AttributeJoin.{attribute_ty, IsPermissiveAttribute, IsStrictAttribute}
-use Rattle.cedar_types.specs.ByName.{NamesAscend}
-use Rattle.cedar_types.specs.Meaning.{ty_of, fields_of, attribute_of}
+use Rattle.cedar_types.specs.ByName.{NamesAscend, value_at}
+use Rattle.cedar_types.specs.Located.{located}
+use Rattle.cedar_types.specs.Meaning.{ty_of, fields_of, attribute_of, attribute_loc}
 use Rattle.cedar_types.specs.declared.attributes.Attributes.{Attributes, out-Attributes}
 use Rattle.cedar_types.specs.declared.attributes.AttributeType.{AttributeType, out-AttributeType}
 
@@ -58,6 +60,28 @@ attribute_formed : (attribute : AttributeType) → IsWellFormed (attribute_ty at
 attribute_formed attribute =
     subst (λ (it : Bool × Ty). IsWellFormed it.1) (sym (attribute_of-parts attribute))
     (IsWellFormed-type (out-AttributeType attribute).attr_type.value)
+
+-- none of the attributes has a location
+abbrev pub AreUnplaced : Pairs → Type 0
+AreUnplaced pairs = AllByRecursion (λ one. attribute_loc one.1 ≡ None) pairs
+
+-- one more without a location
+unplaced-push : (joined : Pairs) (one : String Global × AttributeType) → AreUnplaced joined → attribute_loc one.1 ≡ None
+    → AreUnplaced (joined ++ one ∷ [])
+unplaced-push [] one all none = (none, tt)
+unplaced-push (first ∷ rest) one all none = (all.0, unplaced-push rest one all.1 none)
+
+-- one of two without a location has none
+unplaced-chosen : (b : Bool) (x : AttributeType) (found : Option AttributeType) → attribute_loc x ≡ None
+    → IfSome (option_map located found) (λ it. it.loc ≡ None) → IfSome (option_map located (cond b (Some x) found)) (λ it. it.loc ≡ None)
+unplaced-chosen true x found none rest = none
+unplaced-chosen false x found none rest = rest
+
+-- so the one of a name has none
+pub unplaced-at : (joined : Pairs) (name : Text) → AreUnplaced joined
+    → IfSome (option_map located (value_at name joined)) (λ it. it.loc ≡ None)
+unplaced-at [] name all = tt
+unplaced-at (first ∷ rest) name all = unplaced-chosen _ first.1 (value_at name rest) all.0 (unplaced-at rest name all.1)
 
 -- one more pair behind others is the first of what follows them
 plain-push : (joined : Pairs) (one : String Global × AttributeType) (tail : List (Text × (Bool × Ty)))
@@ -108,6 +132,7 @@ module _ (b : Attributes) (at place : ℕ) (item : String Global × AttributeTyp
 
 -- a walk of a permissive join: with the join of what is left behind them, the pairs so far are the join of the whole
 pub record PermissiveSoFar (a b : Attributes) (at : ℕ) (rest joined : Pairs) : Type 0 where
+  pub unplaced : AreUnplaced joined
   pub ahead : Ahead text_of text_of text_cmp (pairs_of b) at rest
   pub whole : (tail : List (Text × (Bool × Ty))) (it : PermissiveJoin (fields_at rest) (fields_of b)) → it.fields ≡ fields_from tail
       → (all : PermissiveJoin (fields_of a) (fields_of b)) × (all.fields ≡ fields_from (plain_attributes joined ++ tail))
@@ -115,6 +140,7 @@ pub record PermissiveSoFar (a b : Attributes) (at : ℕ) (rest joined : Pairs) :
 -- at first all is left
 pub permissive-first : (a b : Attributes) → PermissiveSoFar a b 0 (pairs_of a) []
 permissive-first a b = record {
+  unplaced = tt;
   ahead = Ahead-first text_of text_of text_cmp text_cmp-total (pairs_of b) (pairs_of a) (out-Attributes a).attrs.value.ascending;
   whole = λ tail.
       let P : Fields → Type 0 = λ fields. (it : PermissiveJoin fields (fields_of b)) → it.fields ≡ fields_from tail
@@ -137,6 +163,7 @@ module _ (a b : Attributes) (at place : ℕ) (item : String Global × AttributeT
       → PermissiveSoFar a b place rest joined
   unfolding drop_one
   permissive-drop none = record {
+    unplaced = so_far.unplaced;
     ahead = ahead_next b at place item rest so_far.ahead sought;
     whole = λ tail it is.
         so_far.whole tail (drop_one (string_bytes item.0) (attribute_of item.1).0 (attribute_ty item.1) (fields_at rest)
@@ -163,9 +190,10 @@ module _ (a b : Attributes) (at place : ℕ) (item : String Global × AttributeT
       → string_bytes one.0 ≡ string_bytes item.0
       → IsLeastOwnBound Permissive (attribute_ty item.1) (attribute_ty (get_or (pairs_of b) place d).1) (attribute_ty one.1)
       → (attribute_of one.1).0 ≡ ((attribute_of item.1).0 && (attribute_of (get_or (pairs_of b) place d).1).0)
-      → PermissiveSoFar a b place rest (joined ++ one ∷ [])
+      → attribute_loc one.1 ≡ None → PermissiveSoFar a b place rest (joined ++ one ∷ [])
   unfolding keep_one
-  permissive-kept d one here named least flag = record {
+  permissive-kept d one here named least flag none = record {
+    unplaced = unplaced-push joined one so_far.unplaced none;
     ahead = ahead_next b at place item rest so_far.ahead sought;
     whole = λ tail it is.
         let other = attribute_of (get_or (pairs_of b) place d).1 in
@@ -245,6 +273,7 @@ module _ (a b : Attributes) (ta tb : OpenTag) (joined : Pairs) (all : Permissive
 -- a walk of a strict join: with the join of what is left behind them, the pairs so far are the join of the whole, and a
 -- help that is found in what is left is one of the whole
 pub record StrictSoFar (a b : Attributes) (at : ℕ) (rest joined : Pairs) : Type 0 where
+  pub unplaced : AreUnplaced joined
   pub ahead : Ahead text_of text_of text_cmp (pairs_of b) at rest
   pub whole : (tail : List (Text × (Bool × Ty))) (it : StrictJoin (fields_at rest) (fields_of b)) → it.fields ≡ fields_from tail
       → (all : StrictJoin (fields_of a) (fields_of b)) × (all.fields ≡ fields_from (plain_attributes joined ++ tail))
@@ -253,6 +282,7 @@ pub record StrictSoFar (a b : Attributes) (at : ℕ) (rest joined : Pairs) : Typ
 -- at first all is left
 pub strict-first : (a b : Attributes) → StrictSoFar a b 0 (pairs_of a) []
 strict-first a b = record {
+  unplaced = tt;
   ahead = Ahead-first text_of text_of text_cmp text_cmp-total (pairs_of b) (pairs_of a) (out-Attributes a).attrs.value.ascending;
   whole = λ tail.
       let P : Fields → Type 0 = λ fields. (it : StrictJoin fields (fields_of b)) → it.fields ≡ fields_from tail
@@ -291,9 +321,10 @@ module _ (a b : Attributes) (at place : ℕ) (item : String Global × AttributeT
       → string_bytes one.0 ≡ string_bytes item.0
       → IsLeastOwnBound Strict (attribute_ty item.1) (attribute_ty (get_or (pairs_of b) place d).1) (attribute_ty one.1)
       → (attribute_of item.1).0 ≡ (attribute_of one.1).0 → (attribute_of (get_or (pairs_of b) place d).1).0 ≡ (attribute_of one.1).0
-      → StrictSoFar a b place rest (joined ++ one ∷ [])
+      → attribute_loc one.1 ≡ None → StrictSoFar a b place rest (joined ++ one ∷ [])
   unfolding keep_strict
-  strict-kept d one here named least own_flag other_flag = record {
+  strict-kept d one here named least own_flag other_flag none = record {
+    unplaced = unplaced-push joined one so_far.unplaced none;
     ahead = ahead_next b at place item rest so_far.ahead sought;
     whole = λ tail it is.
         let other = attribute_of (get_or (pairs_of b) place d).1 in

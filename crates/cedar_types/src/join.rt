@@ -1,8 +1,9 @@
 //! Least upper bounds of types and of entity kinds.
 
-ghost use Rattle.std.specs.Prelude.{◌≡◌, ◌&&◌, ◌↔◌, ◌++◌, [], ◌∷◌, IfOk, OnOk, map, string_bytes};
+ghost use Rattle.std.specs.Prelude.{◌≡◌, ◌&&◌, ◌↔◌, ◌++◌, [], ◌∷◌, IfOk, IfSome, None, OnOk, map, string_bytes};
 ghost use Rattle.std.specs.declared.alloc.Global.{Global};
 ghost use Rattle.std.specs.declared.string.String.{String};
+ghost use Rattle.cedar_below.specs.Text.{Text};
 ghost use Rattle.cedar_below.specs.declared.validation_mode.ValidationMode.TheVariants as mode;
 ghost use Rattle.cedar_rules.specs.Below.{Below};
 ghost use Rattle.cedar_rules.specs.JoinAnswer.{IsJoinAnswer, IsReduceAnswer, IsAnswerOrMemory};
@@ -12,6 +13,7 @@ ghost use Rattle.cedar_rules.specs.Ty.{never, record_of};
 ghost use Rattle.cedar_rules.specs.declared.open_tag.OpenTag.TheVariants.{ClosedAttributes};
 ghost use Rattle.cedar_types.specs.AttributeJoin.{attribute_ty, IsPermissiveAttribute, IsStrictAttribute};
 ghost use Rattle.cedar_types.specs.EntityKind.{kind_ty};
+ghost use Rattle.cedar_types.specs.Located.{listed_at, located_at, IsUnplaced, IsHandedOn};
 ghost use Rattle.cedar_types.specs.Meaning.{ty_of, fields_of, attribute_of, attribute_loc};
 ghost use Rattle.cedar_types.specs.declared.types.Type.{«Type»};
 
@@ -94,7 +96,8 @@ fn push_named(
 
 /// The record type with these attributes.
 fn record(attrs: Attributes, open_attributes: OpenTag) -> Type
-    ensures { ty_of result ≡ record_of (fields_of attrs) open_attributes }
+    ensures ty { ty_of result ≡ record_of (fields_of attrs) open_attributes }
+    ensures listed { (name : Text) → listed_at name result ≡ located_at name attrs }
 {
     Type::Record {
         attrs,
@@ -141,7 +144,8 @@ fn permissive_attribute(
     a: &AttributeType,
     b: &AttributeType,
 ) -> M<Option<AttributeType>>
-    ensures { IfOk result (IsPermissiveAttribute (attribute_of a.now) (attribute_of b.now)) }
+    ensures join { IfOk result (IsPermissiveAttribute (attribute_of a.now) (attribute_of b.now)) }
+    ensures loc { IfOk result (λ found. IfSome found (λ join. attribute_loc join ≡ None)) }
 {
     match join_shared(
         alloc,
@@ -163,7 +167,8 @@ fn strict_attribute(
     a: &AttributeType,
     b: &AttributeType,
 ) -> Result<AttributeType, JoinError>
-    ensures { IsStrictAttribute (attribute_of a.now) (attribute_of b.now) result }
+    ensures join { IsStrictAttribute (attribute_of a.now) (attribute_of b.now) result }
+    ensures loc { IfOk result (λ join. attribute_loc join ≡ None) }
 {
     let ty = join_shared(alloc, &a.attr_type, &b.attr_type, ValidationMode::Strict)?;
     if a.is_required == b.is_required {
@@ -185,8 +190,9 @@ fn permissive_record(
     a_openness: OpenTag,
     b_openness: OpenTag,
 ) -> M<Type>
-    ensures { IfOk result (λ join. IsLeastOwnBound mode.Permissive (record_of (fields_of a.now) a_openness)
+    ensures join { IfOk result (λ join. IsLeastOwnBound mode.Permissive (record_of (fields_of a.now) a_openness)
         (record_of (fields_of b.now) b_openness) (ty_of join)) }
+    ensures unplaced { IfOk result IsUnplaced }
 {
     let own = a.attrs.as_slice();
     let others = b.attrs.as_slice();
@@ -221,8 +227,9 @@ fn strict_record(
     a_openness: OpenTag,
     b_openness: OpenTag,
 ) -> Result<Type, JoinError>
-    ensures { IsAnswerOrMemory ty_of
+    ensures join { IsAnswerOrMemory ty_of
         (IsJoinAnswer mode.Strict (record_of (fields_of a.now) a_openness) (record_of (fields_of b.now) b_openness)) result }
+    ensures unplaced { IfOk result IsUnplaced }
 {
     let own = a.attrs.as_slice();
     let others = b.attrs.as_slice();
@@ -248,7 +255,8 @@ fn strict_record(
 fn join_apart(alloc: Global, a: &Type, b: &Type, mode: ValidationMode) -> Result<Type, JoinError>
     requires first { ¬ Below mode (ty_of a.now) (ty_of b.now) }
     requires second { ¬ Below mode (ty_of b.now) (ty_of a.now) }
-    ensures { IsAnswerOrMemory ty_of (IsJoinAnswer mode (ty_of a.now) (ty_of b.now)) result }
+    ensures join { IsAnswerOrMemory ty_of (IsJoinAnswer mode (ty_of a.now) (ty_of b.now)) result }
+    ensures unplaced { IfOk result IsUnplaced }
 {
     match (a, b) {
         (Type::Bool(_), Type::Bool(_)) => Ok(Type::primitive_boolean()),
@@ -341,7 +349,10 @@ impl Type {
         b: &Type,
         mode: ValidationMode,
     ) -> Result<Type, JoinError>
-        ensures { IsAnswerOrMemory ty_of (IsJoinAnswer mode (ty_of a.now) (ty_of b.now)) result }
+        ensures join { IsAnswerOrMemory ty_of (IsJoinAnswer mode (ty_of a.now) (ty_of b.now)) result }
+        ensures second { Below mode (ty_of a.now) (ty_of b.now) → IfOk result (IsHandedOn b.now) }
+        ensures first { ¬ Below mode (ty_of a.now) (ty_of b.now) → Below mode (ty_of b.now) (ty_of a.now) → IfOk result (IsHandedOn a.now) }
+        ensures apart { ¬ Below mode (ty_of a.now) (ty_of b.now) → ¬ Below mode (ty_of b.now) (ty_of a.now) → IfOk result IsUnplaced }
     {
         if Type::is_subtype(a, b, mode) {
             return Ok(b.clone()?);

@@ -19,7 +19,7 @@ loop-ty-preserved c =
     let P : List «Type» → Type 0 = λ left. ReducedSoFar c.args.mode all left (ty_of c.loop-ty.join) in
     let so_far = subst P (drop-at _ c.loop-ty.ty-index c.ty-item.result c.loop-ty-test.true c.ty-item.is) c.loop-ty.invariant in
     reduced-next c.args.mode all (drop (c.loop-ty.ty-index + 1) all) c.ty-item.result (ty_of c.loop-ty.join)
-    (ty_of c.in_ok-join.join) so_far c.in_ok-join.ensures
+    (ty_of c.in_ok-join.join) so_far c.in_ok-join.ensures.join
 
 pub returns-in_err-join : goal.returns-in_err-join
 returns-in_err-join c =
@@ -29,7 +29,7 @@ returns-in_err-join c =
     let p = err_from_is_err_and c.from_residual.result c.from_residual.ensures.1 in
     rw (p.1, p.2)
     (reduced-refused ty_of ty_of c.args.mode all (drop (c.loop-ty.ty-index + 1) all) c.ty-item.result (ty_of c.loop-ty.join)
-    c.in_err-join.field-0.0 so_far c.in_err-join.ensures)
+    c.in_err-join.field-0.0 so_far c.in_err-join.ensures.join)
 
 pub returns : goal.returns
 returns c =
