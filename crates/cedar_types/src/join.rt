@@ -250,6 +250,38 @@ fn strict_record(
     Ok(record(attrs, strict_openness(a_openness, b_openness)))
 }
 
+/// The type of the join of two kinds of entities.
+fn join_kinds(
+    kind: &EntityKind,
+    other: &EntityKind,
+    mode: ValidationMode,
+) -> Result<Type, JoinError>
+    ensures join { IsAnswerOrMemory ty_of (IsJoinAnswer mode (kind_ty kind.now) (kind_ty other.now)) result }
+    ensures unplaced { IfOk result IsUnplaced }
+{
+    Ok(Type::Entity(kind.least_upper_bound(other, mode)?))
+}
+
+/// The join of two records.
+#[cycle(join)]
+fn join_records(
+    alloc: Global,
+    a: &Attributes,
+    b: &Attributes,
+    a_openness: OpenTag,
+    b_openness: OpenTag,
+    mode: ValidationMode,
+) -> Result<Type, JoinError>
+    ensures join { IsAnswerOrMemory ty_of
+        (IsJoinAnswer mode (record_of (fields_of a.now) a_openness) (record_of (fields_of b.now) b_openness)) result }
+    ensures unplaced { IfOk result IsUnplaced }
+{
+    match mode {
+        ValidationMode::Strict => strict_record(alloc, a, b, a_openness, b_openness),
+        ValidationMode::Permissive => Ok(permissive_record(alloc, a, b, a_openness, b_openness)?),
+    }
+}
+
 /// The join of two types of which none is below the other.
 #[cycle(join)]
 fn join_apart(alloc: Global, a: &Type, b: &Type, mode: ValidationMode) -> Result<Type, JoinError>
@@ -260,9 +292,7 @@ fn join_apart(alloc: Global, a: &Type, b: &Type, mode: ValidationMode) -> Result
 {
     match (a, b) {
         (Type::Bool(_), Type::Bool(_)) => Ok(Type::primitive_boolean()),
-        (Type::Entity(kind), Type::Entity(other)) => Ok(Type::Entity(kind.least_upper_bound(
-            other, mode,
-        )?)),
+        (Type::Entity(kind), Type::Entity(other)) => join_kinds(kind, other, mode),
         (
             Type::Set {
                 element_type: element,
@@ -283,24 +313,9 @@ fn join_apart(alloc: Global, a: &Type, b: &Type, mode: ValidationMode) -> Result
             },
             Type::Record {
                 attrs: others,
-                open_attributes: other_openness,
+                open_attributes: openness,
             },
-        ) => match mode {
-            ValidationMode::Strict => strict_record(
-                alloc,
-                attrs,
-                others,
-                *open_attributes,
-                *other_openness,
-            ),
-            ValidationMode::Permissive => Ok(permissive_record(
-                alloc,
-                attrs,
-                others,
-                *open_attributes,
-                *other_openness,
-            )?),
-        },
+        ) => join_records(alloc, attrs, others, *open_attributes, *openness, mode),
         (Type::Entity(_), Type::Record { .. }) | (Type::Record { .. }, Type::Entity(_)) => Err(
             JoinError::Help(LubHelp::EntityRecord),
         ),

@@ -36,7 +36,7 @@ use Rattle.cedar_types.proofs.join.+join.Goals.{permissive_record-then-is_at+in_
 
 pub join_apart-returns-in_err-join_shared-in-Some-Some-clause-join : goal.join_apart-returns-in_err-join_shared-in-Some-Some-clause-join
 join_apart-returns-in_err-join_shared-in-Some-Some-clause-join t c =
-    let p = err_from_is_err_and c.from_residual-in_err-join_shared-in-Some-Some.result c.from_residual-in_err-join_shared-in-Some-Some.ensures.1 in
+    let p = err_from_is_err_and c.from_residual.result c.from_residual.ensures.1 in
     let first : ty_of c.args.a.now ≡ set_of (ty_of c.in-Some-Some.element.value) =
     ap ty_of (c.in-Set-Set.is-0 ∙ ap type.Set c.in-Some-Some.is-0) ∙ ty_of-set c.in-Some-Some.element in
     let second : ty_of c.args.b.now ≡ set_of (ty_of c.in-Some-Some.other.value) =
