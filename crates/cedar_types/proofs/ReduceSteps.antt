@@ -1,4 +1,10 @@
 -- Steps of the walk that joins types in turn.
+use Rattle.std.proofs.Common.{◌≢◌, Result, IsOkAnd}
+use Rattle.std.specs.List.{AllByRecursion}
+use Rattle.cedar_below.specs.Lists.{Included}
+use Rattle.cedar_rules.proofs.ReduceLemmas.{reduce_any_order}
+use Rattle.cedar_rules.specs.Clean.{IsClean}
+use Rattle.cedar_types.proofs.FormedLemmas.{IsWellFormed-type}
 use Rattle.std.proofs.Common.{◌≡◌, inl, inr, refl, ap, sym, ◌∙◌, Bool, List, [], ◌∷◌, map, Ok, Err}
 use Rattle.cedar_below.specs.declared.validation_mode.ValidationMode.{ValidationMode}
 use Rattle.cedar_rules.specs.JoinAnswer.{JoinAnswer, IsJoinAnswer, IsReduceAnswer, IsAnswerOrMemory}
@@ -44,3 +50,19 @@ reduced-refused f g mode all rest ty before error.Memory so_far right = tt
 pub reduced-last : (mode : ValidationMode) (all : List «Type») (join : Ty) → ReducedSoFar mode all [] join
     → IsReduceAnswer mode never (map ty_of all) (Ok join)
 reduced-last mode all join so_far = so_far.whole (Ok join) refl
+
+-- what clean types are reduced to is what they are in another order, want of memory aside
+pub reduced_in_any_order : (mode : ValidationMode) (types others : List «Type») (join : «Type») (answer : Result «Type» JoinError)
+    → AllByRecursion IsClean (map ty_of types) → Included (map ty_of types) (map ty_of others)
+    → Included (map ty_of others) (map ty_of types) → IsReduceAnswer mode never (map ty_of types) (Ok (ty_of join))
+    → IsAnswerOrMemory ty_of (IsReduceAnswer mode never (map ty_of others)) answer → answer ≢ Err error.Memory
+    → IsOkAnd answer (λ other. ty_of other ≡ ty_of join)
+reduced_in_any_order mode types others join (Ok other) clean forth back right also given =
+    let same = reduce_any_order mode (map ty_of types) (map ty_of others) (ty_of join) (Ok (ty_of other)) clean forth back right also
+    (IsWellFormed-type join) (IsWellFormed-type other) in
+    cc
+reduced_in_any_order mode types others join (Err (error.Help given)) clean forth back right also some =
+    let wrong = reduce_any_order mode (map ty_of types) (map ty_of others) (ty_of join) (Err given) clean forth back right also
+    (IsWellFormed-type join) tt in
+    absurd cc
+reduced_in_any_order mode types others join (Err error.Memory) clean forth back right also some = absurd (some refl)

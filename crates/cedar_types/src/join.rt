@@ -52,7 +52,8 @@ impl EntityKind {
     /// The least kind that has the entities of both.
     ///
     /// In permissive mode that is the union of the entity types of both, or any entity where one of
-    /// them is. In strict mode only a kind and itself have one; else the help is `EntityType`.
+    /// them is. In strict mode only a kind and itself have one; else the help is `EntityType`. Or the
+    /// answer is want of memory.
     pub fn least_upper_bound(
         &self,
         other: &EntityKind,
@@ -357,7 +358,7 @@ impl Type {
     /// Else there is a help: `EntityRecord` for an entity and a record, that of the elements for sets,
     /// `EntityType` for unlike entities in strict mode, and for records in strict mode `RecordWidth` where
     /// the names differ, `AttributeQualifier` where two flags differ and their types join, or that of two
-    /// types; and `None` for all other types.
+    /// types; and `None` for all other types. Or the answer is want of memory.
     pub fn least_upper_bound(
         alloc: Global,
         a: &Type,
@@ -380,7 +381,8 @@ impl Type {
 
     /// The join of some types in turn, from `Never` on; or the help of the first join that is refused.
     ///
-    /// The join of no types is `Never`. Where the any-set is among the types, their order matters.
+    /// The join of no types is `Never`. Where the any-set is among the types, their order matters. Or the
+    /// answer is want of memory.
     pub fn reduce_to_least_upper_bound(
         alloc: Global,
         items: &[Type],
