@@ -86,11 +86,11 @@ unfolding IsStrictlySortedBy
 end_ascending = tt
 
 -- in permissive mode the join requires what both do
-abbrev BothRequire : Bool → Bool → Bool → Type 0
+abbrev pub BothRequire : Bool → Bool → Bool → Type 0
 BothRequire a b required = IsTrue required ↔ (IsTrue a × IsTrue b)
 
 -- two flags and what they give together
-both_require : (a b : Bool) → BothRequire a b (a && b)
+pub both_require : (a b : Bool) → BothRequire a b (a && b)
 both_require true true = (λ e. (refl, refl), λ both. refl)
 both_require true false = (λ e. absurd cc, λ both. both.1)
 both_require false b = (λ e. absurd cc, λ both. both.0)
@@ -105,8 +105,18 @@ pub record PermissiveJoin (fa fb : Fields) : Type 0 where
   pub complete : (name : Text) (ra rb : Bool) (a b : Ty) → HasField fa name ra a → HasField fb name rb b
       → HaveOwnBound Permissive a b → (required : Bool) × (ty : Ty) × HasField fields name required ty
 
+-- the attributes of a permissive join with no attributes are none
+unfoldable pub no_permissive : (fb : Fields) → PermissiveJoin end fb
+no_permissive fb = record {
+  fields = end;
+  ascending = end_ascending;
+  formed = tt;
+  sound = λ n r t has. absurd has;
+  complete = λ n ra rb a b has also own. absurd has;
+}
+
 -- an attribute without a join is dropped
-drop_one : (name : Text) (required : Bool) (ty : Ty) (rest fb : Fields) → PermissiveJoin rest fb
+unfoldable pub drop_one : (name : Text) (required : Bool) (ty : Ty) (rest fb : Fields) → PermissiveJoin rest fb
     → ((rb : Bool) (b : Ty) → HasField fb name rb b → ¬ HaveOwnBound Permissive ty b) → PermissiveJoin (field name required ty rest) fb
 drop_one name required ty rest fb before none = record {
   fields = before.fields;
@@ -121,7 +131,7 @@ drop_one name required ty rest fb before none = record {
 }
 
 -- an attribute with a join is kept
-keep_one : (name : Text) (required flag : Bool) (ty of join : Ty) (rest fb : Fields)
+unfoldable pub keep_one : (name : Text) (required flag : Bool) (ty of join : Ty) (rest fb : Fields)
     → IsAscending (field name required ty rest) → PermissiveJoin rest fb → HasField fb name flag of
     → IsLeastOwnBound Permissive ty of join → IsWellFormed join → PermissiveJoin (field name required ty rest) fb
 keep_one name required flag ty of join rest fb ascending before has least formed = record {
@@ -153,13 +163,7 @@ keep_one name required flag ty of join rest fb ascending before has least formed
 
 -- the attributes of a permissive join
 permissive_join : (fa fb : Fields) → IsAscending fa → IsAscending fb → AreAnswered Permissive fa fb → PermissiveJoin fa fb
-permissive_join end fb ascending second answers = record {
-  fields = end;
-  ascending = end_ascending;
-  formed = tt;
-  sound = λ n r t has. absurd has;
-  complete = λ n ra rb a b has also own. absurd has;
-}
+permissive_join end fb ascending second answers = no_permissive fb
 permissive_join (field name required ty rest) fb ascending second answers =
     let before = permissive_join rest fb (rest_ascending name required ty rest ascending) second answers.1 in
     ⊎_elim
@@ -185,7 +189,7 @@ decide_closed OpenAttributes = inr (λ e. absurd cc)
 decide_closed ClosedAttributes = inl refl
 
 -- the permissive join is closed exactly where both records are and no name is dropped
-abbrev NothingDropped : Fields → Fields → Fields → OpenTag → OpenTag → Type 0
+abbrev pub NothingDropped : Fields → Fields → Fields → OpenTag → OpenTag → Type 0
 NothingDropped fa fb fj ta tb =
     ((ta ≡ ClosedAttributes) × (tb ≡ ClosedAttributes)) × (Included (field_names fa) (field_names fj)
     × Included (field_names fb) (field_names fj))
@@ -246,7 +250,7 @@ permissive_fields fa fb fc ta tb tc it first second own =
     )))
 
 -- the names of the permissive join are those of the first record
-permissive_names : (fa fb : Fields) (it : PermissiveJoin fa fb) → Included (field_names it.fields) (field_names fa)
+pub permissive_names : (fa fb : Fields) (it : PermissiveJoin fa fb) → Included (field_names it.fields) (field_names fa)
 permissive_names fa fb it name among =
     let found = HasField-named it.fields name among in
     let part = it.sound name found.0 found.1 found.2 in
@@ -281,6 +285,32 @@ below_open : (openness : OpenTag) → OpennessBelow openness OpenAttributes
 below_open OpenAttributes = tt
 below_open ClosedAttributes = tt
 
+-- the names of the permissive join are those of the second record
+pub permissive_second : (fa fb : Fields) (it : PermissiveJoin fa fb) → Included (field_names it.fields) (field_names fb)
+permissive_second fa fb it name among =
+    let found = HasField-named it.fields name among in
+    let part = it.sound name found.0 found.1 found.2 in
+    HasField-name fb name part.second_flag part.second part.in_second
+
+-- where nothing is dropped, the closed record of a permissive join is the least own bound
+pub permissive_closed : (fa fb : Fields) (ta tb : OpenTag) (it : PermissiveJoin fa fb) → IsAscending fa → IsAscending fb
+    → NothingDropped fa fb it.fields ta tb
+    → IsLeastOwnBound Permissive (record_of fa ta) (record_of fb tb) (record_of it.fields ClosedAttributes)
+permissive_closed fa fb ta tb it first second all = (
+  permissive_own fa fb ta tb ClosedAttributes it (subst (λ g. OpennessBelow g ClosedAttributes) (sym all.0.0) tt)
+      (subst (λ g. OpennessBelow g ClosedAttributes) (sym all.0.1) tt) all.1.0 all.1.1,
+  permissive_least fa fb ta tb ClosedAttributes it first second (λ _. tt),
+)
+
+-- else the open one is
+pub permissive_open : (fa fb : Fields) (ta tb : OpenTag) (it : PermissiveJoin fa fb) → IsAscending fa → IsAscending fb
+    → ¬ NothingDropped fa fb it.fields ta tb
+    → IsLeastOwnBound Permissive (record_of fa ta) (record_of fb tb) (record_of it.fields OpenAttributes)
+permissive_open fa fb ta tb it first second none = (
+  permissive_own fa fb ta tb OpenAttributes it (below_open ta) (below_open tb) tt tt,
+  permissive_least fa fb ta tb OpenAttributes it first second (λ all. absurd (none all)),
+)
+
 -- records have an answer in permissive mode
 pub permissive_records_answered : (fa fb : Fields) (ta tb : OpenTag) → IsAscending fa → IsAscending fb
     → AreTexts (field_names fa) → AreAnswered Permissive fa fb → IsAnswered Permissive (record_of fa ta) (record_of fb tb)
@@ -291,17 +321,10 @@ permissive_records_answered fa fb ta tb first second texts answers =
     let part = it.sound name found.0 found.1 found.2 in
     texts name (HasField-name fa name part.first_flag part.first part.in_first)) in
     ⊎_elim
-    (λ all. given Permissive (record_of fa ta) (record_of fb tb) (record_of it.fields ClosedAttributes) (
-      permissive_own fa fb ta tb ClosedAttributes it (subst (λ g. OpennessBelow g ClosedAttributes) (sym all.0.0) tt)
-          (subst (λ g. OpennessBelow g ClosedAttributes) (sym all.0.1) tt) all.1.0 all.1.1,
-      permissive_least fa fb ta tb ClosedAttributes it first second (λ _. tt),
-    )
-    (it.ascending, it.formed, names))
-    (λ none. given Permissive (record_of fa ta) (record_of fb tb) (record_of it.fields OpenAttributes) (
-      permissive_own fa fb ta tb OpenAttributes it (below_open ta) (below_open tb) tt tt,
-      permissive_least fa fb ta tb OpenAttributes it first second (λ all. absurd (none all)),
-    )
-    (it.ascending, it.formed, names))
+    (λ all. given Permissive (record_of fa ta) (record_of fb tb) (record_of it.fields ClosedAttributes)
+    (permissive_closed fa fb ta tb it first second all) (it.ascending, it.formed, names))
+    (λ none. given Permissive (record_of fa ta) (record_of fb tb) (record_of it.fields OpenAttributes)
+    (permissive_open fa fb ta tb it first second none) (it.ascending, it.formed, names))
     (decide_both (decide_both (decide_closed ta) (decide_closed tb))
     (decide_both (decide_included decide_texts (field_names fa) (field_names it.fields))
     (decide_included decide_texts (field_names fb) (field_names it.fields))))

@@ -16,6 +16,7 @@ use Rattle.cedar_rules.proofs.SubtypeLaws.{FieldsWithin, HasBelow-of, HasField-n
 use Rattle.cedar_rules.specs.Fields.{IsAscending, field_names}
 use Rattle.cedar_rules.specs.Below.{HasField, OpennessBelow, Below}
 use Rattle.cedar_rules.specs.Help.{IsHelpAtName}
+use Rattle.cedar_rules.specs.OpenTag.{either_open}
 use Rattle.cedar_rules.specs.OwnBound.{IsEither, IsOwnBound, HaveOwnBound, IsLeastOwnBound}
 use Rattle.cedar_rules.specs.Ty.{Ty, record_of, Fields, end, field}
 use Rattle.cedar_rules.specs.WellFormed.{IsWellFormed, AreWellFormed, AreTexts}
@@ -41,11 +42,21 @@ pub record StrictJoin (fa fb : Fields) : Type 0 where
 abbrev IsTried : Fields → Fields → Type 0
 IsTried fa fb = StrictJoin fa fb ⊎ ((it : LubHelp) × IsHelpAtName fa fb it)
 
+-- the attributes of a strict join with no attributes are none
+unfoldable pub no_strict : (fb : Fields) → StrictJoin end fb
+no_strict fb = record {
+  fields = end;
+  ascending = end_ascending;
+  formed = tt;
+  sound = λ n r t has. absurd has;
+  complete = λ n r t has. absurd has;
+}
+
 -- an attribute with a join is kept
-keep_one : (name : Text) (required : Bool) (ty of join : Ty) (rest fb : Fields)
+unfoldable pub keep_strict : (name : Text) (required : Bool) (ty of join : Ty) (rest fb : Fields)
     → IsAscending (field name required ty rest) → StrictJoin rest fb → HasField fb name required of
     → IsLeastOwnBound Strict ty of join → IsWellFormed join → StrictJoin (field name required ty rest) fb
-keep_one name required ty of join rest fb ascending before has least formed = record {
+keep_strict name required ty of join rest fb ascending before has least formed = record {
   fields = field name required join before.fields;
   ascending = joined_ascending Strict SameFlags name required required ty join rest fb before.fields ascending
       before.ascending before.sound;
@@ -75,13 +86,7 @@ keep_one name required ty of join rest fb ascending before has least formed = re
 
 -- a strict join is found, or a help
 try_strict : (fa fb : Fields) → IsAscending fa → AreAnswered Strict fa fb → IsTried fa fb
-try_strict end fb ascending answers = inl (record {
-  fields = end;
-  ascending = end_ascending;
-  formed = tt;
-  sound = λ n r t has. absurd has;
-  complete = λ n r t has. absurd has;
-})
+try_strict end fb ascending answers = inl (no_strict fb)
 try_strict (field name required ty rest) fb ascending answers =
     ⊎_elim
     (λ before. ⊎_elim
@@ -95,14 +100,14 @@ try_strict (field name required ty rest) fb ascending answers =
         → IsTried (field name required ty rest) fb
     by_answer before flag of has (Ok join, least, formed) =
         ⊎_elim
-        (λ same. inl (keep_one name required ty of join rest fb ascending before
+        (λ same. inl (keep_strict name required ty of join rest fb ascending before
         (subst (λ q. HasField fb name q of) (sym same) has) least formed))
         (λ differ. inr (help.AttributeQualifier, inr (inl (flag, of, has, inl ((join, least.0), differ, refl)))))
         (decide_flags required flag)
     by_answer before flag of has (Err it, none, formed) = inr (it, inr (inl (flag, of, has, inr none)))
 
 -- where a help is found at a name of two records, they have no own bound
-help_refuses : (part fa fb : Fields) (ta tb : OpenTag) (it : LubHelp) → IsAscending fa → IsAscending fb
+pub help_refuses : (part fa fb : Fields) (ta tb : OpenTag) (it : LubHelp) → IsAscending fa → IsAscending fb
     → FieldsWithin part fa → IsHelpAtName part fb it → ¬ HaveOwnBound Strict (record_of fa ta) (record_of fb tb)
 help_refuses end fa fb ta tb it first second within found own = found
 help_refuses (field name required ty rest) fa fb ta tb it first second within (inl lacks) (record_of fc tc, own) =
@@ -128,36 +133,28 @@ help_refuses (field name required ty rest) fa fb ta tb it first second within (i
     help_refuses rest fa fb ta tb it first second (λ n r t has. within n r t (inr has)) later own
 help_refuses (field name required ty rest) fa fb ta tb it first second within found (bound, own) = elim own.0.0 [ ]
 
--- the openness of a strict join: open if either is
-either_tag : OpenTag → OpenTag → OpenTag
-either_tag OpenAttributes tb = OpenAttributes
-either_tag ClosedAttributes tb = tb
-
 -- each openness is below it
-first_below : (ta tb : OpenTag) → OpennessBelow ta (either_tag ta tb)
-unfolding either_tag
+first_below : (ta tb : OpenTag) → OpennessBelow ta (either_open ta tb)
 first_below OpenAttributes tb = tt
 first_below ClosedAttributes OpenAttributes = tt
 first_below ClosedAttributes ClosedAttributes = tt
 
 -- the second openness is below it
-second_below : (ta tb : OpenTag) → OpennessBelow tb (either_tag ta tb)
-unfolding either_tag
+second_below : (ta tb : OpenTag) → OpennessBelow tb (either_open ta tb)
 second_below OpenAttributes OpenAttributes = tt
 second_below OpenAttributes ClosedAttributes = tt
 second_below ClosedAttributes OpenAttributes = tt
 second_below ClosedAttributes ClosedAttributes = tt
 
 -- it is below what both are below
-either_below : (ta tb tc : OpenTag) → OpennessBelow ta tc → OpennessBelow tb tc → OpennessBelow (either_tag ta tb) tc
-unfolding either_tag
+either_below : (ta tb tc : OpenTag) → OpennessBelow ta tc → OpennessBelow tb tc → OpennessBelow (either_open ta tb) tc
 either_below OpenAttributes tb tc h k = h
 either_below ClosedAttributes tb tc h k = k
 
 -- a strict join of records with the same names is their least own bound
-strict_least : (fa fb : Fields) (ta tb : OpenTag) (it : StrictJoin fa fb) → IsAscending fa → IsAscending fb
+pub strict_least : (fa fb : Fields) (ta tb : OpenTag) (it : StrictJoin fa fb) → IsAscending fa → IsAscending fb
     → Included (field_names fb) (field_names fa) → IsLeastOwnBound Strict (record_of fa ta) (record_of fb tb)
-    (record_of it.fields (either_tag ta tb))
+    (record_of it.fields (either_open ta tb))
 strict_least fa fb ta tb it first second names = (
   (
     (
@@ -189,7 +186,7 @@ strict_least fa fb ta tb it first second names = (
     kept n among = let found = HasField-named fa n among in it.complete n found.0 found.1 found.2
 
     below : (bound : Ty) → IsOwnBound Strict (record_of fa ta) (record_of fb tb) bound
-        → Below Strict (record_of it.fields (either_tag ta tb)) bound
+        → Below Strict (record_of it.fields (either_open ta tb)) bound
     below (record_of fc tc) own = (
       either_below ta tb tc own.0.0.0 own.0.1.0.0,
       (λ n among. (let found = HasField-named it.fields n among in
@@ -218,7 +215,7 @@ strict_least fa fb ta tb it first second names = (
     below bound own = elim own.0.0 [ ]
 
 -- records with an own bound in strict mode have the same names
-same_names : (fa fb : Fields) (ta tb : OpenTag) → IsAscending fa → IsAscending fb
+pub same_names : (fa fb : Fields) (ta tb : OpenTag) → IsAscending fa → IsAscending fb
     → HaveOwnBound Strict (record_of fa ta) (record_of fb tb) → field_names fa ≡ field_names fb
 same_names fa fb ta tb first second (record_of fc tc, own) =
     Included-same text_cmp text_cmp-total (field_names fa) (field_names fb) first second
@@ -240,7 +237,7 @@ pub strict_records_answered : (fa fb : Fields) (ta tb : OpenTag) → IsAscending
 strict_records_answered fa fb ta tb first second texts answers =
     ⊎_elim
     (λ like. ⊎_elim
-    (λ it. given Strict (record_of fa ta) (record_of fb tb) (record_of it.fields (either_tag ta tb))
+    (λ it. given Strict (record_of fa ta) (record_of fb tb) (record_of it.fields (either_open ta tb))
     (strict_least fa fb ta tb it first second
     ((all_among text_cmp text_cmp-total text_cmp-Equal (field_names fa) (field_names fb) first second
     (λ n among. (let found = HasField-named fa n among in

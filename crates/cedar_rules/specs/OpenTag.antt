@@ -6,3 +6,8 @@ use Rattle.cedar_rules.specs.declared.open_tag.OpenTag.TheVariants.{OpenAttribut
 abbrev pub is_open : OpenTag → Bool
 is_open OpenAttributes = true
 is_open ClosedAttributes = false
+
+-- the openness of two records together: open if either is
+abbrev pub either_open : OpenTag → OpenTag → OpenTag
+either_open OpenAttributes other = OpenAttributes
+either_open ClosedAttributes other = other

@@ -24,7 +24,7 @@ use Rattle.cedar_types.specs.declared.types.Type.{«Type», roll-Type, out-Type,
 use Rattle.cedar_types.specs.declared.types.Type.TheOpen as layer
 
 -- tests of flags decide whether they are the same
-flags-Decides : (a b : Bool) → Decides (mathlib.Core.Bool.beq a b) (a ≡ b)
+pub flags-Decides : (a b : Bool) → Decides (mathlib.Core.Bool.beq a b) (a ≡ b)
 flags-Decides true true = (λ _. refl, λ _. refl)
 flags-Decides true false = none (λ e. cc)
 flags-Decides false true = none (λ e. cc)

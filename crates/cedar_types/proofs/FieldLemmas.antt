@@ -77,7 +77,7 @@ last_named-seen f name (item ∷ rest) =
     option_or-seen f (bytes_eq name (string_bytes item.0)) item.1 _ (last_named name (with_texts rest)) (last_named-seen f name rest)
 
 -- the pairs that attributes are made of are theirs
-pairs_of-made : (held : Rc (ByName AttributeType) Global) → pairs_of (roll-Attributes (record { attrs = held })) ≡ held.value.entries.items
+pub pairs_of-made : (held : Rc (ByName AttributeType) Global) → pairs_of (roll-Attributes (record { attrs = held })) ≡ held.value.entries.items
 pairs_of-made held = ap (λ all. all.attrs.value.entries.items) (out-roll-Attributes (record { attrs = held }))
 
 -- a shared list that keeps the last value of each name

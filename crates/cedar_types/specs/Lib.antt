@@ -1,3 +1,4 @@
+pub mod AttributeJoin
 pub mod Attributes
 pub mod ByName
 pub mod Entries

@@ -1,4 +1,4 @@
-use Rattle.std.specs.Prelude.{◌≡◌, Bool, true, List, map, Option, None, string_bytes}
+use Rattle.std.specs.Prelude.{◌≡◌, Bool, true, List, map, Option, None, IfSome, string_bytes}
 use Rattle.std.specs.Option.{option_map}
 use Rattle.std.specs.declared.alloc.Global.{Global}
 use Rattle.std.specs.declared.rc.Rc.{Rc}
@@ -7,6 +7,7 @@ use Rattle.cedar_below.specs.Text.{Text}
 use Rattle.cedar_below.specs.declared.loc.Loc.{Loc}
 use Rattle.cedar_rules.specs.Fields.{last_named}
 use Rattle.cedar_types.specs.ByName.{value_at}
+use Rattle.cedar_types.specs.Meaning.{ty_of}
 use Rattle.cedar_types.specs.declared.attributes.AttributeType.{AttributeType, out-AttributeType}
 use Rattle.cedar_types.specs.declared.attributes.Attributes.{Attributes, out-Attributes}
 use Rattle.cedar_types.specs.declared.types.Type.{«Type», out-Type}
@@ -51,3 +52,13 @@ listed_at name ty =
 abbrev pub element_of : «Type» → Option «Type»
 element_of ty =
     elim (out-Type ty) [ layer.Set element ↦ option_map (λ rc. rc.value) element | _ ↦ None ]
+
+-- no attribute that the type lists has a location
+abbrev pub IsUnplaced : «Type» → Type 0
+IsUnplaced ty = (name : Text) → IfSome (listed_at name ty) (λ attribute. attribute.loc ≡ None)
+
+-- a type is handed on as another: that one stands for the same, lists the same attributes with their locations, and has the
+-- same element type
+abbrev pub IsHandedOn : «Type» → «Type» → Type 0
+IsHandedOn ty given =
+    (ty_of given ≡ ty_of ty) × ((name : Text) → listed_at name given ≡ listed_at name ty) × (element_of given ≡ element_of ty)

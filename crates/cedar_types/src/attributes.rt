@@ -10,6 +10,7 @@ ghost use Rattle.cedar_below.specs.Text.{Text};
 ghost use Rattle.cedar_below.specs.declared.loc.Loc.{Loc};
 ghost use Rattle.cedar_rules.specs.Fields.{HoldsLast, IsAscending, field_names};
 ghost use Rattle.cedar_types.specs.Attributes.{plain_attributes, plain_required};
+ghost use Rattle.cedar_types.specs.ByName.{NamesAscend, value_at};
 ghost use Rattle.cedar_types.specs.Located.{located, located_at, located_attributes, located_required, KeepsLast};
 ghost use Rattle.cedar_types.specs.Meaning.{ty_of, attribute_of, fields_of, attribute_loc};
 ghost use Rattle.cedar_rules.specs.Ty.{end, field_at, fields_from};
@@ -124,6 +125,17 @@ impl Attributes {
     {
         Ok(Attributes {
             attrs: Rc::new(alloc, ByName::from_entries(entries)?)?,
+        })
+    }
+
+    /// The attributes of these pairs, whose names ascend, or want of memory.
+    pub(crate) fn from_ascending(alloc: Global, entries: Vec<(String, AttributeType)>) -> M<Self>
+        requires { NamesAscend entries.items }
+        ensures attributes { IfOk result (λ all. fields_of all ≡ fields_from (plain_attributes entries.items)) }
+        ensures located { IfOk result (λ all. (name : Text) → located_at name all ≡ option_map located (value_at name entries.items)) }
+    {
+        Ok(Attributes {
+            attrs: Rc::new(alloc, ByName::from_ascending(entries))?,
         })
     }
 

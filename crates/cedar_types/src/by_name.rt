@@ -95,6 +95,14 @@ impl<V> ByName<V> {
         Ok(ByName { entries })
     }
 
+    /// The values of these names, which ascend.
+    pub(crate) fn from_ascending(entries: Vec<(String, V)>) -> ByName<V>
+        requires { NamesAscend entries.items }
+        ensures { entries_by_name result ≡ entries.items }
+    {
+        ByName { entries }
+    }
+
     /// The pairs of a name and its value, in the order of the names.
     pub(crate) fn as_slice(&self) -> &[(String, V)]
         ensures { result.now ≡ entries_by_name self.now }

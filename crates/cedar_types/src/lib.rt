@@ -13,6 +13,7 @@ mod by_name;
 mod entity_kind;
 mod entity_lub;
 mod iter;
+mod join;
 mod member;
 mod show;
 mod subtype;

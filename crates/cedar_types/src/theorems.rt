@@ -1,10 +1,19 @@
-//! Laws of types: well-formedness, subtyping, and comparisons.
+//! Laws of types: well-formedness, subtyping, joins, and comparisons.
 
-ghost use Rattle.std.specs.Prelude.{◌≡◌, ◌↔◌};
+ghost use Rattle.std.specs.Prelude.{◌≡◌, ◌≢◌, ◌↔◌, List, [], ◌∷◌, map, Result, Ok, Err, IsOkAnd};
+ghost use Rattle.std.specs.List.{AllByRecursion};
+ghost use Rattle.cedar_below.specs.Lists.{Included};
 ghost use Rattle.cedar_below.specs.declared.validation_mode.ValidationMode.{ValidationMode};
 ghost use Rattle.cedar_below.specs.declared.validation_mode.ValidationMode.TheVariants as mode;
 ghost use Rattle.cedar_rules.specs.Agree.{Agree};
 ghost use Rattle.cedar_rules.specs.Below.{Below};
+ghost use Rattle.cedar_rules.specs.Bound.{IsCleanBound};
+ghost use Rattle.cedar_rules.specs.Clean.{IsClean};
+ghost use Rattle.cedar_rules.specs.JoinAnswer.{JoinAnswer, IsLeastAnswer, IsJoinAnswer, IsReduceAnswer, IsAnswerOrMemory};
+ghost use Rattle.cedar_rules.specs.OwnBound.{IsLeastOwnBound};
+ghost use Rattle.cedar_rules.specs.Ty.{never};
+ghost use Rattle.cedar_rules.specs.declared.join_error.JoinError.{JoinError};
+ghost use Rattle.cedar_rules.specs.declared.join_error.JoinError.TheVariants as error;
 ghost use Rattle.cedar_rules.specs.Fields.{IsAscending, field_names};
 ghost use Rattle.cedar_rules.specs.CompareLaws.{ComparesBy};
 ghost use Rattle.cedar_rules.specs.Order.{ty_cmp, fields_cmp, attribute_cmp, union_cmp};
@@ -50,6 +59,34 @@ pub fn strict_subtyping_of_types_is_permissive_and_agrees(a: &Type, b: &Type)
 pub fn permissive_subtyping_of_types_is_inclusion(a: &Type, b: &Type)
     ensures stated { SubtypingIsInclusionOf (ty_of a.now) (ty_of b.now) }
     ensures with_optional { SubtypingIsInclusionAndNamesOf (ty_of a.now) (ty_of b.now) }
+{}
+
+/// What follows for whatever answers the join of two types: it stands for the least clean bound of clean
+/// types, two joins stand for the same, the types may be swapped, and a strict join is the permissive one.
+pub fn joins_of_types_are_least_bounds(a: &Type, b: &Type)
+    ensures of_clean { (mode : ValidationMode) (answer : JoinAnswer) → IsClean (ty_of a.now) → IsClean (ty_of b.now)
+        → IsJoinAnswer mode (ty_of a.now) (ty_of b.now) answer
+        → IsLeastAnswer mode (IsCleanBound mode (ty_of a.now ∷ ty_of b.now ∷ [])) answer }
+    ensures unique { (mode : ValidationMode) (join other : «Type») → IsLeastOwnBound mode (ty_of a.now) (ty_of b.now) (ty_of join)
+        → IsLeastOwnBound mode (ty_of a.now) (ty_of b.now) (ty_of other) → ty_of join ≡ ty_of other }
+    ensures swapped { (mode : ValidationMode) (join : «Type») → IsLeastOwnBound mode (ty_of a.now) (ty_of b.now) (ty_of join)
+        → IsLeastOwnBound mode (ty_of b.now) (ty_of a.now) (ty_of join) }
+    ensures strict { (join : «Type») → IsLeastOwnBound mode.Strict (ty_of a.now) (ty_of b.now) (ty_of join)
+        → IsLeastOwnBound mode.Permissive (ty_of a.now) (ty_of b.now) (ty_of join) }
+{}
+
+/// What follows for whatever joins types in turn from `Never`: of clean types it gives their least clean
+/// bound, and where it gives a type, it gives one that stands for the same in whatever order.
+pub fn reductions_of_types_are_least_bounds(types: &[Type], others: &[Type])
+    ensures of_clean { (mode : ValidationMode) (answer : JoinAnswer) → AllByRecursion IsClean (map ty_of types.now)
+        → IsReduceAnswer mode never (map ty_of types.now) answer
+        → IsLeastAnswer mode (IsCleanBound mode (map ty_of types.now)) answer }
+    ensures any_order { (mode : ValidationMode) (join : «Type») (answer : Result «Type» JoinError)
+        → AllByRecursion IsClean (map ty_of types.now)
+        → Included (map ty_of types.now) (map ty_of others.now) → Included (map ty_of others.now) (map ty_of types.now)
+        → IsReduceAnswer mode never (map ty_of types.now) (Ok (ty_of join))
+        → IsAnswerOrMemory ty_of (IsReduceAnswer mode never (map ty_of others.now)) answer
+        → answer ≢ Err error.Memory → IsOkAnd answer (λ other. ty_of other ≡ ty_of join) }
 {}
 
 /// Equality, order and hash of unions and of kinds of entities go by what they stand for.

@@ -10,6 +10,8 @@ mod entity_types;
 #[cfg(test)]
 mod hierarchy;
 #[cfg(test)]
+mod joins;
+#[cfg(test)]
 mod subtyping;
 #[cfg(test)]
 mod test_values;

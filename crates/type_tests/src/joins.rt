@@ -1,0 +1,164 @@
+//! Tests of joins and of reductions.
+
+use crate::test_values::{sample, text};
+use cedar_below::{Loc, Memory, ValidationMode};
+use cedar_types::{AttributeType, JoinError, OpenTag, Type};
+use std::alloc::Global;
+use std::rc::Rc;
+use std::test::Fail;
+
+/// The text of a join, or the word of the help.
+fn printed(alloc: Global, answer: Result<Type, JoinError>) -> Result<String, Fail> {
+    match answer {
+        Ok(join) => Ok(join.to_string(alloc)?),
+        Err(JoinError::Help(help)) => Ok(help.to_string(alloc)?),
+        Err(JoinError::Memory) => Err(Memory)?,
+    }
+}
+
+/// Pairs of types, each with what they are joined to in strict mode and in permissive mode.
+const JOINS: [(&str, &str, &str, &str); 11] = [
+    ("true", "false", "Bool", "Bool"),
+    ("long", "string", "None", "None"),
+    ("set-bool", "set-long", "None", "None"),
+    (
+        "r1",
+        "r2",
+        "None",
+        "__cedar::internal::OpenRecord{bar: Long,}",
+    ),
+    (
+        "r3",
+        "r2",
+        "RecordWidth",
+        "__cedar::internal::OpenRecord{bar: Long,}",
+    ),
+    (
+        "both-optional",
+        "one-optional",
+        "AttributeQualifier",
+        "{bar?: Long,foo?: Long,}",
+    ),
+    (
+        "foo-false-open",
+        "foo-true",
+        "__cedar::internal::OpenRecord{foo: Bool,}",
+        "__cedar::internal::OpenRecord{foo: Bool,}",
+    ),
+    ("any-entity", "any-record", "EntityRecord", "EntityRecord"),
+    (
+        "foo",
+        "bar",
+        "EntityType",
+        "__cedar::internal::Union<Bar, Foo>",
+    ),
+    (
+        "foo",
+        "any-entity",
+        "EntityType",
+        "__cedar::internal::AnyEntity",
+    ),
+    (
+        "any-set",
+        "set-long",
+        "Set<__cedar::internal::Any>",
+        "Set<__cedar::internal::Any>",
+    ),
+];
+
+#[test]
+fn types_are_joined_by_their_rules(rt: HostRuntime) -> Result<(), Fail> {
+    let alloc = rt.alloc();
+    for (first, second, strict, permissive) in JOINS {
+        let a = sample(alloc, first)?;
+        let b = sample(alloc, second)?;
+        for (mode, expected) in [
+            (ValidationMode::Strict, strict),
+            (ValidationMode::Permissive, permissive),
+        ] {
+            let join = Type::least_upper_bound(alloc, &a, &b, mode);
+            assert_eq!(rt;
+                printed(alloc, join)?.as_str(),
+                expected,
+                "{first} and {second}"
+            );
+        }
+    }
+    Ok(())
+}
+
+/// Lists of types, each with what it is reduced to in permissive mode.
+const REDUCTIONS: [(&[&str], &str); 7] = [
+    (&[], "__cedar::internal::Never"),
+    (
+        &["set-bool", "any-set", "set-long"],
+        "Set<__cedar::internal::Any>",
+    ),
+    (
+        &["set-long", "any-set", "set-bool"],
+        "Set<__cedar::internal::Any>",
+    ),
+    (
+        &["any-set", "set-bool", "set-long"],
+        "Set<__cedar::internal::Any>",
+    ),
+    (
+        &["any-set", "set-long", "set-bool"],
+        "Set<__cedar::internal::Any>",
+    ),
+    (&["set-bool", "set-long", "any-set"], "None"),
+    (&["set-long", "set-bool", "any-set"], "None"),
+];
+
+#[test]
+fn types_are_reduced_in_turn(rt: HostRuntime) -> Result<(), Fail> {
+    let alloc = rt.alloc();
+    for (words, expected) in REDUCTIONS {
+        let mut types = Vec::new(alloc);
+        for word in words {
+            types.push(sample(alloc, word)?)?;
+        }
+        let join = Type::reduce_to_least_upper_bound(alloc, &types, ValidationMode::Permissive);
+        assert_eq!(rt; printed(alloc, join)?.as_str(), expected);
+    }
+    Ok(())
+}
+
+/// Where the attributes of these tests were declared.
+const PLACE: Loc = Loc {
+    source: 1,
+    start: 2,
+    stop: 5,
+};
+
+/// The record type of one attribute `a` with the type of one truth value, declared at the place.
+fn placed(alloc: Global, value: bool) -> Result<Type, Fail> {
+    let ty = Rc::new(alloc, Type::singleton_boolean(value))?;
+    let attribute = AttributeType::new_with_loc(ty, true, Some(PLACE));
+    let items = [(text(alloc, "a")?, attribute)];
+    Ok(Type::record_with_attributes(alloc, items, OpenTag::ClosedAttributes)?)
+}
+
+/// Where the attribute `a` of a record type was declared.
+fn place_of(ty: &Type) -> Result<Option<Loc>, Fail> {
+    match ty {
+        Type::Record { attrs, .. } => Ok(attrs.get_attr("a").ok_or("not found")?.loc),
+        _ => Err("no record type")?,
+    }
+}
+
+#[test]
+fn joined_attributes_have_no_location(rt: HostRuntime) -> Result<(), Fail> {
+    let alloc = rt.alloc();
+    let first = placed(alloc, true)?;
+    let join = Type::least_upper_bound(
+        alloc,
+        &first,
+        &placed(alloc, false)?,
+        ValidationMode::Strict,
+    )?;
+    assert_eq!(rt; place_of(&join)?, None);
+    let same = Type::least_upper_bound(alloc, &first, &first, ValidationMode::Strict)?;
+    assert_eq!(rt; place_of(&same)?, Some(PLACE));
+    Ok(())
+}
