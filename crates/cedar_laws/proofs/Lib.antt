@@ -7,6 +7,7 @@ pub mod EnvironmentLaws
 pub mod KindLemmas
 pub mod MeaningLemmas
 pub mod MentionLemmas
+pub mod MereLemmas
 pub mod MovedBags
 pub mod MovedLemmas
 pub mod OrderLaws
@@ -14,7 +15,9 @@ pub mod PlacedLemmas
 pub mod SaidFaults
 pub mod SaidLemmas
 pub mod SameBagLaws
+pub mod SameEntities
 pub mod SchemaLaws
 pub mod SettledLaws
 pub mod SureBags
+pub mod TypeDecisions
 pub mod ValidLaws

@@ -1,8 +1,7 @@
 -- Bags whose declarations are alike in turn, but for references that mean the same.
-use Rattle.std.proofs.Common.{◌≡◌, ◌↔◌, List, [], ◌∷◌, ◌++◌, Option, Some, None, map, ap, sym, subst, ◌∙◌, refl, inl, inr, ⊎_elim, arith, Contains}
+use Rattle.std.proofs.Common.{◌≡◌, ◌↔◌, List, [], ◌∷◌, ◌++◌, Option, Some, None, map, ap, sym, subst, ◌∙◌, refl, inl, ⊎_elim, Contains}
 use Rattle.std.proofs.lemmas.List.{map-append}
 use Rattle.std.specs.List.{flat_map}
-use Rattle.cedar_below.proofs.Lists.{Contains-cons, Contains-cons_cases}
 use Rattle.cedar_below.specs.Lists.{HoldsInTurn}
 use Rattle.cedar_below.specs.PlainName.{PlainName, action_word}
 use Rattle.cedar_below.specs.PlainUid.{PlainUid}
@@ -13,7 +12,7 @@ use Rattle.cedar_names.specs.Expr.{Expr}
 use Rattle.cedar_names.specs.Reference.{Reference, ActionReference, name_within}
 use Rattle.cedar_laws.proofs.MeaningLemmas.{MeansTheSame, MeansTheSame-sym, settled_means, AreAlike, AreAlike-sym, settled_alike}
 use Rattle.cedar_declared.proofs.ResolutionLemmas.{IsFirst-same}
-use Rattle.cedar_declared.proofs.TurnLemmas.{turn_forth, turn_back, turn_weaker}
+use Rattle.cedar_declared.proofs.TurnLemmas.{turn_back, turn_weaker}
 use Rattle.cedar_declared.specs.Bag.{common_in, entity_in, action_in, declared_name, declared_uid}
 use Rattle.cedar_declared.specs.Names.{Names, NamesAction}
 use Rattle.cedar_declared.specs.Occurrences.{IsFirst}

@@ -81,7 +81,7 @@ kind_once defined one (external parents) (standard_kind fields openness ty) kind
 kind_once defined one (external parents) (enumerated_kind choices) kind' fits fits' = absurd fits
 
 -- lists of the items that one fact picks are the same up to order and repeats
-same_items : {A : Type 0} (P : A → Type 0) (items others : List A) → ((item : A) → Contains items item ↔ P item)
+pub same_items : {A : Type 0} (P : A → Type 0) (items others : List A) → ((item : A) → Contains items item ↔ P item)
     → ((item : A) → Contains others item ↔ P item) → SameItems items others
 same_items P items others first second item =
     (λ among. (second item).1 ((first item).0 among), λ among. (first item).1 ((second item).0 among))
@@ -164,7 +164,7 @@ rest_of [] = []
 rest_of (first ∷ rest) = rest
 
 -- lists whose keys are the same in turn are the same, where items of one key are
-same_in_turn : {A K : Type 0} (key : A → K) (P : A → Type 0) (R : A → A → Type 0)
+pub same_in_turn : {A K : Type 0} (key : A → K) (P : A → Type 0) (R : A → A → Type 0)
     → ((it other : A) → key it ≡ key other → P it → P other → R it other) → (items others : List A)
     → map key items ≡ map key others → ((it : A) → Contains items it → P it)
     → ((it : A) → Contains others it → P it) → HoldsInTurn R items others
@@ -179,7 +179,7 @@ same_in_turn key P R same (it ∷ items) (other ∷ others) keys each each' = (
 )
 
 -- keys that are all among those of another list, if each item of it is declared and each that is declared is there
-keys_included : {A K : Type 0} (key : A → K) (Q : K → Type 0) (items others : List A)
+pub keys_included : {A K : Type 0} (key : A → K) (Q : K → Type 0) (items others : List A)
     → ((it : A) → Contains items it → Q (key it)) → ((k : K) → Q k → Contains (map key others) k) → (k : K)
     → Contains (map key items) k → Contains (map key others) k
 keys_included key Q items others each there k among =

@@ -1,5 +1,5 @@
 -- Where a bag is sure to have none of the faults, kind by kind, it isn't ill-formed.
-use Rattle.std.proofs.Common.{◌≡◌, List, map, sym, subst, refl, inl, inr, ⊎_elim, Contains}
+use Rattle.std.proofs.Common.{◌≡◌, List, sym, subst, refl, Contains}
 use Rattle.cedar_below.specs.Extensions.{extension_types}
 use Rattle.cedar_below.specs.PlainName.{PlainName, IsActionType}
 use Rattle.cedar_below.specs.PlainUid.{PlainUid}
@@ -16,7 +16,7 @@ use Rattle.cedar_declared.specs.Together.{IsActionParent, IsParent}
 use Rattle.cedar_laws.proofs.MentionLemmas.{HasKnownExtensions}
 use Rattle.cedar_laws.proofs.SettledLaws.{resolved, named, some_first}
 use Rattle.cedar_names.specs.ActionBody.{ActionBody}
-use Rattle.cedar_names.specs.Declaration.{Declaration, Body, common_type, entity_type, action}
+use Rattle.cedar_names.specs.Declaration.{Body, common_type, entity_type, action}
 use Rattle.cedar_names.specs.EntityBody.{EntityBody}
 use Rattle.cedar_names.specs.Expr.{Expr}
 use Rattle.cedar_names.specs.Reference.{Reference, ActionReference}

@@ -3,7 +3,6 @@ pub mod Equality
 pub mod ExprLemmas
 pub mod FitLemmas
 pub mod Lasts
-pub mod PartLemmas
 pub mod QualifyLemmas
 pub mod ReservedWords
 pub mod VariantLemmas

@@ -6,7 +6,6 @@ pub mod Declaration
 pub mod EntityBody
 pub mod Expr
 pub mod NamespaceName
-pub mod Part
 pub mod PlainMembers
 pub mod PossibleNames
 pub mod RawExpr

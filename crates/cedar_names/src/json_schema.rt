@@ -18,7 +18,6 @@ mod common_type_id;
 mod conditional_name;
 mod entity_type;
 mod fragment;
-mod part;
 mod qualify;
 mod qualify_error;
 mod raw_name;

@@ -1,12 +1,1 @@
-pub mod BuildingLemmas
-pub mod BuiltLemmas
-pub mod DeclaredLemmas
-pub mod FaultLemmas
-pub mod PartBag
-pub mod PartDefinition
-pub mod PartFaults
-pub mod PartSchema
-pub mod PartWritten
-pub mod RecordLemmas
 pub mod SchemaEquality
-pub mod TypeCases

@@ -1,27 +1,38 @@
 -- Schemas are equal exactly where they are the same, whatever their locations.
-use Rattle.std.proofs.Common.{◌&&◌, Bool, [], ◌∷◌, map, refl, ap}
+use Rattle.std.proofs.Common.{◌&&◌, Bool, [], ◌∷◌, List, map, refl, ap}
 use Rattle.std.proofs.lemmas.Bool.Decides.{Decides-and, Decides-like}
 use Rattle.std.specs.Bool.{Decides}
 use Rattle.std.specs.Cmp.Lexicographic.{pointwise}
+use Rattle.cedar_actions.proofs.ActionEquality.{actions-Same}
+use Rattle.cedar_actions.specs.ValidatorActionId.{plain_action_entry}
+use Rattle.cedar_actions.specs.contracts.action_id.ValidatorActionIdPartialEq.TheImpl as action_eq
+use Rattle.cedar_actions.specs.declared.action_id.ValidatorActionId.{ValidatorActionId}
 use Rattle.cedar_below.proofs.Names.{entity_type_eq-same}
-use Rattle.cedar_below.specs.contracts.entity_type.EntityTypePartialEq.TheImpl as name_eq
-use Rattle.cedar_below.specs.declared.entity_type.EntityType.{EntityType}
-use Rattle.cedar_schema.proofs.BuiltLemmas.{Types}
-use Rattle.cedar_schema.proofs.PartSchema.{plain_entry}
-use Rattle.cedar_schema.specs.ValidatorSchema.{schema_of}
+use Rattle.cedar_below.proofs.Uids.{entity_uid_eq-same}
 use Rattle.cedar_below.specs.Lists.{HoldsInTurn}
-use Rattle.cedar_declared.specs.SameSchema.{SameEntityType, SameSchema}
-use Rattle.cedar_schema.specs.contracts.schema.ValidatorSchemaPartialEq.TheImpl as schema_eq
-use Rattle.cedar_schema.specs.declared.schema.ValidatorSchema.{ValidatorSchema}
+use Rattle.cedar_below.specs.contracts.entity_type.EntityTypePartialEq.TheImpl as name_eq
+use Rattle.cedar_below.specs.contracts.entity_uid.EntityUIDPartialEq.TheImpl as uid_eq
+use Rattle.cedar_below.specs.declared.entity_type.EntityType.{EntityType}
+use Rattle.cedar_below.specs.declared.entity_uid.EntityUID.{EntityUID}
+use Rattle.cedar_declared.specs.SameSchema.{SameAction, SameEntityType, SameSchema}
 use Rattle.cedar_entities.proofs.EntityTypeEquality.{entity_types-Same}
-use Rattle.cedar_types.proofs.EqualityLaws.{none}
-use Rattle.cedar_entities.specs.ValidatorEntityType.{PlainEntityType}
+use Rattle.cedar_entities.specs.ValidatorEntityType.{PlainEntityType, plain_entry}
 use Rattle.cedar_entities.specs.contracts.entity_type.ValidatorEntityTypePartialEq.TheImpl as entity_type_eq
 use Rattle.cedar_entities.specs.declared.entity_type.ValidatorEntityType.{ValidatorEntityType}
+use Rattle.cedar_laws.proofs.MereLemmas.{known_entities}
+use Rattle.cedar_laws.proofs.SameEntities.{same_entities}
+use Rattle.cedar_schema.specs.ValidatorSchema.{schema_of}
+use Rattle.cedar_schema.specs.contracts.schema.ValidatorSchemaPartialEq.TheImpl as schema_eq
+use Rattle.cedar_schema.specs.declared.schema.ValidatorSchema.{ValidatorSchema}
+use Rattle.cedar_types.proofs.EqualityLaws.{none}
 
--- the test of two entries of the map
+-- the test of two entries of the map of entity types
 abbrev same_entry : EntityType × ValidatorEntityType → EntityType × ValidatorEntityType → Bool
 same_entry p q = (name_eq.ghosts).eq p.0 q.0 && (entity_type_eq.ghosts).eq p.1 q.1
+
+-- the test of two entries of the map of actions
+abbrev same_action_entry : EntityUID × ValidatorActionId → EntityUID × ValidatorActionId → Bool
+same_action_entry p q = (uid_eq.ghosts).eq p.0 q.0 && (action_eq.ghosts).eq p.1 q.1
 
 -- two entries are equal exactly where their entity types are the same under one name
 entry-Same : (p q : EntityType × ValidatorEntityType) → Decides (same_entry p q) (SameEntityType (plain_entry p) (plain_entry q))
@@ -37,17 +48,35 @@ entry-Same p q =
     (λ same. (same.key, ((λ i. record { name = same.name i; kind = same.kind i }), same.descendants)))
     (Decides-and _ _ (entity_type_eq-same p.0 q.0) (entity_types-Same p.1 q.1))
 
--- two maps are equal exactly where their entity types are the same in turn
-entries-Same : (xs ys : Types) → Decides (pointwise same_entry xs ys) (HoldsInTurn SameEntityType (map plain_entry xs) (map plain_entry ys))
-entries-Same [] [] = (λ _. tt, λ _. refl)
-entries-Same [] (y ∷ ys) = none (λ same. same)
-entries-Same (x ∷ xs) [] = none (λ same. same)
-entries-Same (x ∷ xs) (y ∷ ys) = Decides-and _ _ (entry-Same x y) (entries-Same xs ys)
+-- two entries are equal exactly where their actions are the same under one uid
+action_entry-Same : (p q : EntityUID × ValidatorActionId)
+    → Decides (same_action_entry p q) (SameAction (plain_action_entry p) (plain_action_entry q))
+action_entry-Same p q =
+    Decides-like _
+    (λ both. record { key = both.0; uid = both.1.0; kind = both.1.1; descendants = both.1.2 })
+    (λ same. (same.key, (same.uid, same.kind, same.descendants)))
+    (Decides-and _ _ (entity_uid_eq-same p.0 q.0) (actions-Same p.1 q.1))
+
+-- lists are equal by a test exactly where what they stand for is the same in turn, if the test decides that of each two items
+in_turn-Same : {A P : Type 0} (test : A → A → Bool) (plain : A → P) (Same : P → P → Type 0)
+    → ((p q : A) → Decides (test p q) (Same (plain p) (plain q))) → (xs ys : List A)
+    → Decides (pointwise test xs ys) (HoldsInTurn Same (map plain xs) (map plain ys))
+in_turn-Same test plain Same decides [] [] = (λ _. tt, λ _. refl)
+in_turn-Same test plain Same decides [] (y ∷ ys) = none (λ same. same)
+in_turn-Same test plain Same decides (x ∷ xs) [] = none (λ same. same)
+in_turn-Same test plain Same decides (x ∷ xs) (y ∷ ys) = Decides-and _ _ (decides x y) (in_turn-Same test plain Same decides xs ys)
 
 -- schemas are equal exactly where they are the same
 pub schemas-Same : (a b : ValidatorSchema) → Decides ((schema_eq.ghosts).eq a b) (SameSchema (schema_of a) (schema_of b))
 schemas-Same a b =
     Decides-like _
-    (λ same. record { entity_types = same; actions = tt; action_entities = tt })
-    (λ same. same.entity_types)
-    (entries-Same a.entity_types.entries b.entity_types.entries)
+    (λ both. record {
+      entity_types = both.0;
+      actions = both.1;
+      action_entities = same_entities (schema_of a) (schema_of b) (known_entities (schema_of a) a.entities_of_actions)
+          (known_entities (schema_of b) b.entities_of_actions) both.1;
+    })
+    (λ same. (same.entity_types, same.actions))
+    (Decides-and _ _
+    (in_turn-Same same_entry plain_entry SameEntityType entry-Same a.entity_types.entries b.entity_types.entries)
+    (in_turn-Same same_action_entry plain_action_entry SameAction action_entry-Same a.actions.entries b.actions.entries))

@@ -8,6 +8,7 @@ pub use cedar_entities::{
     RequestEnv, StandardValidatorEntityType, UnlinkedRequestEnv, ValidatorEntityType,
     ValidatorEntityTypeKind,
 };
+pub use cedar_fragments::{defs, namespace};
 pub use cedar_names::{below, json_schema};
 pub use cedar_types::{
     AttributeType, Attributes, BoolType, EntityKind, EntityLUB, Entries, JoinError, LubHelp, Names,
@@ -15,6 +16,6 @@ pub use cedar_types::{
 };
 pub use schema::ValidatorSchema;
 
-mod builder;
+mod queries;
 mod schema;
 pub mod theorems;

@@ -1,101 +1,156 @@
-//! Schemas: how one is built, and what it answers.
+//! Schemas, and how one is built from fragments.
 
-ghost use Rattle.std.specs.Prelude.{◌≡◌, ◌⊎◌, [], IfOk, IfErr, OnOk, None, map};
-ghost use Rattle.std.specs.Option.{option_copied};
-ghost use Rattle.cedar_below.specs.EntityType.{type_name};
-ghost use Rattle.cedar_below.specs.Extensions.{extension_types};
-ghost use Rattle.cedar_below.specs.TypeNames.{TypeNamesFit};
-ghost use Rattle.cedar_names.specs.Declaration.{raw_declarations};
-ghost use Rattle.cedar_names.specs.Part.{IsInPart};
-ghost use Rattle.cedar_declared.specs.DeclaredSchema.{IsDeclaredSchema};
-ghost use Rattle.cedar_declared.specs.Environments.{AreDeclaredEnvironments};
-ghost use Rattle.cedar_laws.specs.EndToEnd.{TypesAdmitTheDeclared};
-ghost use Rattle.cedar_declared.specs.SchemaError.{fault_of};
-ghost use Rattle.cedar_declared.specs.Fault.{want_of_memory};
-ghost use Rattle.cedar_declared.specs.IllFormed.{IsFault, IsIllFormed};
-ghost use Rattle.cedar_declared.specs.PlainSchema.{PlainSchema};
-ghost use Rattle.cedar_schema.specs.ValidatorSchema.{schema_of};
-ghost use Rattle.cedar_declared.specs.SameSchema.{SameSchema};
-ghost use Rattle.cedar_schema.specs.ValidatorSchema.{schema_entries, entity_type_named};
+ghost use Rattle.std.specs.Prelude.{map};
+ghost use Rattle.cedar_below.specs.Entities.{entities_of};
+ghost use Rattle.cedar_declared.specs.ActionEntities.{AreActionEntities};
+ghost use Rattle.cedar_declared.specs.Environments.{AreEnvironmentsOf};
+ghost use Rattle.cedar_derived.specs.ActionEntities.{schema_with};
+ghost use Rattle.cedar_entities.specs.RequestEnv.{owned_environment};
+ghost use Rattle.cedar_entities.specs.ValidatorEntityType.{plain_entry};
 
-use crate::builder::entity_types;
-use cedar_below::{EntityType, Extensions};
+use cedar_actions::ValidatorActionId;
+use cedar_below::{Entities, EntityType, EntityUID, Extensions, M};
 use cedar_declared::SchemaError;
-use cedar_entities::ValidatorEntityType;
-use cedar_names::json_schema::{NamespaceDefinition, RawName};
+use cedar_derived::environments;
+use cedar_entities::{UnlinkedRequestEnv, ValidatorEntityType};
+use cedar_fragments::namespace::ValidatorSchemaFragment;
+use cedar_names::json_schema::{ConditionalName, Fragment, NamespaceDefinition, RawName};
+use cedar_whole::{SchemaParts, build, build_raw};
 use std::alloc::Global;
-use std::collections::{BTreeMap, btree_map};
+use std::collections::BTreeMap;
 
-/// A schema: the entity types that it declares.
+/// A schema: its entity types and its actions.
+///
+/// It holds two things beside them that follow of the actions, which it answers without looking
+/// further: the entities of the actions, and the environments of requests.
 ///
 /// Equality ignores locations.
-#[derive(Debug, Drop, PartialEq, Eq)]
+#[derive(Drop)]
+#[derive_where(Debug, PartialEq, Eq)]
 pub struct ValidatorSchema {
-    entity_types: BTreeMap<EntityType, ValidatorEntityType>,
+    pub(crate) entity_types: BTreeMap<EntityType, ValidatorEntityType>,
+    pub(crate) actions: BTreeMap<EntityUID, ValidatorActionId>,
+    #[derive_where(skip(EqHashOrd))]
+    pub(crate) action_entities: Entities,
+    #[derive_where(skip(EqHashOrd))]
+    pub(crate) environments: Vec<UnlinkedRequestEnv>,
+    ghost entities_of_actions: { ∥ AreActionEntities
+        (schema_with (map plain_entry entity_types.entries) actions.entries (entities_of action_entities)) ∥₁ },
+    ghost environments_of_actions: { ∥ AreEnvironmentsOf
+        (schema_with (map plain_entry entity_types.entries) actions.entries (entities_of action_entities))
+        (map owned_environment environments.items) ∥₁ },
 }
 
 impl ValidatorSchema {
+    ghost use Rattle.std.specs.Prelude.{◌≡◌, [], ◌∷◌, IfOk, None};
+    ghost use Rattle.std.specs.Result.{result_map_both};
+    ghost use Rattle.cedar_below.specs.Extensions.{extension_types};
+    ghost use Rattle.cedar_below.specs.TypeNames.{TypeNamesFit};
+    ghost use Rattle.cedar_declared.specs.SchemaError.{fault_of};
+    ghost use Rattle.cedar_fragments.specs.FragmentDeclarations.{conditional_bag};
+    ghost use Rattle.cedar_laws.specs.EndToEnd.{IsBuiltFrom};
+    ghost use Rattle.cedar_names.specs.Declaration.{raw_bag, raw_declarations, raw_fragment};
+    ghost use Rattle.cedar_schema.specs.ValidatorSchema.{schema_entries, action_entries, schema_of};
+    ghost use Rattle.cedar_whole.specs.SchemaParts.{parts_schema};
+
     /// The schema that declares nothing.
     pub fn empty(alloc: Global) -> Self
-        ensures { schema_entries result ≡ [] }
+        ensures entity_types { schema_entries result ≡ [] }
+        ensures actions { action_entries result ≡ [] }
     {
+        let action_entities = Entities::new(alloc);
+        // That no entities are in order is known from their iterator.
+        let _in_order = action_entities.iter();
         ValidatorSchema {
             entity_types: BTreeMap::new(alloc),
+            actions: BTreeMap::new(alloc),
+            action_entities,
+            environments: Vec::new(alloc),
         }
     }
 
-    /// The schema that a definition in the empty namespace declares, over the given extensions.
+    /// The schema of what was built, with its environments, or want of memory.
+    fn from_parts(alloc: Global, parts: SchemaParts) -> M<Self>
+        requires { AreActionEntities (parts_schema parts) }
+        ensures { IfOk result (λ schema. schema_of schema ≡ parts_schema parts) }
+    {
+        let SchemaParts {
+            entity_types,
+            actions,
+            action_entities,
+        } = parts;
+        let environments = environments(alloc, &actions)?;
+        Ok(ValidatorSchema {
+            entity_types,
+            actions,
+            action_entities,
+            environments,
+        })
+    }
+
+    /// The schema that fragments declare over the given extensions, where the names in the fragments say
+    /// what they may stand for.
     ///
-    /// The definition has to lie in the part that schemas are built from so far, which
-    /// [`NamespaceDefinition::in_part`] tests, and the names of the extension types have to fit, which
-    /// [`Extensions::type_names_fit`] tests. An error other than want of memory names a fault of the
-    /// declarations (Cedar's rules of schemas, with RFC 24 for resolution and RFC 70 for shadowing);
-    /// where there is none, the schema is the one that is declared, and the only one.
+    /// The names of the extension types have to fit, which [`Extensions::type_names_fit`] tests. An error
+    /// other than want of memory names a fault of the declarations of all fragments together (Cedar's
+    /// rules of schemas, with RFC 24 for resolution, RFC 70 for shadowing and RFC 82 for tags); where
+    /// there is none, the schema is the one that is declared, and the only one. How the declarations are
+    /// split into fragments, and their order, makes no difference.
+    pub fn from_schema_fragments(
+        alloc: Global,
+        fragments: Vec<ValidatorSchemaFragment<ConditionalName, ConditionalName>>,
+        extensions: &Extensions,
+    ) -> Result<Self, SchemaError>
+        requires { TypeNamesFit (extension_types extensions.now) }
+        ensures { IsBuiltFrom (conditional_bag fragments.items) extensions.now (result_map_both schema_of fault_of result) }
+    {
+        let parts = build(alloc, fragments, extensions)?;
+        Ok(ValidatorSchema::from_parts(alloc, parts)?)
+    }
+
+    /// The schema that fragments declare over the given extensions, as they are written. For the rest it
+    /// is as [`ValidatorSchema::from_schema_fragments`].
+    ///
+    /// Beside the refusals of that call, a definition is refused by itself for an action with attributes,
+    /// for an entity type with the id `Action`, and for a reserved name.
+    pub fn from_raw_fragments(
+        alloc: Global,
+        fragments: Vec<Fragment<RawName>>,
+        extensions: &Extensions,
+    ) -> Result<Self, SchemaError>
+        requires { TypeNamesFit (extension_types extensions.now) }
+        ensures { IsBuiltFrom (raw_bag fragments.items) extensions.now (result_map_both schema_of fault_of result) }
+    {
+        let parts = build_raw(alloc, fragments, extensions)?;
+        Ok(ValidatorSchema::from_parts(alloc, parts)?)
+    }
+
+    /// The schema that one fragment declares, as [`ValidatorSchema::from_raw_fragments`].
+    pub fn from_schema_frag(
+        alloc: Global,
+        fragment: Fragment<RawName>,
+        extensions: &Extensions,
+    ) -> Result<Self, SchemaError>
+        requires { TypeNamesFit (extension_types extensions.now) }
+        ensures { IsBuiltFrom (raw_fragment fragment) extensions.now (result_map_both schema_of fault_of result) }
+    {
+        let mut fragments = Vec::new(alloc);
+        fragments.push(fragment)?;
+        ValidatorSchema::from_raw_fragments(alloc, fragments, extensions)
+    }
+
+    /// The schema that a definition in the empty namespace declares, as
+    /// [`ValidatorSchema::from_raw_fragments`].
     pub fn from_namespace_def(
         alloc: Global,
         definition: NamespaceDefinition<RawName>,
         extensions: &Extensions,
     ) -> Result<Self, SchemaError>
-        requires part { IsInPart definition }
-        requires names_fit { TypeNamesFit (extension_types extensions.now) }
-        ensures fault { IfErr result (λ error. (fault_of error ≡ want_of_memory)
-            ⊎ IsFault (raw_declarations None definition) extensions.now (fault_of error)) }
-        ensures well_formed { OnOk result (¬ IsIllFormed (raw_declarations None definition) extensions.now) }
-        ensures declared { IfOk result (λ schema.
-            IsDeclaredSchema (raw_declarations None definition) extensions.now (schema_of schema)) }
-        ensures only { IfOk result (λ schema. (other : PlainSchema)
-            → IsDeclaredSchema (raw_declarations None definition) extensions.now other
-            → SameSchema other (schema_of schema)) }
-        ensures admits { IfOk result (λ schema.
-            TypesAdmitTheDeclared (raw_declarations None definition) extensions.now (schema_of schema)) }
-        ensures environments { IfOk result (λ schema.
-            AreDeclaredEnvironments (raw_declarations None definition) extensions.now (schema_of schema)) }
+        requires { TypeNamesFit (extension_types extensions.now) }
+        ensures { IsBuiltFrom (raw_declarations None definition) extensions.now (result_map_both schema_of fault_of result) }
     {
-        // No extension type stands in the part, so none is looked up.
-        let _ = extensions;
-        Ok(ValidatorSchema {
-            entity_types: entity_types(alloc, &definition)?,
-        })
-    }
-
-    /// The entity type of this name, if the schema declares one.
-    pub fn get_entity_type(&self, name: &EntityType) -> Option<&ValidatorEntityType>
-        ensures { option_copied result ≡ entity_type_named self.now (type_name name.now) }
-    {
-        self.entity_types.get(name)
-    }
-
-    /// The entity types, in the order of their names.
-    pub fn entity_types(&self) -> btree_map::Values<'_, EntityType, ValidatorEntityType>
-        ensures { result ≡ map (λ entry. entry.1) (schema_entries self.now) }
-    {
-        self.entity_types.values()
-    }
-
-    /// The names of the entity types, in order.
-    pub fn entity_type_names(&self) -> btree_map::Keys<'_, EntityType, ValidatorEntityType>
-        ensures { result ≡ map (λ entry. entry.0) (schema_entries self.now) }
-    {
-        self.entity_types.keys()
+        let mut definitions = BTreeMap::new(alloc);
+        definitions.insert(None, definition)?;
+        ValidatorSchema::from_schema_frag(alloc, Fragment(definitions), extensions)
     }
 }

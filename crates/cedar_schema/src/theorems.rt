@@ -1,8 +1,14 @@
-//! Laws of schemas: comparisons.
+//! Laws of schemas: comparisons, and what two calls of the builder answer.
 
-ghost use Rattle.std.specs.Prelude.{◌↔◌, IsTrue};
-ghost use Rattle.cedar_schema.specs.ValidatorSchema.{schema_of};
+ghost use Rattle.std.specs.Prelude.{◌≡◌, ◌↔◌, IsTrue, Ok, Err};
+ghost use Rattle.cedar_below.specs.declared.extension.Extensions.{Extensions};
+ghost use Rattle.cedar_declared.specs.Bag.{Bag};
+ghost use Rattle.cedar_declared.specs.Fault.{Fault, want_of_memory};
+ghost use Rattle.cedar_declared.specs.PlainSchema.{PlainSchema};
+ghost use Rattle.cedar_declared.specs.SameBag.{SameBag};
 ghost use Rattle.cedar_declared.specs.SameSchema.{SameSchema};
+ghost use Rattle.cedar_laws.specs.EndToEnd.{IsBuiltFrom};
+ghost use Rattle.cedar_schema.specs.ValidatorSchema.{schema_of};
 ghost use Rattle.cedar_schema.specs.declared.schema.ValidatorSchema.{ValidatorSchema};
 
 use crate::schema::ValidatorSchema;
@@ -12,4 +18,15 @@ use crate::schema::ValidatorSchema;
 pub fn schemas_compare_by_what_they_declare()
     ensures { (a b : ValidatorSchema) → IsTrue (⟦<ValidatorSchema as PartialEq>⟧.eq a b)
         ↔ SameSchema (schema_of a) (schema_of b) }
+{}
+
+/// What is built from declarations that say the same, name by name, is two equal schemas or two refusals,
+/// want of memory aside: whatever the split into fragments, the order, and the order and repeats of
+/// parents, principals and resources.
+pub fn declarations_that_say_the_same_build_equal_schemas()
+    ensures equal { (bag other : Bag) (extensions : Extensions) (a b : ValidatorSchema) → SameBag bag other
+        → IsBuiltFrom bag extensions (Ok (schema_of a)) → IsBuiltFrom other extensions (Ok (schema_of b))
+        → IsTrue (⟦<ValidatorSchema as PartialEq>⟧.eq a b) }
+    ensures refused { (bag other : Bag) (extensions : Extensions) (schema : PlainSchema) (fault : Fault) → SameBag bag other
+        → IsBuiltFrom bag extensions (Ok schema) → IsBuiltFrom other extensions (Err fault) → fault ≡ want_of_memory }
 {}

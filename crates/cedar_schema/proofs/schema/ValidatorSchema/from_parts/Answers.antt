@@ -1,0 +1,12 @@
+use Rattle.std.proofs.Common.{map}
+use Rattle.std.proofs.lemmas.Grind.{merely}
+use Rattle.cedar_below.specs.Entities.{entities_of}
+use Rattle.cedar_entities.specs.ValidatorEntityType.{plain_entry}
+use Rattle.cedar_schema.proofs.schema.ValidatorSchema.from_parts.Goals as goal
+
+pub invariant_of-result : goal.invariant_of-result
+invariant_of-result c = record {
+  entities_of_actions = merely c.requires;
+  environments_of_actions = merely
+      (c.in_ok-environments.ensures (map plain_entry c.args.parts.entity_types.entries) (entities_of c.args.parts.action_entities));
+}

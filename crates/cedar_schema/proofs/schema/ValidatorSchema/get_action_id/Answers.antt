@@ -1,0 +1,9 @@
+use Rattle.std.proofs.Common.{ap, ◌∙◌}
+use Rattle.std.specs.BTreeMap.{get_by}
+use Rattle.cedar_below.proofs.Uids.{entity_uid_ord-uid_cmp}
+use Rattle.cedar_schema.proofs.schema.ValidatorSchema.get_action_id.Goals as goal
+
+pub returns : goal.returns
+returns c =
+    c.get.ensures.value
+    ∙ ap (λ compare. get_by compare c.args.self.now.actions) (λ i key. entity_uid_ord-uid_cmp c.args.uid.now key i)

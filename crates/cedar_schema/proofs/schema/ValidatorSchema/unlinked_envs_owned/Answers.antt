@@ -1,0 +1,12 @@
+use Rattle.std.proofs.Common.{map, ap, sym, subst}
+use Rattle.cedar_declared.specs.Environments.{AreEnvironmentsOf}
+use Rattle.cedar_entities.specs.RequestEnv.{owned_environment}
+use Rattle.cedar_laws.proofs.MereLemmas.{known_environments}
+use Rattle.cedar_schema.proofs.schema.ValidatorSchema.unlinked_envs_owned.Goals as goal
+use Rattle.cedar_schema.specs.ValidatorSchema.{schema_of}
+
+pub returns : goal.returns
+returns c =
+    let schema = c.args.self.now in
+    let known = known_environments (schema_of schema) (map owned_environment schema.environments.items) schema.environments_of_actions in
+    rw (c.deref.ensures.value) known
