@@ -1,4 +1,4 @@
-//! Shows the schemas of some built-in cases as sorted lines.
+//! Shows the schemas of some built-in cases as sorted lines, and joins of some types.
 #![tactic(auto)]
 
 use std::alloc::AllocGlobal;
@@ -8,7 +8,8 @@ use std::{env, io};
 
 mod cases;
 mod command;
-mod lines;
+mod declaring;
+mod joined;
 mod run;
 #[cfg(test)]
 mod tests;

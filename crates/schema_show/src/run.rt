@@ -3,17 +3,21 @@
 ghost use Rattle.std.specs.Prelude.{◌≡◌, ◌<◌, ◌↔◌, ◌⊎◌, IfOk, OnErr, map, string_bytes};
 ghost use Rattle.schema_show.specs.Words.{IsCommand};
 
-use crate::cases::{sample_extensions, shapes};
+use crate::cases::{fragments_of, sample_extensions};
 use crate::command::{Case, Command, command_of};
-use crate::lines::{lines_of, text_of};
+use crate::joined::joined;
 use cedar_schema::below::{M, Memory};
-use cedar_schema::{SchemaError, ValidatorSchema};
+use cedar_schema::{JoinError, SchemaError, Type, ValidatorSchema};
+use schema_lines::lines_of;
 use std::alloc::Global;
 use std::io;
 use std::io::Write;
 
 /// How to call the program.
 const USAGE: &str = "usage: schema_show list | show CASE | join MODE A B\n";
+
+/// The names of the built-in cases, one a line.
+const LIST: &str = "alias\nboth\ncycle\nempty\nlinked\nphotos\nring\nshadow\nshapes\nsplit\ntint\n";
 
 /// What is printed, and the status that goes with it.
 #[derive(Drop)]
@@ -24,17 +28,9 @@ pub(crate) struct Outcome {
 
 /// The schema of a case.
 fn schema_of(alloc: Global, case: Case) -> Result<ValidatorSchema, SchemaError> {
-    let definition = match case {
-        Case::Shapes => shapes(alloc)?,
-    };
     let extensions = sample_extensions(alloc)?;
-    if definition.in_part() && extensions.type_names_fit() {
-        ValidatorSchema::from_namespace_def(alloc, definition, &extensions)
-    } else {
-        Err(SchemaError::UnsupportedFeature(
-            cedar_schema::UnsupportedFeature::OpenRecordsAndEntities,
-        ))
-    }
+    let fragments = fragments_of(alloc, case)?;
+    ValidatorSchema::from_raw_fragments(alloc, fragments, &extensions)
 }
 
 /// The lines of a schema, or the line that says how it was refused.
@@ -46,7 +42,7 @@ pub(crate) fn lines_or_refusal(
 {
     match built {
         Ok(schema) => Ok(Outcome {
-            text: text_of(alloc, &lines_of(alloc, &schema)?)?,
+            text: lines_of(alloc, &schema)?,
             status: 0,
         }),
         Err(SchemaError::Memory(refused)) => Err(refused),
@@ -60,16 +56,36 @@ pub(crate) fn lines_or_refusal(
     }
 }
 
+/// The line of a join, or the line that says how it was refused.
+fn join_or_refusal(alloc: Global, joined: Result<Type, JoinError>) -> M<Outcome>
+    ensures { IfOk result (λ outcome. outcome.status < 2) }
+{
+    match joined {
+        Ok(ty) => Ok(Outcome {
+            text: format!(in alloc; "{ty}\n")?,
+            status: 0,
+        }),
+        Err(JoinError::Memory) => Err(Memory),
+        Err(JoinError::Help(help)) => Ok(Outcome {
+            text: format!(in alloc; "refused: {help}\n")?,
+            status: 1,
+        }),
+    }
+}
+
 /// What a command prints.
 fn outcome_of(alloc: Global, command: Command) -> M<Outcome>
     ensures { IfOk result (λ outcome. outcome.status < 2) }
 {
     match command {
         Command::List => Ok(Outcome {
-            text: String::from_str(alloc, "shapes\n")?,
+            text: String::from_str(alloc, LIST)?,
             status: 0,
         }),
         Command::Show(case) => lines_or_refusal(alloc, schema_of(alloc, case)),
+        Command::Join(mode, first, second) => {
+            join_or_refusal(alloc, joined(alloc, mode, first, second))
+        }
     }
 }
 
@@ -94,7 +110,7 @@ pub(crate) fn finish<O: Write, E: Write>(outcome: M<Outcome>, out: &mut O, err: 
 /// Does what the words say, and answers the status.
 ///
 /// - 0: what was asked for is printed on `out`.
-/// - 1: the schema was refused; `out` has the line `refused: KIND`.
+/// - 1: the schema or the join was refused; `out` has the line `refused: KIND`.
 /// - 2: the words give no command; `err` has the line on usage.
 /// - 3: memory was wanting; `err` has the line `memory`, and nothing was printed on `out`.
 /// - 4: `out` couldn't be written.

@@ -3,7 +3,7 @@
 use crate::run::{finish, lines_or_refusal, run, unread};
 use cedar_schema::SchemaError;
 use cedar_schema::below::Memory;
-use std::alloc::Global;
+use std::alloc::{AllocGlobal, Global};
 use std::io;
 use std::io::Write;
 use std::test::Fail;
@@ -25,6 +25,57 @@ impl Write for Broken {
 /// The line on how to call the program.
 const USAGE_LINE: &str = "usage: schema_show list | show CASE | join MODE A B\n";
 
+/// The names of the cases.
+const CASES: &str =
+    "alias\nboth\ncycle\nempty\nlinked\nphotos\nring\nshadow\nshapes\nsplit\ntint\n";
+
+/// The lines of the case `alias`.
+const ALIAS_LINES: &str = "attr U a: String
+attr U b: String
+attr U c: String
+entity String standard
+entity U standard
+";
+
+/// The lines of the case `both`.
+const BOTH_LINES: &str = "attr N::U t: Long
+attr N::U u: N::T
+descendant N::T N::U
+entity N::T standard
+entity N::U standard
+";
+
+/// The lines of the case `linked`.
+const LINKED_LINES: &str = "attr User age: Long
+descendant Group User
+descendant Team User
+entity Group standard
+entity Team standard
+entity User standard
+";
+
+/// The lines of the cases `photos` and `split`.
+const PHOTOS_LINES: &str = "action Action::\"view_photo\" defined
+context Action::\"view_photo\" {}
+descendant Album Photo
+descendant Group User
+entity Album standard
+entity Group standard
+entity Photo standard
+entity User standard
+env Group Action::\"view_photo\" Photo
+env User Action::\"view_photo\" Photo
+";
+
+/// The lines of the case `ring`.
+const RING_LINES: &str = "descendant A A
+descendant A B
+descendant B A
+descendant B B
+entity A standard
+entity B standard
+";
+
 /// The lines of the case `shapes`.
 const SHAPES_LINES: &str = "attr Team lead: User
 attr User age: Long
@@ -43,19 +94,109 @@ fn words_of(alloc: Global, texts: &[&str]) -> Result<Vec<String>, Fail> {
     Ok(words)
 }
 
+/// Runs the program on some words, and compares its status and what it prints.
+fn check_run<R: AllocGlobal>(rt: &R, texts: &[&str], status: u8, want: &str) -> Result<(), Fail> {
+    let alloc = rt.alloc();
+    let (mut out, mut err) = (Vec::new(alloc), Vec::new(alloc));
+    let answered = run(alloc, &words_of(alloc, texts)?, &mut out, &mut err);
+    if answered != status || out.as_slice() != want.as_bytes() || !err.is_empty() {
+        return Err(Fail::from(want));
+    }
+    Ok(())
+}
+
 #[test]
 fn commands_print_what_they_name(rt: HostRuntime) -> Result<(), Fail> {
-    let alloc = rt.alloc();
-    let cases: [(&[&str], &str); 2] = [
-        (&["list"], "shapes\n"),
-        (&["show", "shapes"], SHAPES_LINES),
-    ];
-    for (texts, want) in cases {
-        let (mut out, mut err) = (Vec::new(alloc), Vec::new(alloc));
-        let status = run(alloc, &words_of(alloc, texts)?, &mut out, &mut err);
-        assert_eq!(rt; status, 0, "at {want}");
-        assert_eq!(rt; out.as_slice(), want.as_bytes(), "at {want}");
-        assert!(rt; err.is_empty(), "at {want}");
+    check_run(&rt, &["list"], 0, CASES)?;
+    for (case, status, want) in [
+        ("alias", 0, ALIAS_LINES),
+        ("both", 0, BOTH_LINES),
+        ("cycle", 1, "refused: CycleInCommonTypeReferences\n"),
+        ("empty", 0, ""),
+        ("linked", 0, LINKED_LINES),
+        ("photos", 0, PHOTOS_LINES),
+        ("ring", 0, RING_LINES),
+        ("shadow", 1, "refused: TypeShadowing\n"),
+        ("shapes", 0, SHAPES_LINES),
+        ("split", 0, PHOTOS_LINES),
+        ("tint", 1, "refused: ExternalWithEnumAncestor\n"),
+    ] {
+        check_run(&rt, &["show", case], status, want)?;
+    }
+    Ok(())
+}
+
+#[test]
+fn joins_print_their_text(rt: HostRuntime) -> Result<(), Fail> {
+    for (mode, first, second, status, want) in [
+        ("strict", "true", "false", 0, "Bool\n"),
+        ("permissive", "set-bool", "set-long", 1, "refused: None\n"),
+        (
+            "strict",
+            "any-set",
+            "set-long",
+            0,
+            "Set<__cedar::internal::Any>\n",
+        ),
+        (
+            "permissive",
+            "r1",
+            "unit",
+            0,
+            "__cedar::internal::OpenRecord{}\n",
+        ),
+        ("strict", "r1", "unit", 1, "refused: RecordWidth\n"),
+        (
+            "strict",
+            "any-record",
+            "unit",
+            0,
+            "__cedar::internal::OpenRecord{}\n",
+        ),
+        ("strict", "any-record", "r3", 1, "refused: RecordWidth\n"),
+        (
+            "permissive",
+            "unit",
+            "opt",
+            0,
+            "__cedar::internal::OpenRecord{}\n",
+        ),
+        ("strict", "foo", "any-entity", 1, "refused: EntityType\n"),
+        (
+            "strict",
+            "never",
+            "r1",
+            0,
+            "{bar: Long,foo: __cedar::internal::False,}\n",
+        ),
+        (
+            "permissive",
+            "r1",
+            "r2",
+            0,
+            "__cedar::internal::OpenRecord{bar: Long,}\n",
+        ),
+        ("strict", "r1", "r2", 1, "refused: None\n"),
+        (
+            "permissive",
+            "foo",
+            "bar",
+            0,
+            "__cedar::internal::Union<Bar, Foo>\n",
+        ),
+        ("permissive", "bool", "string", 1, "refused: None\n"),
+        (
+            "permissive",
+            "any-entity",
+            "any-record",
+            1,
+            "refused: EntityRecord\n",
+        ),
+        ("permissive", "opt", "opt", 0, "{y?: Long,}\n"),
+        ("strict", "r2", "r2", 0, "{bar: Long,foo: String,}\n"),
+        ("strict", "long", "long", 0, "Long\n"),
+    ] {
+        check_run(&rt, &["join", mode, first, second], status, want)?;
     }
     Ok(())
 }
@@ -63,7 +204,7 @@ fn commands_print_what_they_name(rt: HostRuntime) -> Result<(), Fail> {
 #[test]
 fn other_words_are_answered_by_the_usage(rt: HostRuntime) -> Result<(), Fail> {
     let alloc = rt.alloc();
-    let cases: [(&str, &[&str]); 12] = [
+    let cases: [(&str, &[&str]); 15] = [
         ("no words", &[]),
         ("an empty word", &[""]),
         ("an unknown command", &["draw"]),
@@ -75,9 +216,12 @@ fn other_words_are_answered_by_the_usage(rt: HostRuntime) -> Result<(), Fail> {
         ("a case in another case", &["show", "Shapes"]),
         ("a further word of show", &["show", "shapes", "shapes"]),
         ("words in another order", &["shapes", "show"]),
+        ("an unknown mode", &["join", "Strict", "true", "false"]),
+        ("an unknown type", &["join", "strict", "true", "text"]),
+        ("a missing type", &["join", "strict", "true"]),
         (
-            "joins, which aren't there yet",
-            &["join", "strict", "true", "false"],
+            "a further word of join",
+            &["join", "strict", "true", "false", "bool"],
         ),
     ];
     for (place, texts) in cases {

@@ -1,0 +1,11 @@
+use Rattle.std.specs.Prelude.{[], codes}
+use Rattle.cedar_below.specs.PlainName.{PlainName}
+use Rattle.cedar_below.specs.Text.{Text}
+
+-- the name that a text spells, without a path
+abbrev pub bare_name : Text → PlainName
+bare_name text = record { base = text; path = [] }
+
+-- the name of the type of the sample extension
+abbrev pub sample_type : PlainName
+sample_type = bare_name (codes "ipaddr")
