@@ -3,8 +3,6 @@
 #![tactic(auto)]
 
 #[cfg(test)]
-mod built;
-#[cfg(test)]
 mod common;
 #[cfg(test)]
 mod common_types;

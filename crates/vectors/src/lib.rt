@@ -1,7 +1,37 @@
-//! Worked rows: what the public calls of the schema layer answer on small inputs.
+//! Worked rows: what the builder of schemas answers on small declarations, in every order and split.
 #![tactic(auto)]
 
 #[cfg(test)]
-mod declarations;
+mod actions;
 #[cfg(test)]
-mod one_namespace;
+mod answers;
+#[cfg(test)]
+mod calls;
+#[cfg(test)]
+mod entries;
+#[cfg(test)]
+mod kinds;
+#[cfg(test)]
+mod large;
+#[cfg(test)]
+mod locations;
+#[cfg(test)]
+mod names;
+#[cfg(test)]
+mod orders;
+#[cfg(test)]
+mod refusals;
+#[cfg(test)]
+mod refused;
+#[cfg(test)]
+mod reserved;
+#[cfg(test)]
+mod rows;
+#[cfg(test)]
+mod same;
+#[cfg(test)]
+mod shorthand;
+#[cfg(test)]
+mod tried;
+#[cfg(test)]
+mod types;

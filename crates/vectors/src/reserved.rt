@@ -1,0 +1,120 @@
+//! Declarations in reserved namespaces, which no fragment of plain data can hold.
+
+use crate::answers::{answer_text, sample_extensions};
+use crate::names::internal_name;
+use crate::orders::taken_apart;
+use crate::shorthand::{declare, nothing, placed};
+use cedar_schema::below::InternalName;
+use cedar_schema::json_schema::ConditionalName;
+use cedar_schema::namespace::{ValidatorNamespaceDef, ValidatorSchemaFragment};
+use cedar_schema::{SchemaError, ValidatorSchema};
+use std::alloc::Global;
+use std::test::Fail;
+
+/// A fragment whose names say what they may stand for.
+type Conditional = ValidatorSchemaFragment<ConditionalName, ConditionalName>;
+
+/// The namespace of a text, which may be reserved, or None for no text.
+fn within(alloc: Global, text: &str) -> Result<Option<InternalName>, Fail> {
+    if text.is_empty() {
+        return Ok(None);
+    }
+    Ok(Some(internal_name(alloc, text)?))
+}
+
+/// The fragment of one declaration in its namespace, or its refusal.
+fn conditional(alloc: Global, text: &str) -> Result<Result<Conditional, SchemaError>, Fail> {
+    let (namespace, declaration) = placed(text);
+    let mut definition = nothing(alloc);
+    declare(alloc, &mut definition, declaration.ok_or("no declaration")?)?;
+    let namespace = within(alloc, namespace)?;
+    match ValidatorNamespaceDef::from_namespace_definition(alloc, namespace, definition) {
+        Ok(definition) => { Ok(Ok(ValidatorSchemaFragment::from_namespaces(alloc, [definition])?)) }
+        Err(refused) => Ok(Err(refused)),
+    }
+}
+
+/// A fragment of each declaration of a text, or the first refusal.
+fn conditionals(alloc: Global, text: &str) -> Result<Result<Vec<Conditional>, SchemaError>, Fail> {
+    let mut fragments = Vec::new(alloc);
+    for declaration in taken_apart(alloc, &[text])? {
+        match conditional(alloc, declaration)? {
+            Ok(fragment) => fragments.push(fragment)?,
+            Err(refused) => return Ok(Err(refused)),
+        }
+    }
+    Ok(Ok(fragments))
+}
+
+/// What is built of the declarations of a text, each in a fragment of its own.
+fn build_each(alloc: Global, text: &str) -> Result<Result<ValidatorSchema, SchemaError>, Fail> {
+    let extensions = sample_extensions(alloc)?;
+    if !extensions.type_names_fit() {
+        return Err(Fail::from("unfit extension types"));
+    }
+    match conditionals(alloc, text)? {
+        Ok(fragments) => Ok(ValidatorSchema::from_schema_fragments(alloc, fragments, &extensions)),
+        Err(refused) => Ok(Err(refused)),
+    }
+}
+
+/// Declarations, and the answers that are allowed, with ` or ` between them.
+const ROWS: &[(&str, &str)] = &[
+    ("__cedar: entity X", "refused: ReservedName __cedar::X"),
+    (
+        "__cedar: external entity X",
+        "refused: ReservedName __cedar::X",
+    ),
+    (
+        "__cedar: entity X enum red",
+        "refused: ReservedName __cedar::X",
+    ),
+    (
+        "N::__cedar: action a",
+        "refused: ReservedName N::__cedar::Action",
+    ),
+    (
+        "__cedar::N: external action a",
+        "refused: ReservedName __cedar::N::Action",
+    ),
+    (
+        "__cedar: entity Action",
+        "refused: ActionEntityTypeDeclared __cedar::Action or refused: ReservedName __cedar::Action",
+    ),
+    ("__cedar: type Foo = Long", ""),
+    (
+        "__cedar: type ipaddr = Long",
+        "refused: DuplicateCommonType __cedar::ipaddr",
+    ),
+    ("N::__cedar: type ipaddr = Long", ""),
+    (
+        "__cedar: type Foo = n:Long; N: entity U {a: n:__cedar::Foo}",
+        "attr N::U a: Long; entity N::U standard",
+    ),
+    (
+        "__cedar: type Foo = Long; entity U {a: n:Foo}",
+        "refused: TypeNotDefined Foo",
+    ),
+    (
+        "__cedar: type Foo = Long; entity Foo; N: entity U in Foo",
+        "descendant Foo N::U; entity Foo standard; entity N::U standard",
+    ),
+    (
+        "__cedar: type Foo = n:Bar; __cedar: type Bar = n:Foo; type Foo = Long",
+        "refused: CycleInCommonTypeReferences __cedar::Foo or refused: CycleInCommonTypeReferences __cedar::Bar",
+    ),
+    ("N: entity X", "entity N::X standard"),
+];
+
+#[test]
+fn reserved_namespaces_hold_common_types_alone(rt: HostRuntime) -> Result<(), Fail> {
+    let alloc = rt.alloc();
+    for (text, allowed) in ROWS {
+        let answer = answer_text(alloc, &build_each(alloc, text)?)?;
+        let answered = allowed
+            .split(" or ")
+            .any(|wanted| wanted == answer.as_str());
+        assert!(rt; answered, "{text}: {answer}");
+    }
+    Ok(())
+}

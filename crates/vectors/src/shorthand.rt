@@ -1,0 +1,161 @@
+//! Fragments that a short form of text spells, as plain data.
+//!
+//! Declarations stand between `;`, and fragments between `|`. Inside one fragment `|` parts declarations
+//! as `;` does. A declaration in a namespace begins with the namespace's name and a colon.
+//!
+//! - `entity U in A,N::B {a: n:T, b?: Set<Long>} tags e:V`, `entity U shape c:S`, `entity U enum red,green`
+//! - `type T = {x?: n:Long}`
+//! - `action view in all,N::Action::read P A,B R C context {a: Long} attributes`, with `-` for no types
+//! - `external` before `entity` or `action`
+//! - `N::M: entity U`, or `N::M:` for a namespace that declares nothing
+//!
+//! A text that spells none of these fails by name.
+
+use crate::entries::{action, entity_type, id_text};
+use crate::names::{namespace, unreserved_id};
+use crate::types::written_type;
+use cedar_schema::json_schema::{CommonType, CommonTypeId, Fragment, NamespaceDefinition, RawName};
+use std::alloc::Global;
+use std::collections::BTreeMap;
+use std::test::Fail;
+
+/// A definition that declares nothing.
+pub(crate) fn nothing(alloc: Global) -> NamespaceDefinition<RawName> {
+    NamespaceDefinition {
+        common_types: BTreeMap::new(alloc),
+        entity_types: BTreeMap::new(alloc),
+        actions: BTreeMap::new(alloc),
+        loc: None,
+    }
+}
+
+/// Declares the common type `T = type`. Answers whether its name is new.
+fn add_common_type(
+    alloc: Global,
+    definition: &mut NamespaceDefinition<RawName>,
+    text: &str,
+) -> Result<bool, Fail> {
+    let Some((name, body)) = text.split_once(" = ") else {
+        return Err(Fail::new(format_args!("no body: {text}")));
+    };
+    let id = CommonTypeId::new(unreserved_id(alloc, name)?).ok_or("a word of Cedar's own")?;
+    let declared = CommonType {
+        ty: written_type(alloc, body)?,
+        loc: None,
+    };
+    let old = definition.common_types.insert(id, declared)?;
+    Ok(old.is_none())
+}
+
+/// Declares an entity type. Answers whether its name is new.
+fn add_entity_type(
+    alloc: Global,
+    definition: &mut NamespaceDefinition<RawName>,
+    text: &str,
+    external: bool,
+) -> Result<bool, Fail> {
+    let (name, declared) = entity_type(alloc, text, external)?;
+    let id = unreserved_id(alloc, name)?;
+    let old = definition.entity_types.insert(id, declared)?;
+    Ok(old.is_none())
+}
+
+/// Declares an action. Answers whether its id is new.
+fn add_action(
+    alloc: Global,
+    definition: &mut NamespaceDefinition<RawName>,
+    text: &str,
+    external: bool,
+) -> Result<bool, Fail> {
+    let (id, declared) = action(alloc, text, external)?;
+    let id = id_text(alloc, id)?;
+    let old = definition.actions.insert(id, declared)?;
+    Ok(old.is_none())
+}
+
+/// Adds a declaration without its namespace to a definition. Answers whether its id is new there.
+pub(crate) fn declare(
+    alloc: Global,
+    definition: &mut NamespaceDefinition<RawName>,
+    text: &str,
+) -> Result<bool, Fail> {
+    if let Some(rest) = text.strip_prefix("entity ") {
+        return add_entity_type(alloc, definition, rest, false);
+    }
+    if let Some(rest) = text.strip_prefix("external entity ") {
+        return add_entity_type(alloc, definition, rest, true);
+    }
+    if let Some(rest) = text.strip_prefix("type ") {
+        return add_common_type(alloc, definition, rest);
+    }
+    if let Some(rest) = text.strip_prefix("action ") {
+        return add_action(alloc, definition, rest, false);
+    }
+    if let Some(rest) = text.strip_prefix("external action ") {
+        return add_action(alloc, definition, rest, true);
+    }
+    Err(Fail::new(format_args!("no declaration: {text}")))
+}
+
+/// The text of a declaration's namespace, and the declaration, which is missing only after a namespace.
+pub(crate) fn placed(text: &str) -> (&str, Option<&str>) {
+    let (word, rest) = match text.split_once(' ') {
+        Some((word, rest)) => (word, Some(rest)),
+        None => (text, None),
+    };
+    match word.strip_suffix(':') {
+        Some(within) => (within, rest),
+        None => ("", Some(text)),
+    }
+}
+
+/// Adds a declaration to the definition of its namespace. Answers whether its id is new there.
+fn add_declaration(
+    alloc: Global,
+    fragment: &mut Fragment<RawName>,
+    text: &str,
+) -> Result<bool, Fail> {
+    let (within, declaration) = placed(text);
+    let within = namespace(alloc, within)?;
+    let definition = fragment.0.entry(within)?.or_insert_with(|| nothing(alloc));
+    match declaration {
+        Some(declaration) => declare(alloc, definition, declaration),
+        None => Ok(true),
+    }
+}
+
+/// Adds the declarations that stand between `;`. Answers whether each of their ids is new.
+fn add_declarations(
+    alloc: Global,
+    fragment: &mut Fragment<RawName>,
+    text: &str,
+) -> Result<bool, Fail> {
+    let mut fresh = true;
+    for declaration in text.split(';') {
+        fresh = add_declaration(alloc, fragment, declaration.trim())? && fresh;
+    }
+    Ok(fresh)
+}
+
+/// The one fragment of all declarations of a text, or None where one of its definitions would declare
+/// an id twice.
+pub(crate) fn fragment_of(alloc: Global, text: &str) -> Result<Option<Fragment<RawName>>, Fail> {
+    let mut fragment = Fragment(BTreeMap::new(alloc));
+    let mut fresh = true;
+    for piece in text.split('|') {
+        fresh = add_declarations(alloc, &mut fragment, piece)? && fresh;
+    }
+    Ok(if fresh { Some(fragment) } else { None })
+}
+
+/// A fragment of each text. A definition that would declare an id twice fails by its fragment's text.
+pub(crate) fn fragments_of(alloc: Global, texts: &[&str]) -> Result<Vec<Fragment<RawName>>, Fail> {
+    let mut fragments = Vec::new(alloc);
+    for text in texts {
+        match fragment_of(alloc, text)? {
+            Some(fragment) => fragments.push(fragment)?,
+            None => return Err(Fail::new(format_args!("an id twice: {text}"))),
+        }
+    }
+    Ok(fragments)
+}
