@@ -2,7 +2,7 @@
 
 use crate::test_values::{entity_type, sample, text};
 use cedar_below::{Eid, Loc, NonEmpty};
-use cedar_entities::{ValidatorEntityType, ValidatorEntityTypeKind};
+use cedar_entities::ValidatorEntityType;
 use cedar_types::{Attributes, OpenTag, Type};
 use std::alloc::Global;
 use std::test::Fail;
@@ -58,57 +58,6 @@ fn external(alloc: Global) -> Result<ValidatorEntityType, Fail> {
         Vec::new(alloc),
         None,
     )?)
-}
-
-#[test]
-fn standard_entity_types_give_back_their_attributes(rt: HostRuntime) -> Result<(), Fail> {
-    let alloc = rt.alloc();
-    let user = standard(alloc)?;
-    assert_eq!(rt; *user.attributes(), attributes(alloc)?);
-    assert!(rt; user.attr("a").is_some());
-    assert!(rt; user.attr("c").is_none());
-    assert_eq!(rt; user.open_attributes(), OpenTag::OpenAttributes);
-    assert!(rt; user.tag_type() == Some(&Type::Long));
-    Ok(())
-}
-
-#[test]
-fn standard_entity_types_give_back_their_descendants(rt: HostRuntime) -> Result<(), Fail> {
-    let alloc = rt.alloc();
-    let user = standard(alloc)?;
-    assert_eq!(rt; user.loc, Some(PLACE));
-    assert_eq!(rt; user.descendants.len(), 1);
-    for (word, below) in [("Foo", true), ("Bar", false)] {
-        let ty = entity_type(alloc, word)?;
-        assert_eq!(rt; user.has_descendant_entity_type(&ty), below, "at {word}");
-    }
-    Ok(())
-}
-
-#[test]
-fn enumerated_entity_types_give_back_their_choices(rt: HostRuntime) -> Result<(), Fail> {
-    let color = enumerated(rt.alloc())?;
-    assert!(rt; !color.is_external());
-    assert!(rt; color.attr("a").is_none());
-    assert_eq!(rt; color.descendants.len(), 2);
-    let ValidatorEntityTypeKind::Enum(choices) = &color.kind else {
-        return Err("no enumerated entity type")?;
-    };
-    assert_eq!(rt; choices.head.as_str(), "red");
-    assert_eq!(rt; choices.tail.len(), 1);
-    Ok(())
-}
-
-#[test]
-fn external_entity_types_have_no_attributes(rt: HostRuntime) -> Result<(), Fail> {
-    let alloc = rt.alloc();
-    let elsewhere = external(alloc)?;
-    assert!(rt; elsewhere.is_external());
-    assert_eq!(rt; *elsewhere.attributes(), Attributes::empty(alloc)?);
-    assert_eq!(rt; elsewhere.open_attributes(), OpenTag::ClosedAttributes);
-    assert!(rt; elsewhere.tag_type().is_none());
-    assert_eq!(rt; *elsewhere.name(), entity_type(alloc, "Elsewhere")?);
-    Ok(())
 }
 
 /// The entity type of a word for its kind.

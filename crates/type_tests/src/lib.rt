@@ -8,9 +8,9 @@ mod attributes;
 #[cfg(test)]
 mod entity_types;
 #[cfg(test)]
-mod hierarchy;
-#[cfg(test)]
 mod joins;
+#[cfg(test)]
+mod requests;
 #[cfg(test)]
 mod subtyping;
 #[cfg(test)]
