@@ -95,15 +95,24 @@ fn check_text(row: &Row, answer: &str) -> Result<(), Fail> {
     Err(Fail::new(format_args!("{}: {answer}", row.name)))
 }
 
-/// Compares what is built of fragments with what the row wants.
-fn check_answer(alloc: Global, row: &Row, fragments: Vec<Fragment<RawName>>) -> Result<(), Fail> {
-    let built = build(alloc, fragments)?;
-    let answer = answer_text(alloc, &built)?;
+/// Compares what was built with what the row wants.
+fn check_built(
+    alloc: Global,
+    row: &Row,
+    built: &Result<ValidatorSchema, SchemaError>,
+) -> Result<(), Fail> {
+    let answer = answer_text(alloc, built)?;
     check_text(row, answer.as_str())?;
-    match &built {
+    match built {
         Ok(schema) => check_equal(row, schema),
         Err(_) => Ok(()),
     }
+}
+
+/// Compares what is built of fragments with what the row wants.
+fn check_answer(alloc: Global, row: &Row, fragments: Vec<Fragment<RawName>>) -> Result<(), Fail> {
+    let built = build(alloc, fragments)?;
+    check_built(alloc, row, &built)
 }
 
 /// Compares the answer for each order of some fragments.

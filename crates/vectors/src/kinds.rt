@@ -1,9 +1,7 @@
 //! Each kind of refusal alone, made as small as it can be, beside a near input that is accepted.
 //! Reserved names are refused in a module of their own.
 
-use crate::answers::{answer_text, build, check_row};
-use crate::orders::as_written;
-use crate::shorthand::fragments_of;
+use crate::answers::check_row;
 use std::alloc::Global;
 use std::test::Fail;
 
@@ -150,24 +148,9 @@ const BETWEEN: &[Near] = &[
     ),
 ];
 
-/// Compares the kind of the refusal of declarations, as they are written.
-fn check_kind(alloc: Global, kind: &str, text: &str) -> Result<(), Fail> {
-    let texts = as_written(alloc, text)?;
-    let fragments = fragments_of(alloc, &texts)?;
-    let built = build(alloc, fragments)?;
-    match &built {
-        Err(refused) if refused.kind() == kind => Ok(()),
-        _ => {
-            let answer = answer_text(alloc, &built)?;
-            Err(Fail::new(format_args!("{kind}: {answer}")))
-        }
-    }
-}
-
 /// Compares each refusal and each schema beside it.
 fn check_near(alloc: Global, table: &[Near]) -> Result<(), Fail> {
     for (kind, refused, refusal, accepted, lines) in table {
-        check_kind(alloc, kind, refused)?;
         check_row(alloc, kind, refused, refusal)?;
         check_row(alloc, kind, accepted, lines)?;
     }
