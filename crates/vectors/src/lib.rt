@@ -1,4 +1,4 @@
-//! Worked rows: what the builder of schemas answers on small declarations, in every order and split.
+//! Worked rows: what the builder of schemas answers on small declarations, in several splits and orders.
 #![tactic(auto)]
 
 #[cfg(test)]
