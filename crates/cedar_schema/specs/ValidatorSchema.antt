@@ -8,10 +8,8 @@ use Rattle.cedar_below.specs.PlainName.{PlainName, name_cmp}
 use Rattle.cedar_below.specs.PlainUid.{PlainUid, uid_cmp}
 use Rattle.cedar_below.specs.declared.entity_type.EntityType.{EntityType}
 use Rattle.cedar_below.specs.declared.entity_uid.EntityUID.{EntityUID}
-use Rattle.cedar_declared.specs.Environments.{Environment}
 use Rattle.cedar_declared.specs.PlainSchema.{PlainSchema}
 use Rattle.cedar_derived.specs.ActionEntities.{schema_with}
-use Rattle.cedar_entities.specs.RequestEnv.{owned_environment}
 use Rattle.cedar_entities.specs.ValidatorEntityType.{plain_entry}
 use Rattle.cedar_entities.specs.declared.entity_type.ValidatorEntityType.{ValidatorEntityType}
 use Rattle.cedar_schema.specs.declared.schema.ValidatorSchema.{ValidatorSchema}
@@ -36,7 +34,3 @@ action_of_uid schema uid = get_by (λ key. uid_cmp uid (uid_of key)) schema.acti
 abbrev pub schema_of : ValidatorSchema → PlainSchema
 schema_of schema =
     schema_with (map plain_entry schema.entity_types.entries) schema.actions.entries (entities_of schema.action_entities)
-
--- the environments that a schema lists
-abbrev pub listed_environments : ValidatorSchema → List Environment
-listed_environments schema = map owned_environment schema.environments.items

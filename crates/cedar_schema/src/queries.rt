@@ -2,7 +2,7 @@
 
 use crate::schema::ValidatorSchema;
 use cedar_actions::ValidatorActionId;
-use cedar_below::{Entities, EntityType, EntityUID};
+use cedar_below::{EntityType, EntityUID};
 use cedar_entities::{UnlinkedRequestEnv, ValidatorEntityType};
 use std::collections::btree_map;
 
