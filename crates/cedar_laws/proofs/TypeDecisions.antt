@@ -1,8 +1,9 @@
--- Whether two plain types are the same is decided.
+-- Whether two plain types, or two names, uids or texts, are the same is decided.
 use Rattle.std.proofs.Common.{◌≡◌, List, [], ◌∷◌, inl, inr, refl, ap}
-use Rattle.cedar_below.proofs.PlainNames.{name_cmp-Equal}
+use Rattle.cedar_below.proofs.PlainNames.{name_cmp-Equal, uid_cmp-Equal}
 use Rattle.cedar_below.proofs.Texts.{text_cmp-Equal}
 use Rattle.cedar_below.specs.PlainName.{PlainName, name_cmp}
+use Rattle.cedar_below.specs.PlainUid.{PlainUid, uid_cmp}
 use Rattle.cedar_below.specs.Text.{Text, text_cmp}
 use Rattle.cedar_rules.proofs.Decisions.{IsDecided, decide_both, decide_flags, decide_same}
 use Rattle.cedar_rules.specs.Ty.{Ty, never, truth, long, text, any_entity, union_of, any_set, set_of, record_of, extension_of, Fields, end, field}
@@ -28,8 +29,12 @@ decide_lists decide (x ∷ xs) (y ∷ ys) =
 pub decide_names : (a b : PlainName) → IsDecided (a ≡ b)
 decide_names = decide_same name_cmp name_cmp-Equal
 
+-- uids are the same or not
+pub decide_uids : (a b : PlainUid) → IsDecided (a ≡ b)
+decide_uids = decide_same uid_cmp uid_cmp-Equal
+
 -- texts are the same or not
-decide_texts : (a b : Text) → IsDecided (a ≡ b)
+pub decide_texts : (a b : Text) → IsDecided (a ≡ b)
 decide_texts = decide_same text_cmp text_cmp-Equal
 
 -- what is known of a truth value is the same or not

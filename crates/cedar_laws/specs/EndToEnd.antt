@@ -78,7 +78,7 @@ DeclaredTypesHaveTheDeclaredValues = (bag : Bag) (extensions : Extensions) → T
     → ¬ IsIllFormed bag extensions
     → (schema : PlainSchema) → IsDeclaredSchema bag extensions schema → TypesAdmitTheDeclared bag extensions schema
 
--- a law to be proved: a bag that isn't ill-formed declares a schema
+-- a law: a bag that isn't ill-formed declares a schema
 abbrev pub BagsDeclareASchema : Type 0
 BagsDeclareASchema = (bag : Bag) (extensions : Extensions) → TypeNamesFit (extension_types extensions)
     → ¬ IsIllFormed bag extensions
