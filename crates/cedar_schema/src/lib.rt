@@ -10,6 +10,10 @@ pub use cedar_entities::{
 };
 pub use cedar_fragments::{defs, namespace};
 pub use cedar_names::{below, json_schema};
+pub use cedar_queries::{
+    ActionGroups, ActionsFor, Ancestors, ApplicableTypes, CompleteError, IncompleteSchemaError,
+    RequestEnvs, UnresolvedDeclaration, UnresolvedDeclarations,
+};
 pub use cedar_types::{
     AttributeType, Attributes, BoolType, EntityKind, EntityLUB, Entries, JoinError, LubHelp, Names,
     OpenTag, Type,

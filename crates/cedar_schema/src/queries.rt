@@ -2,17 +2,35 @@
 
 use crate::schema::ValidatorSchema;
 use cedar_actions::ValidatorActionId;
-use cedar_below::{EntityType, EntityUID};
+use cedar_below::{Entities, EntityType, EntityUID, Extensions, M, ValidationMode};
+use cedar_derived::action_entities;
 use cedar_entities::{UnlinkedRequestEnv, ValidatorEntityType};
-use std::collections::btree_map;
+use cedar_queries::{
+    ActionGroups, ActionsFor, Ancestors, ApplicableTypes, CompleteError, RequestEnvs,
+    UnresolvedDeclarations,
+};
+use cedar_types::Type;
+use std::alloc::Global;
+use std::collections::{btree_map, hash_set};
 
 impl ValidatorSchema {
-    ghost use Rattle.std.specs.Prelude.{◌≡◌, map};
-    ghost use Rattle.std.specs.Option.{option_copied};
+    ghost use Rattle.std.specs.Prelude.{◌≡◌, ◌≢◌, ◌↔◌, ◌++◌, ◌∷◌, [], All, AllPairs, Any, Contains, IfErr, IfOk, IfSome, IsSome, IsTrue, OnOk, map};
+    ghost use Rattle.std.specs.List.{flat_map};
+    ghost use Rattle.std.specs.Option.{option_copied, option_map};
+    ghost use Rattle.cedar_actions.specs.ActionKind.{kind_principals, kind_resources};
+    ghost use Rattle.cedar_below.specs.Entities.{entities_of};
     ghost use Rattle.cedar_below.specs.EntityType.{type_name};
     ghost use Rattle.cedar_below.specs.EntityUID.{uid_of};
+    ghost use Rattle.cedar_declared.specs.ActionEntities.{AreActionEntities};
     ghost use Rattle.cedar_declared.specs.Environments.{AreEnvironmentsOf};
+    ghost use Rattle.cedar_derived.specs.ActionEntities.{schema_with};
     ghost use Rattle.cedar_entities.specs.RequestEnv.{owned_environment};
+    ghost use Rattle.cedar_queries.specs.Hierarchy.{IsKnownType, MayBeIn, action_descendants, descendants_of, groups, types_above};
+    ghost use Rattle.cedar_queries.specs.Incomplete.{IsIncomplete};
+    ghost use Rattle.cedar_queries.specs.RequestEnvs.{environments_left};
+    ghost use Rattle.cedar_queries.specs.RequestTypes.{action_at, actions_for, all_principals, all_resources, context_at};
+    ghost use Rattle.cedar_queries.specs.Unresolved.{unresolved, unresolved_left};
+    ghost use Rattle.cedar_types.specs.Meaning.{ty_of};
     ghost use Rattle.cedar_schema.specs.ValidatorSchema.{schema_entries, action_entries, entity_type_named, action_of_uid, schema_of};
 
     /// The entity type of this name, if the schema declares one.
@@ -63,5 +81,172 @@ impl ValidatorSchema {
         ensures { AreEnvironmentsOf (schema_of self.now) (map owned_environment result.now) }
     {
         &self.environments
+    }
+
+    /// The environments of the requests that the actions are for, lent: the same in either mode, each
+    /// once.
+    pub fn unlinked_request_envs(&self, _mode: ValidationMode) -> RequestEnvs<'_>
+        ensures { AreEnvironmentsOf (schema_of self.now) (environments_left result) }
+    {
+        RequestEnvs::new(self.unlinked_envs_owned())
+    }
+
+    /// The types of the principals of requests: of each action in turn each once. External actions have
+    /// none.
+    pub fn principals(&self) -> ApplicableTypes<'_>
+        ensures { result ≡ all_principals (schema_of self.now).actions }
+    {
+        cedar_queries::principals(&self.actions)
+    }
+
+    /// The types of the resources of requests: of each action in turn each once. External actions have
+    /// none.
+    pub fn resources(&self) -> ApplicableTypes<'_>
+        ensures { result ≡ all_resources (schema_of self.now).actions }
+    {
+        cedar_queries::resources(&self.actions)
+    }
+
+    /// The types of the principals of an action's requests, each once; of an external action none. None
+    /// where the schema has no action of this uid.
+    pub fn principals_for_action(&self, uid: &EntityUID) -> Option<hash_set::Iter<'_, EntityType>>
+        ensures names { option_map (map type_name) result
+            ≡ option_map (λ it. kind_principals it.kind) (action_at (uid_of uid.now) (schema_of self.now).actions) }
+        ensures once { IfSome result (λ types. AllPairs (λ a b. a ≢ b) (map type_name types)) }
+    {
+        cedar_queries::principals_for_action(&self.actions, uid)
+    }
+
+    /// The types of the resources of an action's requests, each once; of an external action none. None
+    /// where the schema has no action of this uid.
+    pub fn resources_for_action(&self, uid: &EntityUID) -> Option<hash_set::Iter<'_, EntityType>>
+        ensures names { option_map (map type_name) result
+            ≡ option_map (λ it. kind_resources it.kind) (action_at (uid_of uid.now) (schema_of self.now).actions) }
+        ensures once { IfSome result (λ types. AllPairs (λ a b. a ≢ b) (map type_name types)) }
+    {
+        cedar_queries::resources_for_action(&self.actions, uid)
+    }
+
+    /// The uids of the actions that are for requests of this principal with this resource, in order.
+    pub fn actions_for_principal_and_resource<'a>(
+        &'a self,
+        principal: &'a EntityType,
+        resource: &'a EntityType,
+    ) -> ActionsFor<'a>
+        ensures { map uid_of result
+            ≡ actions_for (type_name principal.now) (type_name resource.now) (schema_of self.now).actions }
+    {
+        cedar_queries::actions_for_principal_and_resource(&self.actions, principal, resource)
+    }
+
+    /// The uids of the actions that have descendants, in order.
+    pub fn action_groups(&self) -> ActionGroups<'_>
+        ensures { map uid_of result ≡ groups (schema_of self.now).actions }
+    {
+        cedar_queries::action_groups(&self.actions)
+    }
+
+    /// The type of the context of an action's requests. None where the schema has no action of this uid,
+    /// or has it as external.
+    pub fn context_type(&self, uid: &EntityUID) -> Option<&Type>
+        ensures { option_map ty_of (option_copied result) ≡ context_at (uid_of uid.now) (schema_of self.now).actions }
+    {
+        cedar_queries::context_type(&self.actions, uid)
+    }
+
+    /// Whether the schema has an entity type of this name, or the name is one of actions' types.
+    pub fn is_known_entity_type(&self, name: &EntityType) -> bool
+        ensures { IsTrue result ↔ IsKnownType (schema_of self.now).entity_types (type_name name.now) }
+    {
+        cedar_queries::is_known_entity_type(&self.entity_types, name)
+    }
+
+    /// Whether the schema has an action of this uid.
+    pub fn is_known_action_id(&self, uid: &EntityUID) -> bool
+        ensures { IsTrue result ↔ Contains (map (λ it. it.0) (schema_of self.now).actions) (uid_of uid.now) }
+    {
+        cedar_queries::is_known_action_id(&self.actions, uid)
+    }
+
+    /// The names of the entity types that have this one among their descendants, in order, each once; None
+    /// where the schema has no entity type of this name.
+    pub fn ancestors<'a>(&'a self, ty: &'a EntityType) -> Option<Ancestors<'a>>
+        ensures known { IsSome result ↔ Contains (map (λ it. it.0) (schema_of self.now).entity_types) (type_name ty.now) }
+        ensures names { IfSome result (λ above. map type_name above ≡ types_above (type_name ty.now) (schema_of self.now).entity_types) }
+    {
+        cedar_queries::ancestors(&self.entity_types, ty)
+    }
+
+    /// The names of the descendants of an entity type, in some order, each once, and then its own, which
+    /// stands there twice where it is a descendant of itself. Of an entity type that the schema hasn't just
+    /// its own name. Or want of memory.
+    pub fn get_entity_types_in<'a>(
+        &'a self,
+        alloc: Global,
+        ty: &'a EntityType,
+    ) -> M<Vec<&'a EntityType>>
+        ensures { IfOk result (λ names. map (λ name. type_name name.now) names.items
+            ≡ descendants_of (type_name ty.now) (schema_of self.now).entity_types ++ type_name ty.now ∷ []) }
+    {
+        cedar_queries::entity_types_in(alloc, &self.entity_types, ty)
+    }
+
+    /// For each of some uids in turn the uids of the descendants of its action, in some order, and then the
+    /// uid itself, repeats among them; None where one of them is that of no action of the schema. Or want
+    /// of memory.
+    pub fn get_actions_in_set<'a>(
+        &'a self,
+        alloc: Global,
+        uids: &'a [EntityUID],
+    ) -> M<Option<Vec<&'a EntityUID>>>
+        ensures known { IfOk result (λ answer. IsSome answer
+            ↔ All (λ uid. Contains (map (λ it. it.0) (schema_of self.now).actions) (uid_of uid)) uids.now) }
+        ensures uids { IfOk result (λ answer. IfSome answer (λ all. map (λ it. uid_of it.now) all.items
+            ≡ flat_map (λ uid. action_descendants (uid_of uid) (schema_of self.now).actions ++ uid_of uid ∷ []) uids.now)) }
+    {
+        cedar_queries::actions_in_set(alloc, &self.actions, uids)
+    }
+
+    /// Whether entities of some of the one types may be among or below those of some of the others: one of
+    /// the first is one of the second, or a descendant of it, or the type of a descendant of an action of
+    /// it.
+    pub fn any_descendent_of(&self, lowers: &[EntityType], uppers: &[EntityType]) -> bool
+        ensures { IsTrue result ↔ Any (λ lower. Any (λ upper. MayBeIn (schema_of self.now).entity_types
+            (schema_of self.now).actions (type_name lower) (type_name upper)) uppers.now) lowers.now }
+    {
+        cedar_queries::any_descendent_of(&self.entity_types, &self.actions, lowers, uppers)
+    }
+
+    /// What is declared to be elsewhere (RFC 116): the external entity types in order, and then the external
+    /// actions in order.
+    pub fn unresolved_declarations(&self) -> UnresolvedDeclarations<'_>
+        ensures { unresolved_left result ≡ unresolved (schema_of self.now).entity_types (schema_of self.now).actions }
+    {
+        cedar_queries::unresolved_declarations(&self.entity_types, &self.actions)
+    }
+
+    /// Whether nothing is declared to be elsewhere.
+    pub fn is_complete(&self) -> bool
+        ensures { IsTrue result ↔ (unresolved (schema_of self.now).entity_types (schema_of self.now).actions ≡ []) }
+    {
+        cedar_queries::is_complete(&self.entity_types, &self.actions)
+    }
+
+    /// That nothing is declared to be elsewhere; else the error carries what is, in order, with the location of
+    /// the first. Or want of memory.
+    pub fn check_complete(&self, alloc: Global) -> Result<(), CompleteError>
+        ensures complete { OnOk result (unresolved (schema_of self.now).entity_types (schema_of self.now).actions ≡ []) }
+        ensures incomplete { IfErr result (IsIncomplete (schema_of self.now).entity_types (schema_of self.now).actions) }
+    {
+        cedar_queries::check_complete(alloc, &self.entity_types, &self.actions)
+    }
+
+    /// The entities of the actions that the schema defines, by uid: without attributes and tags, each just
+    /// below the actions that list it among their descendants, external ones too. Or want of memory.
+    pub fn action_entities(&self, alloc: Global, _extensions: &Extensions) -> M<Entities>
+        ensures { IfOk result (λ entities. AreActionEntities
+            (schema_with (schema_of self.now).entity_types (action_entries self.now) (entities_of entities))) }
+    {
+        action_entities(alloc, &self.actions)
     }
 }

@@ -1,5 +1,4 @@
-use Rattle.std.proofs.Common.{map, ap, sym, subst}
-use Rattle.cedar_declared.specs.Environments.{AreEnvironmentsOf}
+use Rattle.std.proofs.Common.{map}
 use Rattle.cedar_entities.specs.RequestEnv.{owned_environment}
 use Rattle.cedar_laws.proofs.MereLemmas.{known_environments}
 use Rattle.cedar_schema.proofs.schema.ValidatorSchema.unlinked_envs_owned.Goals as goal

@@ -1,0 +1,7 @@
+pub mod AnyLemmas
+pub mod LentLemmas
+pub mod LookupLemmas
+pub mod NameLemmas
+pub mod RoleLemmas
+pub mod SelectedLemmas
+pub mod UnresolvedLemmas

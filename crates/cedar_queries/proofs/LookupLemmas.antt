@@ -1,0 +1,127 @@
+-- What is found by name or by uid, as plain data.
+use Rattle.std.proofs.Common.{◌≡◌, ◌||◌, Bool, true, false, cond, List, [], ◌∷◌, Option, Some, None, is_some, map, ap, refl, sym, subst, ◌∙◌, Contains}
+use Rattle.std.specs.BTreeMap.{BTreeMap, get_by}
+use Rattle.std.specs.Bool.{Decides}
+use Rattle.std.specs.List.{list_any}
+use Rattle.std.specs.Map.{lookup}
+use Rattle.std.specs.Option.{option_map, unwrap_or}
+use Rattle.std.specs.Ordering.{is_eq}
+use Rattle.cedar_actions.specs.ValidatorActionId.{action_of, plain_action_entry}
+use Rattle.cedar_actions.specs.declared.action_id.ValidatorActionId.{ValidatorActionId}
+use Rattle.cedar_below.proofs.Names.{entity_type_ord-name_cmp}
+use Rattle.cedar_below.proofs.Uids.{entity_uid_ord-uid_cmp}
+use Rattle.cedar_below.specs.EntityType.{type_name}
+use Rattle.cedar_below.specs.EntityUID.{uid_of}
+use Rattle.cedar_below.specs.PlainName.{name_cmp}
+use Rattle.cedar_below.specs.PlainUid.{uid_cmp}
+use Rattle.cedar_below.specs.contracts.entity_type.EntityTypeOrd.TheImpl as type_ord
+use Rattle.cedar_below.specs.contracts.entity_uid.EntityUIDOrd.TheImpl as uid_ord
+use Rattle.cedar_below.specs.declared.entity_type.EntityType.{EntityType}
+use Rattle.cedar_below.specs.declared.entity_uid.EntityUID.{EntityUID}
+use Rattle.cedar_declared.proofs.OccurrenceLemmas.{any_of, name_test, some_of, uid_test}
+use Rattle.cedar_declared.specs.PlainSchema.{SchemaAction, SchemaEntityType}
+use Rattle.cedar_entities.specs.ValidatorEntityType.{descendant_names, entity_type_of, plain_entry}
+use Rattle.cedar_queries.specs.Hierarchy.{action_descendants, descendants_of}
+use Rattle.cedar_queries.specs.RequestTypes.{action_at}
+use Rattle.cedar_entities.specs.declared.entity_type.ValidatorEntityType.{ValidatorEntityType}
+
+-- an entity type as plain data
+abbrev pub plain_type : ValidatorEntityType → SchemaEntityType
+plain_type it = record { name = (entity_type_of it).name; kind = (entity_type_of it).kind; descendants = descendant_names it }
+
+-- what is found among entries in another form is what is found, in that form
+lookup-map : {K V L W : Type 0} (f : K → L) (g : V → W) (test : L → Bool) (entries : List (K × V))
+    → lookup test (map (λ entry. (f entry.0, g entry.1)) entries) ≡ option_map g (lookup (λ key. test (f key)) entries)
+lookup-map f g test [] = refl
+lookup-map {K} {V} {L} {W} f g test (entry ∷ rest) =
+    let others = lookup-map f g test rest in
+    let first : Option V = lookup (λ key. test (f key)) rest in
+    let last : Option W = lookup test (map (λ it. (f it.0, g it.1)) rest) in
+    elim (test (f entry.0)) as (λ b. cond b (Some (g entry.1)) last ≡ option_map g (cond b (Some entry.1) first))
+    [ true ↦ refl | false ↦ others ]
+
+-- something is found exactly where some key passes
+is_some-lookup : {K V : Type 0} (test : K → Bool) (entries : List (K × V))
+    → is_some (lookup test entries) ≡ list_any test (map (λ entry. entry.0) entries)
+is_some-lookup test [] = refl
+is_some-lookup test (entry ∷ rest) =
+    let others = is_some-lookup test rest in
+    elim (test entry.0) as
+    (λ b. is_some (cond b (Some entry.1) (lookup test rest)) ≡ (b || list_any test (map (λ it. it.0) rest)))
+    [ true ↦ refl | false ↦ others ]
+
+-- something is found of a key exactly where it is one of the keys
+found-Decides : {K V : Type 0} (key : K) (test : K → Bool) → ((other : K) → Decides (test other) (key ≡ other))
+    → (entries : List (K × V)) → Decides (is_some (lookup test entries)) (Contains (map (λ entry. entry.0) entries) key)
+found-Decides {K} key test tests entries = (
+  λ found.
+      let some = some_of test (map (λ entry. entry.0) entries) (sym (is_some-lookup test entries) ∙ found) in
+      let P : K → Type 0 = Contains (map (λ entry. entry.0) entries) in
+      subst P (sym ((tests some.0).0 some.2)) some.1,
+  λ among. is_some-lookup test entries ∙ any_of test (map (λ entry. entry.0) entries) key among ((tests key).1 refl),
+)
+
+module _ (types : BTreeMap EntityType ValidatorEntityType) (name : EntityType) where
+  -- the entity type of a name, as plain data
+  pub type_found : lookup (λ other. is_eq (name_cmp (type_name name) other)) (map plain_entry types.entries)
+      ≡ option_map plain_type (get_by ((type_ord.ghosts).cmp name) types)
+  type_found =
+      lookup-map type_name plain_type (λ other. is_eq (name_cmp (type_name name) other)) types.entries
+      ∙ sym (ap (λ compare. option_map plain_type (get_by compare types)) (λ i key. entity_type_ord-name_cmp name key i))
+
+  -- there is one exactly where the name is one of theirs
+  pub type_known : Decides (is_some (get_by ((type_ord.ghosts).cmp name) types))
+      (Contains (map (λ it. it.0) (map plain_entry types.entries)) (type_name name))
+  type_known =
+      let P : Bool → Type 0 = λ b. Decides b (Contains (map (λ it. it.0) (map plain_entry types.entries)) (type_name name)) in
+      subst P (ap is_some type_found ∙ mapped (get_by ((type_ord.ghosts).cmp name) types))
+      (found-Decides (type_name name) (λ other. is_eq (name_cmp (type_name name) other)) (name_test (type_name name))
+      (map plain_entry types.entries))
+    where
+      mapped : (o : Option ValidatorEntityType) → is_some (option_map plain_type o) ≡ is_some o
+      mapped None = refl
+      mapped (Some it) = refl
+
+  -- the descendants of a name are those of the entity type that is found
+  pub descendants_found : (it : ValidatorEntityType) → get_by ((type_ord.ghosts).cmp name) types ≡ Some it
+      → descendants_of (type_name name) (map plain_entry types.entries) ≡ descendant_names it
+  descendants_found it is =
+      ap (λ o. unwrap_or (option_map (λ (each : SchemaEntityType). each.descendants) o) []) (type_found ∙ ap (option_map plain_type) is)
+
+  -- where none is found, there are none
+  pub descendants_none : get_by ((type_ord.ghosts).cmp name) types ≡ None
+      → descendants_of (type_name name) (map plain_entry types.entries) ≡ []
+  descendants_none is =
+      ap (λ o. unwrap_or (option_map (λ (each : SchemaEntityType). each.descendants) o) []) (type_found ∙ ap (option_map plain_type) is)
+
+module _ (actions : BTreeMap EntityUID ValidatorActionId) (uid : EntityUID) where
+  -- the action of a uid, as plain data
+  pub action_found : lookup (λ other. is_eq (uid_cmp (uid_of uid) other)) (map plain_action_entry actions.entries)
+      ≡ option_map action_of (get_by ((uid_ord.ghosts).cmp uid) actions)
+  action_found =
+      lookup-map uid_of action_of (λ other. is_eq (uid_cmp (uid_of uid) other)) actions.entries
+      ∙ sym (ap (λ compare. option_map action_of (get_by compare actions)) (λ i key. entity_uid_ord-uid_cmp uid key i))
+
+  -- what is found at a uid, as plain data
+  pub action_shown : (o : Option ValidatorActionId) → get_by ((uid_ord.ghosts).cmp uid) actions ≡ o
+      → action_at (uid_of uid) (map plain_action_entry actions.entries) ≡ option_map action_of o
+  action_shown o is = action_found ∙ ap (option_map action_of) is
+
+  -- there is one exactly where the uid is one of theirs
+  pub action_known : Decides (is_some (get_by ((uid_ord.ghosts).cmp uid) actions))
+      (Contains (map (λ it. it.0) (map plain_action_entry actions.entries)) (uid_of uid))
+  action_known =
+      let P : Bool → Type 0 = λ b. Decides b (Contains (map (λ it. it.0) (map plain_action_entry actions.entries)) (uid_of uid)) in
+      subst P (ap is_some action_found ∙ mapped (get_by ((uid_ord.ghosts).cmp uid) actions))
+      (found-Decides (uid_of uid) (λ other. is_eq (uid_cmp (uid_of uid) other)) (uid_test (uid_of uid))
+      (map plain_action_entry actions.entries))
+    where
+      mapped : (o : Option ValidatorActionId) → is_some (option_map action_of o) ≡ is_some o
+      mapped None = refl
+      mapped (Some it) = refl
+
+  -- the descendants of a uid are those of the action that is found
+  pub action_descendants_found : (it : ValidatorActionId) → get_by ((uid_ord.ghosts).cmp uid) actions ≡ Some it
+      → action_descendants (uid_of uid) (map plain_action_entry actions.entries) ≡ (action_of it).descendants
+  action_descendants_found it is =
+      ap (λ o. unwrap_or (option_map (λ (each : SchemaAction). each.descendants) o) []) (action_found ∙ ap (option_map action_of) is)

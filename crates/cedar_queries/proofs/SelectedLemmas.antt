@@ -1,0 +1,42 @@
+-- The keys of entries whose values pass a test, one entry after another.
+use Rattle.std.proofs.Common.{◌≡◌, ◌≤◌, Bool, true, false, cond, List, [], ◌∷◌, length, map, ap, refl, arith, ⊎_elim, inl, inr, sym, subst, ◌∙◌, Contains}
+use Rattle.std.specs.List.{filter}
+use Rattle.cedar_below.proofs.Lists.{Contains-cons, Contains-cons_cases}
+use Rattle.cedar_queries.specs.Selected.{keys_where}
+
+-- the keys of entries in another form are the keys in that form
+pub keys_where-map : {K V L W : Type 0} (f : K → L) (g : V → W) (test : W → Bool) (entries : List (K × V))
+    → map f (keys_where (λ value. test (g value)) entries) ≡ keys_where test (map (λ entry. (f entry.0, g entry.1)) entries)
+keys_where-map f g test [] = refl
+keys_where-map {K} {V} {L} {W} f g test (entry ∷ rest) =
+    let others = keys_where-map f g test rest in
+    let first : List (K × V) = filter (λ it. test (g it.1)) rest in
+    let last : List (L × W) = filter (λ it. test it.1) (map (λ it. (f it.0, g it.1)) rest) in
+    elim (test (g entry.1)) as
+    (λ b. map f (map (λ it. it.0) (cond b (entry ∷ first) first)) ≡ map (λ it. it.0) (cond b ((f entry.0, g entry.1) ∷ last) last))
+    [ true ↦ ap (λ keys. f entry.0 ∷ keys) others | false ↦ others ]
+
+-- there are no more keys than entries
+pub few_keys : {K V : Type 0} (test : V → Bool) (entries : List (K × V)) → length (keys_where test entries) ≤ length entries
+few_keys test [] = omega arith
+few_keys {K} test (entry ∷ rest) =
+    let others = few_keys test rest in
+    elim (test entry.1) as
+    (λ b. length (map (λ it. it.0) (cond b (entry ∷ filter (λ it. test it.1) rest) (filter (λ it. test it.1) rest))) ≤ length (entry ∷ rest))
+    [ true ↦ omega (arith, others) | false ↦ omega (arith, others) ]
+
+-- an item of a list that passes a test is kept
+pub Contains-kept : {A : Type 0} (p : A → Bool) (items : List A) (item : A) → Contains items item → p item ≡ true
+    → Contains (filter p items) item
+Contains-kept p [] item among passes = absurd (omega (arith, among.1))
+Contains-kept {A} p (first ∷ rest) item among passes =
+    let P : Bool → Type 0 = λ b. Contains (cond b (first ∷ filter p rest) (filter p rest)) item in
+    ⊎_elim
+    (λ same.
+    let here : p first ≡ true = ap p same ∙ passes in
+    subst P (sym here) (Contains-cons first (filter p rest) item (inl same)))
+    (λ later.
+    let kept = Contains-kept p rest item later passes in
+    elim (p first) as (λ b. Contains (cond b (first ∷ filter p rest) (filter p rest)) item)
+    [ true ↦ Contains-cons first (filter p rest) item (inr kept) | false ↦ kept ])
+    (Contains-cons_cases first rest item among)

@@ -1,0 +1,13 @@
+use Rattle.std.proofs.Common.{◌≡◌, ◌++◌, ◌∷◌, [], All, Contains, map, take}
+use Rattle.std.specs.List.{flat_map}
+use Rattle.cedar_actions.specs.ValidatorActionId.{plain_action_entry}
+use Rattle.cedar_below.specs.EntityUID.{uid_of}
+use Rattle.cedar_queries.specs.Hierarchy.{action_descendants}
+use Rattle.cedar_queries.proofs.descent.actions_in_set.Given as goal
+
+abbrev pub invariant-loop-uid : goal.invariant-loop-uid
+invariant-loop-uid l = record {
+  known : All (λ uid. Contains (map (λ it. it.0) (map plain_action_entry l.actions.entries)) (uid_of uid)) (take l.uid-index l.uids);
+  added : map (λ it. uid_of it.now) l.all.items
+      ≡ flat_map (λ uid. action_descendants (uid_of uid) (map plain_action_entry l.actions.entries) ++ uid_of uid ∷ []) (take l.uid-index l.uids);
+}

@@ -1,0 +1,42 @@
+use Rattle.std.proofs.Common.{ap, map, sym, subst, refl, ◌∙◌, List, ◌↔◌}
+use Rattle.std.proofs.lemmas.Bool.{false≢true}
+use Rattle.cedar_actions.specs.ValidatorActionId.{plain_action_entry}
+use Rattle.cedar_below.proofs.Names.{entity_type_eq-same}
+use Rattle.cedar_below.specs.EntityType.{type_name}
+use Rattle.cedar_below.specs.PlainUid.{PlainUid}
+use Rattle.cedar_declared.specs.PlainSchema.{SchemaAction}
+use Rattle.cedar_queries.proofs.AnyLemmas.{any_finds, any_skips}
+use Rattle.cedar_queries.specs.Hierarchy.{HasActionBelow, HasBelow}
+use Rattle.cedar_queries.proofs.descent.has_action_below.Goals as goal
+use Rattle.cedar_queries.proofs.descent.has_action_below.Goals.{else-eq-via-then-eq+else-has_descendant_of, else-eq-via-else-eq}
+
+pub returns-then-has_descendant_of : goal.returns-then-has_descendant_of
+returns-then-has_descendant_of c =
+    let upper = type_name c.args.upper.now in
+    let lower = type_name c.args.lower.now in
+    let P : List (PlainUid × SchemaAction) → Type 0 = λ left.
+    HasActionBelow (map plain_action_entry c.args.actions.now.entries) upper lower ↔ HasActionBelow left upper lower in
+    let so_far = subst P (ap (map plain_action_entry) c.in-Some.ensures.steps) c.loop-uid.invariant in
+    let same = sym c.entity_type.ensures
+    ∙ (entity_type_eq-same c.entity_type.result.now c.args.upper.now).0 (sym c.eq.ensures ∙ c.if-eq.true) in
+    let below = c.has_descendant_of.ensures.0 c.if-has_descendant_of.true in (
+      λ _. any_finds (HasBelow upper lower) (plain_action_entry (c.in-Some.uid.now, c.in-Some.action.now))
+          (map plain_action_entry c.next.new.self) so_far (same, below),
+      λ _. refl,
+    )
+
+pub loop-uid-preserved : goal.loop-uid-preserved
+loop-uid-preserved c =
+    let upper = type_name c.args.upper.now in
+    let lower = type_name c.args.lower.now in
+    let P : List (PlainUid × SchemaAction) → Type 0 = λ left.
+    HasActionBelow (map plain_action_entry c.args.actions.now.entries) upper lower ↔ HasActionBelow left upper lower in
+    let so_far = subst P (ap (map plain_action_entry) c.in-Some.ensures.steps) c.loop-uid.invariant in
+    any_skips (HasBelow upper lower) (plain_action_entry (c.in-Some.uid.now, c.in-Some.action.now))
+    (map plain_action_entry c.next.new.self) so_far
+    (λ both. elim c.else-eq.branch [
+      | else-eq-via-then-eq+else-has_descendant_of w ↦
+          false≢true (sym w.if-has_descendant_of.false ∙ w.has_descendant_of.ensures.1 both.1)
+      | else-eq-via-else-eq w ↦ false≢true (sym w.if-eq.false ∙ (c.eq.ensures
+          ∙ (entity_type_eq-same c.entity_type.result.now c.args.upper.now).1 (c.entity_type.ensures ∙ both.0)))
+    ])

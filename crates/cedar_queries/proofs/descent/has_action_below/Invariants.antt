@@ -1,0 +1,10 @@
+use Rattle.std.proofs.Common.{◌↔◌, map}
+use Rattle.cedar_actions.specs.ValidatorActionId.{plain_action_entry}
+use Rattle.cedar_below.specs.EntityType.{type_name}
+use Rattle.cedar_queries.specs.Hierarchy.{HasActionBelow}
+use Rattle.cedar_queries.proofs.descent.has_action_below.Given as goal
+
+abbrev pub invariant-loop-uid : goal.invariant-loop-uid
+invariant-loop-uid l =
+    HasActionBelow (map plain_action_entry l.actions.entries) (type_name l.upper) (type_name l.lower)
+    ↔ HasActionBelow (map plain_action_entry l.uid-iterator) (type_name l.upper) (type_name l.lower)

@@ -1,0 +1,10 @@
+use Rattle.std.proofs.Common.{◌≡◌, ◌↔◌, Any, map}
+use Rattle.cedar_actions.specs.ValidatorActionId.{action_of}
+use Rattle.cedar_below.specs.EntityType.{type_name}
+use Rattle.cedar_below.specs.EntityUID.{uid_of}
+use Rattle.cedar_queries.proofs.descent.has_descendant_of.Given as goal
+
+abbrev pub invariant-loop-below : goal.invariant-loop-below
+invariant-loop-below l =
+    Any (λ below. below.ty ≡ type_name l.ty) (action_of l.action).descendants
+    ↔ Any (λ below. below.ty ≡ type_name l.ty) (map uid_of l.below-iterator)

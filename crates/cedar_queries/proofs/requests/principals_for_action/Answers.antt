@@ -1,0 +1,16 @@
+use Rattle.std.proofs.Common.{None, Some, ap, sym, ◌∙◌}
+use Rattle.std.specs.Option.{option_map}
+use Rattle.cedar_actions.specs.ActionKind.{kind_principals}
+use Rattle.cedar_declared.specs.PlainSchema.{SchemaAction}
+use Rattle.cedar_queries.proofs.LookupLemmas.{action_shown}
+use Rattle.cedar_queries.proofs.requests.principals_for_action.Goals as goal
+
+pub returns-in_err-get-clause-names : goal.returns-in_err-get-clause-names
+returns-in_err-get-clause-names c =
+    let none = action_shown c.args.actions.now c.args.uid.now None (sym c.in_err-get.ensures.value) in
+    rw (c.from_residual.ensures) (sym (ap (option_map (λ (it : SchemaAction). kind_principals it.kind)) none))
+
+pub returns-clause-names : goal.returns-clause-names
+returns-clause-names c =
+    let found = action_shown c.args.actions.now c.args.uid.now (Some c.in_ok-get.field-0.now) (sym c.in_ok-get.ensures.value) in
+    ap Some c.principals.ensures.names ∙ sym (ap (option_map (λ (it : SchemaAction). kind_principals it.kind)) found)

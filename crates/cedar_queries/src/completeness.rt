@@ -1,0 +1,137 @@
+//! Whether a schema is complete, and what it lacks.
+
+ghost use Rattle.std.specs.Prelude.{◌≡◌, ◌≢◌, [], IfErr, IfOk, OnOk, map};
+ghost use Rattle.std.specs.List.Sorted.{IsPermutation, IsSorted};
+ghost use Rattle.cedar_actions.specs.ValidatorActionId.{plain_action_entry};
+ghost use Rattle.cedar_below.specs.EntityType.{type_name};
+ghost use Rattle.cedar_below.specs.EntityUID.{uid_of};
+ghost use Rattle.cedar_below.specs.PlainName.{name_cmp};
+ghost use Rattle.cedar_below.specs.PlainUid.{uid_cmp};
+ghost use Rattle.cedar_entities.specs.ValidatorEntityType.{plain_entry};
+ghost use Rattle.cedar_queries.specs.Incomplete.{IsIncomplete};
+ghost use Rattle.cedar_queries.specs.Unresolved.{external_actions, external_types, unresolved};
+
+use crate::descent::{Actions, EntityTypes};
+use crate::selected::Selected;
+use crate::tests_of_values::IsExternal;
+use crate::unresolved::is_complete;
+use cedar_below::{EntityType, EntityUID, Loc, M, Memory};
+use itertools::Itertools;
+use std::alloc::Global;
+use thiserror::Error;
+
+/// A schema lacks the definitions of what it declares to be external.
+#[derive(Debug, Drop, Error)]
+#[error("the schema is incomplete")]
+pub struct IncompleteSchemaError {
+    /// The external entity types, in order.
+    pub entity_types: Vec<EntityType>,
+    /// The external actions, in order.
+    pub actions: Vec<EntityUID>,
+    /// Where the first of the entity types, or else the first of the actions, was declared, if that is
+    /// known.
+    pub loc: Option<Loc>,
+}
+
+/// Why a schema wasn't found complete.
+#[derive(Debug, Drop, Error)]
+pub enum CompleteError {
+    /// It isn't.
+    #[error(transparent)]
+    Incomplete(IncompleteSchemaError),
+    /// Want of memory.
+    #[error(transparent)]
+    Memory(Memory),
+}
+
+impl From<Memory> for CompleteError {
+    ghost use Rattle.cedar_queries.specs.declared.completeness.CompleteError.TheVariants.{Memory as MemoryFault};
+
+    ghost from_gives = { λ memory e. e ≡ MemoryFault memory };
+
+    fn from(memory: Memory) -> Self {
+        CompleteError::Memory(memory)
+    }
+}
+
+/// References to the names of the external entity types, or want of memory.
+fn external_names(alloc: Global, types: &EntityTypes) -> M<Vec<&EntityType>>
+    ensures { IfOk result (λ names. map (λ name. type_name name.now) names.items ≡ external_types (map plain_entry types.now.entries)) }
+{
+    let mut names = Vec::new(alloc);
+    for name in Selected::new(types, IsExternal) {
+        names.push(name)?;
+    }
+    Ok(names)
+}
+
+/// References to the uids of the external actions, or want of memory.
+fn external_uids(alloc: Global, actions: &Actions) -> M<Vec<&EntityUID>>
+    ensures { IfOk result (λ uids. map (λ uid. uid_of uid.now) uids.items ≡ external_actions (map plain_action_entry actions.now.entries)) }
+{
+    let mut uids = Vec::new(alloc);
+    for uid in Selected::new(actions, IsExternal) {
+        uids.push(uid)?;
+    }
+    Ok(uids)
+}
+
+/// The same references in the order of what they refer to, or want of memory.
+fn in_order<'a, T: Ord>(references: Vec<&'a T>) -> M<Vec<&'a T>>
+    ensures permutation { IfOk result (λ sorted. IsPermutation references.entry.items sorted.items) }
+    ensures sorted { IfOk result (λ sorted. IsSorted (λ a b. T.cmp a.now b.now) sorted.items) }
+{
+    let alloc = *references.allocator();
+    Ok(references.into_iter().sorted(alloc)?.collect_vec(alloc)?)
+}
+
+/// The names of the external entity types, in order, or want of memory.
+fn external_types(alloc: Global, types: &EntityTypes) -> M<Vec<EntityType>>
+    ensures names { IfOk result (λ names. IsPermutation (external_types (map plain_entry types.now.entries)) (map type_name names.items)) }
+    ensures sorted { IfOk result (λ names. IsSorted name_cmp (map type_name names.items)) }
+{
+    let mut names = Vec::new(alloc);
+    for name in &in_order(external_names(alloc, types)?)? {
+        names.push((**name).clone()?)?;
+    }
+    Ok(names)
+}
+
+/// The uids of the external actions, in order, or want of memory.
+fn external_actions(alloc: Global, actions: &Actions) -> M<Vec<EntityUID>>
+    ensures uids { IfOk result (λ uids. IsPermutation (external_actions (map plain_action_entry actions.now.entries)) (map uid_of uids.items)) }
+    ensures sorted { IfOk result (λ uids. IsSorted uid_cmp (map uid_of uids.items)) }
+{
+    let mut uids = Vec::new(alloc);
+    for uid in &in_order(external_uids(alloc, actions)?)? {
+        uids.push((**uid).clone()?)?;
+    }
+    Ok(uids)
+}
+
+/// Where the first external entity type was declared, or else the first external action.
+fn first_loc(types: &EntityTypes, actions: &Actions) -> Option<Loc> {
+    match types.values().find(|ty| ty.is_external()) {
+        Some(ty) => ty.loc,
+        None => actions.values().find(|action| action.is_external())?.loc(),
+    }
+}
+
+/// That nothing is declared elsewhere; else what is, in order. Or want of memory.
+pub fn check_complete(
+    alloc: Global,
+    types: &EntityTypes,
+    actions: &Actions,
+) -> Result<(), CompleteError>
+    ensures complete { OnOk result (unresolved (map plain_entry types.now.entries) (map plain_action_entry actions.now.entries) ≡ []) }
+    ensures incomplete { IfErr result (IsIncomplete (map plain_entry types.now.entries) (map plain_action_entry actions.now.entries)) }
+{
+    if is_complete(types, actions) {
+        return Ok(());
+    }
+    Err(CompleteError::Incomplete(IncompleteSchemaError {
+        entity_types: external_types(alloc, types)?,
+        actions: external_actions(alloc, actions)?,
+        loc: first_loc(types, actions),
+    }))
+}

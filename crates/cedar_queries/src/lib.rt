@@ -1,0 +1,25 @@
+//! What a schema answers of its entity types and its actions.
+#![tactic(auto)]
+
+pub use completeness::{CompleteError, IncompleteSchemaError, check_complete};
+pub use descent::{
+    ActionGroups, Actions, Ancestors, EntityTypes, action_groups, actions_in_set, ancestors,
+    any_descendent_of, entity_types_in, is_known_entity_type,
+};
+pub use environments::RequestEnvs;
+pub use requests::{
+    ActionsFor, ApplicableTypes, actions_for_principal_and_resource, context_type,
+    is_known_action_id, principals, principals_for_action, resources, resources_for_action,
+};
+pub use unresolved::{
+    UnresolvedDeclaration, UnresolvedDeclarations, is_complete, unresolved_declarations,
+};
+
+mod completeness;
+mod descent;
+mod environments;
+mod requests;
+mod selected;
+mod tests_of_values;
+pub mod theorems;
+mod unresolved;
