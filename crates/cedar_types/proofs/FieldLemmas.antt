@@ -11,15 +11,16 @@ use Rattle.std.specs.declared.alloc.Global.{Global}
 use Rattle.std.specs.declared.rc.Rc.{Rc}
 use Rattle.std.specs.declared.string.String.{String}
 use Rattle.cedar_below.specs.Text.{Text, text_cmp}
-use Rattle.cedar_rules.specs.Fields.{field_names, last_named, HoldsLast, IsAscending}
+use Rattle.cedar_below.specs.LastNamed.{last_named}
+use Rattle.cedar_rules.specs.Fields.{field_names, HoldsLast, IsAscending}
 use Rattle.cedar_rules.specs.Ty.{Ty, Fields, end, field, fields_from, field_at}
 use Rattle.cedar_types.specs.Attributes.{plain_attributes}
-use Rattle.cedar_types.specs.ByName.{entry_texts, value_at, with_texts}
+use Rattle.cedar_sorted.specs.ByName.{entry_texts, value_at, with_texts}
 use Rattle.cedar_types.specs.Located.{located, located_attributes, KeepsLast}
 use Rattle.cedar_types.specs.Meaning.{fields_of, attribute_of, type_step, attribute_step, attributes_step}
 use Rattle.cedar_types.specs.declared.attributes.AttributeType.{AttributeType}
 use Rattle.cedar_types.specs.declared.attributes.Attributes.{Attributes, out-Attributes, roll-Attributes, out-roll-Attributes, fold_out-Attributes}
-use Rattle.cedar_types.specs.declared.by_name.ByName.{ByName}
+use Rattle.cedar_sorted.specs.declared.by_name.ByName.{ByName}
 
 -- the pairs of a name and an attribute
 abbrev pub pairs_of : Attributes → List (String Global × AttributeType)

@@ -13,7 +13,7 @@ use Rattle.cedar_rules.specs.Ty.{Ty, Fields, fields_from}
 use Rattle.cedar_types.proofs.EqualityLaws.{folded_layer, fields_of-rolled, plain_entry}
 use Rattle.cedar_types.proofs.FieldLemmas.{pairs_of, field_names-pairs, IsAscending-fields}
 use Rattle.cedar_types.proofs.MemberLemmas.{Contains-named}
-use Rattle.cedar_types.specs.ByName.{entry_texts}
+use Rattle.cedar_sorted.specs.ByName.{entry_texts}
 use Rattle.cedar_types.specs.EntityKind.{kind_ty}
 use Rattle.cedar_types.specs.EntityLUB.{lub_names}
 use Rattle.cedar_types.specs.Meaning.{ty_of, attribute_of, fields_of, type_step, attribute_step, attributes_step}

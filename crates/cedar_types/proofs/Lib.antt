@@ -4,15 +4,12 @@ pub mod FieldLemmas
 pub mod FormedLemmas
 pub mod JoinSteps
 pub mod KindJoins
-pub mod MadeLemmas
 pub mod MemberLemmas
 pub mod MemberParts
 pub mod MembershipLemmas
 pub mod MergedLemmas
 pub mod OrderLaws
 pub mod ReduceSteps
-pub mod RisingLemmas
-pub mod SearchLemmas
 pub mod SubtypeSteps
 pub mod TypeKinds
 pub mod UnionLemmas

@@ -3,16 +3,14 @@
 
 pub use attributes::{AttributeType, Attributes};
 pub use cedar_rules::{BoolType, JoinError, LubHelp, OpenTag};
+pub use cedar_sorted::{Entries, Names};
 pub use entity_kind::EntityKind;
 pub use entity_lub::EntityLUB;
-pub use iter::{Entries, Names};
 pub use types::Type;
 
 mod attributes;
-mod by_name;
 mod entity_kind;
 mod entity_lub;
-mod iter;
 mod join;
 mod member;
 mod show;

@@ -10,11 +10,10 @@ use Rattle.std.specs.List.Sorted.{IsStrictlySortedBy}
 use Rattle.std.specs.Ordering.{ordering_reverse}
 use Rattle.std.specs.declared.cmp.Ordering.{Ordering}
 use Rattle.std.specs.declared.cmp.Ordering.TheVariants.{Less, Equal, Greater}
-use Rattle.cedar_below.proofs.Inclusion.{Included-head, Included-none}
+use Rattle.cedar_below.proofs.Inclusion.{Included-head, Included-in_none, Included-none}
 use Rattle.cedar_below.proofs.Lists.{Contains-cons, Contains-cons_cases, Contains-preimage}
+use Rattle.cedar_below.proofs.Ordered.{not_itself}
 use Rattle.cedar_below.specs.Lists.{Included}
-use Rattle.cedar_rules.proofs.AntisymmetryLaws.{not_itself}
-use Rattle.cedar_rules.proofs.InclusionLemmas.{Included-in_none}
 
 -- what is seen of the item at a place
 abbrev pub seen_at : {E K : Type 0} → (E → K) → List E → ℕ → E → K

@@ -28,7 +28,7 @@ impl<'a, V> Model for Entries<'a, V> {
 
 impl<'a, V> Entries<'a, V> {
     /// All of these pairs.
-    pub(crate) fn new(entries: &'a [(String, V)]) -> Self
+    pub fn new(entries: &'a [(String, V)]) -> Self
         ensures { result ≡ entries.now }
     {
         Entries {
@@ -77,7 +77,7 @@ impl<'a, V> Model for Names<'a, V> {
 
 impl<'a, V> Names<'a, V> {
     /// The names of these pairs.
-    pub(crate) fn new(entries: &'a [(String, V)]) -> Self
+    pub fn new(entries: &'a [(String, V)]) -> Self
         ensures { result ≡ keys_of entries.now }
     {
         Names {

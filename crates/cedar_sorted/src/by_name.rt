@@ -8,7 +8,7 @@ ghost use Rattle.std.specs.Cmp.Lexicographic.{pointwise, slice_cmp, slice_partia
 ghost use Rattle.std.specs.Cmp.Rules.{hashing};
 ghost use Rattle.std.specs.Ordering.{ordering_then, partial_ordering_then};
 ghost use Rattle.std.proofs.Common.{rules};
-ghost use Rattle.cedar_types.specs.ByName.{NamesAscend, NamesAscend-prop};
+ghost use Rattle.cedar_sorted.specs.ByName.{NamesAscend, NamesAscend-prop};
 
 use cedar_below::M;
 use std::cmp::Ordering;
@@ -16,7 +16,7 @@ use std::hash::{Hash, Hasher};
 
 /// Values by name: the pairs of a name and its value, in the order of the names, each name once.
 #[derive(Debug, Drop)]
-pub(crate) struct ByName<V> {
+pub struct ByName<V> {
     entries: Vec<(String, V)>,
     ghost ascending: { NamesAscend entries.items } by { NamesAscend-prop entries.items },
 }
@@ -78,12 +78,12 @@ impl<V> ByName<V> {
     ghost use Rattle.std.specs.declared.cmp.Ordering.TheVariants.{Less};
     ghost use Rattle.std.specs.declared.string.String.{String};
     ghost use Rattle.cedar_below.specs.Text.{Text, text_cmp};
-    ghost use Rattle.cedar_rules.specs.Fields.{last_named};
-    ghost use Rattle.cedar_types.specs.ByName.{value_at, with_texts};
-    ghost use Rattle.cedar_types.specs.Entries.{entries_by_name};
+    ghost use Rattle.cedar_below.specs.LastNamed.{last_named};
+    ghost use Rattle.cedar_sorted.specs.ByName.{value_at, with_texts};
+    ghost use Rattle.cedar_sorted.specs.Entries.{entries_by_name};
 
     /// The values of these names, or want of memory. Of repeated names the last wins.
-    pub(crate) fn from_entries(entries: Vec<(String, V)>) -> M<ByName<V>>
+    pub fn from_entries(entries: Vec<(String, V)>) -> M<ByName<V>>
     where
         V: Drop,
         ensures { IfOk result (λ all. (name : Text) → value_at name (entries_by_name all) ≡ last_named name (with_texts entries.items)) }
@@ -96,7 +96,7 @@ impl<V> ByName<V> {
     }
 
     /// The values of these names, which ascend.
-    pub(crate) fn from_ascending(entries: Vec<(String, V)>) -> ByName<V>
+    pub fn from_ascending(entries: Vec<(String, V)>) -> ByName<V>
         requires { NamesAscend entries.items }
         ensures { entries_by_name result ≡ entries.items }
     {
@@ -104,14 +104,14 @@ impl<V> ByName<V> {
     }
 
     /// The pairs of a name and its value, in the order of the names.
-    pub(crate) fn as_slice(&self) -> &[(String, V)]
+    pub fn as_slice(&self) -> &[(String, V)]
         ensures { result.now ≡ entries_by_name self.now }
     {
         self.entries.as_slice()
     }
 
     /// The value of a name, if there is one, and how many names were compared with it.
-    pub(crate) fn get_counted(&self, name: &str) -> (Option<&V>, u32)
+    pub fn get_counted(&self, name: &str) -> (Option<&V>, u32)
         ensures value { option_copied result.0 ≡ value_at name.now (entries_by_name self.now) }
         ensures halving { (k : ℕ) → length (entries_by_name self.now) < 2 ^ k → result.1 ≤ k }
     {
@@ -132,7 +132,7 @@ impl<V> ByName<V> {
     }
 
     /// The first place, from one on, whose name isn't below the given one.
-    pub(crate) fn seek(&self, from: usize, name: &str) -> usize
+    pub fn seek(&self, from: usize, name: &str) -> usize
         ensures from { from ≤ result }
         ensures passed { (i : ℕ) (d : String Global × V) → from ≤ i → i < result
             → text_cmp (string_bytes (get_or (entries_by_name self.now) i d).0) name.now ≡ Less }
@@ -148,7 +148,7 @@ impl<V> ByName<V> {
     }
 
     /// Whether a name is at a place.
-    pub(crate) fn is_at(&self, place: usize, name: &str) -> bool
+    pub fn is_at(&self, place: usize, name: &str) -> bool
         ensures { IsTrue result ↔ ((place < length (entries_by_name self.now))
             × ((d : String Global × V) → string_bytes (get_or (entries_by_name self.now) place d).0 ≡ name.now)) }
     {

@@ -1,6 +1,6 @@
 -- A search by halving among pairs whose names ascend, and what a place tells of a name.
-use Rattle.std.proofs.Common.{◌≡◌, ◌≢◌, ◌<◌, ◌≤◌, ◌+◌, ◌-◌, ◌*◌, ◌/◌, ◌^◌, ℕ, zero, suc, true, false, refl, sym, ap, subst, ◌∙◌, List, [], ◌∷◌, length, string_bytes, get_or, arith, None, Some, if◌then◌else◌, Bool, ⊎_elim}
-use Rattle.std.proofs.lemmas.Bool.{cases_lt}
+use Rattle.std.proofs.Common.{◌≡◌, ◌≢◌, ◌<◌, ◌≤◌, ◌+◌, ◌-◌, ◌*◌, ◌/◌, ◌^◌, ℕ, zero, suc, true, false, refl, sym, ap, subst, ◌∙◌, List, [], ◌∷◌, length, string_bytes, get_or, arith, None, Some, if◌then◌else◌, ⊎_elim}
+use Rattle.std.proofs.lemmas.Bool.{cases_lt, false_from_ne_true}
 use Rattle.std.proofs.lemmas.List.{get_or_default}
 use Rattle.std.specs.Cmp.Lexicographic.{bytes_decides, nat_list_eq_equiv}
 use Rattle.std.specs.List.Sorted.{IsStrictlySortedBy}
@@ -11,19 +11,14 @@ use Rattle.std.specs.declared.cmp.Ordering.TheVariants.{Less, Equal, Greater}
 use Rattle.std.specs.declared.string.String.{String}
 use Rattle.cedar_below.proofs.Texts.{text_cmp-total, text_cmp-Equal}
 use Rattle.cedar_below.specs.Text.{Text, text_cmp}
-use Rattle.cedar_types.proofs.MadeLemmas.{value_at-cons}
-use Rattle.cedar_types.proofs.RisingLemmas.{AllBelow, turned, of_seen_at, seen_at-rises, missed_at}
-use Rattle.cedar_types.specs.ByName.{NamesAscend, value_at}
-
--- a test that doesn't pass fails
-pub never-true : (b : Bool) → ¬ (b ≡ true) → b ≡ false
-never-true true never = absurd (never refl)
-never-true false never = refl
+use Rattle.cedar_sorted.proofs.MadeLemmas.{value_at-cons}
+use Rattle.cedar_sorted.proofs.RisingLemmas.{AllBelow, turned, of_seen_at, seen_at-rises, missed_at}
+use Rattle.cedar_sorted.specs.ByName.{NamesAscend, value_at}
 
 -- a text above another isn't the other
 pub above-apart : (name other : Text) → text_cmp other name ≡ Less → bytes_eq name other ≡ false
 above-apart name other less =
-    never-true (bytes_eq name other) (λ is.
+    false_from_ne_true (bytes_eq name other) (λ is.
     let same : other ≡ name = sym ((bytes_decides name other).0 is) in
     let tied : text_cmp other name ≡ Equal = (text_cmp-Equal other name).1 same in cc)
 
@@ -156,7 +151,7 @@ module _ {V : Type 0} (all : List (String Global × V)) (name : Text) (up : Name
       (λ low'. let less = known.before i d low' in absurd cc)
       (λ high'. let greater = known.after i d (omega (arith, empty, high')) within in absurd cc)
       (cases_lt i low) in
-      never-true (bytes_eq name (text_at all i d)) differs))
+      false_from_ne_true (bytes_eq name (text_at all i d)) differs))
 
 -- a name that isn't at the place where the names before it are below, and that one isn't, has no value
 pub value_at-missed : {V : Type 0} (own : List (String Global × V)) → NamesAscend own → (name : Text) (place : ℕ)
@@ -164,6 +159,6 @@ pub value_at-missed : {V : Type 0} (own : List (String Global × V)) → NamesAs
     → ((d : String Global × V) → place < length own → text_cmp (text_at own place d) name ≢ Less)
     → ¬ ((place < length own) × ((d : String Global × V) → text_at own place d ≡ name)) → value_at name own ≡ None
 value_at-missed own up name place below stays missed =
-    value_at-nowhere own name (λ i d within. never-true (bytes_eq name (text_at own i d)) (λ e.
+    value_at-nowhere own name (λ i d within. false_from_ne_true (bytes_eq name (text_at own i d)) (λ e.
     missed_at text_of text_cmp text_cmp-total own up name place below stays missed i d within
     (sym ((bytes_decides name (text_at own i d)).0 e))))

@@ -2,9 +2,9 @@ use Rattle.std.proofs.Common.{rules, ap, sym, subst, ◌∙◌, string_bytes}
 use Rattle.std.proofs.lemmas.Fn.{dedup_same}
 use Rattle.std.proofs.lemmas.List.Sorted.{answers_always, ranks_by}
 use Rattle.cedar_below.proofs.Texts.{text_cmp-total}
-use Rattle.cedar_types.specs.ByName.{NamesAscend, value_at}
-use Rattle.cedar_types.proofs.MadeLemmas.{same_text, text_below, NamesAscend-distinct, value_at-distinct, value_at-sorted, value_at-reverse}
-use Rattle.cedar_types.proofs.by_name.ByName.from_entries.Goals as goal
+use Rattle.cedar_sorted.specs.ByName.{NamesAscend, value_at}
+use Rattle.cedar_sorted.proofs.MadeLemmas.{same_text, text_below, NamesAscend-distinct, value_at-distinct, value_at-sorted, value_at-reverse}
+use Rattle.cedar_sorted.proofs.by_name.ByName.from_entries.Goals as goal
 
 pub invariant_of-result : goal.invariant_of-result
 invariant_of-result g c =

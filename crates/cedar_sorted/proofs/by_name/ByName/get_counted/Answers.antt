@@ -1,8 +1,8 @@
 use Rattle.std.proofs.Common.{refl, sym, ap, subst, ◌∙◌, arith}
 use Rattle.cedar_below.specs.Text.{text_cmp}
-use Rattle.cedar_types.specs.ByName.{NamesAscend, value_at}
-use Rattle.cedar_types.proofs.SearchLemmas.{Halves-above, Halves-below, Halves-found, Halves-none}
-use Rattle.cedar_types.proofs.by_name.ByName.get_counted.Goals as goal
+use Rattle.cedar_sorted.specs.ByName.{NamesAscend, value_at}
+use Rattle.cedar_sorted.proofs.SearchLemmas.{Halves-above, Halves-below, Halves-found, Halves-none}
+use Rattle.cedar_sorted.proofs.by_name.ByName.get_counted.Goals as goal
 
 pub overflow_add-compared : goal.overflow_add-compared
 overflow_add-compared g c =

@@ -23,9 +23,9 @@ use Rattle.std.specs.declared.cmp.Ordering.{Ordering}
 use Rattle.std.specs.declared.string.String.{String}
 use Rattle.std.specs.formers.vec.Vec as vec
 use Rattle.cedar_below.specs.Text.{text_cmp}
-use Rattle.cedar_types.specs.ByName.{entry_texts, NamesAscend, NamesAscend-prop}
-use Rattle.cedar_types.specs.contracts.by_name.ByName as C
-use Rattle.cedar_types.specs.declared.by_name.ByName.{ByName}
+use Rattle.cedar_sorted.specs.ByName.{entry_texts, NamesAscend, NamesAscend-prop}
+use Rattle.cedar_sorted.specs.contracts.by_name.ByName as C
+use Rattle.cedar_sorted.specs.declared.by_name.ByName.{ByName}
 
 -- a name beside what g holds
 abbrev entry : Former {0} → Former {0}

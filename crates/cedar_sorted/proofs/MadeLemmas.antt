@@ -20,8 +20,8 @@ use Rattle.std.specs.declared.string.String.{String}
 use Rattle.cedar_below.proofs.Ordered.{IsStrictlySortedBy-map}
 use Rattle.cedar_below.proofs.Texts.{text_cmp-total}
 use Rattle.cedar_below.specs.Text.{Text, text_cmp}
-use Rattle.cedar_rules.specs.Fields.{last_named}
-use Rattle.cedar_types.specs.ByName.{NamesAscend, value_at, with_texts}
+use Rattle.cedar_below.specs.LastNamed.{last_named}
+use Rattle.cedar_sorted.specs.ByName.{NamesAscend, value_at, with_texts}
 
 -- one of two, in both spellings
 cond-if : {A : Type 0} (b : Bool) (x y : A) → cond b x y ≡ (if b then x else y)
