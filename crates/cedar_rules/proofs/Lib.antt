@@ -11,6 +11,8 @@ pub mod Extensional
 pub mod InclusionLemmas
 pub mod JoinAnswers
 pub mod JoinLemmas
+mod JoinedInTurn
+pub mod JoinsOf
 pub mod MemberLaws
 pub mod OwnBoundLemmas
 pub mod RecordAnswers

@@ -15,6 +15,7 @@ pub mod Help
 pub mod InclusionLaws
 pub mod JoinAnswer
 pub mod JoinLaws
+pub mod Joining
 pub mod LubHelp
 pub mod OpenTag
 pub mod Order

@@ -3,9 +3,11 @@
 
 pub use bool_type::BoolType;
 pub use join_error::{JoinError, LubHelp};
+pub use join_order::{JoinOrder, reduce};
 pub use open_tag::OpenTag;
 
 mod bool_type;
 mod join_error;
+mod join_order;
 mod open_tag;
 pub mod theorems;

@@ -1,7 +1,7 @@
+pub mod CleanSteps
 pub mod CompareLemmas
 pub mod EqualityLaws
 pub mod FieldLemmas
-pub mod FormedLemmas
 pub mod JoinSteps
 pub mod KindJoins
 pub mod MemberLemmas

@@ -2,6 +2,8 @@ pub mod AttributeJoin
 pub mod Attributes
 pub mod EntityKind
 pub mod EntityLUB
+pub mod Layers
 pub mod Located
 pub mod Meaning
 pub mod MembershipAnswer
+pub mod WellFormedTypes

@@ -2,16 +2,18 @@
 #![tactic(auto)]
 
 pub use attributes::{AttributeType, Attributes};
-pub use cedar_rules::{BoolType, JoinError, LubHelp, OpenTag};
+pub use cedar_rules::{BoolType, JoinError, JoinOrder, LubHelp, OpenTag, reduce};
 pub use cedar_sorted::{Entries, Names};
 pub use entity_kind::EntityKind;
 pub use entity_lub::EntityLUB;
 pub use types::Type;
 
 mod attributes;
+mod clean;
 mod entity_kind;
 mod entity_lub;
 mod join;
+mod join_order;
 mod member;
 mod show;
 mod subtype;

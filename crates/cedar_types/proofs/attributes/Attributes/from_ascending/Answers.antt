@@ -4,7 +4,8 @@ use Rattle.cedar_rules.specs.Ty.{fields_from}
 use Rattle.cedar_types.specs.Attributes.{plain_attributes}
 use Rattle.cedar_sorted.specs.ByName.{value_at}
 use Rattle.cedar_types.specs.Located.{located}
-use Rattle.cedar_types.proofs.FieldLemmas.{fields_of-pairs, pairs_of-made}
+use Rattle.cedar_types.specs.Layers.{fields_of-pairs}
+use Rattle.cedar_types.proofs.FieldLemmas.{pairs_of-made}
 use Rattle.cedar_types.proofs.attributes.Attributes.from_ascending.Goals as goal
 
 pub returns-clause-attributes : goal.returns-clause-attributes

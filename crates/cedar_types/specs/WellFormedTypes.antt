@@ -1,4 +1,3 @@
--- What any type stands for is well formed.
 use Rattle.std.proofs.Common.{◌≡◌, ◌≢◌, Bool, Some, None, List, [], ◌∷◌, map, refl, sym, subst, string_bytes, Global}
 use Rattle.std.proofs.lemmas.Str.{IsUtf8-string_bytes}
 use Rattle.std.specs.declared.string.String.{String}
@@ -10,12 +9,10 @@ use Rattle.cedar_below.specs.IsValue.{IsName, IsText}
 use Rattle.cedar_rules.specs.Fields.{field_names}
 use Rattle.cedar_rules.specs.WellFormed.{IsWellFormed, AreWellFormed, AreNames, AreTexts}
 use Rattle.cedar_rules.specs.Ty.{Ty, Fields, fields_from}
-use Rattle.cedar_types.proofs.EqualityLaws.{folded_layer, fields_of-rolled, plain_entry}
-use Rattle.cedar_types.proofs.FieldLemmas.{pairs_of, field_names-pairs, IsAscending-fields}
-use Rattle.cedar_types.proofs.MemberLemmas.{Contains-named}
 use Rattle.cedar_sorted.specs.ByName.{entry_texts}
 use Rattle.cedar_types.specs.EntityKind.{kind_ty}
-use Rattle.cedar_types.specs.EntityLUB.{lub_names}
+use Rattle.cedar_types.specs.EntityLUB.{lub_names, lub_ty}
+use Rattle.cedar_types.specs.Layers.{folded_layer, fields_of-rolled, plain_entry, pairs_of, field_names-pairs, IsAscending-fields}
 use Rattle.cedar_types.specs.Meaning.{ty_of, attribute_of, fields_of, type_step, attribute_step, attributes_step}
 use Rattle.cedar_types.specs.declared.attributes.AttributeType.{AttributeType, roll-AttributeType, map-AttributeType, fold-roll-AttributeType}
 use Rattle.cedar_types.specs.declared.attributes.Attributes.{Attributes, roll-Attributes, map-Attributes, ind-Attributes}
@@ -28,17 +25,21 @@ use Rattle.cedar_types.specs.declared.types.Type.TheOpen as layer
 -- the names of a union aren't reserved
 AreNames-lub : (lub : EntityLUB) → AreNames (lub_names lub)
 AreNames-lub lub name among =
-    let (ty, inside, same) = Contains-named lub.elements.items name among in subst IsName same (IsName-type_name ty)
+    let (ty, inside, same) = Contains-preimage type_name lub.elements.items name among in subst IsName same (IsName-type_name ty)
 
 -- the names of some entity types that aren't none aren't none
 some_names : (types : List EntityType) → types ≢ [] → map type_name types ≢ []
 some_names [] some = absurd (some refl)
 some_names (ty ∷ types) some = λ none. cc
 
+-- a union stands for a well-formed type
+pub lub_formed : (lub : EntityLUB) → IsWellFormed (lub_ty lub)
+lub_formed lub = (some_names lub.elements.items lub.nonempty, lub.ascending, AreNames-lub lub)
+
 -- a kind of entities stands for a well-formed type
 pub kind_formed : (of : EntityKind) → IsWellFormed (kind_ty of)
 kind_formed kind.AnyEntity = tt
-kind_formed (kind.Entity lub) = (some_names lub.elements.items lub.nonempty, lub.ascending, AreNames-lub lub)
+kind_formed (kind.Entity lub) = lub_formed lub
 
 -- the names of entries are texts
 entries_are_texts : (entries : List (String Global × AttributeType)) → AreTexts (entry_texts entries)
