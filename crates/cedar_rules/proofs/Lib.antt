@@ -5,6 +5,7 @@ pub mod ApartLemmas
 pub mod CleanLemmas
 pub mod CompareLemmas
 pub mod CoreLemmas
+pub mod CoreSteps
 pub mod Decisions
 pub mod DisjointLemmas
 pub mod Extensional

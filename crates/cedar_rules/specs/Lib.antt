@@ -5,6 +5,7 @@ pub mod Bound
 pub mod Clean
 pub mod CompareLaws
 pub mod Consistent
+pub mod CoreFault
 pub mod CoreOf
 pub mod Disjoint
 pub mod EntityTypes

@@ -11,8 +11,8 @@ pub use cedar_entities::{
 pub use cedar_fragments::{defs, namespace};
 pub use cedar_names::{below, json_schema};
 pub use cedar_types::{
-    AttributeType, Attributes, BoolType, EntityKind, EntityLUB, Entries, JoinError, JoinOrder,
-    LubHelp, Names, OpenTag, Type, reduce,
+    AttributeType, Attributes, BoolType, CoreTypeFault, EntityKind, EntityLUB, Entries, JoinError,
+    JoinOrder, LubHelp, Names, OpenTag, Type, core_type_of, reduce,
 };
 pub use schema::ValidatorSchema;
 

@@ -1,5 +1,5 @@
 -- Lists that rise by what is seen of their items: places in them, walks over two of them, and inclusion by number.
-use Rattle.std.proofs.Common.{Bool, true, false, ◌≡◌, ◌≢◌, ◌<◌, ◌≤◌, ◌+◌, ℕ, zero, suc, inl, inr, ⊎_elim, refl, sym, ap, subst, ◌∙◌, List, [], ◌∷◌, length, map, Contains, get_or, arith}
+use Rattle.std.proofs.Common.{Bool, true, false, ◌≡◌, ◌≢◌, ◌<◌, ◌≤◌, ◌+◌, ℕ, zero, suc, inl, inr, ⊎_elim, refl, sym, ap, subst, ◌∙◌, List, [], ◌∷◌, length, map, Contains, get_or, take, drop, arith}
 use Rattle.std.proofs.lemmas.Bool.{cases_lt, false≢true}
 use Rattle.std.proofs.lemmas.List.{get_or_default, get_or-map, length-map}
 use Rattle.std.proofs.lemmas.List.Elements.{All-contains, All-from_recursion}
@@ -43,6 +43,10 @@ module _ {K : Type 0} (R : K → K → Ordering) (total : IsTotalOrder R) where
   -- a member of the rest is above the first
   first_below : (x : K) (xs : List K) (z : K) → AllByRecursion (λ y. R x y ≡ Less) xs → Contains xs z → R x z ≡ Less
   first_below x xs z below among = All-contains (λ y. R x y ≡ Less) xs z (All-from_recursion (λ y. R x y ≡ Less) xs below) among
+
+  -- what is below each of some isn't among them
+  pub below_each-apart : (x : K) (xs : List K) → AllByRecursion (λ y. R x y ≡ Less) xs → ¬ Contains xs x
+  below_each-apart x xs below among = not_itself R total x x refl (first_below x xs x below among)
 
   -- lists that ascend and begin alike: the rest is included in the rest
   Included-rests : (x : K) (xs : List K) (y : K) (ys : List K) → AllByRecursion (λ z. R x z ≡ Less) xs → y ≡ x
@@ -160,6 +164,51 @@ module _ {E F K : Type 0} (see : E → K) (other : F → K) (R : K → K → Ord
   Ahead-next at place item rest ahead below = record {
     up = ahead.up.1;
     below = λ i d low. below_all R total (seen_at see own i d) (other item) (below i d low) (map other rest) ahead.up.0;
+  }
+
+-- what holds of each place from one on, so many on, holds of what is taken there
+pub taken-all : {E : Type 0} (P : E → Type 0) (all : List E) (from n : ℕ) → ((i : ℕ) (d : E) → from ≤ i → i < from + n → P (get_or all i d))
+    → AllByRecursion P (take n (drop from all))
+taken-all P [] zero zero holds = tt
+taken-all P [] zero (suc n) holds = tt
+taken-all P [] (suc from) zero holds = tt
+taken-all P [] (suc from) (suc n) holds = tt
+taken-all P (x ∷ xs) zero zero holds = tt
+taken-all P (x ∷ xs) zero (suc n) holds =
+    (holds 0 x (omega arith) (omega arith), taken-all P xs zero n (λ i d low high. holds (suc i) d (omega arith) (omega (arith, high))))
+taken-all P (x ∷ xs) (suc from) n holds =
+    taken-all P xs from n (λ i d low high. holds (suc i) d (omega (arith, low)) (omega (arith, high)))
+
+-- a list that ascends does from each place on
+pub rises-from : {E K : Type 0} (see : E → K) (R : K → K → Ordering) (all : List E) (n : ℕ) → IsStrictlySortedBy R (map see all)
+    → IsStrictlySortedBy R (map see (drop n all))
+unfolding IsStrictlySortedBy
+rises-from see R [] zero up = tt
+rises-from see R [] (suc n) up = tt
+rises-from see R (x ∷ xs) zero up = up
+rises-from see R (x ∷ xs) (suc n) up = rises-from see R xs n up.1
+
+-- what is seen from a place on is seen
+pub seen-from : {E K : Type 0} (see : E → K) (all : List E) (n : ℕ) (k : K) → Contains (map see (drop n all)) k → Contains (map see all) k
+seen-from see [] zero k among = among
+seen-from see [] (suc n) k among = among
+seen-from see (x ∷ xs) zero k among = among
+seen-from see (x ∷ xs) (suc n) k among = Contains-cons (see x) (map see xs) k (inr (seen-from see xs n k among))
+
+module _ {E F K : Type 0} (see : E → K) (other : F → K) (R : K → K → Ordering) (total : IsTotalOrder R) (own : List E) where
+  -- a walk past a place where the next is seen too
+  pub Ahead-past : (place : ℕ) (item : F) (rest : List F) → IsStrictlySortedBy R (map other (item ∷ rest))
+      → Ahead see other R own place rest → ((d : E) → seen_at see own place d ≡ other item) → Ahead see other R own (place + 1) rest
+  unfolding IsStrictlySortedBy
+  Ahead-past place item rest up ahead here = record {
+    up = ahead.up;
+    below = λ i d low.
+        ⊎_elim
+        (λ before. ahead.below i d before)
+        (λ to. let same : i ≡ place = omega (arith, low, to) in
+        let P : K → Type 0 = λ seen. AllByRecursion (λ k. R seen k ≡ Less) (map other rest) in
+        subst P (sym (here d) ∙ ap (λ n. seen_at see own n d) (sym same)) up.0)
+        (cases_lt i place);
   }
 
 -- from one place to another all that is seen is below

@@ -134,6 +134,7 @@ impl<V> ByName<V> {
     /// The first place, from one on, whose name isn't below the given one.
     pub fn seek(&self, from: usize, name: &str) -> usize
         ensures from { from ≤ result }
+        ensures within { from ≤ length (entries_by_name self.now) → result ≤ length (entries_by_name self.now) }
         ensures passed { (i : ℕ) (d : String Global × V) → from ≤ i → i < result
             → text_cmp (string_bytes (get_or (entries_by_name self.now) i d).0) name.now ≡ Less }
         ensures stays { (d : String Global × V) → result < length (entries_by_name self.now)

@@ -2,14 +2,16 @@
 #![tactic(auto)]
 
 pub use attributes::{AttributeType, Attributes};
-pub use cedar_rules::{BoolType, JoinError, JoinOrder, LubHelp, OpenTag, reduce};
+pub use cedar_rules::{BoolType, CoreTypeFault, JoinError, JoinOrder, LubHelp, OpenTag, reduce};
 pub use cedar_sorted::{Entries, Names};
+pub use core_type::core_type_of;
 pub use entity_kind::EntityKind;
 pub use entity_lub::EntityLUB;
 pub use types::Type;
 
 mod attributes;
 mod clean;
+mod core_type;
 mod entity_kind;
 mod entity_lub;
 mod join;
