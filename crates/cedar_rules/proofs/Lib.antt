@@ -4,6 +4,7 @@ pub mod AntisymmetryLaws
 pub mod ApartLemmas
 pub mod CleanLemmas
 pub mod CompareLemmas
+pub mod ConsistentWalk
 pub mod CoreLemmas
 pub mod CoreSteps
 pub mod Decisions

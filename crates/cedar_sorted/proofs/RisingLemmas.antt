@@ -35,7 +35,7 @@ module _ {K : Type 0} (R : K → K → Ordering) (total : IsTotalOrder R) where
   turned one other above = total.antisymm other one ∙ ap ordering_reverse above
 
   -- what is below another is below all that the other is below
-  below_all : (one other : K) → R one other ≡ Less → (ks : List K) → AllByRecursion (λ k. R other k ≡ Less) ks
+  pub below_all : (one other : K) → R one other ≡ Less → (ks : List K) → AllByRecursion (λ k. R other k ≡ Less) ks
       → AllByRecursion (λ k. R one k ≡ Less) ks
   below_all one other less [] all = tt
   below_all one other less (k ∷ ks) all = (total.trans one other k less all.0, below_all one other less ks all.1)

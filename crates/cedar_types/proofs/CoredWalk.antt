@@ -30,7 +30,7 @@ use Rattle.cedar_types.specs.Meaning.{ty_of, attribute_of}
 use Rattle.cedar_types.specs.declared.attributes.AttributeType.{AttributeType, out-AttributeType}
 
 -- what an entry of a core record type stands for
-abbrev core_entry : String Global × CoreAttributeType → Text × (Bool × CoreTy)
+abbrev pub core_entry : String Global × CoreAttributeType → Text × (Bool × CoreTy)
 core_entry entry = (string_bytes entry.0, core_attribute_of entry.1)
 
 -- some attributes are done, and have in turn the core types that are made

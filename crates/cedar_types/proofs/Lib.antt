@@ -1,5 +1,6 @@
 pub mod CleanSteps
 pub mod CompareLemmas
+pub mod ConsistentSteps
 pub mod CoredWalk
 pub mod EqualityLaws
 pub mod FieldLemmas

@@ -11,6 +11,7 @@ pub use types::Type;
 
 mod attributes;
 mod clean;
+mod consistent;
 mod core_type;
 mod entity_kind;
 mod entity_lub;
