@@ -13,6 +13,7 @@ pub mod MergedLemmas
 pub mod OrderLaws
 pub mod ReduceSteps
 pub mod SubtypeSteps
+pub mod TextLemmas
 pub mod TypeKinds
 pub mod UnionLemmas
 pub mod UnionSteps
