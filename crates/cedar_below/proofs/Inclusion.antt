@@ -19,6 +19,10 @@ Included-cons x lower upper first rest y among =
 pub Included-head : {A : Type 0} (x : A) (lower upper : List A) → Included (x ∷ lower) upper → Contains upper x
 Included-head x lower upper all = all x (Contains-cons x lower x (inl refl))
 
+-- what has a member isn't included in nothing
+pub Included-in_none : {A : Type 0} (x : A) (lower : List A) → ¬ Included (x ∷ lower) []
+Included-in_none x lower all = absurd (omega (arith, (Included-head x lower [] all).1))
+
 -- the rest of an included list is included
 pub Included-tail : {A : Type 0} (x : A) (lower upper : List A) → Included (x ∷ lower) upper → Included lower upper
 Included-tail x lower upper all y among = all y (Contains-cons x lower y (inr among))

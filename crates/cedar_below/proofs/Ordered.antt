@@ -1,5 +1,5 @@
--- Lists in a strict order, seen through a function.
-use Rattle.std.proofs.Common.{◌≡◌, List, [], ◌∷◌, ◌++◌, map, ap, sym, ◌∙◌, refl}
+-- Strict orders, and lists in one, seen through a function.
+use Rattle.std.proofs.Common.{◌≡◌, List, [], ◌∷◌, ◌++◌, map, ap, sym, subst, ◌∙◌, refl}
 use Rattle.std.specs.BTreeMap.{insert_entry}
 use Rattle.std.specs.Cmp.{IsTotalOrder}
 use Rattle.std.specs.List.{AllByRecursion}
@@ -8,6 +8,18 @@ use Rattle.std.specs.Map.{keys_of}
 use Rattle.std.specs.Ordering.{ordering_reverse}
 use Rattle.std.specs.declared.cmp.Ordering.{Ordering}
 use Rattle.std.specs.declared.cmp.Ordering.TheVariants.{Less, Greater}
+
+-- of two values not each is below the other
+pub apart : {B : Type 0} (R : B → B → Ordering) → IsTotalOrder R → (x y : B) → R x y ≡ Less → ¬ (R y x ≡ Less)
+apart R total x y less also =
+    let greater : R x y ≡ Greater = total.antisymm x y ∙ ap ordering_reverse also in
+    cc
+
+-- no value is below itself
+pub not_itself : {B : Type 0} (R : B → B → Ordering) → IsTotalOrder R → (x y : B) → x ≡ y → ¬ (R x y ≡ Less)
+not_itself R total x y same less =
+    let again : R x x ≡ Less = subst (λ z. R x z ≡ Less) (sym same) less in
+    apart R total x x again again
 
 module _ {K L : Type 0} (R : K → K → Ordering) (S : L → L → Ordering) (f : K → L) (same : (a b : K) → R a b ≡ S (f a) (f b)) where
   below-map : (k : K) (ks : List K) → AllByRecursion (λ other. R k other ≡ Less) ks

@@ -13,6 +13,7 @@ pub mod Identifier
 pub mod InternalName
 pub mod IsValue
 pub mod KeyedEntities
+pub mod LastNamed
 pub mod Lists
 pub mod Name
 pub mod NonEmpty

@@ -1,6 +1,6 @@
 -- What stands in a map once an entity type is put under its name.
 use Rattle.std.proofs.Common.{◌≡◌, cond, Option, None, Some, HashMap, sym, subst, ◌∙◌, refl, inl, inr}
-use Rattle.std.proofs.lemmas.Bool.{cond-true, cond-false}
+use Rattle.std.proofs.lemmas.Bool.{cond-true, cond-false, false_from_ne_true}
 use Rattle.cedar_below.proofs.Names.{entity_type_eq-same}
 use Rattle.cedar_below.specs.EntityType.{type_name}
 use Rattle.cedar_below.specs.contracts.entity_type.EntityTypeEq.TheImpl as entity_type_equal
@@ -10,7 +10,6 @@ use Rattle.cedar_closure.proofs.Numbers.{get_alike}
 use Rattle.cedar_declared.specs.EntityTypeKind.{external_kind}
 use Rattle.cedar_entities.specs.ValidatorEntityType.{entity_type_of}
 use Rattle.cedar_entities.specs.declared.entity_type.ValidatorEntityType.{ValidatorEntityType}
-use Rattle.cedar_types.proofs.SearchLemmas.{never-true}
 use Rattle.cedar_built.specs.Nodes.{IsDefinedAt, IsPut, node_at}
 
 -- under one name one entity type stands
@@ -54,7 +53,7 @@ module _ {S : Type 0} (before after : HashMap EntityType ValidatorEntityType S) 
   pub at_another : (key : EntityType) → ¬ (type_name key ≡ (entity_type_of it).name) → node_at after key ≡ node_at before key
   at_another key apart =
       updated key ∙ cond-false ((entity_type_eq.ghosts).eq name key) (Some it) (node_at before key)
-      (never-true ((entity_type_eq.ghosts).eq name key) (λ same. apart (sym ((entity_type_eq-same name key).0 same) ∙ named)))
+      (false_from_ne_true ((entity_type_eq.ghosts).eq name key) (λ same. apart (sym ((entity_type_eq-same name key).0 same) ∙ named)))
 
   -- under its own name there stands the entity type
   pub at_its_own : (key : EntityType) → type_name key ≡ (entity_type_of it).name → node_at after key ≡ Some it

@@ -1,6 +1,6 @@
 -- What stands in a map once an action is put under its uid.
 use Rattle.std.proofs.Common.{◌≡◌, cond, Option, None, Some, HashMap, sym, subst, ◌∙◌, refl, inl, inr}
-use Rattle.std.proofs.lemmas.Bool.{cond-true, cond-false}
+use Rattle.std.proofs.lemmas.Bool.{cond-true, cond-false, false_from_ne_true}
 use Rattle.cedar_below.proofs.Uids.{entity_uid_eq-same}
 use Rattle.cedar_below.specs.EntityUID.{uid_of}
 use Rattle.cedar_below.specs.contracts.entity_uid.EntityUIDEq.TheImpl as uid_equal
@@ -10,7 +10,6 @@ use Rattle.cedar_closure.proofs.Numbers.{get_alike}
 use Rattle.cedar_declared.specs.PlainSchema.{external_action}
 use Rattle.cedar_actions.specs.ValidatorActionId.{action_of}
 use Rattle.cedar_actions.specs.declared.action_id.ValidatorActionId.{ValidatorActionId}
-use Rattle.cedar_types.proofs.SearchLemmas.{never-true}
 use Rattle.cedar_built_actions.specs.Nodes.{IsDefinedAt, IsPut, node_at}
 
 -- under one uid one action stands
@@ -54,7 +53,7 @@ module _ {S : Type 0} (before after : HashMap EntityUID ValidatorActionId S) (ui
   pub at_another : (key : EntityUID) → ¬ (uid_of key ≡ (action_of it).uid) → node_at after key ≡ node_at before key
   at_another key apart =
       updated key ∙ cond-false ((uid_eq.ghosts).eq uid key) (Some it) (node_at before key)
-      (never-true ((uid_eq.ghosts).eq uid key) (λ same. apart (sym ((entity_uid_eq-same uid key).0 same) ∙ named)))
+      (false_from_ne_true ((uid_eq.ghosts).eq uid key) (λ same. apart (sym ((entity_uid_eq-same uid key).0 same) ∙ named)))
 
   -- under its own uid there stands the action
   pub at_its_own : (key : EntityUID) → uid_of key ≡ (action_of it).uid → node_at after key ≡ Some it

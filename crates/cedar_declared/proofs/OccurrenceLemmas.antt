@@ -15,7 +15,7 @@ use Rattle.std.specs.declared.cmp.Ordering.{Ordering}
 use Rattle.std.specs.declared.cmp.Ordering.TheVariants.{Less, Equal, Greater}
 use Rattle.cedar_below.proofs.Lists.{Contains-cons, Contains-cons_cases}
 use Rattle.cedar_declared.specs.Occurrences.{Twice}
-use Rattle.cedar_rules.proofs.AntisymmetryLaws.{not_itself}
+use Rattle.cedar_below.proofs.Ordered.{not_itself}
 
 -- no item stands twice in a list without repeats
 pub Twice-distinct : {A : Type 0} (xs : List A) (x : A) → AllPairs (λ a b. a ≢ b) xs → ¬ Twice xs x

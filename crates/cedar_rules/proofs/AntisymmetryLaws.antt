@@ -3,10 +3,10 @@ use Rattle.std.proofs.Common.{◌≡◌, inl, inr, ⊎_elim, Bool, true, false, 
 use Rattle.std.proofs.lemmas.List.Elements.{All-contains, All-from_recursion}
 use Rattle.std.specs.Cmp.{IsTotalOrder}
 use Rattle.std.specs.List.Sorted.{IsStrictlySortedBy}
-use Rattle.std.specs.Ordering.{ordering_reverse}
 use Rattle.std.specs.declared.cmp.Ordering.{Ordering}
-use Rattle.std.specs.declared.cmp.Ordering.TheVariants.{Less, Greater}
+use Rattle.std.specs.declared.cmp.Ordering.TheVariants.{Less}
 use Rattle.cedar_below.proofs.Lists.{Contains-cons, Contains-cons_cases}
+use Rattle.cedar_below.proofs.Ordered.{apart, not_itself}
 use Rattle.cedar_below.proofs.PlainNames.{name_cmp-total}
 use Rattle.cedar_below.proofs.Texts.{text_cmp-total}
 use Rattle.cedar_below.specs.Lists.{Included}
@@ -23,18 +23,6 @@ use Rattle.cedar_rules.specs.Ty.{Ty, never, truth, long, text, any_entity, union
 use Rattle.cedar_rules.specs.WellFormed.{IsWellFormed, AreWellFormed}
 use Rattle.cedar_rules.specs.declared.open_tag.OpenTag.{OpenTag}
 use Rattle.cedar_rules.specs.declared.open_tag.OpenTag.TheVariants.{OpenAttributes, ClosedAttributes}
-
--- of two values not each is below the other
-apart : {B : Type 0} (R : B → B → Ordering) → IsTotalOrder R → (x y : B) → R x y ≡ Less → ¬ (R y x ≡ Less)
-apart R total x y less also =
-    let greater : R x y ≡ Greater = total.antisymm x y ∙ ap ordering_reverse also in
-    cc
-
--- no value is below itself
-pub not_itself : {B : Type 0} (R : B → B → Ordering) → IsTotalOrder R → (x y : B) → x ≡ y → ¬ (R x y ≡ Less)
-not_itself R total x y same less =
-    let again : R x x ≡ Less = subst (λ z. R x z ≡ Less) (sym same) less in
-    apart R total x x again again
 
 -- lists that ascend and include each other are the same
 pub Included-same : {B : Type 0} (R : B → B → Ordering) → IsTotalOrder R → (xs ys : List B) → IsStrictlySortedBy R xs

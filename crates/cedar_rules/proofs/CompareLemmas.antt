@@ -6,6 +6,7 @@ use Rattle.std.specs.declared.cmp.Ordering.{Ordering}
 use Rattle.std.specs.declared.cmp.Ordering.TheVariants.{Less, Equal, Greater}
 use Rattle.std.proofs.lemmas.Bool.{false≢true}
 use Rattle.cedar_rules.specs.CompareLaws.{ComparesBy}
+use Rattle.cedar_rules.specs.OpenTag.{is_open}
 use Rattle.cedar_rules.specs.Order.{truth_cmp, openness_cmp}
 use Rattle.cedar_rules.specs.contracts.bool_type.BoolTypeHash.TheImpl as bool_hash
 use Rattle.cedar_rules.specs.contracts.bool_type.BoolTypeOrd.TheImpl as bool_ord
@@ -65,6 +66,11 @@ open_tag-Decides OpenAttributes OpenAttributes = (λ _. refl, λ _. refl)
 open_tag-Decides OpenAttributes ClosedAttributes = none (λ e. cc)
 open_tag-Decides ClosedAttributes OpenAttributes = none (λ e. cc)
 open_tag-Decides ClosedAttributes ClosedAttributes = (λ _. refl, λ _. refl)
+
+-- whether a record is open is told by a test
+pub is_open-eq : (a : OpenTag) → is_open a ≡ (open_tag_eq.ghosts).eq a OpenAttributes
+is_open-eq OpenAttributes = refl
+is_open-eq ClosedAttributes = refl
 
 -- openness is ordered by its variants
 pub open_tag_cmp-is : (a b : OpenTag) → (open_tag_ord.ghosts).cmp a b ≡ openness_cmp a b

@@ -10,8 +10,9 @@ use Rattle.std.specs.Ordering.{is_eq, ordering_reverse}
 use Rattle.std.specs.Str.{bytes_eq}
 use Rattle.std.specs.declared.cmp.Ordering.TheVariants.{Less, Equal, Greater}
 use Rattle.cedar_below.proofs.Texts.{text_cmp-Equal}
+use Rattle.cedar_below.specs.LastNamed.{last_named}
 use Rattle.cedar_below.specs.Text.{Text, text_cmp}
-use Rattle.cedar_rules.specs.Fields.{IsAscending, HoldsLast, field_names, last_named}
+use Rattle.cedar_rules.specs.Fields.{IsAscending, HoldsLast, field_names}
 use Rattle.cedar_rules.specs.Ty.{Ty, Fields, end, field, field_at, fields_from}
 
 -- the name is below each of the names

@@ -1,12 +1,11 @@
 -- Which names are listed, and what a look-up of a name says of it.
-use Rattle.std.proofs.Common.{◌≡◌, inl, inr, Bool, List, [], ◌∷◌, refl, sym, ap, subst, ◌∙◌, Option, Some, None, Contains, ⊎_elim, arith, Bor}
+use Rattle.std.proofs.Common.{◌≡◌, inl, inr, Bool, [], ◌∷◌, refl, sym, ap, subst, ◌∙◌, Option, Some, None, Contains, ⊎_elim, arith, Bor}
 use Rattle.std.proofs.lemmas.Slice.Eq.{bytes_eq-Decides}
 use Rattle.std.specs.Bool.{Decides}
 use Rattle.std.specs.Option.{is_some, option_map, option_copied}
 use Rattle.std.specs.Str.{bytes_eq}
-use Rattle.cedar_below.proofs.Inclusion.{chosen, Included-head}
+use Rattle.cedar_below.proofs.Inclusion.{chosen}
 use Rattle.cedar_below.proofs.Lists.{Contains-cons, Contains-cons_cases}
-use Rattle.cedar_below.specs.Lists.{Included}
 use Rattle.cedar_below.specs.Text.{Text}
 use Rattle.cedar_rules.specs.Fields.{field_names}
 use Rattle.cedar_rules.specs.Ty.{Ty, Fields, end, field, field_at}
@@ -33,10 +32,6 @@ pub found-Decides : {A : Type 0} (f : A → Bool × Ty) (found : Option (Bor A))
 found-Decides f found name fields e =
     let P : Bool → Type 0 = λ there. Decides there (Contains (field_names fields) name) in
     subst P (sym (ap is_some e) ∙ is_some-read f found) (field_at-Decides name fields)
-
--- what has a member isn't included in nothing
-pub Included-in_none : {A : Type 0} (x : A) (lower : List A) → ¬ Included (x ∷ lower) []
-Included-in_none x lower all = absurd (omega (arith, (Included-head x lower [] all).1))
 
 -- the only member of a list is the member
 pub Contains-only : {A : Type 0} (x y : A) → Contains (x ∷ []) y → x ≡ y

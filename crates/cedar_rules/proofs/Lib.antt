@@ -4,13 +4,17 @@ pub mod AntisymmetryLaws
 pub mod ApartLemmas
 pub mod CleanLemmas
 pub mod CompareLemmas
+pub mod ConsistentWalk
 pub mod CoreLemmas
+pub mod CoreSteps
 pub mod Decisions
 pub mod DisjointLemmas
 pub mod Extensional
 pub mod InclusionLemmas
 pub mod JoinAnswers
 pub mod JoinLemmas
+mod JoinedInTurn
+pub mod JoinsOf
 pub mod MemberLaws
 pub mod OwnBoundLemmas
 pub mod RecordAnswers

@@ -5,6 +5,7 @@ pub mod Bound
 pub mod Clean
 pub mod CompareLaws
 pub mod Consistent
+pub mod CoreFault
 pub mod CoreOf
 pub mod Disjoint
 pub mod EntityTypes
@@ -15,6 +16,7 @@ pub mod Help
 pub mod InclusionLaws
 pub mod JoinAnswer
 pub mod JoinLaws
+pub mod Joining
 pub mod LubHelp
 pub mod OpenTag
 pub mod Order

@@ -15,8 +15,8 @@ pub use cedar_queries::{
     RequestEnvs, UnresolvedDeclaration, UnresolvedDeclarations,
 };
 pub use cedar_types::{
-    AttributeType, Attributes, BoolType, EntityKind, EntityLUB, Entries, JoinError, LubHelp, Names,
-    OpenTag, Type,
+    AttributeType, Attributes, BoolType, CoreTypeFault, EntityKind, EntityLUB, Entries, JoinError,
+    JoinOrder, LubHelp, Names, OpenTag, Type, core_type_of, reduce,
 };
 pub use schema::ValidatorSchema;
 

@@ -1,7 +1,6 @@
 -- Types are equal exactly where they stand for the same plain type.
 use Rattle.std.proofs.Common.{◌≡◌, ◌&&◌, Bool, true, false, Some, None, List, [], ◌∷◌, Global, map, refl, ap, sym, subst, ◌∙◌, string_bytes, ℕ, nat_eq, arith}
 use Rattle.std.proofs.lemmas.Bool.Decides.{Decides-and, Decides-like}
-use Rattle.std.proofs.lemmas.Simd.{map-map}
 use Rattle.std.specs.Bool.{Decides}
 use Rattle.std.specs.Cmp.Lexicographic.{pointwise}
 use Rattle.std.specs.declared.string.String.{String}
@@ -12,13 +11,14 @@ use Rattle.cedar_rules.proofs.CompareLemmas.{bool_eq-same}
 pub use Rattle.cedar_rules.proofs.CompareLemmas.{none, open_tag-Decides}
 use Rattle.cedar_types.proofs.CompareLemmas.{kind_eq-same}
 use Rattle.cedar_rules.specs.Order.{kind_place}
+use Rattle.cedar_types.specs.Layers.{folded_layer, fields_of-rolled, plain_entry}
 use Rattle.cedar_types.specs.Meaning.{ty_of, attribute_of, fields_of, type_step, attribute_step, attributes_step}
 use Rattle.cedar_rules.specs.Ty.{Ty, never, truth, set_of, record_of, extension_of, Fields, end, field, fields_from}
 use Rattle.cedar_types.specs.contracts.attributes.AttributeTypePartialEq.TheImpl as attribute_type_eq
 use Rattle.cedar_types.specs.contracts.attributes.AttributesPartialEq.TheImpl as attributes_eq
 use Rattle.cedar_types.specs.contracts.types.TypePartialEq.TheImpl as type_eq
 use Rattle.cedar_types.specs.declared.attributes.AttributeType.{AttributeType, ind-AttributeType, roll-AttributeType, out-AttributeType, map-AttributeType, fold_out-AttributeType}
-use Rattle.cedar_types.specs.declared.attributes.Attributes.{Attributes, ind-Attributes, roll-Attributes, out-Attributes, roll-out-Attributes, out-roll-Attributes, map-Attributes, fold-roll-Attributes}
+use Rattle.cedar_types.specs.declared.attributes.Attributes.{Attributes, ind-Attributes, roll-Attributes, out-Attributes, roll-out-Attributes, out-roll-Attributes, map-Attributes}
 use Rattle.cedar_types.specs.declared.entity_kind.EntityKind.TheVariants as kind
 use Rattle.cedar_types.specs.declared.types.Type.{«Type», roll-Type, out-Type, roll-out-Type, ind-Type, map-Type, fold-roll-Type}
 use Rattle.cedar_types.specs.declared.types.Type.TheOpen as layer
@@ -41,10 +41,6 @@ IsToldAttribute a = (b : AttributeType) → Decides ((attribute_type_eq.ghosts).
 -- attributes are told apart by their test
 abbrev pub AreTold : Attributes → Type 0
 AreTold a = (b : Attributes) → Decides ((attributes_eq.ghosts).eq a b) (fields_of a ≡ fields_of b)
-
--- what one layer stands for
-abbrev pub folded_layer : layer.Type-F «Type» AttributeType Attributes → Ty
-folded_layer it = type_step (map-Type «Type» AttributeType Attributes Ty (Bool × Ty) Fields ty_of attribute_of fields_of it)
 
 -- a layer whose parts are told apart
 abbrev Told : Type 0
@@ -159,12 +155,6 @@ abbrev pub attributes_parts : ToldAttributes → layer.Attributes-F «Type» Att
 attributes_parts y = map-Attributes ((t : «Type») × IsTold t) ((t : AttributeType) × IsToldAttribute t)
     ((t : Attributes) × AreTold t) «Type» AttributeType Attributes (λ e. e.0) (λ e. e.0) (λ e. e.0) y
 
--- attributes stand for their entries
-pub fields_of-rolled : (x : layer.Attributes-F «Type» AttributeType Attributes)
-    → fields_of (roll-Attributes x) ≡ fields_from (map (λ entry. (string_bytes entry.0, attribute_of entry.1)) x.attrs.value.entries.items)
-fields_of-rolled x =
-    fold-roll-Attributes Ty (Bool × Ty) Fields type_step attribute_step attributes_step x ∙ ap fields_from (map-map _ _ _)
-
 -- the name of the first attribute
 abbrev first_name : Fields → Text
 first_name end = []
@@ -179,10 +169,6 @@ first_attribute (field name required ty rest) = (required, ty)
 abbrev rest_fields : Fields → Fields
 rest_fields end = end
 rest_fields (field name required ty rest) = rest
-
--- what an entry stands for
-abbrev pub plain_entry : String Global × AttributeType → Text × (Bool × Ty)
-plain_entry entry = (string_bytes entry.0, attribute_of entry.1)
 
 -- the test of two entries
 abbrev same_entry : String Global × AttributeType → String Global × AttributeType → Bool

@@ -1,48 +1,25 @@
 -- What the attributes of a record stand for, as their pairs are gone over, looked up and made.
 use Rattle.std.proofs.Common.{◌≡◌, Bool, true, false, refl, sym, ap, subst, ◌∙◌, map, length, Result, Ok, Err, IfOk, List, [], ◌∷◌, Option, Some, None, cond, string_bytes, if◌then◌else◌}
 use Rattle.std.proofs.lemmas.List.{length-map}
-use Rattle.std.proofs.lemmas.Simd.{map-map}
 use Rattle.std.proofs.lemmas.Map.Text.{is_eq-slice_cmp}
 use Rattle.std.specs.Cmp.Lexicographic.{nat_list_eq_equiv}
-use Rattle.std.specs.List.Sorted.{IsStrictlySortedBy}
 use Rattle.std.specs.Option.{option_map, option_or}
 use Rattle.std.specs.Str.{bytes_eq}
 use Rattle.std.specs.declared.alloc.Global.{Global}
 use Rattle.std.specs.declared.rc.Rc.{Rc}
 use Rattle.std.specs.declared.string.String.{String}
-use Rattle.cedar_below.specs.Text.{Text, text_cmp}
-use Rattle.cedar_rules.specs.Fields.{field_names, last_named, HoldsLast, IsAscending}
+use Rattle.cedar_below.specs.Text.{Text}
+use Rattle.cedar_below.specs.LastNamed.{last_named}
+use Rattle.cedar_rules.specs.Fields.{field_names, HoldsLast, IsAscending}
 use Rattle.cedar_rules.specs.Ty.{Ty, Fields, end, field, fields_from, field_at}
 use Rattle.cedar_types.specs.Attributes.{plain_attributes}
-use Rattle.cedar_types.specs.ByName.{entry_texts, value_at, with_texts}
+use Rattle.cedar_sorted.specs.ByName.{entry_texts, value_at, with_texts}
 use Rattle.cedar_types.specs.Located.{located, located_attributes, KeepsLast}
-use Rattle.cedar_types.specs.Meaning.{fields_of, attribute_of, type_step, attribute_step, attributes_step}
+use Rattle.cedar_types.specs.Layers.{pairs_of, fields_of-pairs, field_names-pairs, IsAscending-fields}
+use Rattle.cedar_types.specs.Meaning.{fields_of, attribute_of}
 use Rattle.cedar_types.specs.declared.attributes.AttributeType.{AttributeType}
-use Rattle.cedar_types.specs.declared.attributes.Attributes.{Attributes, out-Attributes, roll-Attributes, out-roll-Attributes, fold_out-Attributes}
-use Rattle.cedar_types.specs.declared.by_name.ByName.{ByName}
-
--- the pairs of a name and an attribute
-abbrev pub pairs_of : Attributes → List (String Global × AttributeType)
-pairs_of all = (out-Attributes all).attrs.value.entries.items
-
--- the attributes stand for what their pairs do
-pub fields_of-pairs : (all : Attributes) → fields_of all ≡ fields_from (plain_attributes (pairs_of all))
-fields_of-pairs all =
-    fold_out-Attributes Ty (Bool × Ty) Fields type_step attribute_step attributes_step all ∙ ap fields_from (map-map _ _ _)
-
--- the names of the attributes are those of the pairs
-pub field_names-entries : (entries : List (String Global × AttributeType))
-    → field_names (fields_from (plain_attributes entries)) ≡ entry_texts entries
-field_names-entries [] = refl
-field_names-entries (entry ∷ rest) = ap (λ names. string_bytes entry.0 ∷ names) (field_names-entries rest)
-
--- the names of what attributes stand for are those of their pairs
-pub field_names-pairs : (all : Attributes) → field_names (fields_of all) ≡ entry_texts (pairs_of all)
-field_names-pairs all = ap field_names (fields_of-pairs all) ∙ field_names-entries (pairs_of all)
-
--- the names of any attributes ascend
-pub IsAscending-fields : (all : Attributes) → IsAscending (fields_of all)
-IsAscending-fields all = subst (IsStrictlySortedBy text_cmp) (sym (field_names-pairs all)) (out-Attributes all).attrs.value.ascending
+use Rattle.cedar_types.specs.declared.attributes.Attributes.{Attributes, out-Attributes, roll-Attributes, out-roll-Attributes}
+use Rattle.cedar_sorted.specs.declared.by_name.ByName.{ByName}
 
 -- a choice between an attribute and what an option stands for is what the choice of the two stands for
 option_map-chosen : {A B : Type 0} (f : A → B) (b : Bool) (x : A) (m : Option B) (n : Option A) → m ≡ option_map f n

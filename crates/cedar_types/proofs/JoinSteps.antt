@@ -32,16 +32,17 @@ use Rattle.cedar_rules.specs.declared.join_error.LubHelp.{LubHelp}
 use Rattle.cedar_rules.specs.declared.join_error.LubHelp.TheVariants as help
 use Rattle.cedar_rules.specs.declared.open_tag.OpenTag.{OpenTag}
 use Rattle.cedar_rules.specs.declared.open_tag.OpenTag.TheVariants.{OpenAttributes, ClosedAttributes}
-use Rattle.cedar_types.proofs.FieldLemmas.{pairs_of, fields_of-pairs, field_at-pairs, field_names-pairs, field_names-entries}
-use Rattle.cedar_types.proofs.FieldLemmas.{IsAscending-fields, length-fields}
+use Rattle.cedar_types.specs.Layers.{IsAscending-fields, field_names-entries, field_names-pairs, fields_of-pairs, pairs_of}
+use Rattle.cedar_types.proofs.FieldLemmas.{field_at-pairs}
+use Rattle.cedar_types.proofs.FieldLemmas.{length-fields}
 use Rattle.cedar_types.proofs.EqualityLaws.{attribute_of-parts}
-use Rattle.cedar_types.proofs.FormedLemmas.{IsWellFormed-type}
-use Rattle.cedar_types.proofs.RisingLemmas.{Ahead, AllBelow, Included-back, Included-length, Ahead-first, Ahead-next, Ahead-sought, missed}
-use Rattle.cedar_types.proofs.SearchLemmas.{text_of, value_at-place}
+use Rattle.cedar_types.specs.WellFormedTypes.{IsWellFormed-type}
+use Rattle.cedar_sorted.proofs.RisingLemmas.{Ahead, AllBelow, Included-back, Included-length, Ahead-first, Ahead-next, Ahead-sought, missed}
+use Rattle.cedar_sorted.proofs.SearchLemmas.{text_of, value_at-place}
 use Rattle.cedar_types.proofs.SubtypeSteps.{Sought, IsAt}
 use Rattle.cedar_types.specs.Attributes.{plain_attributes}
 use Rattle.cedar_types.specs.AttributeJoin.{attribute_ty, IsPermissiveAttribute, IsStrictAttribute}
-use Rattle.cedar_types.specs.ByName.{NamesAscend, value_at}
+use Rattle.cedar_sorted.specs.ByName.{NamesAscend, value_at}
 use Rattle.cedar_types.specs.Located.{located}
 use Rattle.cedar_types.specs.Meaning.{ty_of, fields_of, attribute_of, attribute_loc}
 use Rattle.cedar_types.specs.declared.attributes.Attributes.{Attributes, out-Attributes}

@@ -19,7 +19,7 @@ use Rattle.cedar_below.specs.declared.entity_type.EntityType.{EntityType}
 use Rattle.cedar_below.proofs.Names.{entity_type_eq-same, entity_type_ord-name_cmp}
 use Rattle.cedar_below.proofs.Ordered.{IsStrictlySortedBy-map}
 use Rattle.cedar_rules.specs.EntityUnion.{IsUnionOf}
-use Rattle.cedar_types.proofs.RisingLemmas.{some_item}
+use Rattle.cedar_sorted.proofs.RisingLemmas.{some_item}
 use Rattle.cedar_types.proofs.MemberLemmas.{Contains-named}
 use Rattle.cedar_types.proofs.UnionLemmas.{Contains-names}
 

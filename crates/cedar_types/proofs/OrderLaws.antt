@@ -10,8 +10,9 @@ use Rattle.cedar_rules.proofs.CompareLemmas.{ties_from, bool_cmp-is, open_tag_cm
 use Rattle.cedar_rules.specs.CompareLaws.{ComparesBy}
 use Rattle.cedar_rules.specs.Order.{kind_place, ty_cmp, fields_cmp, attribute_cmp}
 use Rattle.cedar_rules.specs.Ty.{Ty, truth, any_entity, union_of, any_set, set_of, record_of, extension_of, Fields, fields_from}
+use Rattle.cedar_types.specs.Layers.{fields_of-rolled, folded_layer, plain_entry}
 use Rattle.cedar_types.proofs.CompareLemmas.{kind_cmp-is}
-use Rattle.cedar_types.proofs.EqualityLaws.{folded_layer, layer_shape, shape-folded_layer, attribute_of-parts, fields_of-rolled, plain_entry, types-Decides, attributes-Decides, attribute-Decides}
+use Rattle.cedar_types.proofs.EqualityLaws.{layer_shape, shape-folded_layer, attribute_of-parts, types-Decides, attributes-Decides, attribute-Decides}
 use Rattle.cedar_types.specs.Meaning.{ty_of, attribute_of, fields_of, type_step, attribute_step, attributes_step}
 use Rattle.cedar_types.specs.contracts.attributes.AttributesHash.TheImpl as attributes_hash
 use Rattle.cedar_types.specs.contracts.attributes.AttributesOrd.TheImpl as attributes_ord

@@ -1,13 +1,16 @@
--- Steps of the walk that joins types in turn.
+-- Types that are joined in turn.
 use Rattle.std.proofs.Common.{◌≢◌, Result, IsOkAnd}
 use Rattle.std.specs.List.{AllByRecursion}
 use Rattle.cedar_below.specs.Lists.{Included}
 use Rattle.cedar_rules.proofs.ReduceLemmas.{reduce_any_order}
 use Rattle.cedar_rules.specs.Clean.{IsClean}
-use Rattle.cedar_types.proofs.FormedLemmas.{IsWellFormed-type}
-use Rattle.std.proofs.Common.{◌≡◌, inl, inr, refl, ap, sym, ◌∙◌, Bool, List, [], ◌∷◌, map, Ok, Err}
+use Rattle.cedar_types.specs.WellFormedTypes.{IsWellFormed-type}
+use Rattle.std.proofs.Common.{◌≡◌, refl, ap, sym, subst, ◌∙◌, Bool, List, map, Ok, Err}
+use Rattle.std.specs.Result.{result_map_both}
 use Rattle.cedar_below.specs.declared.validation_mode.ValidationMode.{ValidationMode}
-use Rattle.cedar_rules.specs.JoinAnswer.{JoinAnswer, IsJoinAnswer, IsReduceAnswer, IsAnswerOrMemory}
+use Rattle.cedar_rules.proofs.JoinsOf.{answers_by, joined_reduced}
+use Rattle.cedar_rules.specs.JoinAnswer.{IsReduceAnswer, IsAnswerOrMemory}
+use Rattle.cedar_rules.specs.Joining.{AnswersJoinOf, IsGivenOrMemory, IsJoinedInTurn}
 use Rattle.cedar_rules.specs.Ty.{Ty, Fields, never}
 use Rattle.cedar_rules.specs.declared.join_error.JoinError.{JoinError}
 use Rattle.cedar_rules.specs.declared.join_error.JoinError.TheVariants as error
@@ -24,32 +27,15 @@ ty_of-never =
     fold-roll-Type Ty (Bool × Ty) Fields type_step attribute_step attributes_step layer.Never in
     e)
 
--- what the types that are left are joined to, from the join so far, all of them are
-pub record ReducedSoFar (mode : ValidationMode) (all rest : List «Type») (join : Ty) : Type 0 where
-  pub whole : (answer : JoinAnswer) → IsReduceAnswer mode join (map ty_of rest) answer → IsReduceAnswer mode never (map ty_of all) answer
-
--- at first all are left
-pub reduced-first : (mode : ValidationMode) (all : List «Type») → ReducedSoFar mode all all never
-reduced-first mode all = record { whole = λ answer right. right }
-
--- where one more is joined, the walk goes on from the join
-pub reduced-next : (mode : ValidationMode) (all rest : List «Type») (ty : «Type») (before join : Ty)
-    → ReducedSoFar mode all (ty ∷ rest) before → IsJoinAnswer mode before (ty_of ty) (Ok join) → ReducedSoFar mode all rest join
-reduced-next mode all rest ty before join so_far least =
-    record { whole = λ answer right. so_far.whole answer (inl (join, least, right)) }
-
--- what refuses one of the joins refuses all
-pub reduced-refused : {A B : Type 0} (f : A → Ty) (g : B → Ty) (mode : ValidationMode) (all rest : List «Type») (ty : «Type»)
-    (before : Ty) (refusal : JoinError) → ReducedSoFar mode all (ty ∷ rest) before
-    → IsAnswerOrMemory f (IsJoinAnswer mode before (ty_of ty)) (Err refusal)
-    → IsAnswerOrMemory g (IsReduceAnswer mode never (map ty_of all)) (Err refusal)
-reduced-refused f g mode all rest ty before (error.Help given) so_far right = so_far.whole (Err given) (inr (given, right, refl))
-reduced-refused f g mode all rest ty before error.Memory so_far right = tt
-
--- at last the join is that of all
-pub reduced-last : (mode : ValidationMode) (all : List «Type») (join : Ty) → ReducedSoFar mode all [] join
-    → IsReduceAnswer mode never (map ty_of all) (Ok join)
-reduced-last mode all join so_far = so_far.whole (Ok join) refl
+-- types that are joined in turn from `Never` are reduced
+pub types-reduced : (mode : ValidationMode) (start : «Type») (all : List «Type») (result : Result «Type» JoinError) → start ≡ type.Never
+    → IsGivenOrMemory (IsJoinedInTurn (AnswersJoinOf ty_of mode) start all) result
+    → IsAnswerOrMemory ty_of (IsReduceAnswer mode never (map ty_of all)) result
+types-reduced mode start all result is =
+    answers_by ty_of (IsJoinedInTurn (AnswersJoinOf ty_of mode) start all) (IsReduceAnswer mode never (map ty_of all)) result
+    (λ answer right.
+    let P : Ty → Type 0 = λ from. IsReduceAnswer mode from (map ty_of all) (result_map_both ty_of (λ given. given) answer) in
+    subst P (ap ty_of is ∙ ty_of-never) (joined_reduced ty_of mode start all answer right))
 
 -- what clean types are reduced to is what they are in another order, want of memory aside
 pub reduced_in_any_order : (mode : ValidationMode) (types others : List «Type») (join : «Type») (answer : Result «Type» JoinError)

@@ -20,14 +20,15 @@ use Rattle.cedar_rules.specs.Fields.{IsAscending, field_names}
 use Rattle.cedar_rules.specs.Ty.{Fields, fields_from, field_at}
 use Rattle.cedar_rules.specs.declared.open_tag.OpenTag.{OpenTag}
 use Rattle.cedar_rules.specs.declared.open_tag.OpenTag.TheVariants.{ClosedAttributes}
-use Rattle.cedar_types.proofs.FieldLemmas.{pairs_of, fields_of-pairs, field_at-pairs, field_names-pairs, IsAscending-fields, length-fields}
-use Rattle.cedar_types.proofs.RisingLemmas.{Included-back, Ahead, AllBelow, Ahead-first, Ahead-sought, Ahead-next, sought-Decides, sought-next}
-use Rattle.cedar_types.proofs.SearchLemmas.{text_of, text_at, value_at-place, value_at-missed}
+use Rattle.cedar_types.specs.Layers.{IsAscending-fields, field_names-pairs, fields_of-pairs, pairs_of}
+use Rattle.cedar_types.proofs.FieldLemmas.{field_at-pairs, length-fields}
+use Rattle.cedar_sorted.proofs.RisingLemmas.{Included-back, Ahead, AllBelow, Ahead-first, Ahead-sought, Ahead-next, sought-Decides, sought-next}
+use Rattle.cedar_sorted.proofs.SearchLemmas.{text_of, text_at, value_at-place, value_at-missed}
 use Rattle.cedar_types.specs.Attributes.{plain_attributes}
 use Rattle.cedar_types.specs.Meaning.{fields_of, attribute_of}
 use Rattle.cedar_types.specs.declared.attributes.Attributes.{Attributes, out-Attributes}
 use Rattle.cedar_types.specs.declared.attributes.AttributeType.{AttributeType}
-use Rattle.cedar_types.specs.declared.by_name.ByName.{ByName}
+use Rattle.cedar_sorted.specs.declared.by_name.ByName.{ByName}
 
 -- pairs of a name and an attribute
 abbrev Pairs : Type 0

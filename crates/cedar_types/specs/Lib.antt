@@ -1,10 +1,9 @@
 pub mod AttributeJoin
 pub mod Attributes
-pub mod ByName
-pub mod Entries
 pub mod EntityKind
 pub mod EntityLUB
+pub mod Layers
 pub mod Located
 pub mod Meaning
 pub mod MembershipAnswer
-pub mod formers
+pub mod WellFormedTypes

@@ -1,6 +1,6 @@
 //! Attributes of records, by name.
 
-ghost use Rattle.std.specs.Prelude.{◌≡◌, ◌<◌, ◌≤◌, ◌^◌, ℕ, length, List, true, false, map, IfOk, Option, None, string_bytes};
+ghost use Rattle.std.specs.Prelude.{◌≡◌, ◌<◌, ◌≤◌, ◌^◌, ◌++◌, ℕ, length, List, true, false, map, IfOk, Option, Some, None, codes, string_bytes};
 ghost use Rattle.std.specs.Iterator.{IsFinite, Drains};
 ghost use Rattle.std.specs.Option.{option_copied, option_map};
 ghost use Rattle.std.specs.declared.alloc.Global.{Global};
@@ -10,20 +10,20 @@ ghost use Rattle.cedar_below.specs.Text.{Text};
 ghost use Rattle.cedar_below.specs.declared.loc.Loc.{Loc};
 ghost use Rattle.cedar_rules.specs.Fields.{HoldsLast, IsAscending, field_names};
 ghost use Rattle.cedar_types.specs.Attributes.{plain_attributes, plain_required};
-ghost use Rattle.cedar_types.specs.ByName.{NamesAscend, value_at};
+ghost use Rattle.cedar_sorted.specs.ByName.{NamesAscend, value_at};
 ghost use Rattle.cedar_types.specs.Located.{located, located_at, located_attributes, located_required, KeepsLast};
 ghost use Rattle.cedar_types.specs.Meaning.{ty_of, attribute_of, fields_of, attribute_loc};
 ghost use Rattle.cedar_rules.specs.Ty.{end, field_at, fields_from};
+ghost use Rattle.cedar_rules.specs.TypeText.{fields_text};
 ghost use Rattle.cedar_types.specs.declared.attributes.AttributeType.{AttributeType};
 ghost use Rattle.cedar_types.specs.declared.types.Type.{«Type»};
 
-use crate::by_name::ByName;
-use crate::iter::{Entries, Names};
+use crate::show::write_attribute;
 use crate::types::Type;
 use cedar_below::{Loc, M};
+use cedar_sorted::{ByName, Entries, Names};
 use std::alloc::Global;
 use std::fmt;
-use std::fmt::Display;
 use std::rc::Rc;
 
 /// The attributes of a record type or an entity type by name, in the names' order.
@@ -230,16 +230,14 @@ impl Attributes {
 }
 
 impl fmt::Display for Attributes {
+    ghost output = { λ all. Some (codes "{" ++ fields_text (fields_of all) ++ codes "}") };
+
     /// Writes `{`, for each attribute `name: TYPE,` or `name?: TYPE,`, and `}`.
     #[cycle(show)]
     fn fmt<W: fmt::Write>(&self, f: &mut fmt::Formatter<W>) -> fmt::Result {
         f.write_str("{")?;
         for (name, attribute) in self.attrs.as_slice() {
-            let mark = if attribute.is_required { ": " } else { "?: " };
-            f.write_str(name.as_str())?;
-            f.write_str(mark)?;
-            (*attribute.attr_type).fmt(f)?;
-            f.write_str(",")?;
+            write_attribute(name, attribute, f)?;
         }
         f.write_str("}")
     }

@@ -110,6 +110,13 @@ impl EntityLUB {
         self.elements.iter()
     }
 
+    /// The entity types of the union, in order.
+    pub(crate) fn as_slice(&self) -> &[EntityType]
+        ensures { result.now ≡ lub_types self.now }
+    {
+        self.elements.as_slice()
+    }
+
     /// Whether an entity type is one of the union.
     pub fn contains(&self, ty: &EntityType) -> bool
         ensures { IsTrue result ↔ Contains (lub_names self.now) (type_name ty.now) }

@@ -13,17 +13,45 @@ ghost use Rattle.cedar_rules.specs.Ty.{never, record_of};
 ghost use Rattle.cedar_rules.specs.declared.open_tag.OpenTag.TheVariants.{ClosedAttributes};
 ghost use Rattle.cedar_types.specs.AttributeJoin.{attribute_ty, IsPermissiveAttribute, IsStrictAttribute};
 ghost use Rattle.cedar_types.specs.EntityKind.{kind_ty};
+ghost use Rattle.cedar_types.specs.EntityLUB.{lub_ty};
 ghost use Rattle.cedar_types.specs.Located.{listed_at, located_at, IsUnplaced, IsHandedOn};
 ghost use Rattle.cedar_types.specs.Meaning.{ty_of, fields_of, attribute_of, attribute_loc};
 ghost use Rattle.cedar_types.specs.declared.types.Type.{«Type»};
 
 use crate::attributes::{AttributeType, Attributes};
 use crate::entity_kind::EntityKind;
+use crate::entity_lub::EntityLUB;
+use crate::subtype::union_fits;
 use crate::types::Type;
 use cedar_below::{M, Memory, ValidationMode};
-use cedar_rules::{JoinError, LubHelp, OpenTag};
+use cedar_rules::{JoinError, LubHelp, OpenTag, reduce};
 use std::alloc::Global;
 use std::rc::Rc;
+
+/// The join of two unions in strict mode: the union, if they are the same.
+fn strict_union(lub: &EntityLUB, other: &EntityLUB) -> Result<EntityLUB, JoinError>
+    ensures { IsAnswerOrMemory lub_ty (IsJoinAnswer mode.Strict (lub_ty lub.now) (lub_ty other.now)) result }
+{
+    if union_fits(lub, other, ValidationMode::Strict) {
+        Ok(lub.clone()?)
+    } else {
+        Err(JoinError::Help(LubHelp::EntityType))
+    }
+}
+
+/// The join of two unions.
+pub(crate) fn join_unions(
+    lub: &EntityLUB,
+    other: &EntityLUB,
+    mode: ValidationMode,
+) -> Result<EntityLUB, JoinError>
+    ensures { IsAnswerOrMemory lub_ty (IsJoinAnswer mode (lub_ty lub.now) (lub_ty other.now)) result }
+{
+    match mode {
+        ValidationMode::Strict => strict_union(lub, other),
+        ValidationMode::Permissive => Ok(lub.least_upper_bound(other)?),
+    }
+}
 
 /// The join of two kinds of entities in strict mode: the kind, if they are the same.
 fn strict_kind(kind: &EntityKind, other: &EntityKind) -> Result<EntityKind, JoinError>
@@ -390,10 +418,6 @@ impl Type {
     ) -> Result<Type, JoinError>
         ensures { IsAnswerOrMemory ty_of (IsReduceAnswer mode never (map ty_of items.now)) result }
     {
-        let mut join = Type::Never;
-        for ty in items {
-            join = Type::least_upper_bound(alloc, &join, ty, mode)?;
-        }
-        Ok(join)
+        reduce(alloc, Type::Never, items, mode)
     }
 }

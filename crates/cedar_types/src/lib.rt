@@ -2,18 +2,21 @@
 #![tactic(auto)]
 
 pub use attributes::{AttributeType, Attributes};
-pub use cedar_rules::{BoolType, JoinError, LubHelp, OpenTag};
+pub use cedar_rules::{BoolType, CoreTypeFault, JoinError, JoinOrder, LubHelp, OpenTag, reduce};
+pub use cedar_sorted::{Entries, Names};
+pub use core_type::core_type_of;
 pub use entity_kind::EntityKind;
 pub use entity_lub::EntityLUB;
-pub use iter::{Entries, Names};
 pub use types::Type;
 
 mod attributes;
-mod by_name;
+mod clean;
+mod consistent;
+mod core_type;
 mod entity_kind;
 mod entity_lub;
-mod iter;
 mod join;
+mod join_order;
 mod member;
 mod show;
 mod subtype;

@@ -5,7 +5,7 @@ ghost use Rattle.cedar_below.specs.Lists.{Included};
 ghost use Rattle.cedar_rules.specs.Below.{Below, FieldsBelow, AttributeBelow, FlagsBelow, OpennessBelow, NamesBelow};
 ghost use Rattle.cedar_rules.specs.Fields.{IsAscending, field_names};
 ghost use Rattle.cedar_types.specs.EntityKind.{kind_ty};
-ghost use Rattle.cedar_types.specs.EntityLUB.{lub_names};
+ghost use Rattle.cedar_types.specs.EntityLUB.{lub_names, lub_ty};
 ghost use Rattle.cedar_types.specs.Meaning.{ty_of, fields_of, attribute_of};
 
 use crate::attributes::{AttributeType, Attributes};
@@ -75,6 +75,17 @@ fn is_same(lower: &EntityLUB, upper: &EntityLUB) -> bool
     lower == upper
 }
 
+/// Whether the entities of the one union are entities of the other: in strict mode the unions have the same
+/// entity types, and in permissive mode the other has each of this one.
+pub(crate) fn union_fits(lower: &EntityLUB, upper: &EntityLUB, mode: ValidationMode) -> bool
+    ensures { IsTrue result ↔ Below mode (lub_ty lower.now) (lub_ty upper.now) }
+{
+    match mode {
+        ValidationMode::Strict => is_same(lower, upper),
+        ValidationMode::Permissive => is_included(lower, upper),
+    }
+}
+
 impl EntityKind {
     /// Whether the entities of this kind are entities of the other: in strict mode the kinds are the
     /// same, and in permissive mode the other one is any entity or has each entity type of this one.
@@ -85,10 +96,9 @@ impl EntityKind {
             (EntityKind::AnyEntity, EntityKind::AnyEntity) => true,
             (EntityKind::AnyEntity, EntityKind::Entity(_)) => false,
             (EntityKind::Entity(_), EntityKind::AnyEntity) => mode == ValidationMode::Permissive,
-            (EntityKind::Entity(lower), EntityKind::Entity(upper)) => match mode {
-                ValidationMode::Strict => is_same(lower, upper),
-                ValidationMode::Permissive => is_included(lower, upper),
-            },
+            (EntityKind::Entity(lower), EntityKind::Entity(upper)) => union_fits(
+                lower, upper, mode,
+            ),
         }
     }
 }

@@ -1,7 +1,8 @@
-//! What a type is, and the unions in it.
+//! What a type is, the unions in it, and whether two have none in common.
 
-ghost use Rattle.std.specs.Prelude.{◌≡◌};
+ghost use Rattle.std.specs.Prelude.{◌≡◌, ◌↔◌, IsTrue};
 ghost use Rattle.std.specs.Option.{option_copied, option_map};
+ghost use Rattle.cedar_rules.specs.Disjoint.{AreDisjointTypes};
 ghost use Rattle.cedar_rules.specs.EntityTypes.{kind_names};
 ghost use Rattle.cedar_types.specs.EntityLUB.{lub_names};
 ghost use Rattle.cedar_rules.specs.EntityTypes.{is_entity, set_or_kind_names};
@@ -37,6 +38,16 @@ impl Type {
                 element_type: Some(element),
             } => element.as_entity_lub(),
             _ => self.as_entity_lub(),
+        }
+    }
+
+    /// Whether the two types are unions of entity types that have none in common, so that no value has both.
+    pub fn are_types_disjoint(a: &Type, b: &Type) -> bool
+        ensures { IsTrue result ↔ AreDisjointTypes (ty_of a.now) (ty_of b.now) }
+    {
+        match (a.as_entity_lub(), b.as_entity_lub()) {
+            (Some(lub), Some(other)) => lub.is_disjoint(other),
+            _ => false,
         }
     }
 }

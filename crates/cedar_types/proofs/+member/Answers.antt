@@ -15,7 +15,7 @@ use Rattle.cedar_rules.specs.Ty.{Ty, extension_of, Fields, fields_from}
 use Rattle.cedar_types.specs.declared.attributes.AttributeType.{AttributeType}
 use Rattle.cedar_types.specs.declared.types.Type.TheVariants as type
 use Rattle.cedar_types.proofs.MembershipLemmas.{IsMembershipSoFar-none, IsMembershipSoFar-all, IsMembershipSoFar-stops}
-use Rattle.cedar_types.proofs.FieldLemmas.{fields_of-pairs}
+use Rattle.cedar_types.specs.Layers.{fields_of-pairs}
 use Rattle.cedar_types.proofs.MemberParts.{IsMembershipFor, IsMembershipForEach, IsMembershipFor-at, IsMembershipFor-uid, IsMembershipFor-listed, IsMembershipFor-unlisted, IsMembershipForEntry, IsMembershipForEntry-Some, IsMembershipForEntry-None, ElementsSoFar, ElementsSoFar-more, FieldsSoFar, FieldsSoFar-more, attribute_of-parts, ty_of-set, ty_of-record, ty_of-entity, ty_of-extension}
 use Rattle.cedar_types.proofs.+member.Goals as goal
 use Rattle.cedar_types.proofs.+member.Goals.{member::fields_have-in-Some, member::fields_have-in-None}

@@ -8,7 +8,7 @@ use Rattle.cedar_below.specs.declared.validation_mode.ValidationMode.TheVariants
 use Rattle.cedar_rules.specs.OpenTag.{either_open}
 use Rattle.cedar_rules.specs.OwnBound.{IsLeastOwnBound}
 use Rattle.cedar_rules.specs.Ty.{record_of, set_of}
-use Rattle.cedar_types.proofs.FieldLemmas.{pairs_of}
+use Rattle.cedar_types.specs.Layers.{pairs_of}
 use Rattle.cedar_types.proofs.JoinSteps.{unplaced-at}
 use Rattle.cedar_types.proofs.JoinSteps.{Pairs, fields_at, names_ascend, PermissiveSoFar, permissive-first, permissive-last}
 use Rattle.cedar_types.proofs.JoinSteps.{permissive-missed, permissive-refused, permissive-kept, permissive-least, StrictSoFar}

@@ -1,5 +1,5 @@
 use Rattle.std.proofs.Common.{ap, ◌∙◌}
-use Rattle.cedar_types.proofs.FieldLemmas.{IsAscending-fields}
+use Rattle.cedar_types.specs.Layers.{IsAscending-fields}
 use Rattle.cedar_types.proofs.SubtypeSteps.{NamesBelow-strict, NamesBelow-closed, counts-Decides}
 use Rattle.cedar_types.specs.Meaning.{fields_of}
 use Rattle.cedar_types.proofs.subtype.counts_fit.Goals as goal

@@ -7,7 +7,7 @@ use Rattle.cedar_below.specs.Lists.{Included}
 use Rattle.cedar_below.specs.declared.entity_type.EntityType.{EntityType}
 use Rattle.cedar_types.specs.EntityLUB.{lub_types, lub_names}
 use Rattle.cedar_below.proofs.Inclusion.{Included-step, Included-head}
-use Rattle.cedar_types.proofs.RisingLemmas.{Ahead, sought-Decides, sought-next}
+use Rattle.cedar_sorted.proofs.RisingLemmas.{Ahead, sought-Decides, sought-next}
 use Rattle.cedar_types.proofs.UnionSteps.{Included-empty}
 use Rattle.cedar_types.proofs.subtype.is_included.Goals as goal
 

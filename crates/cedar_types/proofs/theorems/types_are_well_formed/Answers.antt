@@ -1,5 +1,5 @@
-use Rattle.cedar_types.proofs.FieldLemmas.{IsAscending-fields}
-use Rattle.cedar_types.proofs.FormedLemmas.{kind_formed, IsWellFormed-type, AreWellFormed-fields, AreTexts-fields}
+use Rattle.cedar_types.specs.Layers.{IsAscending-fields}
+use Rattle.cedar_types.specs.WellFormedTypes.{kind_formed, IsWellFormed-type, AreWellFormed-fields, AreTexts-fields}
 use Rattle.cedar_types.proofs.theorems.types_are_well_formed.Goals as goal
 
 pub returns-clause-kinds : goal.returns-clause-kinds

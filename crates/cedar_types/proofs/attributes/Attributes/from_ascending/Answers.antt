@@ -2,9 +2,10 @@ use Rattle.std.proofs.Common.{ap, ◌∙◌}
 use Rattle.std.specs.Option.{option_map}
 use Rattle.cedar_rules.specs.Ty.{fields_from}
 use Rattle.cedar_types.specs.Attributes.{plain_attributes}
-use Rattle.cedar_types.specs.ByName.{value_at}
+use Rattle.cedar_sorted.specs.ByName.{value_at}
 use Rattle.cedar_types.specs.Located.{located}
-use Rattle.cedar_types.proofs.FieldLemmas.{fields_of-pairs, pairs_of-made}
+use Rattle.cedar_types.specs.Layers.{fields_of-pairs}
+use Rattle.cedar_types.proofs.FieldLemmas.{pairs_of-made}
 use Rattle.cedar_types.proofs.attributes.Attributes.from_ascending.Goals as goal
 
 pub returns-clause-attributes : goal.returns-clause-attributes

@@ -1,7 +1,7 @@
 use Rattle.std.proofs.Common.{ap, sym, ◌∙◌}
 use Rattle.cedar_types.specs.Attributes.{plain_attributes}
 use Rattle.cedar_rules.specs.Ty.{fields_from}
-use Rattle.cedar_types.proofs.FieldLemmas.{fields_of-pairs, IsAscending-fields}
+use Rattle.cedar_types.specs.Layers.{IsAscending-fields, fields_of-pairs}
 use Rattle.cedar_types.proofs.attributes.Attributes.iter.Goals as goal
 
 pub returns-clause-attributes : goal.returns-clause-attributes

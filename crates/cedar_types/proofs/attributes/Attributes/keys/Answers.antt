@@ -1,7 +1,7 @@
 use Rattle.std.proofs.Common.{ap, sym, ◌∙◌, map, string_bytes}
 use Rattle.std.proofs.lemmas.Simd.{map-map}
 use Rattle.std.specs.Map.{keys_of}
-use Rattle.cedar_types.proofs.FieldLemmas.{field_names-pairs, IsAscending-fields}
+use Rattle.cedar_types.specs.Layers.{IsAscending-fields, field_names-pairs}
 use Rattle.cedar_types.proofs.attributes.Attributes.keys.Goals as goal
 
 pub returns-clause-names : goal.returns-clause-names

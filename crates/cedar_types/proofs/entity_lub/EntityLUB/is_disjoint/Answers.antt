@@ -8,7 +8,7 @@ use Rattle.cedar_below.specs.PlainName.{name_cmp}
 use Rattle.cedar_below.specs.declared.entity_type.EntityType.{EntityType}
 use Rattle.cedar_types.specs.EntityLUB.{lub_types, lub_names}
 use Rattle.cedar_rules.specs.EntityUnion.{AreDisjoint}
-use Rattle.cedar_types.proofs.RisingLemmas.{Ahead, sought-Decides, sought-next}
+use Rattle.cedar_sorted.proofs.RisingLemmas.{Ahead, sought-Decides, sought-next}
 use Rattle.cedar_types.proofs.UnionLemmas.{AreDisjoint-more, Contains-names}
 use Rattle.cedar_types.proofs.entity_lub.EntityLUB.is_disjoint.Goals as goal
 

@@ -3,7 +3,7 @@ use Rattle.cedar_below.specs.EntityType.{type_name}
 use Rattle.cedar_below.specs.PlainName.{name_cmp}
 use Rattle.cedar_types.specs.EntityLUB.{lub_types, lub_names}
 use Rattle.cedar_rules.specs.EntityUnion.{AreDisjoint}
-use Rattle.cedar_types.proofs.RisingLemmas.{Ahead}
+use Rattle.cedar_sorted.proofs.RisingLemmas.{Ahead}
 use Rattle.cedar_types.proofs.entity_lub.EntityLUB.is_disjoint.Given as goal
 
 abbrev pub invariant-loop-ty : goal.invariant-loop-ty

@@ -1,0 +1,3 @@
+pub mod MadeLemmas
+pub mod RisingLemmas
+pub mod SearchLemmas

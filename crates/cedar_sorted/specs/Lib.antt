@@ -1,0 +1,3 @@
+pub mod ByName
+pub mod Entries
+pub mod formers

@@ -1,0 +1,14 @@
+use Rattle.std.proofs.Common.{◌≡◌, true}
+use Rattle.cedar_below.specs.CoreSchemaType.{core_fields_of}
+use Rattle.cedar_below.specs.CoreTy.{core_record}
+use Rattle.cedar_rules.specs.Consistent.{IsConsistent}
+use Rattle.cedar_rules.specs.Ty.{record_of}
+use Rattle.cedar_rules.specs.declared.open_tag.OpenTag.TheVariants.{OpenAttributes}
+use Rattle.cedar_types.proofs.ConsistentSteps.{ConsistentSoFar}
+use Rattle.cedar_types.specs.Meaning.{fields_of}
+use Rattle.cedar_types.proofs.+consistent.Given as goal
+
+abbrev pub invariant-consistent::records_fit-loop-name : goal.invariant-consistent::records_fit-loop-name
+invariant-consistent::records_fit-loop-name l =
+    ConsistentSoFar l.own (l.openness ≡ OpenAttributes) (l.core_is_open ≡ true)
+    (IsConsistent (record_of (fields_of l.attrs) l.openness) (core_record (core_fields_of l.core) l.core_is_open)) l.at l.name-iterator

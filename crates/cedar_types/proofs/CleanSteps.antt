@@ -1,0 +1,40 @@
+-- Steps of the walk that tells whether the types of attributes are clean.
+use Rattle.std.proofs.Common.{◌≡◌, ◌↔◌, ◌∙◌, false, List, ◌∷◌, sym, ap, subst, Global}
+use Rattle.std.specs.Bool.{Decides}
+use Rattle.std.specs.declared.string.String.{String}
+use Rattle.cedar_below.proofs.Inclusion.{rest_alone, part_fails}
+use Rattle.cedar_rules.specs.Clean.{IsClean, AreClean}
+use Rattle.cedar_rules.specs.Ty.{fields_from}
+use Rattle.cedar_types.proofs.EqualityLaws.{attribute_of-parts}
+use Rattle.cedar_types.specs.Attributes.{plain_attributes}
+use Rattle.cedar_types.specs.Layers.{pairs_of, fields_of-pairs}
+use Rattle.cedar_types.specs.Meaning.{ty_of, attribute_of, fields_of}
+use Rattle.cedar_types.specs.declared.attributes.AttributeType.{AttributeType, out-AttributeType}
+use Rattle.cedar_types.specs.declared.attributes.Attributes.{Attributes}
+use Rattle.cedar_types.specs.declared.types.Type.{«Type»}
+
+-- the types of the attributes that are left are clean exactly where all are
+abbrev pub IsCleanLeft : Attributes → List (String Global × AttributeType) → Type 0
+IsCleanLeft all rest = AreClean (fields_from (plain_attributes rest)) ↔ AreClean (fields_of all)
+
+-- at first all are left
+pub clean-first : (all : Attributes) (own : List (String Global × AttributeType)) → own ≡ pairs_of all → IsCleanLeft all own
+clean-first all own is =
+    let P : List (String Global × AttributeType) → Type 0 = IsCleanLeft all in
+    subst P (sym is) (subst (λ fields. AreClean fields ↔ AreClean (fields_of all)) (fields_of-pairs all) (λ clean. clean, λ clean. clean))
+
+module _ (all : Attributes) (item : String Global × AttributeType) (rest : List (String Global × AttributeType))
+    (left : IsCleanLeft all (item ∷ rest)) (of : «Type») (is_of : of ≡ (out-AttributeType item.1).attr_type.value) where
+  -- the type of an attribute that stands for a clean one is clean, and the other way round
+  clean_attribute : IsClean (attribute_of item.1).1 ↔ IsClean (ty_of of)
+  clean_attribute =
+      let same : (attribute_of item.1).1 ≡ ty_of of = ap (λ both. both.1) (attribute_of-parts item.1) ∙ ap ty_of (sym is_of) in
+      (subst IsClean same, subst IsClean (sym same))
+
+  -- one whose type isn't clean tells that not all are
+  pub clean-fails : ¬ IsClean (ty_of of) → Decides false (AreClean (fields_of all))
+  clean-fails fails = part_fails left (λ clean. fails (clean_attribute.0 clean))
+
+  -- past one whose type is clean the rest tells
+  pub clean-next : IsClean (ty_of of) → IsCleanLeft all rest
+  clean-next clean = rest_alone left (clean_attribute.1 clean)
