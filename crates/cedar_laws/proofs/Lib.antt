@@ -3,6 +3,7 @@ pub mod AdmitsLemmas
 pub mod BuiltFrom
 pub mod ChainDecisions
 pub mod ChainInduction
+pub mod CleanSchemas
 pub mod CountLemmas
 pub mod DeclaredKinds
 pub mod EnumeratedLemmas

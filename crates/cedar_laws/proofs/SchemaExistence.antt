@@ -78,7 +78,7 @@ module _ (bag : Bag) (extensions : Extensions) (well : ¬ IsIllFormed bag extens
 
 -- a bag that isn't ill-formed declares a schema
 pub declared_schema : BagsDeclareASchema
-declared_schema bag extensions fit well =
+declared_schema bag extensions well =
     let types = table_of name_cmp name_cmp-total name_cmp-Equal (IsDeclaredEntityType bag extensions)
     (map (λ it. it.0) (declared_entities bag)) (entity_type_of bag extensions well) in
     let actions = table_of uid_cmp uid_cmp-total uid_cmp-Equal (IsDeclaredAction bag extensions) (action_uids bag)

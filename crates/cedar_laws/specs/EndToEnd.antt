@@ -23,9 +23,10 @@ use Rattle.cedar_declared.specs.PlainSchema.{SchemaEntityType, SchemaAction, def
 use Rattle.cedar_declared.specs.SameBag.{SameBag}
 use Rattle.cedar_declared.specs.SameSchema.{SameSchema}
 use Rattle.cedar_declared.specs.Settled.{SettlesBag}
-use Rattle.cedar_declared.specs.ValidSchema.{IsValidSchema}
+use Rattle.cedar_declared.specs.ValidSchema.{IsTypeIn, IsValidSchema}
 use Rattle.cedar_declared.specs.Descent.{IsDescendantAction}
 use Rattle.cedar_declared.specs.EntityTypeKind.{standard_kind}
+use Rattle.cedar_rules.specs.Clean.{IsClean}
 use Rattle.cedar_rules.specs.Has.{Has}
 use Rattle.cedar_rules.specs.Ty.{Ty, Fields, record_of}
 use Rattle.cedar_rules.specs.declared.open_tag.OpenTag.{OpenTag}
@@ -80,8 +81,7 @@ DeclaredTypesHaveTheDeclaredValues = (bag : Bag) (extensions : Extensions) → T
 
 -- a law: a bag that isn't ill-formed declares a schema
 abbrev pub BagsDeclareASchema : Type 0
-BagsDeclareASchema = (bag : Bag) (extensions : Extensions) → TypeNamesFit (extension_types extensions)
-    → ¬ IsIllFormed bag extensions
+BagsDeclareASchema = (bag : Bag) (extensions : Extensions) → ¬ IsIllFormed bag extensions
     → (schema : PlainSchema) × IsDeclaredSchema bag extensions schema
 
 -- the entity is that of an action that the bag defines: without attributes and tags, and just below the actions whose
@@ -121,6 +121,11 @@ abbrev pub DeclaredSchemasAreValid : Type 0
 DeclaredSchemasAreValid = (bag : Bag) (extensions : Extensions) (schema : PlainSchema)
     → TypeNamesFit (extension_types extensions) → PlacesFit bag
     → ¬ IsIllFormed bag extensions → IsDeclaredSchema bag extensions schema → IsValidSchema extensions schema
+
+-- a law: the any-set stands in no type of the schema that a bag declares
+abbrev pub DeclaredTypesAreClean : Type 0
+DeclaredTypesAreClean = (bag : Bag) (extensions : Extensions) (schema : PlainSchema) → IsDeclaredSchema bag extensions schema
+    → (ty : Ty) → IsTypeIn schema ty → IsClean ty
 
 -- a law: closing the schema that a bag declares gives that schema
 abbrev pub DeclaredSchemasAreClosed : Type 0

@@ -21,7 +21,7 @@ mutual
       (LiesWithin-clean (IsNamedIn Among name) ty clean.0, FieldsLieWithin-clean Among rest clean.1)
 
 -- the type of an attribute of clean ones is clean
-AreClean-of : (fields : Fields) (name : Text) (required : Bool) (ty : Ty) → AreClean fields → HasField fields name required ty → IsClean ty
+pub AreClean-of : (fields : Fields) (name : Text) (required : Bool) (ty : Ty) → AreClean fields → HasField fields name required ty → IsClean ty
 AreClean-of end name required ty clean has = absurd has
 AreClean-of (field other flag of rest) name required ty clean (inl same) = subst IsClean same.2 clean.0
 AreClean-of (field other flag of rest) name required ty clean (inr there) =

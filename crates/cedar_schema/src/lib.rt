@@ -20,6 +20,7 @@ pub use cedar_types::{
 };
 pub use schema::ValidatorSchema;
 
+pub mod lookup;
 mod queries;
 mod schema;
 pub mod theorems;

@@ -1,0 +1,5 @@
+mod AllLemmas
+mod DeclaredLemmas
+mod JoinedLemmas
+mod KnownLemmas
+mod NotLemmas

@@ -1,0 +1,3 @@
+pub mod KnownAttributes
+pub mod KnownLaws
+pub mod Possible

@@ -1,0 +1,16 @@
+//! Laws of known attributes.
+
+ghost use Rattle.cedar_lookup.specs.KnownLaws.{KnownAttributesAreCommon, LargerUnionsKnowLess};
+
+/// What is known of a union whose members declare clean types: exactly the attributes that all members declare
+/// with types that have a clean common bound, each with the least of these bounds, and required exactly
+/// where all members require it.
+pub fn known_attributes_are_common()
+    ensures { KnownAttributesAreCommon }
+{}
+
+/// A larger union knows only attributes that a smaller part of it knows, with types above and flags no
+/// stronger, where the members declare clean types.
+pub fn larger_unions_know_less()
+    ensures { LargerUnionsKnowLess }
+{}
