@@ -11,22 +11,6 @@ use Rattle.cedar_rules.specs.StandsIn.{StandsIn, StandsInFields}
 use Rattle.cedar_rules.specs.Ty.{Ty, never, any_entity, union_of, set_of, record_of, Fields, end, field, fields_from}
 use Rattle.cedar_rules.specs.declared.core_type_fault.CoreTypeFault.{CoreTypeFault}
 use Rattle.cedar_rules.specs.declared.core_type_fault.CoreTypeFault.TheVariants as fault
-use Rattle.cedar_rules.specs.declared.open_tag.OpenTag.{OpenTag}
-
--- a fault of the elements' type is one of the set type
-pub fault-set : (ty : Ty) (given : CoreTypeFault) → IsCoreFault ty given → IsCoreFault (set_of ty) given
-fault-set ty fault.NeverType stands = inr stands
-fault-set ty fault.AnyEntityType stands = inr stands
-fault-set ty fault.UnionType stands = inr stands
-fault-set ty fault.Memory stands = tt
-
--- a fault of the attributes is one of the record type
-pub fault-record : (fields : Fields) (openness : OpenTag) (given : CoreTypeFault) → IsFieldsFault fields given
-    → IsCoreFault (record_of fields openness) given
-fault-record fields openness fault.NeverType stands = inr stands
-fault-record fields openness fault.AnyEntityType stands = inr stands
-fault-record fields openness fault.UnionType stands = inr stands
-fault-record fields openness fault.Memory stands = tt
 
 -- what stands in the type of one of some attributes stands in them
 stands-in_middle : (P : Ty → Type 0) (front : List (Text × (Bool × Ty))) (item : Text × (Bool × Ty)) (rest : List (Text × (Bool × Ty)))

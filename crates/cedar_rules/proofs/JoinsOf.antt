@@ -6,7 +6,7 @@ use Rattle.cedar_rules.proofs.JoinLemmas.{clean_is_own, own_is_clean}
 use Rattle.cedar_rules.proofs.SubtypeLaws.{Below-itself, Below-trans}
 use Rattle.cedar_rules.specs.Below.{Below}
 use Rattle.cedar_rules.specs.Clean.{IsClean}
-use Rattle.cedar_rules.specs.JoinAnswer.{JoinAnswer, IsJoinAnswer, IsReduceAnswer, IsAnswerOrMemory}
+use Rattle.cedar_rules.specs.JoinAnswer.{JoinAnswer, IsReduceAnswer, IsAnswerOrMemory}
 use Rattle.cedar_rules.specs.Joining.{AnswersJoinOf, IsGivenOrMemory, IsJoinedInTurn}
 use Rattle.cedar_rules.specs.Ty.{Ty}
 use Rattle.cedar_rules.specs.declared.join_error.JoinError.{JoinError}
@@ -57,14 +57,6 @@ pub answers_by : {A : Type 0} (stands_for : A → Ty) (P : Result A LubHelp → 
 answers_by stands_for P Q (Ok value) forth right = forth (Ok value) right
 answers_by stands_for P Q (Err (error.Help given)) forth right = forth (Err given) right
 answers_by stands_for P Q (Err error.Memory) forth right = tt
-
--- what answers the join of what two values stand for answers their join
-pub answers_join : {A : Type 0} (stands_for : A → Ty) (mode : ValidationMode) (a b : A) (result : Result A JoinError)
-    → IsAnswerOrMemory stands_for (IsJoinAnswer mode (stands_for a) (stands_for b)) result
-    → IsGivenOrMemory (AnswersJoinOf stands_for mode a b) result
-answers_join stands_for mode a b (Ok value) right = right
-answers_join stands_for mode a b (Err (error.Help given)) right = right
-answers_join stands_for mode a b (Err error.Memory) right = tt
 
 -- values that are joined in turn stand for types that are reduced to what the answer stands for
 pub joined_reduced : {A : Type 0} (stands_for : A → Ty) (mode : ValidationMode) (start : A) (items : List A) (answer : Result A LubHelp)

@@ -1,14 +1,17 @@
 //! Tests of joins and of reductions.
 
-use crate::test_values::{sample, text};
+use crate::test_values::{entity_type, sample, text};
 use cedar_below::{Loc, Memory, ValidationMode};
-use cedar_types::{AttributeType, JoinError, OpenTag, Type};
+use cedar_types::{
+    AttributeType, EntityKind, EntityLUB, JoinError, JoinOrder, OpenTag, Type, reduce,
+};
 use std::alloc::Global;
+use std::fmt::Display;
 use std::rc::Rc;
 use std::test::Fail;
 
 /// The text of a join, or the word of the help.
-fn printed(alloc: Global, answer: Result<Type, JoinError>) -> Result<String, Fail> {
+fn printed<T: Display + Drop>(alloc: Global, answer: Result<T, JoinError>) -> Result<String, Fail> {
     match answer {
         Ok(join) => Ok(join.to_string(alloc)?),
         Err(JoinError::Help(help)) => Ok(help.to_string(alloc)?),
@@ -120,6 +123,52 @@ fn types_are_reduced_in_turn(rt: HostRuntime) -> Result<(), Fail> {
         }
         let join = Type::reduce_to_least_upper_bound(alloc, &types, ValidationMode::Permissive);
         assert_eq!(rt; printed(alloc, join)?.as_str(), expected);
+    }
+    Ok(())
+}
+
+/// The union of one entity type.
+fn single(alloc: Global, base: &str) -> Result<EntityLUB, Fail> {
+    Ok(EntityLUB::single_entity(alloc, entity_type(alloc, base)?)?)
+}
+
+/// Modes, each with what the entities of two types are joined to.
+const MODES: [(ValidationMode, &str); 2] = [
+    (ValidationMode::Strict, "EntityType"),
+    (
+        ValidationMode::Permissive,
+        "__cedar::internal::Union<Bar, Foo>",
+    ),
+];
+
+#[test]
+fn unions_are_joined_through_the_trait(rt: HostRuntime) -> Result<(), Fail> {
+    let alloc = rt.alloc();
+    for (mode, expected) in MODES {
+        let others = [single(alloc, "Bar")?];
+        let join = reduce(alloc, single(alloc, "Foo")?, &others, mode);
+        assert_eq!(rt; printed(alloc, join)?.as_str(), expected);
+    }
+    Ok(())
+}
+
+#[test]
+fn kinds_are_joined_through_the_trait(rt: HostRuntime) -> Result<(), Fail> {
+    let alloc = rt.alloc();
+    for (mode, expected) in MODES {
+        let others = [EntityKind::Entity(single(alloc, "Bar")?)];
+        let kind = EntityKind::Entity(single(alloc, "Foo")?);
+        let join = reduce(alloc, kind, &others, mode);
+        assert_eq!(rt; printed(alloc, join)?.as_str(), expected);
+    }
+    Ok(())
+}
+
+#[test]
+fn a_type_with_the_any_set_is_not_clean(rt: HostRuntime) -> Result<(), Fail> {
+    let alloc = rt.alloc();
+    for (word, is_clean) in [("set-long", true), ("mixed", true), ("any-set", false)] {
+        assert_eq!(rt; sample(alloc, word)?.is_clean(), is_clean, "at {word}");
     }
     Ok(())
 }

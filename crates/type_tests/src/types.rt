@@ -197,6 +197,25 @@ fn unions_know_their_entity_types(rt: HostRuntime) -> Result<(), Fail> {
     Ok(())
 }
 
+#[test]
+fn only_unions_without_a_common_member_are_disjoint(rt: HostRuntime) -> Result<(), Fail> {
+    let alloc = rt.alloc();
+    for (first, second, disjoint) in [
+        ("foo", "bar", true),
+        ("foo", "foo", false),
+        ("foo", "any-entity", false),
+        ("long", "string", false),
+    ] {
+        let (a, b) = (sample(alloc, first)?, sample(alloc, second)?);
+        assert_eq!(rt;
+            Type::are_types_disjoint(&a, &b),
+            disjoint,
+            "{first} and {second}"
+        );
+    }
+    Ok(())
+}
+
 /// Types, each with whether it is one of entities, and how many entity types its union has, and
 /// that of it or of its elements.
 const UNIONS: [(&str, bool, usize, usize); 5] = [
