@@ -24,9 +24,13 @@ use std::collections::HashSet;
 /// What types may name: entity types, types of actions, and extension types.
 #[derive(Clone, Copy)]
 pub(crate) struct Known<'a> {
+    /// Where refusals are made.
     pub(crate) alloc: Global,
+    /// The schema.
     pub(crate) parts: &'a Parts,
+    /// The types of its actions.
     pub(crate) action_types: &'a HashSet<EntityType>,
+    /// The extension types that were handed in.
     pub(crate) extensions: &'a Extensions,
 }
 
