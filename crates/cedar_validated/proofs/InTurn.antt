@@ -1,0 +1,74 @@
+-- Lists that agree in turn, and tests that agree.
+use Rattle.std.proofs.Common.{◌≡◌, Bool, true, false, List, [], ◌∷◌, None, map, arith, inl, inr, ⊎_elim, refl, subst, sym, ◌∙◌, Contains}
+use Rattle.std.proofs.lemmas.Bool.{false≢true}
+use Rattle.std.proofs.lemmas.List.{map-id}
+use Rattle.std.proofs.lemmas.Map.Iter.{iter_end}
+use Rattle.std.specs.Iterator.{DrainsIf}
+use Rattle.std.specs.Map.{lookup}
+use Rattle.std.specs.Map.Iter.{TakesFirst}
+use Rattle.cedar_below.proofs.Lists.{Contains-cons, Contains-cons_cases}
+use Rattle.cedar_below.specs.Lists.{HoldsInTurn}
+
+-- where two lists have the same keys in turn, what holds of each two items of one key holds in turn
+pub in_turn : {A B P : Type 0} (R : A → B → Type 0) (f : A → P) (g : B → P) (xs : List A) (ys : List B) → map f xs ≡ map g ys
+    → ((x : A) (y : B) → Contains xs x → Contains ys y → f x ≡ g y → R x y) → HoldsInTurn R xs ys
+in_turn R f g [] [] same each = tt
+in_turn R f g [] (y ∷ ys) same each = cc
+in_turn R f g (x ∷ xs) [] same each = cc
+in_turn R f g (x ∷ xs) (y ∷ ys) same each =
+    let first : f x ≡ g y = cc in
+    let rest : map f xs ≡ map g ys = cc in (
+      each x y (Contains-cons x xs x (inl refl)) (Contains-cons y ys y (inl refl)) first,
+      in_turn R f g xs ys rest (λ a b among also. each a b (Contains-cons x xs a (inr among)) (Contains-cons y ys b (inr also))),
+    )
+
+-- what holds in turn of what items give holds of the lists of these
+pub in_turn_map : {A B C D : Type 0} (R : C → D → Type 0) (f : A → C) (g : B → D) (xs : List A) (ys : List B)
+    → HoldsInTurn (λ x y. R (f x) (g y)) xs ys → HoldsInTurn R (map f xs) (map g ys)
+in_turn_map R f g [] [] holds = tt
+in_turn_map R f g [] (y ∷ ys) holds = absurd holds
+in_turn_map R f g (x ∷ xs) [] holds = absurd holds
+in_turn_map R f g (x ∷ xs) (y ∷ ys) holds = (holds.0, in_turn_map R f g xs ys holds.1)
+
+-- an iterator that gives the items in turn gives them all
+pub given_all : {A : Type 0} (all from xs : List A) → from ≡ all → DrainsIf (TakesFirst (λ (x : A). x)) (Unit {0}) from xs → xs ≡ all
+given_all all from xs start drains =
+    let ends = drains.2 tt in sym (map-id xs) ∙ (iter_end (λ x. x) all xs from drains.0 ends.0 None start drains.1 refl ends.1).0
+
+-- tests that pass alike are one
+pub one_test : (b c : Bool) → (b ≡ true → c ≡ true) → (c ≡ true → b ≡ true) → b ≡ c
+one_test true c to from = sym (to refl)
+one_test false true to from = absurd (false≢true (from refl))
+one_test false false to from = refl
+
+-- tests that agree find the same
+pub lookup_agree : {K X : Type 0} (test other : K → Bool) → ((k : K) → test k ≡ other k) → (es : List (K × X))
+    → lookup test es ≡ lookup other es
+lookup_agree test other agree [] = refl
+lookup_agree test other agree (e ∷ es) = rw (agree e.0, lookup_agree test other agree es)
+
+-- where two lists agree in turn, each item of the one has one of the other
+pub in_turn_forth : {A B : Type 0} (R : A → B → Type 0) (xs : List A) (ys : List B) → HoldsInTurn R xs ys → (x : A)
+    → Contains xs x → (y : B) × Contains ys y × R x y
+in_turn_forth R [] [] holds x among = absurd (omega (arith, among.1))
+in_turn_forth R [] (other ∷ others) holds x among = absurd holds
+in_turn_forth R (first ∷ rest) [] holds x among = absurd holds
+in_turn_forth {A = A} R (first ∷ rest) (other ∷ others) holds x among =
+    ⊎_elim
+    (λ same. let P : A → Type 0 = λ it. R it other in
+    (other, Contains-cons other others other (inl refl), subst P same holds.0))
+    (λ later. let it = in_turn_forth R rest others holds.1 x later in
+    (it.0, Contains-cons other others it.0 (inr it.1), it.2))
+    (Contains-cons_cases first rest x among)
+
+pub in_turn_back : {A B : Type 0} (R : A → B → Type 0) (xs : List A) (ys : List B) → HoldsInTurn R xs ys → (y : B)
+    → Contains ys y → (x : A) × Contains xs x × R x y
+in_turn_back R [] [] holds y among = absurd (omega (arith, among.1))
+in_turn_back R [] (other ∷ others) holds y among = absurd holds
+in_turn_back R (first ∷ rest) [] holds y among = absurd holds
+in_turn_back R (first ∷ rest) (other ∷ others) holds y among =
+    ⊎_elim
+    (λ same. (first, Contains-cons first rest first (inl refl), subst (R first) same holds.0))
+    (λ later. let it = in_turn_back R rest others holds.1 y later in
+    (it.0, Contains-cons first rest it.0 (inr it.1), it.2))
+    (Contains-cons_cases other others y among)

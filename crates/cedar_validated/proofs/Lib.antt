@@ -1,0 +1,17 @@
+mod ActionGraph
+mod Agreeing
+mod Checking
+mod Graphs
+mod HierarchyLemmas
+mod InTurn
+mod Keyed
+mod KnownLemmas
+mod MentionLemmas
+mod PlaceLemmas
+mod Results
+mod Shadowed
+mod TypeGraph
+mod TypeSets
+mod Valid
+mod Validation
+mod Walk
