@@ -20,6 +20,10 @@ mod names;
 #[cfg(test)]
 mod orders;
 #[cfg(test)]
+mod queries;
+#[cfg(test)]
+mod questions;
+#[cfg(test)]
 mod refusals;
 #[cfg(test)]
 mod refused;
