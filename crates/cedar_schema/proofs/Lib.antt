@@ -1,1 +1,2 @@
+mod ClosedTwice
 pub mod SchemaEquality

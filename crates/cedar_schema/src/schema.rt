@@ -11,10 +11,11 @@ ghost use Rattle.cedar_entities.specs.ValidatorEntityType.{plain_entry};
 use cedar_actions::ValidatorActionId;
 use cedar_below::{Entities, EntityType, EntityUID, Extensions, M};
 use cedar_declared::SchemaError;
-use cedar_derived::environments;
+use cedar_derived::{action_entities, environments};
 use cedar_entities::{UnlinkedRequestEnv, ValidatorEntityType};
 use cedar_fragments::namespace::ValidatorSchemaFragment;
 use cedar_names::json_schema::{ConditionalName, Fragment, NamespaceDefinition, RawName};
+use cedar_validated::{Validated, actions_by_uid, types_by_name, validate};
 use cedar_whole::{SchemaParts, build, build_raw};
 use std::alloc::Global;
 use std::collections::BTreeMap;
@@ -42,15 +43,26 @@ pub struct ValidatorSchema {
 }
 
 impl ValidatorSchema {
-    ghost use Rattle.std.specs.Prelude.{◌≡◌, [], ◌∷◌, IfOk, None};
+    ghost use Rattle.std.specs.Prelude.{◌≡◌, ◌⊎◌, List, [], ◌∷◌, IfErr, IfOk, OnOk, None};
+    ghost use Rattle.std.specs.Iterator.{Drains, IsFinite};
     ghost use Rattle.std.specs.Result.{result_map_both};
+    ghost use Rattle.cedar_actions.specs.declared.action_id.ValidatorActionId.{ValidatorActionId as ActionOfSchema};
+    ghost use Rattle.cedar_below.specs.EntityType.{type_name};
+    ghost use Rattle.cedar_below.specs.EntityUID.{uid_of};
     ghost use Rattle.cedar_below.specs.Extensions.{extension_types};
     ghost use Rattle.cedar_below.specs.TypeNames.{TypeNamesFit};
+    ghost use Rattle.cedar_below.specs.declared.entity_type.EntityType.{EntityType as Name};
+    ghost use Rattle.cedar_below.specs.declared.entity_uid.EntityUID.{EntityUID as Uid};
+    ghost use Rattle.cedar_declared.specs.ClosedSchema.{ClosesSchema};
+    ghost use Rattle.cedar_declared.specs.Fault.{want_of_memory};
     ghost use Rattle.cedar_declared.specs.SchemaError.{fault_of};
+    ghost use Rattle.cedar_declared.specs.ValidSchema.{IsSchemaFault, IsValidSchema};
+    ghost use Rattle.cedar_entities.specs.declared.entity_type.ValidatorEntityType.{ValidatorEntityType as EntityTypeOfSchema};
     ghost use Rattle.cedar_fragments.specs.FragmentDeclarations.{conditional_bag};
     ghost use Rattle.cedar_laws.specs.EndToEnd.{IsBuiltFrom};
     ghost use Rattle.cedar_names.specs.Declaration.{raw_bag, raw_declarations, raw_fragment};
-    ghost use Rattle.cedar_schema.specs.ValidatorSchema.{schema_entries, action_entries, schema_of};
+    ghost use Rattle.cedar_schema.specs.ValidatorSchema.{action_entries, action_of_uid, entity_type_named, schema_entries, schema_of};
+    ghost use Rattle.cedar_validated.specs.LastNamed.{last_named, last_of_uid};
     ghost use Rattle.cedar_whole.specs.SchemaParts.{parts_schema};
 
     /// The schema that declares nothing.
@@ -72,7 +84,9 @@ impl ValidatorSchema {
     /// The schema of what was built, with its environments, or want of memory.
     fn from_parts(alloc: Global, parts: SchemaParts) -> M<Self>
         requires { AreActionEntities (parts_schema parts) }
-        ensures { IfOk result (λ schema. schema_of schema ≡ parts_schema parts) }
+        ensures schema { IfOk result (λ schema. schema_of schema ≡ parts_schema parts) }
+        ensures entity_types { IfOk result (λ schema. schema_entries schema ≡ parts.entity_types.entries) }
+        ensures actions { IfOk result (λ schema. action_entries schema ≡ parts.actions.entries) }
     {
         let SchemaParts {
             entity_types,
@@ -152,5 +166,65 @@ impl ValidatorSchema {
         let mut definitions = BTreeMap::new(alloc);
         definitions.insert(None, definition)?;
         ValidatorSchema::from_schema_frag(alloc, Fragment(definitions), extensions)
+    }
+
+    /// The schema of given entity types and actions, each under its own name; of those of one name the last
+    /// counts. The entities of the actions and the environments are made of them. Or want of memory. Both
+    /// have to come to an end.
+    ///
+    /// Nothing is checked, and descendants stay as they are given: [`ValidatorSchema::try_validate`] closes
+    /// and checks.
+    pub fn new<
+        T: IntoIterator<Item = ValidatorEntityType>,
+        A: IntoIterator<Item = ValidatorActionId> + Drop,
+    >(alloc: Global, entity_types: T, actions: A) -> M<Self>
+        requires entity_types { (it : T.IntoIter) → T.into_iter_gives entity_types it → T.IntoIter.can_next it × IsFinite (T.IntoIter.remaining it) }
+        requires actions { (it : A.IntoIter) → A.into_iter_gives actions it → A.IntoIter.can_next it × IsFinite (A.IntoIter.remaining it) }
+        ensures entity_types { IfOk result (λ schema. (it : T.IntoIter) × (xs : List EntityTypeOfSchema)
+            × T.into_iter_gives entity_types it × Drains T.IntoIter.next_gives it xs
+            × ((name : Name) → entity_type_named schema (type_name name) ≡ last_named (type_name name) xs)) }
+        ensures actions { IfOk result (λ schema. (it : A.IntoIter) × (xs : List ActionOfSchema)
+            × A.into_iter_gives actions it × Drains A.IntoIter.next_gives it xs
+            × ((uid : Uid) → action_of_uid schema (uid_of uid) ≡ last_of_uid (uid_of uid) xs)) }
+    {
+        let entity_types = types_by_name(alloc, Vec::from_iter(alloc, entity_types)?)?;
+        let actions = actions_by_uid(alloc, Vec::from_iter(alloc, actions)?)?;
+        let action_entities = action_entities(alloc, &actions)?;
+        let parts = SchemaParts {
+            entity_types,
+            actions,
+            action_entities,
+        };
+        ValidatorSchema::from_parts(alloc, parts)
+    }
+
+    /// The schema, checked, with all its descendants closed and the entities of its actions made anew.
+    ///
+    /// It is refused, memory aside, exactly where it isn't valid, and with a fault of it by name: an entity
+    /// type that is named in attributes, tags or a context and is neither declared nor the type of an
+    /// action, or a descendant, a principal or a resource that isn't declared (`UndeclaredEntityTypes`); an
+    /// extension type that wasn't handed in (`UnknownExtensionType`); an entity type of the base name `Action`
+    /// (`ActionEntityTypeDeclared`), an action of another (`InvalidActionType`); a cycle of actions
+    /// (`CycleInActionHierarchy`); an external entity type below an enumerated one
+    /// (`ExternalWithEnumAncestor`), an enumerated one below any (`EnumEntityInHierarchy`); a descendant of an
+    /// action that is no action (`UndeclaredActionsDescendant`); or one that shadows another
+    /// (`TypeShadowing`, `ActionShadowing`). Descendants count in any number of steps.
+    pub fn try_validate(self, alloc: Global, extensions: &Extensions) -> Result<Self, SchemaError>
+        ensures fault { IfErr result (λ error. (fault_of error ≡ want_of_memory)
+            ⊎ IsSchemaFault extensions.now (schema_of self) (fault_of error)) }
+        ensures valid { OnOk result (IsValidSchema extensions.now (schema_of self)) }
+        ensures closed { IfOk result (λ schema. ClosesSchema (schema_of self) (schema_of schema)) }
+    {
+        let Validated {
+            entity_types,
+            actions,
+            action_entities,
+        } = validate(alloc, self.entity_types, self.actions, extensions)?;
+        let parts = SchemaParts {
+            entity_types,
+            actions,
+            action_entities,
+        };
+        Ok(ValidatorSchema::from_parts(alloc, parts)?)
     }
 }

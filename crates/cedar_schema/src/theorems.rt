@@ -1,12 +1,17 @@
 //! Laws of schemas: comparisons, and what two calls of the builder answer.
 
 ghost use Rattle.std.specs.Prelude.{◌≡◌, ◌↔◌, IsTrue, Ok, Err};
+ghost use Rattle.cedar_below.specs.Extensions.{extension_types};
+ghost use Rattle.cedar_below.specs.TypeNames.{TypeNamesFit};
 ghost use Rattle.cedar_below.specs.declared.extension.Extensions.{Extensions};
 ghost use Rattle.cedar_declared.specs.Bag.{Bag};
+ghost use Rattle.cedar_declared.specs.ClosedSchema.{ClosesSchema};
+ghost use Rattle.cedar_declared.specs.Counted.{PlacesFit};
 ghost use Rattle.cedar_declared.specs.Fault.{Fault, want_of_memory};
 ghost use Rattle.cedar_declared.specs.PlainSchema.{PlainSchema};
 ghost use Rattle.cedar_declared.specs.SameBag.{SameBag};
 ghost use Rattle.cedar_declared.specs.SameSchema.{SameSchema};
+ghost use Rattle.cedar_declared.specs.ValidSchema.{IsValidSchema};
 ghost use Rattle.cedar_laws.specs.EndToEnd.{IsBuiltFrom};
 ghost use Rattle.cedar_schema.specs.ValidatorSchema.{schema_of};
 ghost use Rattle.cedar_schema.specs.declared.schema.ValidatorSchema.{ValidatorSchema};
@@ -29,4 +34,14 @@ pub fn declarations_that_say_the_same_build_equal_schemas()
         → IsTrue (⟦<ValidatorSchema as PartialEq>⟧.eq a b) }
     ensures refused { (bag other : Bag) (extensions : Extensions) (schema : PlainSchema) (fault : Fault) → SameBag bag other
         → IsBuiltFrom bag extensions (Ok schema) → IsBuiltFrom other extensions (Err fault) → fault ≡ want_of_memory }
+{}
+
+/// A schema that is built from declarations, whose references fit their places as those of every raw fragment
+/// do, is valid over the same extensions, and validation gives back an equal one.
+pub fn built_schemas_are_valid_and_come_back()
+    ensures valid { (bag : Bag) (extensions : Extensions) (schema : ValidatorSchema) → TypeNamesFit (extension_types extensions)
+        → PlacesFit bag → IsBuiltFrom bag extensions (Ok (schema_of schema)) → IsValidSchema extensions (schema_of schema) }
+    ensures equal { (bag : Bag) (extensions : Extensions) (schema closed : ValidatorSchema)
+        → IsBuiltFrom bag extensions (Ok (schema_of schema)) → ClosesSchema (schema_of schema) (schema_of closed)
+        → IsTrue (⟦<ValidatorSchema as PartialEq>⟧.eq schema closed) }
 {}

@@ -6,6 +6,7 @@ mod HierarchyLemmas
 mod InTurn
 mod Keyed
 mod KnownLemmas
+mod LastLemmas
 mod MentionLemmas
 mod PlaceLemmas
 mod Results

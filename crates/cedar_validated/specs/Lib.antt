@@ -1,4 +1,5 @@
 pub mod Hierarchy
+pub mod LastNamed
 pub mod Mentions
 pub mod Parts
 pub mod Places

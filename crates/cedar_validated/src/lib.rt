@@ -1,12 +1,14 @@
 //! The check of a schema that was put together by hand.
 #![tactic(auto)]
 
+pub use named::{actions_by_uid, types_by_name};
 pub use validating::{Validated, validate};
 
 mod closing;
 mod hierarchy;
 mod known;
 mod mentions;
+mod named;
 mod names;
 mod parts;
 mod places;

@@ -12,7 +12,7 @@ use std::test::Fail;
 const SOME: &str = "N: entity U; N: action view; entity V; action all";
 
 /// The uid of a type and an id.
-fn uid(alloc: Global, ty: &str, id: &str) -> Result<EntityUID, Fail> {
+pub(crate) fn uid(alloc: Global, ty: &str, id: &str) -> Result<EntityUID, Fail> {
     let id = Eid(String::from_str(alloc, id)?);
     Ok(EntityUID::new(entity_type(alloc, ty)?, id, None))
 }

@@ -6,11 +6,15 @@ mod actions;
 #[cfg(test)]
 mod answers;
 #[cfg(test)]
+mod by_hand;
+#[cfg(test)]
 mod calls;
 #[cfg(test)]
 mod entries;
 #[cfg(test)]
 mod kinds;
+#[cfg(test)]
+mod known;
 #[cfg(test)]
 mod large;
 #[cfg(test)]
@@ -19,6 +23,10 @@ mod locations;
 mod names;
 #[cfg(test)]
 mod orders;
+#[cfg(test)]
+mod queries;
+#[cfg(test)]
+mod questions;
 #[cfg(test)]
 mod refusals;
 #[cfg(test)]

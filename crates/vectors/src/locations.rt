@@ -9,7 +9,7 @@ use cedar_schema::json_schema::{
     EntityTypeKind, Fragment, NamespaceDefinition, RawName, RecordType, StandardEntityType, Type,
     TypeOfAttribute, TypeVariant,
 };
-use cedar_schema::{Type as Written, ValidatorSchema};
+use cedar_schema::{CompleteError, Type as Written, ValidatorSchema};
 use std::alloc::Global;
 use std::collections::BTreeMap;
 use std::test::Fail;
@@ -231,6 +231,28 @@ fn locations_of_an_external_declaration_are_its_own(rt: HostRuntime) -> Result<(
     let schema = build(alloc, vec![in alloc; only]?)??;
     let wanted = (Some(place(1)), Some(place(3)), Some(place(4)));
     assert!(rt; locations(alloc, &schema)? == wanted);
+    Ok(())
+}
+
+/// The location that the error of an incomplete schema carries.
+fn lacking_loc(alloc: Global, schema: &ValidatorSchema) -> Result<Option<Loc>, Fail> {
+    match schema.check_complete(alloc) {
+        Err(CompleteError::Incomplete(error)) => Ok(error.loc),
+        _ => Err(Fail::from("no incomplete schema")),
+    }
+}
+
+#[test]
+fn what_is_lacking_has_its_location(rt: HostRuntime) -> Result<(), Fail> {
+    let alloc = rt.alloc();
+    for (with_types, wanted) in [(true, place(1)), (false, place(3))] {
+        let mut external = located(alloc, Some(1), true)?;
+        if !with_types {
+            external.entity_types.clear();
+        }
+        let schema = build(alloc, vec![in alloc; fragment(alloc, external)?]?)??;
+        assert_eq!(rt; lacking_loc(alloc, &schema)?, Some(wanted));
+    }
     Ok(())
 }
 

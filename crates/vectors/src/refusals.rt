@@ -7,7 +7,7 @@ use std::alloc::Global;
 use std::fmt::Display;
 
 /// An action's uid: its type, and its id as it is, between quotes.
-fn uid_text(alloc: Global, uid: &EntityUID) -> M<String> {
+pub(crate) fn uid_text(alloc: Global, uid: &EntityUID) -> M<String> {
     let (ty, id) = (uid.entity_type(), uid.eid().as_str());
     Ok(format!(in alloc; "{ty}::\"{id}\"")?)
 }

@@ -1,0 +1,66 @@
+-- What closes the same schema is the same schema.
+use Rattle.std.proofs.Common.{◌≡◌, List, [], ◌∷◌, refl, sym, subst, ◌∙◌}
+use Rattle.cedar_below.specs.Lists.{HoldsInTurn}
+use Rattle.cedar_below.specs.PlainName.{PlainName}
+use Rattle.cedar_below.specs.PlainUid.{PlainUid}
+use Rattle.cedar_declared.specs.ClosedSchema.{ClosesAction, ClosesSchema, ClosesType}
+use Rattle.cedar_declared.specs.PlainSchema.{ActionKind, PlainSchema, SchemaAction, SchemaEntityType, defined_action, external_action}
+use Rattle.cedar_declared.specs.SameSchema.{SameAction, SameActionKind, SameEntityType, SameSchema}
+use Rattle.cedar_laws.proofs.SameEntities.{same_entities}
+
+-- what holds between the items of two pairs of lists gives what holds between the last of both
+in_turn : {A B C : Type 0} (R : A → B → Type 0) (S : A → C → Type 0) (T : B → C → Type 0)
+    → ((x : A) (y : B) (z : C) → R x y → S x z → T y z) → (xs : List A) (ys : List B) (zs : List C)
+    → HoldsInTurn R xs ys → HoldsInTurn S xs zs → HoldsInTurn T ys zs
+in_turn R S T step [] [] [] first second = tt
+in_turn R S T step [] [] (z ∷ zs) first second = absurd second
+in_turn R S T step [] (y ∷ ys) zs first second = absurd first
+in_turn R S T step (x ∷ xs) [] zs first second = absurd first
+in_turn R S T step (x ∷ xs) (y ∷ ys) [] first second = absurd second
+in_turn R S T step (x ∷ xs) (y ∷ ys) (z ∷ zs) first second =
+    (step x y z first.0 second.0, in_turn R S T step xs ys zs first.1 second.1)
+
+-- a kind of actions is the same as itself
+kind_itself : (kind : ActionKind) → SameActionKind kind kind
+kind_itself (defined_action principals resources context) = ((λ item. (λ h. h, λ h. h)), (λ item. (λ h. h, λ h. h)), refl)
+kind_itself external_action = tt
+
+module _ (schema closed other : PlainSchema) (first : ClosesSchema schema closed) (second : ClosesSchema schema other) where
+  -- the entity types are the same
+  types_same : (it a b : PlainName × SchemaEntityType) → ClosesType schema it a → ClosesType schema it b → SameEntityType a b
+  types_same it a b one two = record {
+    key = sym one.key ∙ two.key;
+    name = sym one.name ∙ two.name;
+    kind = sym one.kind ∙ two.kind;
+    descendants = λ lower. (
+      λ among. (two.descendants lower).1 ((one.descendants lower).0 among),
+      λ among. (one.descendants lower).1 ((two.descendants lower).0 among),
+    );
+  }
+
+  -- the actions are the same
+  actions_same : (it a b : PlainUid × SchemaAction) → ClosesAction schema it a → ClosesAction schema it b → SameAction a b
+  actions_same it a b one two =
+      let P : ActionKind → Type 0 = λ kind. SameActionKind a.1.kind kind in
+      record {
+        key = sym one.key ∙ two.key;
+        uid = sym one.uid ∙ two.uid;
+        kind = subst P (sym one.kind ∙ two.kind) (kind_itself a.1.kind);
+        descendants = λ lower. (
+          λ among. (two.descendants lower).1 ((one.descendants lower).0 among),
+          λ among. (one.descendants lower).1 ((two.descendants lower).0 among),
+        );
+      }
+
+  -- so are the schemas
+  pub closed_same : SameSchema closed other
+  closed_same =
+      let actions = in_turn (ClosesAction schema) (ClosesAction schema) SameAction actions_same schema.actions closed.actions
+      other.actions first.actions second.actions in
+      record {
+        entity_types =
+            in_turn (ClosesType schema) (ClosesType schema) SameEntityType types_same schema.entity_types closed.entity_types
+            other.entity_types first.entity_types second.entity_types;
+        actions = actions;
+        action_entities = same_entities closed other first.action_entities second.action_entities actions;
+      }

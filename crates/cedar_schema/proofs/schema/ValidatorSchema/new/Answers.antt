@@ -1,0 +1,45 @@
+use Rattle.std.proofs.Common.{ap, map, ◌∙◌}
+use Rattle.std.proofs.lemmas.Result.{IfOk-weaker}
+use Rattle.std.specs.BTreeMap.{is_at}
+use Rattle.std.specs.Map.{lookup}
+use Rattle.cedar_below.specs.EntityType.{type_name}
+use Rattle.cedar_below.specs.EntityUID.{uid_of}
+use Rattle.cedar_below.specs.PlainName.{name_cmp}
+use Rattle.cedar_below.specs.PlainUid.{uid_cmp}
+use Rattle.cedar_entities.specs.ValidatorEntityType.{plain_entry}
+use Rattle.cedar_validated.specs.LastNamed.{last_named, last_of_uid}
+use Rattle.cedar_schema.proofs.schema.ValidatorSchema.new.Goals as goal
+
+pub from_parts-requires : goal.from_parts-requires
+from_parts-requires g c = c.in_ok-action_entities.ensures (map plain_entry c.in_ok-entity_types.entity_types.entries)
+
+pub returns : goal.returns
+returns g c =
+    let types = c.in_ok-from_iter.ensures.ran in
+    let types_end = types.3.2 tt in
+    let actions = c.in_ok-from_iter-2.ensures.ran in
+    let actions_end = actions.3.2 tt in
+    record {
+      entity_types =
+          IfOk-weaker c.from_parts.result _ _
+          (λ schema same. (
+            types.0,
+            types.1,
+            types.2,
+            (types_end.0, (types.3.0, types.3.1, types_end.1)),
+            λ name. ap (lookup (is_at (λ key. name_cmp (type_name name) (type_name key)))) same
+                ∙ (c.in_ok-entity_types.ensures name ∙ ap (last_named (type_name name)) types.4.0),
+          ))
+          c.from_parts.ensures.entity_types;
+      actions =
+          IfOk-weaker c.from_parts.result _ _
+          (λ schema same. (
+            actions.0,
+            actions.1,
+            actions.2,
+            (actions_end.0, (actions.3.0, actions.3.1, actions_end.1)),
+            λ uid. ap (lookup (is_at (λ key. uid_cmp (uid_of uid) (uid_of key)))) same
+                ∙ (c.in_ok-actions.ensures uid ∙ ap (last_of_uid (uid_of uid)) actions.4.0),
+          ))
+          c.from_parts.ensures.actions;
+    }
