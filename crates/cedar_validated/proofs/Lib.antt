@@ -1,6 +1,7 @@
 mod ActionGraph
 mod Agreeing
 mod Checking
+mod ClosedAgain
 mod Graphs
 mod HierarchyLemmas
 mod InTurn

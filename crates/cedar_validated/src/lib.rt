@@ -12,4 +12,5 @@ mod named;
 mod names;
 mod parts;
 mod places;
+pub mod theorems;
 mod validating;

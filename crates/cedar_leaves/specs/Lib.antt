@@ -1,0 +1,2 @@
+pub mod GivesLeaf
+pub mod Leaves
