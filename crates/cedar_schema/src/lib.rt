@@ -9,6 +9,7 @@ pub use cedar_entities::{
     ValidatorEntityTypeKind,
 };
 pub use cedar_fragments::{defs, namespace};
+pub use cedar_leaves::TypeIterator;
 pub use cedar_names::{below, json_schema};
 pub use cedar_queries::{
     ActionGroups, ActionsFor, Ancestors, ApplicableTypes, CompleteError, IncompleteSchemaError,

@@ -5,6 +5,7 @@ use cedar_actions::ValidatorActionId;
 use cedar_below::{Entities, EntityType, EntityUID, Extensions, M, ValidationMode};
 use cedar_derived::action_entities;
 use cedar_entities::{UnlinkedRequestEnv, ValidatorEntityType};
+use cedar_leaves::TypeIterator;
 use cedar_queries::{
     ActionGroups, ActionsFor, Ancestors, ApplicableTypes, CompleteError, RequestEnvs,
     UnresolvedDeclarations,
@@ -16,6 +17,7 @@ use std::collections::{btree_map, hash_set};
 impl ValidatorSchema {
     ghost use Rattle.std.specs.Prelude.{◌≡◌, ◌≢◌, ◌↔◌, ◌++◌, ◌∷◌, [], All, AllPairs, Any, Contains, IfErr, IfOk, IfSome, IsSome, IsTrue, OnOk, map};
     ghost use Rattle.std.specs.List.{flat_map};
+    ghost use Rattle.std.specs.List.Sorted.{IsPermutation};
     ghost use Rattle.std.specs.Option.{option_copied, option_map};
     ghost use Rattle.cedar_actions.specs.ActionKind.{kind_principals, kind_resources};
     ghost use Rattle.cedar_below.specs.Entities.{entities_of};
@@ -25,6 +27,8 @@ impl ValidatorSchema {
     ghost use Rattle.cedar_declared.specs.Environments.{AreEnvironmentsOf};
     ghost use Rattle.cedar_derived.specs.ActionEntities.{schema_with};
     ghost use Rattle.cedar_entities.specs.RequestEnv.{owned_environment};
+    ghost use Rattle.cedar_leaves.specs.GivesLeaf.{pending_types};
+    ghost use Rattle.cedar_leaves.specs.Leaves.{leaves_of, schema_leaves};
     ghost use Rattle.cedar_queries.specs.Hierarchy.{IsKnownType, MayBeIn, action_descendants, descendants_of, groups, types_above};
     ghost use Rattle.cedar_queries.specs.Incomplete.{IsIncomplete};
     ghost use Rattle.cedar_queries.specs.RequestEnvs.{environments_left};
@@ -239,6 +243,15 @@ impl ValidatorSchema {
         ensures incomplete { IfErr result (IsIncomplete (schema_of self.now).entity_types (schema_of self.now).actions) }
     {
         cedar_queries::check_complete(alloc, &self.entity_types, &self.actions)
+    }
+
+    /// The leaves of the types of attributes, tags and contexts: whatever stands there that is neither a record
+    /// nor a set of elements of a type, as often as it stands there, in any order. Or want of memory.
+    pub fn leaf_types(&self, alloc: Global) -> M<TypeIterator<'_>>
+        ensures { IfOk result (λ leaves. IsPermutation
+            (schema_leaves (schema_of self.now).entity_types (schema_of self.now).actions) (leaves_of (pending_types leaves))) }
+    {
+        cedar_leaves::leaf_types(alloc, &self.entity_types, &self.actions)
     }
 
     /// The entities of the actions that the schema defines, by uid: without attributes and tags, each just

@@ -45,3 +45,12 @@ pub fn built_schemas_are_valid_and_come_back()
         → IsBuiltFrom bag extensions (Ok (schema_of schema)) → ClosesSchema (schema_of schema) (schema_of closed)
         → IsTrue (⟦<ValidatorSchema as PartialEq>⟧.eq schema closed) }
 {}
+
+/// What validation gives of a valid schema is valid over the same extensions, and validation of it gives back an
+/// equal one.
+pub fn validation_again_changes_nothing()
+    ensures valid { (extensions : Extensions) (schema closed : ValidatorSchema) → ClosesSchema (schema_of schema) (schema_of closed)
+        → IsValidSchema extensions (schema_of schema) → IsValidSchema extensions (schema_of closed) }
+    ensures equal { (schema closed again : ValidatorSchema) → ClosesSchema (schema_of schema) (schema_of closed)
+        → ClosesSchema (schema_of closed) (schema_of again) → IsTrue (⟦<ValidatorSchema as PartialEq>⟧.eq closed again) }
+{}

@@ -174,7 +174,7 @@ module _ (schema closed : PlainSchema) (closes : ClosesSchema schema closed) whe
           descendants = λ lower. (
             λ among. subst (λ key. P key lower) (sym first.key) (chain_back lower other.0 ((second.descendants lower).0 among)),
             λ chain. (second.descendants lower).1
-            (one (lists_forth lower other.0 (subst (λ key. P key lower) first.key chain))),
+                (one (lists_forth lower other.0 (subst (λ key. P key lower) first.key chain))),
           );
         }
 
@@ -189,7 +189,7 @@ module _ (schema closed : PlainSchema) (closes : ClosesSchema schema closed) whe
           descendants = λ lower. (
             λ among. subst (λ key. P key lower) (sym first.key) (action_chain_back lower other.0 ((second.descendants lower).0 among)),
             λ chain. (second.descendants lower).1
-            (one (action_lists_forth lower other.0 (subst (λ key. P key lower) first.key chain))),
+                (one (action_lists_forth lower other.0 (subst (λ key. P key lower) first.key chain))),
           );
         }
 

@@ -1,7 +1,7 @@
 mod ActionGraph
 mod Agreeing
 mod Checking
-mod ClosedAgain
+pub mod ClosedAgain
 mod Graphs
 mod HierarchyLemmas
 mod InTurn

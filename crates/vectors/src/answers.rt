@@ -143,8 +143,20 @@ fn first_schema(alloc: Global, texts: &[&str]) -> Result<Option<ValidatorSchema>
     }
 }
 
+/// Compares what validation gives of the schema of some fragments with the schema itself.
+fn check_validated(alloc: Global, row: &Row, texts: &[&str]) -> Result<(), Fail> {
+    match first_schema(alloc, texts)? {
+        Some(schema) => {
+            let validated = schema.try_validate(alloc, &sample_extensions(alloc)?)?;
+            check_equal(row, &validated)
+        }
+        None => Ok(()),
+    }
+}
+
 /// Compares the answer for a text in every split that is tried and in every order: as it is written,
-/// with a fragment for each declaration, and with one fragment for all. The schemas are equal too.
+/// with a fragment for each declaration, and with one fragment for all. The schemas are equal too, and
+/// validation gives an equal one back.
 pub(crate) fn check_row(alloc: Global, name: &str, text: &str, allowed: &str) -> Result<(), Fail> {
     let written = as_written(alloc, text)?;
     let first = first_schema(alloc, &written)?;
@@ -153,6 +165,7 @@ pub(crate) fn check_row(alloc: Global, name: &str, text: &str, allowed: &str) ->
         allowed,
         first,
     };
+    check_validated(alloc, &row, &written)?;
     check_orders(alloc, &row, &written)?;
     if written.is_empty() {
         return Ok(());

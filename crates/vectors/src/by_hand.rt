@@ -3,15 +3,15 @@
 //! A text has entity types and actions between `; `:
 //!
 //! - `entity U`, `enum U` and `external U`; `action Action::view`, `external action Action::view`
-//! - then ` > A,B` for descendants, and then ` : TYPE` for an attribute `a` or for the context of an action, or
-//!   ` tags TYPE` for tags, where `TYPE` is `Long`, `True`, `ext NAME` or the name of an entity type
+//! - then ` > A,B` for descendants, and then ` : TYPE` for an attribute `a` or for the context of an action,
+//!   ` tags TYPE` for tags, or ` for A` for an action's principals, where `TYPE` is `Long`, `True`, `ext NAME` or the name of an entity type
 
 use crate::answers::{answer_text, sample_extensions};
 use crate::calls::uid;
 use crate::names::{entity_type, name};
 use cedar_schema::below::{Eid, EntityType, EntityUID, NonEmpty};
 use cedar_schema::{
-    AttributeType, Attributes, OpenTag, Type, ValidatorActionId, ValidatorEntityType,
+    AttributeType, Attributes, OpenTag, SchemaError, Type, ValidatorActionId, ValidatorEntityType,
     ValidatorSchema,
 };
 use std::alloc::Global;
@@ -118,8 +118,10 @@ fn type_item(alloc: Global, text: &str) -> Result<Option<ValidatorEntityType>, F
     }
 }
 
-/// The action of a text, behind its first word: for no requests, with a context.
+/// The action of a text, behind its first word: for requests of one type of principals, or for none, with a
+/// context.
 fn action_item(alloc: Global, text: &str) -> Result<ValidatorActionId, Fail> {
+    let (text, principal) = around(text, " for ");
     let (text, context) = around(text, " : ");
     let (name, below) = around(text, " > ");
     let context = match context {
@@ -127,7 +129,7 @@ fn action_item(alloc: Global, text: &str) -> Result<ValidatorActionId, Fail> {
         None => Type::record_with_attributes(alloc, Vec::new(alloc), OpenTag::ClosedAttributes)?,
     };
     let (name, below) = (uid_in(alloc, name)?, uids_in(alloc, below)?);
-    let (principals, resources) = (Vec::new(alloc), Vec::new(alloc));
+    let (principals, resources) = (types_in(alloc, principal)?, Vec::new(alloc));
     Ok(ValidatorActionId::new_defined(alloc, name, principals, resources, below, context, None)?)
 }
 
@@ -135,59 +137,23 @@ fn action_item(alloc: Global, text: &str) -> Result<ValidatorActionId, Fail> {
 fn put_together(alloc: Global, text: &str) -> Result<ValidatorSchema, Fail> {
     let (mut types, mut actions) = (Vec::new(alloc), Vec::new(alloc));
     for item in text.split("; ") {
-        match item.strip_prefix("action ") {
-            Some(action) => actions.push(action_item(alloc, action)?)?,
-            None => types.push(type_item(alloc, item)?.ok_or("no item")?)?,
+        if let Some(action) = item.strip_prefix("action ") {
+            actions.push(action_item(alloc, action)?)?;
+        } else if let Some(action) = item.strip_prefix("external action ") {
+            let uid = uid_in(alloc, action)?;
+            actions.push(ValidatorActionId::new_external(alloc, uid, Vec::new(alloc), None)?)?;
+        } else {
+            types.push(type_item(alloc, item)?.ok_or("no item")?)?;
         }
     }
     Ok(ValidatorSchema::new(alloc, types, actions)?)
 }
 
-/// Schemas, and what validation answers, with ` or ` between answers that are allowed.
-const ROWS: [(&str, &str); 16] = [
+/// Schemas, and their lines once they are validated.
+const VALID: [(&str, &str); 3] = [
     (
         "entity Group > Mid; entity Mid > Leaf; entity Leaf",
         "descendant Group Leaf; descendant Group Mid; descendant Mid Leaf; entity Group standard; entity Leaf standard; entity Mid standard",
-    ),
-    (
-        "entity Group > Mid; entity Mid > Leaf; enum Leaf",
-        "refused: EnumEntityInHierarchy Leaf Mid or refused: EnumEntityInHierarchy Leaf Group",
-    ),
-    (
-        "enum Color > Shade; entity Shade > Tint; external Tint",
-        "refused: ExternalWithEnumAncestor Tint Color",
-    ),
-    (
-        "entity Group > Color; enum Color",
-        "refused: EnumEntityInHierarchy Color Group",
-    ),
-    ("entity U : Ghost", "refused: UndeclaredEntityTypes Ghost"),
-    (
-        "entity U tags Ghost",
-        "refused: UndeclaredEntityTypes Ghost",
-    ),
-    ("entity U > Ghost", "refused: UndeclaredEntityTypes Ghost"),
-    (
-        "entity U : ext nosuch",
-        "refused: UnknownExtensionType nosuch",
-    ),
-    (
-        "entity N::Action",
-        "refused: ActionEntityTypeDeclared N::Action",
-    ),
-    ("entity T; entity N::T", "refused: TypeShadowing T N::T"),
-    ("action User::x", "refused: InvalidActionType User::\"x\""),
-    (
-        "action Action::read > Action::gone",
-        "refused: UndeclaredActionsDescendant Action::\"gone\"",
-    ),
-    (
-        "action Action::a > Action::b; action Action::b > Action::a",
-        "refused: CycleInActionHierarchy Action::\"a\" or refused: CycleInActionHierarchy Action::\"b\"",
-    ),
-    (
-        "action Action::a; action N::Action::a",
-        "refused: ActionShadowing Action::\"a\" N::Action::\"a\"",
     ),
     (
         "entity U : ext ipaddr; action Action::v : Long",
@@ -199,15 +165,126 @@ const ROWS: [(&str, &str); 16] = [
     ),
 ];
 
-#[test]
-fn schemas_are_validated(rt: HostRuntime) -> Result<(), Fail> {
-    let alloc = rt.alloc();
+/// Schemas, how they are refused, with ` or ` between answers that are allowed, and the nearest schema that
+/// is valid.
+const REFUSED: [(&str, &str, &str); 16] = [
+    (
+        "entity Group > Mid; entity Mid > Leaf; enum Leaf",
+        "refused: EnumEntityInHierarchy Leaf Mid or refused: EnumEntityInHierarchy Leaf Group",
+        "entity Group > Mid; entity Mid > Leaf; external Leaf",
+    ),
+    (
+        "enum Color > Shade; entity Shade > Tint; external Tint",
+        "refused: ExternalWithEnumAncestor Tint Color",
+        "enum Color > Shade; entity Shade > Tint; entity Tint",
+    ),
+    (
+        "entity Group > Color; enum Color",
+        "refused: EnumEntityInHierarchy Color Group",
+        "entity Group; enum Color > Group",
+    ),
+    (
+        "entity U : Ghost",
+        "refused: UndeclaredEntityTypes Ghost",
+        "entity U : U",
+    ),
+    (
+        "entity U tags Ghost",
+        "refused: UndeclaredEntityTypes Ghost",
+        "entity U tags Ghost; external Ghost",
+    ),
+    (
+        "entity U > Ghost",
+        "refused: UndeclaredEntityTypes Ghost",
+        "entity U > Ghost; entity Ghost",
+    ),
+    (
+        "action Action::v : Ghost",
+        "refused: UndeclaredEntityTypes Ghost",
+        "entity Ghost; action Action::v : Ghost",
+    ),
+    (
+        "action Action::v for Ghost",
+        "refused: UndeclaredEntityTypes Ghost",
+        "enum Ghost; action Action::v for Ghost",
+    ),
+    (
+        "entity U : ext nosuch",
+        "refused: UnknownExtensionType nosuch",
+        "entity U : ext ipaddr",
+    ),
+    (
+        "entity N::Action",
+        "refused: ActionEntityTypeDeclared N::Action",
+        "entity Action::N",
+    ),
+    (
+        "entity T; entity N::T",
+        "refused: TypeShadowing T N::T",
+        "entity M::T; entity N::T",
+    ),
+    (
+        "action User::x",
+        "refused: InvalidActionType User::\"x\"",
+        "action User::Action::x",
+    ),
+    (
+        "action Action::read > Action::gone",
+        "refused: UndeclaredActionsDescendant Action::\"gone\"",
+        "action Action::read > Action::gone; external action Action::gone",
+    ),
+    (
+        "action Action::a > Action::b; action Action::b > Action::a",
+        "refused: CycleInActionHierarchy Action::\"a\" or refused: CycleInActionHierarchy Action::\"b\"",
+        "action Action::a > Action::b; action Action::b",
+    ),
+    (
+        "action Action::a > Action::a",
+        "refused: CycleInActionHierarchy Action::\"a\"",
+        "entity A > A; action Action::a",
+    ),
+    (
+        "action Action::a; action N::Action::a",
+        "refused: ActionShadowing Action::\"a\" N::Action::\"a\"",
+        "action Action::a; action N::Action::b",
+    ),
+];
+
+/// What validation answers of the schema of a text.
+fn validated(alloc: Global, text: &str) -> Result<Result<ValidatorSchema, SchemaError>, Fail> {
     let extensions = sample_extensions(alloc)?;
-    for (text, allowed) in ROWS {
-        let schema = put_together(alloc, text)?;
-        let answer = answer_text(alloc, &schema.try_validate(alloc, &extensions))?;
+    Ok(put_together(alloc, text)?.try_validate(alloc, &extensions))
+}
+
+#[test]
+fn valid_schemas_are_closed(rt: HostRuntime) -> Result<(), Fail> {
+    for (text, lines) in VALID {
+        let answer = answer_text(rt.alloc(), &validated(rt.alloc(), text)?)?;
+        assert!(rt; answer.as_str() == lines, "{text}: {answer}");
+    }
+    Ok(())
+}
+
+#[test]
+fn schemas_are_refused_and_the_nearest_are_valid(rt: HostRuntime) -> Result<(), Fail> {
+    for (text, allowed, nearest) in REFUSED {
+        let answer = answer_text(rt.alloc(), &validated(rt.alloc(), text)?)?;
         let found = allowed.split(" or ").any(|one| one == answer.as_str());
         assert!(rt; found, "{text}: {answer}");
+        assert!(rt; validated(rt.alloc(), nearest)?.is_ok(), "{nearest}");
+    }
+    Ok(())
+}
+
+#[test]
+fn validation_again_changes_nothing(rt: HostRuntime) -> Result<(), Fail> {
+    let extensions = sample_extensions(rt.alloc())?;
+    for (text, _) in VALID {
+        let (first, again) = (validated(rt.alloc(), text)??, validated(rt.alloc(), text)??);
+        assert!(rt;
+            again.try_validate(rt.alloc(), &extensions)? == first,
+            "{text}"
+        );
     }
     Ok(())
 }

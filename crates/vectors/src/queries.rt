@@ -159,3 +159,35 @@ fn requests_are_those_of_the_actions(rt: HostRuntime) -> Result<(), Fail> {
     check_answers(rt.alloc(), VIEW, OF_VIEW)?;
     check_answers(rt.alloc(), VIEW_AND_EDIT, OF_BOTH)
 }
+
+/// Schemas with types of each kind, and the leaves of these.
+const LEAVES: [(&str, &str); 5] = [
+    (
+        "entity User {age: Long, home: {city: String}, nick?: String, roles: Set<String>}; entity Team {lead: e:User}",
+        "Long String String String User",
+    ),
+    (
+        "entity U {r?: {b?: Bool}, i: x:ipaddr, s: Set<x:ipaddr>, n: {}}",
+        "Bool ipaddr ipaddr",
+    ),
+    (
+        "entity U tags Set<Long>; action v P U R U context {a: Long, b: e:U, d: Set<Long>}",
+        "Long Long Long U",
+    ),
+    (
+        "type T = {l: Long, r: Long}; entity U {t: c:T, u: c:T}",
+        "Long Long Long Long",
+    ),
+    (
+        "external entity U; entity V enum red; external action a; action b",
+        "",
+    ),
+];
+
+#[test]
+fn leaves_come_as_often_as_they_stand(rt: HostRuntime) -> Result<(), Fail> {
+    for (text, leaves) in LEAVES {
+        check_answers(rt.alloc(), text, &[("leaves", leaves)])?;
+    }
+    Ok(())
+}

@@ -5,11 +5,11 @@
 //!   `is_action Action::view`
 //! - of lists: `any_below A,B C,D` of entity types below others, `actions_in Action::view,Action::edit`
 //! - of a principal and a resource: `actions_for U Photo`
-//! - of the whole: `principals`, `resources`, `groups`, `entities`, `lacks`, `is_complete`, `check`, and
-//!   for the environments of requests in either mode `strict` and `permissive`
+//! - of the whole: `principals`, `resources`, `groups`, `entities`, `leaves` of all types, `lacks`,
+//!   `is_complete`, `check`, and for the environments of requests in either mode `strict` and `permissive`
 //!
 //! A list stands between commas, with `-` for an empty one. An answer's items stand between blanks, and
-//! `None` stands for no answer. Principals, resources, environments, and the types in an entity type but for
+//! `None` stands for no answer. Principals, resources, leaves, environments, and the types in an entity type but for
 //! the last are sorted, since their order is open. A text that asks nothing of these fails by name.
 
 ghost use Rattle.std.specs.Iterator.{IsFinite};
@@ -276,6 +276,16 @@ fn environments(alloc: Global, schema: &ValidatorSchema, mode: ValidationMode) -
     joined(alloc, &texts)
 }
 
+/// The leaves of the types of a schema, sorted.
+fn leaves(alloc: Global, schema: &ValidatorSchema) -> M<String> {
+    let mut texts = Vec::new(alloc);
+    for leaf in schema.leaf_types(alloc)? {
+        texts.push(leaf?.to_string(alloc)?)?;
+    }
+    texts.sort()?;
+    joined(alloc, &texts)
+}
+
 /// The answer to a question of the whole.
 fn of_all(alloc: Global, schema: &ValidatorSchema, question: &str) -> Result<String, Fail> {
     match question {
@@ -283,6 +293,7 @@ fn of_all(alloc: Global, schema: &ValidatorSchema, question: &str) -> Result<Str
         "resources" => Ok(sorted(alloc, schema.resources())?),
         "groups" => Ok(uids(alloc, schema.action_groups())?),
         "entities" => entities(alloc, schema),
+        "leaves" => Ok(leaves(alloc, schema)?),
         "lacks" => Ok(lacks(alloc, schema)?),
         "is_complete" => Ok(schema.is_complete().to_string(alloc)?),
         "check" => check(alloc, schema),
