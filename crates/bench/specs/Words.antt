@@ -1,0 +1,31 @@
+use Rattle.std.specs.Prelude.{◌≡◌, ◌⊎◌, List, [], ◌∷◌, codes, Contains}
+use Rattle.cedar_below.specs.Text.{Text}
+
+-- the names of the pieces of work on types
+abbrev pub type_piece_names : List Text
+type_piece_names =
+    codes "subtype-closed-strict" ∷ codes "subtype-closed-permissive" ∷ codes "subtype-open-strict"
+    ∷ codes "subtype-open-permissive" ∷ codes "look-up" ∷ codes "membership" ∷ codes "print" ∷ codes "equality"
+    ∷ codes "copy" ∷ codes "union-inclusion" ∷ codes "union-disjointness" ∷ codes "union-joins" ∷ codes "join-strict"
+    ∷ codes "join-permissive" ∷ []
+
+-- the names of the pieces of work on schemas
+abbrev pub schema_piece_names : List Text
+schema_piece_names =
+    codes "build-whole" ∷ codes "build-split" ∷ codes "build-common-chain" ∷ codes "close-chain"
+    ∷ codes "close-ring" ∷ codes "close-star" ∷ codes "close-trees" ∷ codes "environments" ∷ codes "known-attributes"
+    ∷ codes "validate" ∷ []
+
+-- the text is the name of a piece of work
+abbrev pub IsPieceName : Text → Type 0
+IsPieceName text = Contains type_piece_names text ⊎ Contains schema_piece_names text
+
+-- the words ask for a piece of work to be timed
+pub record IsTimeOfPiece (words : List Text) : Type 0 where
+  pub piece : Text
+  pub is_piece : IsPieceName piece
+  pub asked : words ≡ codes "time" ∷ piece ∷ []
+
+-- the words give a command: none at all, `time` alone, or `time` with the name of a piece
+abbrev pub IsCommand : List Text → Type 0
+IsCommand words = (words ≡ []) ⊎ ((words ≡ codes "time" ∷ []) ⊎ IsTimeOfPiece words)

@@ -1,0 +1,103 @@
+//! What the words of the program ask for.
+
+ghost use Rattle.std.specs.Prelude.{◌≡◌, ◌↔◌, codes, Contains, IsSome, map, string_bytes};
+ghost use Rattle.bench.specs.Words.{IsCommand, IsPieceName, schema_piece_names, type_piece_names};
+
+use crate::piece::Piece;
+
+/// The piece of work on types of a name, if it is one of them.
+#[tactic(auto, using(crate::proofs::PieceNames::type_piece_from_names))]
+fn type_piece_named(name: &str) -> Option<Piece>
+    ensures { IsSome result ↔ Contains type_piece_names name.now }
+{
+    match name {
+        "subtype-closed-strict" => Some(Piece::SubtypeClosedStrict),
+        "subtype-closed-permissive" => Some(Piece::SubtypeClosedPermissive),
+        "subtype-open-strict" => Some(Piece::SubtypeOpenStrict),
+        "subtype-open-permissive" => Some(Piece::SubtypeOpenPermissive),
+        "look-up" => Some(Piece::LookUp),
+        "membership" => Some(Piece::Membership),
+        "print" => Some(Piece::Print),
+        "equality" => Some(Piece::Equality),
+        "copy" => Some(Piece::Copy),
+        "union-inclusion" => Some(Piece::UnionInclusion),
+        "union-disjointness" => Some(Piece::UnionDisjointness),
+        "union-joins" => Some(Piece::UnionJoins),
+        "join-strict" => Some(Piece::JoinStrict),
+        "join-permissive" => Some(Piece::JoinPermissive),
+        _ => None,
+    }
+}
+
+/// The piece of work on schemas of a name, if it is one of them.
+#[tactic(auto, using(crate::proofs::PieceNames::schema_piece_from_names))]
+fn schema_piece_named(name: &str) -> Option<Piece>
+    ensures { IsSome result ↔ Contains schema_piece_names name.now }
+{
+    match name {
+        "build-whole" => Some(Piece::BuildWhole),
+        "build-split" => Some(Piece::BuildSplit),
+        "build-common-chain" => Some(Piece::BuildCommonChain),
+        "close-chain" => Some(Piece::CloseChain),
+        "close-ring" => Some(Piece::CloseRing),
+        "close-star" => Some(Piece::CloseStar),
+        "close-trees" => Some(Piece::CloseTrees),
+        "environments" => Some(Piece::Environments),
+        "known-attributes" => Some(Piece::KnownAttributes),
+        "validate" => Some(Piece::Validate),
+        _ => None,
+    }
+}
+
+/// The piece of work of a name, if it is one of them.
+fn piece_named(name: &str) -> Option<Piece>
+    ensures { IsSome result ↔ IsPieceName name.now }
+{
+    match type_piece_named(name) {
+        Some(piece) => Some(piece),
+        None => schema_piece_named(name),
+    }
+}
+
+/// What the program is asked to do.
+#[derive(Clone, Copy)]
+pub(crate) enum Command {
+    /// To do each piece once, at its smallest size.
+    Once,
+    /// To time all pieces.
+    TimeAll,
+    /// To time one piece.
+    Time(Piece),
+}
+
+/// The command of one word.
+fn time_all_command(word: &str) -> Option<Command>
+    ensures { IsSome result ↔ (word.now ≡ codes "time") }
+{
+    match word {
+        "time" => Some(Command::TimeAll),
+        _ => None,
+    }
+}
+
+/// The command of a word and the name of a piece.
+fn time_command(word: &str, piece: &str) -> Option<Command>
+    ensures { IsSome result ↔ ((word.now ≡ codes "time") × IsPieceName piece.now) }
+{
+    match word {
+        "time" => Some(Command::Time(piece_named(piece)?)),
+        _ => None,
+    }
+}
+
+/// The command that some words give, compared exactly, or None where they give none.
+pub(crate) fn command_of(words: &[String]) -> Option<Command>
+    ensures { IsSome result ↔ IsCommand (map string_bytes words.now) }
+{
+    match words {
+        [] => Some(Command::Once),
+        [time] => time_all_command(time.as_str()),
+        [time, piece] => time_command(time.as_str(), piece.as_str()),
+        _ => None,
+    }
+}

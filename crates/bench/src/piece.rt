@@ -1,0 +1,180 @@
+//! The pieces of work that are measured.
+
+/// A piece of work.
+#[derive(Clone, Copy, PartialEq, Eq)]
+pub(crate) enum Piece {
+    /// Strict subtyping of two closed records of as many attributes.
+    SubtypeClosedStrict,
+    /// Permissive subtyping of two closed records of as many attributes.
+    SubtypeClosedPermissive,
+    /// Strict subtyping of two open records of as many attributes.
+    SubtypeOpenStrict,
+    /// Permissive subtyping of two open records of as many attributes.
+    SubtypeOpenPermissive,
+    /// Look-up of one attribute of as many.
+    LookUp,
+    /// Membership of a value of a record of as many attributes.
+    Membership,
+    /// The text of a record of as many attributes.
+    Print,
+    /// Equality of two records of as many attributes.
+    Equality,
+    /// A copy of a record of as many attributes.
+    Copy,
+    /// Inclusion of a union in one of as many entity types.
+    UnionInclusion,
+    /// Disjointness of two unions of as many entity types.
+    UnionDisjointness,
+    /// As many entity types joined one after another.
+    UnionJoins,
+    /// The strict join of two records of as many attributes.
+    JoinStrict,
+    /// The permissive join of two records of as many attributes, half of which both have.
+    JoinPermissive,
+    /// As many entity types and actions, built from one fragment.
+    BuildWhole,
+    /// As many entity types and actions, built from as many fragments.
+    BuildSplit,
+    /// As many common types, each a record of the next.
+    BuildCommonChain,
+    /// A chain of as many entity types closed.
+    CloseChain,
+    /// A ring of as many entity types closed.
+    CloseRing,
+    /// A star of as many entity types closed.
+    CloseStar,
+    /// Trees of as many entity types closed.
+    CloseTrees,
+    /// The environments of requests of as many principals on as many resources, each looked at.
+    Environments,
+    /// What is known of the attributes of a union of as many entity types.
+    KnownAttributes,
+    /// A schema of as many entity types and actions that was put together by hand, validated.
+    Validate,
+}
+
+/// All pieces, in the order in which they are measured.
+pub(crate) const PIECES: [Piece; 24] = [
+    Piece::SubtypeClosedStrict,
+    Piece::SubtypeClosedPermissive,
+    Piece::SubtypeOpenStrict,
+    Piece::SubtypeOpenPermissive,
+    Piece::LookUp,
+    Piece::Membership,
+    Piece::Print,
+    Piece::Equality,
+    Piece::Copy,
+    Piece::UnionInclusion,
+    Piece::UnionDisjointness,
+    Piece::UnionJoins,
+    Piece::JoinStrict,
+    Piece::JoinPermissive,
+    Piece::BuildWhole,
+    Piece::BuildSplit,
+    Piece::BuildCommonChain,
+    Piece::CloseChain,
+    Piece::CloseRing,
+    Piece::CloseStar,
+    Piece::CloseTrees,
+    Piece::Environments,
+    Piece::KnownAttributes,
+    Piece::Validate,
+];
+
+/// How large a piece of work is, and how often a run does it.
+#[derive(Clone, Copy)]
+pub(crate) struct Sized {
+    /// Of how many attributes, entity types or declarations.
+    pub(crate) size: usize,
+    /// How often a run does it.
+    pub(crate) operations: u32,
+}
+
+/// Three sizes, each with how often a run does the work.
+const fn sizes(rows: [(usize, u32); 3]) -> [Sized; 3] {
+    let [(small, often), (middle, sometimes), (large, seldom)] = rows;
+    [
+        Sized {
+            size: small,
+            operations: often,
+        },
+        Sized {
+            size: middle,
+            operations: sometimes,
+        },
+        Sized {
+            size: large,
+            operations: seldom,
+        },
+    ]
+}
+
+impl Piece {
+    /// The name that asks for the piece.
+    pub(crate) fn name(self) -> &'static str {
+        match self {
+            Piece::SubtypeClosedStrict => "subtype-closed-strict",
+            Piece::SubtypeClosedPermissive => "subtype-closed-permissive",
+            Piece::SubtypeOpenStrict => "subtype-open-strict",
+            Piece::SubtypeOpenPermissive => "subtype-open-permissive",
+            Piece::LookUp => "look-up",
+            Piece::Membership => "membership",
+            Piece::Print => "print",
+            Piece::Equality => "equality",
+            Piece::Copy => "copy",
+            Piece::UnionInclusion => "union-inclusion",
+            Piece::UnionDisjointness => "union-disjointness",
+            Piece::UnionJoins => "union-joins",
+            Piece::JoinStrict => "join-strict",
+            Piece::JoinPermissive => "join-permissive",
+            Piece::BuildWhole => "build-whole",
+            Piece::BuildSplit => "build-split",
+            Piece::BuildCommonChain => "build-common-chain",
+            Piece::CloseChain => "close-chain",
+            Piece::CloseRing => "close-ring",
+            Piece::CloseStar => "close-star",
+            Piece::CloseTrees => "close-trees",
+            Piece::Environments => "environments",
+            Piece::KnownAttributes => "known-attributes",
+            Piece::Validate => "validate",
+        }
+    }
+
+    /// The sizes at which the piece is timed, the smallest of which is also done once.
+    pub(crate) fn sizes(self) -> [Sized; 3] {
+        match self {
+            Piece::SubtypeClosedStrict
+            | Piece::SubtypeClosedPermissive
+            | Piece::SubtypeOpenStrict
+            | Piece::SubtypeOpenPermissive
+            | Piece::Equality => sizes([(10, 100_000), (100, 10_000), (1000, 1000)]),
+            Piece::LookUp | Piece::Copy => sizes([
+                (10, 1_000_000),
+                (100, 1_000_000),
+                (1000, 1_000_000),
+            ]),
+            Piece::Membership | Piece::Print | Piece::JoinStrict | Piece::JoinPermissive => sizes([
+                (10, 10_000),
+                (100, 1000),
+                (1000, 100),
+            ]),
+            Piece::UnionInclusion | Piece::UnionDisjointness => sizes([
+                (10, 100_000),
+                (100, 10_000),
+                (1000, 1000),
+            ]),
+            Piece::UnionJoins => sizes([(30, 1000), (100, 100), (300, 10)]),
+            Piece::BuildWhole | Piece::BuildSplit | Piece::Validate => sizes([
+                (100, 50),
+                (1000, 5),
+                (5000, 1),
+            ]),
+            Piece::BuildCommonChain => sizes([(10, 1000), (100, 100), (1000, 10)]),
+            Piece::CloseChain => sizes([(50, 200), (150, 20), (500, 2)]),
+            Piece::CloseRing => sizes([(30, 500), (100, 50), (300, 5)]),
+            Piece::CloseStar | Piece::CloseTrees => sizes([(50, 1000), (500, 100), (5000, 5)]),
+            Piece::Environments => sizes([(10, 10_000), (30, 1000), (100, 100)]),
+            Piece::KnownAttributes => sizes([(10, 10_000), (30, 1000), (100, 1000)]),
+        }
+    }
+}

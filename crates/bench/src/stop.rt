@@ -1,0 +1,68 @@
+//! Why a measurement stops.
+
+use cedar_schema::below::{EntityType, Memory};
+use cedar_schema::{JoinError, SchemaError, TcError};
+use std::alloc::{AllocError, AllocFailed};
+use std::io;
+
+/// Why a measurement stops.
+#[derive(Drop)]
+pub(crate) enum Stop {
+    /// A growth was refused.
+    Memory,
+    /// The clock couldn't be read, or a writer refused.
+    System,
+    /// What was prepared was refused by the call that is measured.
+    Refused,
+}
+
+impl From<Memory> for Stop {
+    fn from(_refused: Memory) -> Self {
+        Stop::Memory
+    }
+}
+
+impl From<AllocError> for Stop {
+    fn from(_refused: AllocError) -> Self {
+        Stop::Memory
+    }
+}
+
+impl<T: Drop> From<AllocFailed<T>> for Stop {
+    fn from(_refused: AllocFailed<T>) -> Self {
+        Stop::Memory
+    }
+}
+
+impl From<JoinError> for Stop {
+    fn from(refused: JoinError) -> Self {
+        match refused {
+            JoinError::Memory => Stop::Memory,
+            JoinError::Help(_) => Stop::Refused,
+        }
+    }
+}
+
+impl From<SchemaError> for Stop {
+    fn from(refused: SchemaError) -> Self {
+        match refused {
+            SchemaError::Memory(_) => Stop::Memory,
+            _ => Stop::Refused,
+        }
+    }
+}
+
+impl From<TcError<EntityType>> for Stop {
+    fn from(refused: TcError<EntityType>) -> Self {
+        match refused {
+            TcError::Memory => Stop::Memory,
+            TcError::HasCycle(_) => Stop::Refused,
+        }
+    }
+}
+
+impl From<io::Error> for Stop {
+    fn from(_refused: io::Error) -> Self {
+        Stop::System
+    }
+}

@@ -1,0 +1,85 @@
+//! Types and values that are measured.
+
+use crate::names::{entity_type, numbered};
+use crate::stop::Stop;
+use cedar_schema::below::{RestrictedExpr, ValidationMode, Value};
+use cedar_schema::{AttributeType, Attributes, OpenTag, Type};
+use std::alloc::Global;
+use std::collections::BTreeMap;
+use std::ops::Range;
+use std::rc::Rc;
+
+/// The names of some attributes.
+pub(crate) fn attribute_names(alloc: Global, numbers: Range<usize>) -> Result<Vec<String>, Stop> {
+    let mut names = Vec::new(alloc);
+    for number in numbers {
+        names.push(numbered(alloc, "attribute", number)?)?;
+    }
+    Ok(names)
+}
+
+/// Attributes of one type, which an entity has to have.
+fn attributes_of(
+    alloc: Global,
+    numbers: Range<usize>,
+    ty: Type,
+) -> Result<Vec<(String, AttributeType)>, Stop> {
+    let ty = Rc::new(alloc, ty)?;
+    let mut attributes = Vec::new(alloc);
+    for name in attribute_names(alloc, numbers)? {
+        attributes.push((name, AttributeType::required_attribute(ty.clone()?)))?;
+    }
+    Ok(attributes)
+}
+
+/// The attributes of some numbers, of whole numbers.
+pub(crate) fn attributes(alloc: Global, numbers: Range<usize>) -> Result<Attributes, Stop> {
+    let attributes = attributes_of(alloc, numbers, Type::primitive_long())?;
+    Ok(Attributes::with_attributes(alloc, attributes)?)
+}
+
+/// The record of the attributes of some numbers, of one type.
+pub(crate) fn record(
+    alloc: Global,
+    numbers: Range<usize>,
+    ty: Type,
+    openness: OpenTag,
+) -> Result<Type, Stop> {
+    let attributes = attributes_of(alloc, numbers, ty)?;
+    Ok(Type::record_with_attributes(alloc, attributes, openness)?)
+}
+
+/// The closed record of the attributes of some numbers, of whole numbers.
+pub(crate) fn closed_record(alloc: Global, numbers: Range<usize>) -> Result<Type, Stop> {
+    record(
+        alloc,
+        numbers,
+        Type::primitive_long(),
+        OpenTag::ClosedAttributes,
+    )
+}
+
+/// A record of whole numbers, with a value for each attribute.
+pub(crate) fn record_value(alloc: Global, numbers: Range<usize>) -> Result<Value, Stop> {
+    let mut values = BTreeMap::new(alloc);
+    for name in attribute_names(alloc, numbers)? {
+        values.insert(name, RestrictedExpr::Long(1))?;
+    }
+    Ok(Value::new(RestrictedExpr::Record(values)))
+}
+
+/// The types of the entities of one entity type each.
+pub(crate) fn entities(alloc: Global, numbers: Range<usize>) -> Result<Vec<Type>, Stop> {
+    let mut types = Vec::new(alloc);
+    for number in numbers {
+        let ty = entity_type(alloc, number)?;
+        types.push(Type::named_entity_reference(alloc, ty)?)?;
+    }
+    Ok(types)
+}
+
+/// The union of some entity types.
+pub(crate) fn union(alloc: Global, numbers: Range<usize>) -> Result<Type, Stop> {
+    let types = entities(alloc, numbers)?;
+    Ok(Type::reduce_to_least_upper_bound(alloc, &types, ValidationMode::Permissive)?)
+}

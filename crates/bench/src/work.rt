@@ -1,0 +1,105 @@
+//! The work of each piece, done once.
+
+use crate::graphs::Graph;
+use crate::prepared::{Given, Lent, no_extensions};
+use crate::stop::Stop;
+use cedar_schema::below::ValidationMode;
+use cedar_schema::lookup::SchemaLookup;
+use cedar_schema::{EntityLUB, Type, ValidatorSchema, compute_tc};
+use std::alloc::Global;
+
+/// How many attributes or entity types a type lists.
+fn listed(ty: &Type) -> usize {
+    match ty {
+        Type::Record { attrs, .. } => attrs.keys().count(),
+        _ => ty.as_entity_lub().map_or(0, members),
+    }
+}
+
+/// How many entity types a union has.
+fn members(union: &EntityLUB) -> usize {
+    union.iter().count()
+}
+
+/// How many descendants the entity types of a graph have, all together.
+fn descendants(graph: &Graph) -> usize {
+    let mut count = 0usize;
+    for node in graph.values() {
+        count = count.saturating_add(node.descendants.len());
+    }
+    count
+}
+
+/// How many descendants the entity types of a schema have, all together.
+fn descendants_of(schema: &ValidatorSchema) -> usize {
+    let mut count = 0usize;
+    for ty in schema.entity_types() {
+        count = count.saturating_add(ty.descendants.len());
+    }
+    count
+}
+
+/// How many environments of requests have unlike principals and resources.
+fn environments(schema: &ValidatorSchema) -> usize {
+    let mut count = 0usize;
+    for environment in schema.unlinked_request_envs(ValidationMode::Strict) {
+        if environment.principal != environment.resource {
+            count = count.saturating_add(1);
+        }
+    }
+    count
+}
+
+impl Lent {
+    /// Does the work once, and answers what it computed: 1 or 0 for yes or no, the length of a text, or how
+    /// many names were compared, attributes or members are listed, or environments there are.
+    pub(crate) fn work(&self, alloc: Global) -> Result<usize, Stop> {
+        match self {
+            Lent::Subtype(lower, upper, mode) => Ok(usize::from(Type::is_subtype(
+                lower, upper, *mode,
+            ))),
+            Lent::LookUp(attributes, name) => Ok(attributes.get_attr_counted(name).1 as usize),
+            Lent::Membership(ty, value, extensions) => Ok(usize::from(matches!(
+                ty.typecheck_value(value, extensions),
+                Ok(true)
+            ))),
+            Lent::Print(ty) => Ok(ty.to_string(alloc)?.len()),
+            Lent::Equality(one, other) => Ok(usize::from(one == other)),
+            Lent::Copy(ty) => Ok(listed(&ty.clone()?)),
+            Lent::Disjointness(one, other) => Ok(usize::from(Type::are_types_disjoint(one, other))),
+            Lent::Joins(types) => Ok(listed(&Type::reduce_to_least_upper_bound(
+                alloc,
+                types,
+                ValidationMode::Permissive,
+            )?)),
+            Lent::Join(one, other, mode) => Ok(listed(&Type::least_upper_bound(
+                alloc, one, other, *mode,
+            )?)),
+            Lent::Environments(schema) => Ok(environments(schema)),
+            Lent::KnownAttributes(schema, ty) => Ok(
+                ty.all_attributes(alloc, schema)?.keys().count(),
+            ),
+        }
+    }
+}
+
+impl Given {
+    /// Does the work, and answers how many descendants there are, all together.
+    pub(crate) fn work(self, alloc: Global) -> Result<usize, Stop> {
+        match self {
+            Given::Build(fragments) => {
+                let extensions = no_extensions(alloc);
+                let schema = ValidatorSchema::from_raw_fragments(alloc, fragments, &extensions)?;
+                Ok(descendants_of(&schema))
+            }
+            Given::Close(mut graph) => {
+                compute_tc(alloc, &mut graph, false)?;
+                Ok(descendants(&graph))
+            }
+            Given::Validate(schema) => {
+                let schema = schema.try_validate(alloc, &no_extensions(alloc))?;
+                Ok(descendants_of(&schema))
+            }
+        }
+    }
+}
