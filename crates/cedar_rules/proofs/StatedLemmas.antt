@@ -1,5 +1,5 @@
 -- Types that are stated with samples are stated.
-use Rattle.std.proofs.Common.{◌≡◌, Bool, true, false, refl, subst, sym, List, [], ◌∷◌, Option, Some, IsTrue, cond}
+use Rattle.std.proofs.Common.{◌≡◌, Bool, true, false, refl, subst, sym, List, [], ◌∷◌, Option, Some, cond}
 use Rattle.std.specs.BTreeMap.{is_at}
 use Rattle.std.specs.Map.{lookup}
 use Rattle.std.specs.Ordering.{is_eq}
