@@ -20,6 +20,7 @@ pub mod OwnBoundLemmas
 pub mod RecordAnswers
 pub mod ReduceLemmas
 pub mod SampleValues
+pub mod StatedLemmas
 pub mod StrictJoinLemmas
 pub mod StrictRecordAnswers
 pub mod SubtypeLaws

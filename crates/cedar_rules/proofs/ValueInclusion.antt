@@ -206,7 +206,7 @@ truths_included extensions True False within = absurd (let e : true ≡ false = 
 truths_included extensions False True within = absurd (let e : false ≡ true = within (truth_value false) tt refl in cc)
 
 -- an extension type that is included is the same
-extensions_included : (extensions : Extensions) (a b : PlainName) (function : PlainName) (args : Trees)
+pub extensions_included : (extensions : Extensions) (a b : PlainName) (function : PlainName) (args : Trees)
     → Gives extensions function args a → Gives extensions function args b → a ≡ b
 extensions_included extensions a b function args gives also =
     let same : gives.0 ≡ also.0 = (let one = gives.1 in let other = also.1 in cc) in

@@ -1,4 +1,4 @@
-use Rattle.std.specs.Prelude.{IsTrue}
+use Rattle.std.specs.Prelude.{IsTrue, List, Contains}
 use Rattle.cedar_below.specs.IsValue.{IsValue}
 use Rattle.cedar_below.specs.Tree.{Tree}
 use Rattle.cedar_below.specs.declared.extension.Extensions.{Extensions}
@@ -34,3 +34,23 @@ abbrev mutual
 -- a stated type has no `Never` in it, no optional attribute, and no extension type without a value
 abbrev pub IsStated : Extensions → Ty → Type 0
 IsStated extensions ty = IsInhabited extensions ty × RequiresAll ty
+
+-- some sample of a list has a type
+abbrev pub IsSampled : Extensions → List Tree → Ty → Type 0
+IsSampled extensions samples ty = (sample : Tree) × Contains samples sample × Has extensions sample ty
+
+abbrev mutual
+  -- a type is stated with samples: no `Never` stands in it, each attribute in it is required, and each extension type in
+  -- it has one of the samples
+  pub IsStatedWith : Extensions → List Tree → Ty → Type 0
+  IsStatedWith extensions samples never = ⊥
+  IsStatedWith extensions samples (set_of ty) = IsStatedWith extensions samples ty
+  IsStatedWith extensions samples (record_of fields openness) = AreStatedWith extensions samples fields
+  IsStatedWith extensions samples (extension_of name) = IsSampled extensions samples (extension_of name)
+  IsStatedWith extensions samples _ = Unit {0}
+
+  -- each attribute is required, and its type is stated with the samples
+  pub AreStatedWith : Extensions → List Tree → Fields → Type 0
+  AreStatedWith extensions samples end = Unit {0}
+  AreStatedWith extensions samples (field name required ty rest) =
+      IsTrue required × IsStatedWith extensions samples ty × AreStatedWith extensions samples rest

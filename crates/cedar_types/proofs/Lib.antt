@@ -12,6 +12,7 @@ pub mod MembershipLemmas
 pub mod MergedLemmas
 pub mod OrderLaws
 pub mod ReduceSteps
+pub mod StatedSteps
 pub mod SubtypeSteps
 pub mod TextLemmas
 pub mod TypeKinds

@@ -6,4 +6,5 @@ pub mod Layers
 pub mod Located
 pub mod Meaning
 pub mod MembershipAnswer
+pub mod Samples
 pub mod WellFormedTypes

@@ -19,6 +19,7 @@ mod join;
 mod join_order;
 mod member;
 mod show;
+mod stated;
 mod subtype;
 pub mod theorems;
 mod type_queries;

@@ -14,6 +14,8 @@ mod joins;
 #[cfg(test)]
 mod requests;
 #[cfg(test)]
+mod separate;
+#[cfg(test)]
 mod subtyping;
 #[cfg(test)]
 mod test_values;

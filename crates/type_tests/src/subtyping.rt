@@ -8,7 +8,7 @@ use std::collections::BTreeMap;
 use std::test::Fail;
 
 /// Extensions with the type `ipaddr`, and the function `ip` of a text that returns it.
-fn extensions(alloc: Global) -> Result<Extensions, Fail> {
+pub(crate) fn extensions(alloc: Global) -> Result<Extensions, Fail> {
     let ip = ExtensionFunction {
         arg_types: vec![in alloc; CoreSchemaType::String]?,
         return_type: Some(CoreSchemaType::Extension {
@@ -125,7 +125,7 @@ fn kind(alloc: Global, word: &str) -> Result<EntityKind, Fail> {
 }
 
 /// The kind of the entities of two types.
-fn kind_of_two(alloc: Global, word: &str, other: &str) -> Result<EntityKind, Fail> {
+pub(crate) fn kind_of_two(alloc: Global, word: &str, other: &str) -> Result<EntityKind, Fail> {
     let first = EntityLUB::single_entity(alloc, entity_type(alloc, word)?)?;
     let second = EntityLUB::single_entity(alloc, entity_type(alloc, other)?)?;
     Ok(EntityKind::Entity(first.least_upper_bound(&second)?))

@@ -1,0 +1,11 @@
+//! Values that separate two types: the first type has such a value, and the second hasn't.
+#![tactic(auto)]
+
+pub use separating::separating_value;
+
+mod copying;
+mod fresh;
+mod putting;
+mod samples;
+mod separating;
+mod unions;

@@ -1,0 +1,8 @@
+use Rattle.cedar_rules.proofs.StatedLemmas.{IsStated-with}
+use Rattle.cedar_types.specs.Meaning.{ty_of}
+use Rattle.cedar_types.specs.Samples.{value_trees}
+use Rattle.cedar_types.proofs.types.Type.is_stated.Goals as goal
+
+pub returns-clause-stated : goal.returns-clause-stated
+returns-clause-stated c = λ yes.
+    IsStated-with c.args.extensions.now (value_trees c.args.samples.now) (ty_of c.args.self.now) (c.is_stated_with.ensures.0 yes)
