@@ -2,13 +2,18 @@ use Rattle.std.specs.Prelude.{true, false, List, [], ◌∷◌, Option, Some, No
 use Rattle.cedar_below.specs.PlainName.{PlainName, action_word}
 use Rattle.cedar_below.specs.PlainUid.{PlainUid}
 use Rattle.cedar_below.specs.Text.{Text}
-use Rattle.cedar_declared.specs.Bag.{alias_name}
+use Rattle.cedar_declared.specs.Bag.{Bag, alias_name}
 use Rattle.cedar_declared.specs.EntityTypeKind.{EntityTypeKind, standard_kind, enumerated_kind}
-use Rattle.cedar_declared.specs.PlainSchema.{PlainSchema, SchemaAction, SchemaEntityType, external_action}
-use Rattle.cedar_rules.specs.Ty.{Ty, end, field, union_of}
+use Rattle.cedar_declared.specs.PlainSchema.{PlainSchema, SchemaAction, SchemaEntityType, defined_action, external_action}
+use Rattle.cedar_names.specs.Declaration.{entity_type}
+use Rattle.cedar_names.specs.EntityBody.{standard}
+use Rattle.cedar_names.specs.Expr.{long_expr, member, named, no_member, record_expr}
+use Rattle.cedar_names.specs.Reference.{reference_to}
+use Rattle.cedar_names.specs.declared.json_schema.reference_type.ReferenceType.TheVariants.{Entity}
+use Rattle.cedar_rules.specs.Ty.{Fields, Ty, end, field, long, record_of, union_of}
 use Rattle.cedar_rules.specs.declared.open_tag.OpenTag.{OpenTag}
 use Rattle.cedar_rules.specs.declared.open_tag.OpenTag.TheVariants.{ClosedAttributes}
-use Rattle.declaration_examples.specs.Samples.{within_sample}
+use Rattle.declaration_examples.specs.Samples.{action_here, declared_within, entity_here, refer_within, within_sample}
 
 -- an entity type under its name, of a kind and with some descendants
 abbrev pub type_entry : PlainName → EntityTypeKind → List PlainName → PlainName × SchemaEntityType
@@ -50,3 +55,33 @@ action_attribute actions =
 -- `Group` with the descendant `U`, and beside it this
 abbrev pub group_of : List (PlainName × SchemaEntityType) → PlainSchema
 group_of others = schema_of_entries (type_entry (alias_name (codes "Group")) plain_kind (alias_name (codes "U") ∷ []) ∷ others) []
+
+-- attributes, of which the first may be missing
+abbrev pub sample_fields : Fields
+sample_fields = field (codes "a") false long (field (codes "g") true (union_of (alias_name (codes "Group") ∷ [])) end)
+
+-- `Group` with the descendant `N::User`, which has attributes, and an action for such principals
+abbrev pub sample_schema : PlainSchema
+sample_schema = schema_of_entries
+    (type_entry (alias_name (codes "Group")) plain_kind (within_sample (codes "User") ∷ [])
+    ∷ type_entry (within_sample (codes "User")) (standard_kind sample_fields ClosedAttributes None) []
+    ∷ [])
+    ((
+      action_named (codes "view"),
+      record {
+        uid = action_named (codes "view");
+        kind = defined_action (within_sample (codes "User") ∷ []) [] (record_of end ClosedAttributes);
+        descendants = [];
+      },
+    ) ∷ [])
+
+-- the declarations that say the same: in `N` the name `Group` is tried there first
+abbrev pub sample_bag : Bag
+sample_bag =
+    entity_here (codes "Group") [] no_member
+    ∷ declared_within (codes "User")
+    (entity_type (standard (refer_within Entity (codes "Group") ∷ [])
+    (record_expr (member (codes "a") false long_expr (member (codes "g") true (named (refer_within Entity (codes "Group"))) no_member)) false)
+    None))
+    ∷ action_here (codes "view") (reference_to None Entity (within_sample (codes "User")) ∷ [])
+    ∷ []

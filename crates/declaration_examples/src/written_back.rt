@@ -4,12 +4,18 @@ ghost use Rattle.std.specs.Prelude.{◌≡◌, [], ◌∷◌, None, Option, code
 ghost use Rattle.cedar_below.specs.PlainName.{PlainName};
 ghost use Rattle.cedar_declared.specs.Bag.{alias_name};
 ghost use Rattle.cedar_declared.specs.EntityTypeKind.{enumerated_kind, standard_kind};
-ghost use Rattle.cedar_declared.specs.WrittenBack.{IsWritable, type_written};
+ghost use Rattle.cedar_declared.specs.WrittenBack.{IsWritable, IsWrittenBack, type_written};
 ghost use Rattle.cedar_rules.specs.Ty.{Ty, any_entity, any_set, end, extension_of, never, record_of, set_of, truth, union_of};
 ghost use Rattle.cedar_rules.specs.declared.bool_type.BoolType.TheVariants as truth_type;
 ghost use Rattle.cedar_rules.specs.declared.open_tag.OpenTag.TheVariants as openness;
 ghost use Rattle.declaration_examples.specs.Samples.{within_sample};
-ghost use Rattle.declaration_examples.specs.WrittenSamples.{action_attribute, action_entry, action_named, action_within, group_of, one_type, plain_kind, schema_of_entries, type_entry, with_attribute};
+ghost use Rattle.declaration_examples.specs.WrittenSamples.{action_attribute, action_entry, action_named, action_within, group_of, one_type, plain_kind, sample_bag, sample_schema, schema_of_entries, type_entry, with_attribute};
+
+/// A schema and its bag, whole: parents and attributes are written in full, flags stay, and an action says
+/// what it is for.
+pub fn schemas_are_written_back()
+    ensures { IsWrittenBack sample_schema sample_bag }
+{}
 
 /// These types have no expression, in whatever namespace, and neither has a type of which one of them is
 /// a part.
