@@ -23,4 +23,5 @@ pub mod Shadowing
 pub mod Together
 pub mod TypeMentions
 pub mod ValidSchema
+pub mod WrittenBack
 pub mod WrittenOut

@@ -1,0 +1,130 @@
+-- Parents, as descendants are turned round.
+use Rattle.std.proofs.Common.{◌≡◌, ◌⊎◌, ◌↔◌, ◌++◌, IsTrue, Bool, true, false, cond, List, [], ◌∷◌, map, ap, sym, subst, ◌∙◌, refl, inl, inr, ⊎_elim, append_assoc, arith, Contains}
+use Rattle.std.proofs.lemmas.Bool.{false≢true, cond-true, cond-false}
+use Rattle.std.proofs.lemmas.List.{append-nil, map-append}
+use Rattle.std.proofs.lemmas.List.Elements.{Contains-append_cases, Contains-append_left, Contains-append_right}
+use Rattle.std.specs.BTreeMap.{BTreeMap, is_at}
+use Rattle.std.specs.Map.{lookup}
+use Rattle.std.specs.declared.alloc.Global.{Global}
+use Rattle.std.specs.declared.cmp.Ordering.{Ordering}
+use Rattle.std.specs.declared.vec.Vec.{Vec}
+use Rattle.cedar_below.proofs.Lists.{Contains-cons}
+use Rattle.cedar_declared.proofs.OccurrenceLemmas.{Contains-single}
+use Rattle.cedar_written_back.proofs.Written.{none_there}
+use Rattle.cedar_written_back.specs.Parents.{AreTurned, held, parents_at}
+
+-- with one item more behind them, those that were there stand there, and that one
+pub pushed_cases : {A : Type 0} (items : List A) (last x : A) → Contains (items ++ last ∷ []) x ↔ (Contains items x ⊎ (last ≡ x))
+pushed_cases items last x = (
+  λ among. ⊎_elim (λ before. inl before) (λ one. inr (Contains-single last x one)) (Contains-append_cases items (last ∷ []) x among),
+  ⊎_elim
+      (λ before. Contains-append_left items (last ∷ []) x before)
+      (λ same. Contains-append_right items (last ∷ []) x (Contains-cons last [] x (inl same))),
+)
+
+module _ {K Q P : Type 0} (cmp : K → K → Ordering) (f : K → P) (g : Q → P)
+    (tie : (key other : K) → IsTrue (is_at (cmp key) other) ↔ (f other ≡ f key)) (IsSound : P × P → Type 0) where
+  -- where nothing is held, no edge is turned
+  pub turned_none : (parents : BTreeMap K (Vec Q Global)) → parents.entries ≡ [] → AreTurned cmp f g IsSound parents []
+  turned_none parents nothing = record {
+    listed = λ key upper.
+        let none : parents_at cmp parents key ≡ [] = ap (λ entries. held (lookup (is_at (cmp key)) entries)) nothing in (
+          λ among. absurd (none_there (map g (parents_at cmp parents key)) upper (ap (map g) none) among),
+          λ among. absurd (omega (arith, among.1)),
+        );
+    sound = λ edge among. absurd (omega (arith, among.1));
+  }
+
+  module _ (before after : BTreeMap K (Vec Q Global)) (edges : List (P × P)) (lower : K) (parent : Q) (upper : P) (named : g parent ≡ upper)
+      (added : (key : K) → parents_at cmp after key
+      ≡ cond (is_at (cmp lower) key) (parents_at cmp before lower ++ parent ∷ []) (parents_at cmp before key))
+      (turned : AreTurned cmp f g IsSound before edges) where
+    -- what is held under the key of the lower one
+    at_lower : (key : K) (it : P) → f key ≡ f lower → parents_at cmp after key ≡ parents_at cmp before lower ++ parent ∷ []
+        → Contains (map g (parents_at cmp after key)) it ↔ Contains (edges ++ (f lower, upper) ∷ []) (f key, it)
+    at_lower key it same is =
+        let R : List P → Type 0 = λ items. Contains items it in
+        let S : P → Type 0 = λ low. Contains (edges ++ (f lower, upper) ∷ []) (low, it) in
+        let shown : map g (parents_at cmp after key) ≡ map g (parents_at cmp before lower) ++ upper ∷ [] =
+        ap (map g) is ∙ (map-append g (parents_at cmp before lower) (parent ∷ [])
+        ∙ ap (λ last. map g (parents_at cmp before lower) ++ last ∷ []) named) in
+        let pushed = pushed_cases (map g (parents_at cmp before lower)) upper it in
+        let edge = pushed_cases edges (f lower, upper) (f lower, it) in (
+          λ among. subst S (sym same) (edge.1 (⊎_elim
+              (λ there. inl ((turned.listed lower it).0 there))
+              (λ one. inr (ap (λ up. (f lower, up)) one))
+              (pushed.0 (subst R shown among)))),
+          λ among. subst R (sym shown) (pushed.1 (⊎_elim
+              (λ there. inl ((turned.listed lower it).1 there))
+              (λ one. inr (ap (λ (pair : P × P). pair.1) one))
+              (edge.0 (subst S same among)))),
+        )
+
+    -- what is held under another key
+    at_other : (key : K) (it : P) → ¬ (f key ≡ f lower) → parents_at cmp after key ≡ parents_at cmp before key
+        → Contains (map g (parents_at cmp after key)) it ↔ Contains (edges ++ (f lower, upper) ∷ []) (f key, it)
+    at_other key it other is =
+        let R : List Q → Type 0 = λ items. Contains (map g items) it in
+        let edge = pushed_cases edges (f lower, upper) (f key, it) in (
+          λ among. edge.1 (inl ((turned.listed key it).0 (subst R is among))),
+          λ among. subst R (sym is) ((turned.listed key it).1 (⊎_elim
+              (λ there. there)
+              (λ one. absurd (other (ap (λ (pair : P × P). pair.0) (sym one))))
+              (edge.0 among))),
+        )
+
+    -- one more edge is turned
+    pub turned_more : IsSound (f lower, upper) → AreTurned cmp f g IsSound after (edges ++ (f lower, upper) ∷ [])
+    turned_more sound = record {
+      listed = λ key it. by key it (is_at (cmp lower) key) refl;
+      sound = λ edge among.
+          ⊎_elim (λ there. turned.sound edge there) (λ one. subst IsSound one sound) ((pushed_cases edges (f lower, upper) edge).0 among);
+    }
+      where
+        by : (key : K) (it : P) (b : Bool) → is_at (cmp lower) key ≡ b
+            → Contains (map g (parents_at cmp after key)) it ↔ Contains (edges ++ (f lower, upper) ∷ []) (f key, it)
+        by key it true is =
+            at_lower key it ((tie lower key).0 is)
+            (added key ∙ cond-true (is_at (cmp lower) key) (parents_at cmp before lower ++ parent ∷ []) (parents_at cmp before key) is)
+        by key it false is =
+            at_other key it (λ same. false≢true (sym is ∙ (tie lower key).1 same))
+            (added key ∙ cond-false (is_at (cmp lower) key) (parents_at cmp before lower ++ parent ∷ []) (parents_at cmp before key) is)
+
+-- some of the edges are turned, and others are left
+pub record EdgesSoFar {E M : Type 0} (Turned : M → List E → Type 0) (initial current : M) (all left : List E) : Type 0 where
+  pub done : List E
+  pub split : all ≡ done ++ left
+  pub turned : (edges : List E) → Turned initial edges → Turned current (edges ++ done)
+
+module _ {E M : Type 0} (Turned : M → List E → Type 0) (initial : M) (all : List E) where
+  -- at first none is
+  pub edges_none : (left : List E) → left ≡ all → EdgesSoFar Turned initial initial all left
+  edges_none left same = record {
+    done = [];
+    split = sym same;
+    turned = λ edges turned. subst (Turned initial) (sym (append-nil edges)) turned;
+  }
+
+  module _ (left chunk rest : List E) (current : M) (is : left ≡ chunk ++ rest) (so_far : EdgesSoFar Turned initial current all left) where
+    -- the next are among all
+    pub edges_here : (edge : E) → Contains chunk edge → Contains all edge
+    edges_here edge among =
+        let R : List E → Type 0 = λ items. Contains items edge in
+        subst R (sym (so_far.split ∙ ap (λ others. so_far.done ++ others) is))
+        (Contains-append_right so_far.done (chunk ++ rest) edge (Contains-append_left chunk rest edge among))
+
+    -- some more are
+    pub edges_more : (after : M) → ((edges : List E) → Turned current edges → Turned after (edges ++ chunk))
+        → EdgesSoFar Turned initial after all rest
+    edges_more after more = record {
+      done = so_far.done ++ chunk;
+      split = so_far.split ∙ (ap (λ others. so_far.done ++ others) is ∙ sym (append_assoc so_far.done chunk rest));
+      turned = λ edges turned. subst (Turned after) (append_assoc edges so_far.done chunk) (more (edges ++ so_far.done) (so_far.turned edges turned));
+    }
+
+  -- where none is left, all are
+  pub edges_all : (left : List E) (current : M) → left ≡ [] → EdgesSoFar Turned initial current all left → (edges : List E)
+      → Turned initial edges → Turned current (edges ++ all)
+  edges_all left current nothing so_far edges turned =
+      let R : List E → Type 0 = λ items. Turned current (edges ++ items) in
+      subst R (sym (so_far.split ∙ (ap (λ others. so_far.done ++ others) nothing ∙ append-nil so_far.done))) (so_far.turned edges turned)

@@ -1,0 +1,62 @@
+use Rattle.std.proofs.Common.{List, Some, ap, map, sym, subst, ◌∙◌, Contains}
+use Rattle.std.proofs.lemmas.Result.{err_from_is_err_and}
+use Rattle.cedar_below.specs.EntityType.{type_name}
+use Rattle.cedar_below.specs.PlainName.{PlainName}
+use Rattle.cedar_declared.specs.WrittenBack.{NamesNoOther}
+use Rattle.cedar_types.specs.Meaning.{ty_of}
+use Rattle.cedar_written_back.proofs.Refusals.{refuses_weaker}
+use Rattle.cedar_written_back.specs.Parts.{known_names, plain_namespace}
+use Rattle.cedar_written_back.specs.Sound.{IsSoundAction}
+use Rattle.cedar_actions.specs.ValidatorActionId.{action_of}
+use Rattle.cedar_written_back.proofs.KindLemmas.{defined_written, principal_of, resource_of, sound_action}
+use Rattle.cedar_written_back.proofs.actions.write_requests.Goals as goal
+
+pub returns-in_err-write_names-clause-refusal : goal.returns-in_err-write_names-clause-refusal
+returns-in_err-write_names-clause-refusal c =
+    let kind = (action_of c.args.action.now).kind in
+    let p = err_from_is_err_and c.from_residual-in_err-write_names.result c.from_residual-in_err-write_names.ensures.1 in
+    let names = known_names c.args.known.now in
+    let namespace = plain_namespace c.args.namespace.now in
+    rw (p.1, p.2)
+    (refuses_weaker
+    ((name : PlainName) × Contains (map type_name c.principals.result) name × ¬ NamesNoOther names namespace name)
+    (¬ IsSoundAction names namespace kind)
+    (λ some sound.
+    let P : List PlainName → Type 0 = λ names. Contains names some.0 in
+    some.2 (sound.no_other some.0 (principal_of kind some.0 (subst P c.principals.ensures.names some.1))))
+    _ c.in_err-write_names.ensures.refusal)
+
+pub returns-in_err-write_names-2-clause-refusal : goal.returns-in_err-write_names-2-clause-refusal
+returns-in_err-write_names-2-clause-refusal c =
+    let kind = (action_of c.args.action.now).kind in
+    let p = err_from_is_err_and c.from_residual-in_err-write_names-2.result c.from_residual-in_err-write_names-2.ensures.1 in
+    let names = known_names c.args.known.now in
+    let namespace = plain_namespace c.args.namespace.now in
+    rw (p.1, p.2)
+    (refuses_weaker
+    ((name : PlainName) × Contains (map type_name c.resources.result) name × ¬ NamesNoOther names namespace name)
+    (¬ IsSoundAction names namespace kind)
+    (λ some sound.
+    let P : List PlainName → Type 0 = λ names. Contains names some.0 in
+    some.2 (sound.no_other some.0 (resource_of kind some.0 (subst P c.resources.ensures.names some.1))))
+    _ c.in_err-write_names-2.ensures.refusal)
+
+pub returns-clause-written : goal.returns-clause-written
+returns-clause-written c =
+    let namespace = plain_namespace c.args.namespace.now in
+    defined_written namespace (action_of c.args.action.now).kind c.in_ok-write_names.field-0.items c.in_ok-write_names-2.field-0.items
+    (ty_of c.args.context.now) _ c.requires (c.in_ok-write_names.ensures.names ∙ c.principals.ensures.names)
+    (c.in_ok-write_names-2.ensures.names ∙ c.resources.ensures.names)
+    (c.in_ok-context.ensures.written ∙ ap Some (sym (c.plain.ensures namespace)))
+
+pub returns-clause-sound : goal.returns-clause-sound
+returns-clause-sound c =
+    let names = known_names c.args.known.now in
+    let namespace = plain_namespace c.args.namespace.now in
+    sound_action namespace names (action_of c.args.action.now).kind (ty_of c.args.context.now) c.requires c.in_ok-context.ensures.sound
+    (λ name among.
+    let P : List PlainName → Type 0 = λ items. Contains items name in
+    c.in_ok-write_names.ensures.no_other name (subst P (sym c.principals.ensures.names) among))
+    (λ name among.
+    let P : List PlainName → Type 0 = λ items. Contains items name in
+    c.in_ok-write_names-2.ensures.no_other name (subst P (sym c.resources.ensures.names) among))

@@ -1,0 +1,46 @@
+use Rattle.std.proofs.Common.{[], ap, map}
+use Rattle.std.proofs.lemmas.Result.{err_from_is_err_and}
+use Rattle.cedar_below.specs.EntityType.{type_name}
+use Rattle.cedar_below.specs.contracts.entity_type.EntityTypeOrd.TheImpl as key_ord
+use Rattle.cedar_names.specs.RawName.{raw_name}
+use Rattle.cedar_entities.specs.ValidatorEntityType.{descendant_names}
+use Rattle.cedar_entities.specs.ValidatorEntityType.{plain_entry}
+use Rattle.cedar_written_back.proofs.Refusals.{refuses_weaker}
+use Rattle.cedar_written_back.proofs.Turned.{edges_all, edges_here, edges_more, edges_none, turned_none}
+use Rattle.cedar_written_back.proofs.Keyed.{type_tie}
+use Rattle.cedar_written_back.specs.Parents.{AreTypesTurned, IsKnownEdge, SomeUnsound, edges_to, type_edges}
+use Rattle.cedar_written_back.specs.Parts.{known_schema}
+use Rattle.cedar_written_back.proofs.parents.type_parents.Goals as goal
+
+pub loop-upper-init : goal.loop-upper-init
+loop-upper-init c =
+    edges_none (AreTypesTurned c.args.known.now) c.new-parents.result (type_edges (known_schema c.args.known.now).entity_types) _
+    (ap (λ entries. type_edges (map plain_entry entries)) c.into_iter-upper-iterator.ensures.into_iter_gives.0)
+
+pub loop-upper-preserved : goal.loop-upper-preserved
+loop-upper-preserved c =
+    edges_more (AreTypesTurned c.args.known.now) c.new-parents.result (type_edges (known_schema c.args.known.now).entity_types) _
+    (edges_to (type_name c.in-Some.upper.now) (descendant_names c.in-Some.ty.now)) _ c.loop-upper.parents
+    (ap (λ entries. type_edges (map plain_entry entries)) c.in-Some.ensures.steps) c.loop-upper.invariant c.turn_type.new.parents
+    c.in_ok-turn_type.ensures.turned
+
+pub returns-in_err-turn_type-clause-refusal : goal.returns-in_err-turn_type-clause-refusal
+returns-in_err-turn_type-clause-refusal c =
+    let all = type_edges (known_schema c.args.known.now).entity_types in
+    let chunk = (edges_to (type_name c.in-Some.upper.now) (descendant_names c.in-Some.ty.now)) in
+    let p = err_from_is_err_and c.from_residual.result c.from_residual.ensures.1 in
+    rw (p.1, p.2)
+    (refuses_weaker (SomeUnsound (IsKnownEdge c.args.known.now) chunk) (SomeUnsound (IsKnownEdge c.args.known.now) all)
+    (λ some. (
+      some.0,
+      edges_here (AreTypesTurned c.args.known.now) c.new-parents.result all _ chunk _ c.loop-upper.parents
+          (ap (λ entries. type_edges (map plain_entry entries)) c.in-Some.ensures.steps) c.loop-upper.invariant some.0 some.1,
+      some.2,
+    ))
+    _ c.in_err-turn_type.ensures.refusal)
+
+pub returns-clause-turned : goal.returns-clause-turned
+returns-clause-turned c =
+    edges_all (AreTypesTurned c.args.known.now) c.new-parents.result (type_edges (known_schema c.args.known.now).entity_types) _ c.loop-upper.parents
+    (ap (λ entries. type_edges (map plain_entry entries)) c.in-None.ensures.steps.0) c.loop-upper.invariant []
+    (turned_none ((key_ord.ghosts).cmp) type_name raw_name type_tie (IsKnownEdge c.args.known.now) c.new-parents.result c.new-parents.ensures.empty)
