@@ -6,6 +6,7 @@ pub mod FragmentFault
 pub mod FragmentNamespaces
 pub mod GivenCommonTypes
 pub mod HeldNames
+pub mod Located
 pub mod QualifyFault
 pub mod Refused
 pub mod ShadowedNames

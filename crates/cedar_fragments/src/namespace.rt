@@ -24,6 +24,7 @@ mod fragment;
 mod full_name;
 mod given_common_types;
 mod into_parts;
+mod located;
 mod namespaces;
 mod qualify_actions;
 mod qualify_definitions;

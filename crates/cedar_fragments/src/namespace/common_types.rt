@@ -1,6 +1,7 @@
 //! The common types of a namespace.
 
 ghost use Rattle.std.specs.Prelude.{◌≡◌, IfOk};
+ghost use Rattle.cedar_fragments.specs.Located.{common_type_defs, located_common_names, written_common_names};
 ghost use Rattle.cedar_fragments.specs.TypeDeclarations.{common_type_declarations};
 ghost use Rattle.cedar_names.specs.ConditionalExpr.{placed_reference};
 ghost use Rattle.cedar_names.specs.Declaration.{common_declarations};
@@ -37,8 +38,10 @@ impl CommonTypeDefs<ConditionalName> {
         namespace: Option<&InternalName>,
         written: BTreeMap<CommonTypeId, CommonType<RawName>>,
     ) -> M<Self>
-        ensures { IfOk result (λ it. common_type_declarations Conditional placed_reference it
+        ensures declarations { IfOk result (λ it. common_type_declarations Conditional placed_reference it
             ≡ common_declarations Raw (raw_reference (namespace_name namespace.entry)) (namespace_name namespace.entry) written.entries) }
+        ensures located { IfOk result (λ it. located_common_names Conditional (common_type_defs Conditional it)
+            ≡ written_common_names (namespace_name namespace.entry) written.entries) }
     {
         let mut defs = Vec::new(alloc);
         for (id, common) in written {

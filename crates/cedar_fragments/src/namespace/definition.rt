@@ -2,12 +2,13 @@
 
 ghost use Rattle.std.specs.Prelude.{◌≡◌, ◌⊎◌, IfOk, IfErr, OnOk};
 ghost use Rattle.std.specs.List.{AllByRecursion};
-ghost use Rattle.std.specs.Option.{option_map};
+ghost use Rattle.std.specs.Option.{option_copied, option_map};
 ghost use Rattle.cedar_below.specs.InternalName.{name_of};
 ghost use Rattle.cedar_declared.specs.Fault.{want_of_memory};
 ghost use Rattle.cedar_declared.specs.SchemaError.{fault_of};
 ghost use Rattle.cedar_fragments.specs.DefinitionFault.{HasNoDefinitionFault, IsDefinitionFault, IsSound, NamesAllWithAttributes};
 ghost use Rattle.cedar_fragments.specs.FragmentDeclarations.{conditional_definition, definition_namespace};
+ghost use Rattle.cedar_fragments.specs.Located.{definition_common_names, definition_loc, definition_name, located_name, written_common_names};
 ghost use Rattle.cedar_names.specs.declared.json_schema.conditional_name.ConditionalName.{ConditionalName as Conditional};
 ghost use Rattle.cedar_names.specs.Declaration.{raw_declarations};
 ghost use Rattle.cedar_names.specs.NamespaceName.{namespace_name};
@@ -33,9 +34,10 @@ pub struct ValidatorNamespaceDef<N, A> {
 impl<N, A> ValidatorNamespaceDef<N, A> {
     /// The namespace's name, or None for the empty one.
     pub fn namespace(&self) -> Option<&InternalName>
-        ensures { namespace_name result ≡ definition_namespace N A self.now }
+        ensures name { namespace_name result ≡ definition_namespace N A self.now }
+        ensures located { option_map located_name (option_copied result) ≡ definition_name N A self.now }
     {
-        lend(&self.namespace)
+        self.namespace.as_ref()
     }
 }
 
@@ -62,6 +64,10 @@ impl ValidatorNamespaceDef<ConditionalName, ConditionalName> {
         ensures declarations { IfOk result (λ it. conditional_definition it
             ≡ raw_declarations (option_map name_of namespace) definition) }
         ensures namespace { IfOk result (λ it. definition_namespace Conditional Conditional it ≡ option_map name_of namespace) }
+        ensures common_types { IfOk result (λ it. definition_common_names Conditional Conditional it
+            ≡ written_common_names (option_map name_of namespace) definition.common_types.entries) }
+        ensures name { IfOk result (λ it. definition_name Conditional Conditional it ≡ option_map located_name namespace) }
+        ensures loc { IfOk result (λ it. definition_loc Conditional Conditional it ≡ definition.loc) }
         ensures sound { OnOk result (AllByRecursion IsSound (raw_declarations (option_map name_of namespace) definition)) }
         ensures no_fault { OnOk result (HasNoDefinitionFault (raw_declarations (option_map name_of namespace) definition)) }
         ensures fault { IfErr result (λ error. (fault_of error ≡ want_of_memory)

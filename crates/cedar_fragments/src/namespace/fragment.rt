@@ -10,7 +10,9 @@ ghost use Rattle.cedar_declared.specs.SchemaError.{fault_of};
 ghost use Rattle.cedar_fragments.specs.DefinitionFault.{HasNoDefinitionFault, IsDefinitionFault, IsSound};
 ghost use Rattle.cedar_fragments.specs.FragmentDeclarations.{conditional_fragment};
 ghost use Rattle.cedar_fragments.specs.FragmentFault.{NamesAllOfADefinition};
+ghost use Rattle.cedar_fragments.specs.Located.{fragment_common_names, located_name, located_plain_name, named_namespaces, raw_common_names, raw_namespaces};
 ghost use Rattle.cedar_names.specs.Declaration.{raw_fragment};
+ghost use Rattle.cedar_names.specs.declared.json_schema.conditional_name.ConditionalName.{ConditionalName as Conditional};
 
 use crate::namespace::definition::ValidatorNamespaceDef;
 use cedar_below::{InternalName, Name};
@@ -26,7 +28,8 @@ pub struct ValidatorSchemaFragment<N, A> {
 
 /// The name of a namespace, which may be the empty one.
 fn internal_namespace(namespace: Option<Name>) -> Option<InternalName>
-    ensures { option_map name_of result ≡ option_map plain_name namespace }
+    ensures name { option_map name_of result ≡ option_map plain_name namespace }
+    ensures located { option_map located_name result ≡ option_map located_plain_name namespace }
 {
     match namespace {
         Some(name) => Some(name.into_internal()),
@@ -42,6 +45,8 @@ impl ValidatorSchemaFragment<ConditionalName, ConditionalName> {
         fragment: Fragment<RawName>,
     ) -> Result<Self, SchemaError>
         ensures declarations { IfOk result (λ it. conditional_fragment it ≡ raw_fragment fragment) }
+        ensures common_types { IfOk result (λ it. fragment_common_names Conditional Conditional it ≡ raw_common_names fragment) }
+        ensures namespaces { IfOk result (λ it. named_namespaces Conditional Conditional it ≡ raw_namespaces fragment) }
         ensures sound { OnOk result (AllByRecursion IsSound (raw_fragment fragment)) }
         ensures no_fault { OnOk result (HasNoDefinitionFault (raw_fragment fragment)) }
         ensures fault { IfErr result (λ error. (fault_of error ≡ want_of_memory)

@@ -1,0 +1,5 @@
+pub mod LocatedType
+pub mod Located
+pub mod Places
+pub mod ShownCommonTypes
+pub mod ShownNamespaces
