@@ -19,9 +19,11 @@ pub use cedar_types::{
     AttributeType, Attributes, BoolType, CoreTypeFault, EntityKind, EntityLUB, Entries, JoinError,
     JoinOrder, LubHelp, Names, OpenTag, Type, core_type_of, reduce,
 };
+pub use cedar_written_back::WriteBackFault;
 pub use schema::ValidatorSchema;
 
 pub mod lookup;
 mod queries;
 mod schema;
 pub mod theorems;
+mod written_back;

@@ -4,6 +4,7 @@ use crate::names::name;
 use crate::orders::{as_written, in_order, order_count, taken_apart};
 use crate::refusals::refusal_text;
 use crate::shorthand::{fragment_of, fragments_of};
+use crate::written_back::built_again;
 use cedar_schema::below::{CoreSchemaType, ExtensionFunction, Extensions, M};
 use cedar_schema::json_schema::{Fragment, RawName};
 use cedar_schema::{SchemaError, ValidatorSchema};
@@ -154,9 +155,20 @@ fn check_validated(alloc: Global, row: &Row, texts: &[&str]) -> Result<(), Fail>
     }
 }
 
+/// Compares what is built again of the schema of a row, once it is written back, with the schema itself.
+fn check_written_back(alloc: Global, row: &Row) -> Result<(), Fail> {
+    match &row.first {
+        Some(schema) => match built_again(alloc, schema)? {
+            Some(again) => check_equal(row, &again),
+            None => Err(Fail::new(format_args!("{}: isn't written back", row.name))),
+        },
+        None => Ok(()),
+    }
+}
+
 /// Compares the answer for a text in every split that is tried and in every order: as it is written,
 /// with a fragment for each declaration, and with one fragment for all. The schemas are equal too, and
-/// validation gives an equal one back.
+/// validation gives an equal one back, as does building what it is written back as.
 pub(crate) fn check_row(alloc: Global, name: &str, text: &str, allowed: &str) -> Result<(), Fail> {
     let written = as_written(alloc, text)?;
     let first = first_schema(alloc, &written)?;
@@ -166,6 +178,7 @@ pub(crate) fn check_row(alloc: Global, name: &str, text: &str, allowed: &str) ->
         first,
     };
     check_validated(alloc, &row, &written)?;
+    check_written_back(alloc, &row)?;
     check_orders(alloc, &row, &written)?;
     if written.is_empty() {
         return Ok(());

@@ -134,7 +134,7 @@ fn action_item(alloc: Global, text: &str) -> Result<ValidatorActionId, Fail> {
 }
 
 /// The schema of a text.
-fn put_together(alloc: Global, text: &str) -> Result<ValidatorSchema, Fail> {
+pub(crate) fn put_together(alloc: Global, text: &str) -> Result<ValidatorSchema, Fail> {
     let (mut types, mut actions) = (Vec::new(alloc), Vec::new(alloc));
     for item in text.split("; ") {
         if let Some(action) = item.strip_prefix("action ") {

@@ -43,3 +43,5 @@ mod shorthand;
 mod tried;
 #[cfg(test)]
 mod types;
+#[cfg(test)]
+mod written_back;
