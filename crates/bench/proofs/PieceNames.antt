@@ -3,13 +3,13 @@ use Rattle.std.proofs.Common.{◌≡◌, ◌⊎◌, Contains, codes, inl, inr, l
 use Rattle.cedar_below.specs.Text.{Text}
 use Rattle.bench.specs.Words.{schema_piece_names, type_piece_names}
 
--- a text that is one of the fourteen names is one of the list
+-- a text that is one of the fifteen names is one of the list
 pub type_piece_from_names : (text : Text) →
     (text ≡ codes "subtype-closed-strict") ⊎ ((text ≡ codes "subtype-closed-permissive")
     ⊎ ((text ≡ codes "subtype-open-strict") ⊎ ((text ≡ codes "subtype-open-permissive") ⊎ ((text ≡ codes "look-up")
     ⊎ ((text ≡ codes "membership") ⊎ ((text ≡ codes "print") ⊎ ((text ≡ codes "equality") ⊎ ((text ≡ codes "copy")
     ⊎ ((text ≡ codes "union-inclusion") ⊎ ((text ≡ codes "union-disjointness") ⊎ ((text ≡ codes "union-joins")
-    ⊎ ((text ≡ codes "join-strict") ⊎ (text ≡ codes "join-permissive")))))))))))))
+    ⊎ ((text ≡ codes "join-strict") ⊎ ((text ≡ codes "join-permissive") ⊎ (text ≡ codes "separation"))))))))))))))
     → Contains type_piece_names text
 type_piece_from_names text (inl e) = (0, lit< tt, sym e)
 type_piece_from_names text (inr (inl e)) = (1, lit< tt, sym e)
@@ -24,13 +24,14 @@ type_piece_from_names text (inr (inr (inr (inr (inr (inr (inr (inr (inr (inl e))
 type_piece_from_names text (inr (inr (inr (inr (inr (inr (inr (inr (inr (inr (inl e))))))))))) = (10, lit< tt, sym e)
 type_piece_from_names text (inr (inr (inr (inr (inr (inr (inr (inr (inr (inr (inr (inl e)))))))))))) = (11, lit< tt, sym e)
 type_piece_from_names text (inr (inr (inr (inr (inr (inr (inr (inr (inr (inr (inr (inr (inl e))))))))))))) = (12, lit< tt, sym e)
-type_piece_from_names text (inr (inr (inr (inr (inr (inr (inr (inr (inr (inr (inr (inr (inr e))))))))))))) = (13, lit< tt, sym e)
+type_piece_from_names text (inr (inr (inr (inr (inr (inr (inr (inr (inr (inr (inr (inr (inr (inl e)))))))))))))) = (13, lit< tt, sym e)
+type_piece_from_names text (inr (inr (inr (inr (inr (inr (inr (inr (inr (inr (inr (inr (inr (inr e)))))))))))))) = (14, lit< tt, sym e)
 
--- a text that is one of the ten names is one of the list
+-- a text that is one of the eleven names is one of the list
 pub schema_piece_from_names : (text : Text) →
     (text ≡ codes "build-whole") ⊎ ((text ≡ codes "build-split") ⊎ ((text ≡ codes "build-common-chain")
     ⊎ ((text ≡ codes "close-chain") ⊎ ((text ≡ codes "close-ring") ⊎ ((text ≡ codes "close-star") ⊎ ((text ≡ codes "close-trees")
-    ⊎ ((text ≡ codes "environments") ⊎ ((text ≡ codes "known-attributes") ⊎ (text ≡ codes "validate")))))))))
+    ⊎ ((text ≡ codes "environments") ⊎ ((text ≡ codes "known-attributes") ⊎ ((text ≡ codes "validate") ⊎ (text ≡ codes "write-back"))))))))))
     → Contains schema_piece_names text
 schema_piece_from_names text (inl e) = (0, lit< tt, sym e)
 schema_piece_from_names text (inr (inl e)) = (1, lit< tt, sym e)
@@ -41,4 +42,5 @@ schema_piece_from_names text (inr (inr (inr (inr (inr (inl e)))))) = (5, lit< tt
 schema_piece_from_names text (inr (inr (inr (inr (inr (inr (inl e))))))) = (6, lit< tt, sym e)
 schema_piece_from_names text (inr (inr (inr (inr (inr (inr (inr (inl e)))))))) = (7, lit< tt, sym e)
 schema_piece_from_names text (inr (inr (inr (inr (inr (inr (inr (inr (inl e))))))))) = (8, lit< tt, sym e)
-schema_piece_from_names text (inr (inr (inr (inr (inr (inr (inr (inr (inr e))))))))) = (9, lit< tt, sym e)
+schema_piece_from_names text (inr (inr (inr (inr (inr (inr (inr (inr (inr (inl e)))))))))) = (9, lit< tt, sym e)
+schema_piece_from_names text (inr (inr (inr (inr (inr (inr (inr (inr (inr (inr e)))))))))) = (10, lit< tt, sym e)

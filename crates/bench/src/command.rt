@@ -25,6 +25,7 @@ fn type_piece_named(name: &str) -> Option<Piece>
         "union-joins" => Some(Piece::UnionJoins),
         "join-strict" => Some(Piece::JoinStrict),
         "join-permissive" => Some(Piece::JoinPermissive),
+        "separation" => Some(Piece::Separation),
         _ => None,
     }
 }
@@ -45,6 +46,7 @@ fn schema_piece_named(name: &str) -> Option<Piece>
         "environments" => Some(Piece::Environments),
         "known-attributes" => Some(Piece::KnownAttributes),
         "validate" => Some(Piece::Validate),
+        "write-back" => Some(Piece::WriteBack),
         _ => None,
     }
 }

@@ -31,6 +31,8 @@ pub(crate) enum Piece {
     JoinStrict,
     /// The permissive join of two records of as many attributes, half of which both have.
     JoinPermissive,
+    /// A value of a record of as many attributes that another record hasn't.
+    Separation,
     /// As many entity types and actions, built from one fragment.
     BuildWhole,
     /// As many entity types and actions, built from as many fragments.
@@ -51,10 +53,12 @@ pub(crate) enum Piece {
     KnownAttributes,
     /// A schema of as many entity types and actions that was put together by hand, validated.
     Validate,
+    /// A schema of as many entity types and actions, written back as a fragment.
+    WriteBack,
 }
 
 /// All pieces, in the order in which they are measured.
-pub(crate) const PIECES: [Piece; 24] = [
+pub(crate) const PIECES: [Piece; 26] = [
     Piece::SubtypeClosedStrict,
     Piece::SubtypeClosedPermissive,
     Piece::SubtypeOpenStrict,
@@ -69,6 +73,7 @@ pub(crate) const PIECES: [Piece; 24] = [
     Piece::UnionJoins,
     Piece::JoinStrict,
     Piece::JoinPermissive,
+    Piece::Separation,
     Piece::BuildWhole,
     Piece::BuildSplit,
     Piece::BuildCommonChain,
@@ -79,6 +84,7 @@ pub(crate) const PIECES: [Piece; 24] = [
     Piece::Environments,
     Piece::KnownAttributes,
     Piece::Validate,
+    Piece::WriteBack,
 ];
 
 /// How large a piece of work is, and how often a run does it.
@@ -127,6 +133,7 @@ impl Piece {
             Piece::UnionJoins => "union-joins",
             Piece::JoinStrict => "join-strict",
             Piece::JoinPermissive => "join-permissive",
+            Piece::Separation => "separation",
             Piece::BuildWhole => "build-whole",
             Piece::BuildSplit => "build-split",
             Piece::BuildCommonChain => "build-common-chain",
@@ -137,6 +144,7 @@ impl Piece {
             Piece::Environments => "environments",
             Piece::KnownAttributes => "known-attributes",
             Piece::Validate => "validate",
+            Piece::WriteBack => "write-back",
         }
     }
 
@@ -153,18 +161,18 @@ impl Piece {
                 (100, 1_000_000),
                 (1000, 1_000_000),
             ]),
-            Piece::Membership | Piece::Print | Piece::JoinStrict | Piece::JoinPermissive => sizes([
-                (10, 10_000),
-                (100, 1000),
-                (1000, 100),
-            ]),
+            Piece::Membership
+            | Piece::Print
+            | Piece::JoinStrict
+            | Piece::JoinPermissive
+            | Piece::Separation => sizes([(10, 10_000), (100, 1000), (1000, 100)]),
             Piece::UnionInclusion | Piece::UnionDisjointness => sizes([
                 (10, 100_000),
                 (100, 10_000),
                 (1000, 1000),
             ]),
             Piece::UnionJoins => sizes([(30, 1000), (100, 100), (300, 10)]),
-            Piece::BuildWhole | Piece::BuildSplit | Piece::Validate => sizes([
+            Piece::BuildWhole | Piece::BuildSplit | Piece::Validate | Piece::WriteBack => sizes([
                 (100, 50),
                 (1000, 5),
                 (5000, 1),

@@ -9,7 +9,9 @@ use crate::graphs::{Graph, Shape, graph};
 use crate::names::numbered;
 use crate::piece::Piece;
 use crate::stop::Stop;
-use crate::types::{attributes, closed_record, entities, record, record_value, union};
+use crate::types::{
+    attributes, closed_record, entities, record, record_value, record_with_text, union,
+};
 use cedar_schema::below::{Extensions, ValidationMode, Value};
 use cedar_schema::json_schema::{Fragment, RawName};
 use cedar_schema::{Attributes, OpenTag, Type, ValidatorSchema};
@@ -37,8 +39,12 @@ pub(crate) enum Lent {
     Joins(Vec<Type>),
     /// The join of two types.
     Join(Type, Type, ValidationMode),
+    /// A value that the first type has and the second hasn't.
+    Separation(Type, Type, Extensions),
     /// The environments of requests of a schema.
     Environments(ValidatorSchema),
+    /// A schema written back as a fragment.
+    WrittenBack(ValidatorSchema),
     /// What a schema knows of the attributes of a type.
     KnownAttributes(ValidatorSchema, Type),
 }
@@ -147,11 +153,25 @@ fn join(alloc: Global, count: usize, from: usize, mode: ValidationMode) -> Resul
     on_lent(Lent::Join(one, other, mode))
 }
 
+/// A value of one record that isn't one of another, whose last attributes are unlike.
+fn separation(alloc: Global, count: usize) -> Result<Prepared, Stop> {
+    let one = closed_record(alloc, 0..count)?;
+    let other = record_with_text(alloc, count)?;
+    on_lent(Lent::Separation(one, other, no_extensions(alloc)))
+}
+
 /// The environments of an action that applies to each pair of as many entity types.
 fn environments(alloc: Global, count: usize) -> Result<Prepared, Stop> {
     let fragments = applying_to_all(alloc, count)?;
     let schema = ValidatorSchema::from_raw_fragments(alloc, fragments, &no_extensions(alloc))?;
     on_lent(Lent::Environments(schema))
+}
+
+/// A schema of as many entity types and actions, to be written back.
+fn written_back(alloc: Global, count: usize) -> Result<Prepared, Stop> {
+    let fragments = whole(alloc, count)?;
+    let schema = ValidatorSchema::from_raw_fragments(alloc, fragments, &no_extensions(alloc))?;
+    on_lent(Lent::WrittenBack(schema))
 }
 
 /// A union of as many entity types, each of which has one attribute more than the one before it.
@@ -197,6 +217,7 @@ pub(crate) fn prepare(alloc: Global, piece: Piece, count: usize) -> Result<Prepa
         Piece::UnionJoins => joins(alloc, count),
         Piece::JoinStrict => join(alloc, count, 0, strict),
         Piece::JoinPermissive => join(alloc, count, count / 2, permissive),
+        Piece::Separation => separation(alloc, count),
         Piece::BuildWhole => build(whole(alloc, count)?),
         Piece::BuildSplit => build(split(alloc, count)?),
         Piece::BuildCommonChain => build(chain(alloc, count)?),
@@ -207,5 +228,6 @@ pub(crate) fn prepare(alloc: Global, piece: Piece, count: usize) -> Result<Prepa
         Piece::Environments => environments(alloc, count),
         Piece::KnownAttributes => known_attributes(alloc, count),
         Piece::Validate => validate(alloc, count),
+        Piece::WriteBack => written_back(alloc, count),
     }
 }

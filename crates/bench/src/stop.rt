@@ -1,7 +1,7 @@
 //! Why a measurement stops.
 
 use cedar_schema::below::{EntityType, Memory};
-use cedar_schema::{JoinError, SchemaError, TcError};
+use cedar_schema::{JoinError, SchemaError, TcError, WriteBackFault};
 use std::alloc::{AllocError, AllocFailed};
 use std::io;
 
@@ -48,6 +48,15 @@ impl From<SchemaError> for Stop {
         match refused {
             SchemaError::Memory(_) => Stop::Memory,
             _ => Stop::Refused,
+        }
+    }
+}
+
+impl From<WriteBackFault> for Stop {
+    fn from(refused: WriteBackFault) -> Self {
+        match refused {
+            WriteBackFault::Memory => Stop::Memory,
+            WriteBackFault::Unwritable => Stop::Refused,
         }
     }
 }

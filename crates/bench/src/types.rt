@@ -59,6 +59,18 @@ pub(crate) fn closed_record(alloc: Global, numbers: Range<usize>) -> Result<Type
     )
 }
 
+/// A closed record of as many attributes: of whole numbers, but for the last, which is of texts.
+pub(crate) fn record_with_text(alloc: Global, count: usize) -> Result<Type, Stop> {
+    let last = count.saturating_sub(1);
+    let mut attributes = attributes_of(alloc, 0..last, Type::primitive_long())?;
+    let text = Rc::new(alloc, Type::primitive_string())?;
+    attributes.push((
+        numbered(alloc, "attribute", last)?,
+        AttributeType::required_attribute(text),
+    ))?;
+    Ok(Type::record_with_attributes(alloc, attributes, OpenTag::ClosedAttributes)?)
+}
+
 /// A record of whole numbers, with a value for each attribute.
 pub(crate) fn record_value(alloc: Global, numbers: Range<usize>) -> Result<Value, Stop> {
     let mut values = BTreeMap::new(alloc);

@@ -3,8 +3,10 @@
 use crate::graphs::Graph;
 use crate::prepared::{Given, Lent, no_extensions};
 use crate::stop::Stop;
-use cedar_schema::below::ValidationMode;
+use cedar_schema::below::{Extensions, ValidationMode};
+use cedar_schema::json_schema::{Fragment, RawName};
 use cedar_schema::lookup::SchemaLookup;
+use cedar_schema::member::separating_value;
 use cedar_schema::{EntityLUB, Type, ValidatorSchema, compute_tc};
 use std::alloc::Global;
 
@@ -50,9 +52,34 @@ fn environments(schema: &ValidatorSchema) -> usize {
     count
 }
 
+/// 1 or 0 for whether some value has the one type and not the other, which have to be stated.
+fn separated(
+    alloc: Global,
+    one: &Type,
+    other: &Type,
+    extensions: &Extensions,
+) -> Result<usize, Stop> {
+    let samples = Vec::new(alloc);
+    if !(one.is_stated(extensions, &samples) && other.is_stated(extensions, &samples)) {
+        return Err(Stop::Refused);
+    }
+    let found = separating_value(alloc, one, other, extensions, &samples)?;
+    Ok(usize::from(found.is_some()))
+}
+
+/// How many declarations of entity types and actions a fragment has.
+fn declarations(fragment: &Fragment<RawName>) -> usize {
+    let mut count = 0usize;
+    for definition in fragment.0.values() {
+        count = count.saturating_add(definition.entity_types.len());
+        count = count.saturating_add(definition.actions.len());
+    }
+    count
+}
+
 impl Lent {
     /// Does the work once, and answers what it computed: 1 or 0 for yes or no, the length of a text, or how
-    /// many names were compared, attributes or members are listed, or environments there are.
+    /// many names were compared, attributes or members are listed, or environments or declarations there are.
     pub(crate) fn work(&self, alloc: Global) -> Result<usize, Stop> {
         match self {
             Lent::Subtype(lower, upper, mode) => Ok(usize::from(Type::is_subtype(
@@ -75,6 +102,8 @@ impl Lent {
             Lent::Join(one, other, mode) => Ok(listed(&Type::least_upper_bound(
                 alloc, one, other, *mode,
             )?)),
+            Lent::Separation(one, other, extensions) => separated(alloc, one, other, extensions),
+            Lent::WrittenBack(schema) => Ok(declarations(&schema.to_json_schema(alloc)?)),
             Lent::Environments(schema) => Ok(environments(schema)),
             Lent::KnownAttributes(schema, ty) => Ok(
                 ty.all_attributes(alloc, schema)?.keys().count(),

@@ -15,6 +15,7 @@ pub use cedar_queries::{
     ActionGroups, ActionsFor, Ancestors, ApplicableTypes, CompleteError, IncompleteSchemaError,
     RequestEnvs, UnresolvedDeclaration, UnresolvedDeclarations,
 };
+pub use cedar_separated as member;
 pub use cedar_types::{
     AttributeType, Attributes, BoolType, CoreTypeFault, EntityKind, EntityLUB, Entries, JoinError,
     JoinOrder, LubHelp, Names, OpenTag, Type, core_type_of, reduce,
