@@ -28,5 +28,6 @@ pub mod SchemaLaws
 pub mod SettledLaws
 pub mod SureBags
 pub mod TypeDecisions
+mod TypesWrittenBack
 pub mod ValidLaws
 pub mod WrittenTypes
