@@ -9,10 +9,10 @@ use Rattle.cedar_below.specs.PlainName.{PlainName, IsActionType}
 use Rattle.cedar_below.specs.PlainUid.{PlainUid}
 use Rattle.cedar_below.specs.Text.{Text}
 use Rattle.cedar_declared.proofs.OccurrenceLemmas.{Contains-image}
+use Rattle.cedar_declared.proofs.ResolutionLemmas.{IsFirst-like}
 use Rattle.cedar_declared.proofs.TurnLemmas.{turn_back, turn_forth, turn_weaker}
 use Rattle.cedar_declared.specs.Bag.{Bag}
 use Rattle.cedar_declared.specs.Names.{IsDefined, Names}
-use Rattle.cedar_declared.specs.Occurrences.{IsFirst}
 use Rattle.cedar_declared.specs.PlainSchema.{ActionEntity, PlainSchema, SchemaAction, SchemaEntityType}
 use Rattle.cedar_declared.specs.WrittenBack.{IsActionDeclaration, IsPathOf, IsTypeDeclaration, IsWritable, IsWrittenBack, NamesNoOther, full_name, schema_names}
 use Rattle.cedar_names.specs.ActionBody.{ActionBody}
@@ -26,24 +26,13 @@ use Rattle.cedar_written_back.specs.Parts.{known_names, known_schema, parts_sche
 use Rattle.cedar_written_back.specs.Sound.{IsSoundActionEntry, IsSoundEntityType}
 use Rattle.cedar_written_back.specs.declared.known.Known.{Known}
 
--- where a fact is the same as another, so is the first of which it holds
-first_same : {A : Type 0} (P Q : A → Type 0) → ((x : A) → P x ↔ Q x) → (xs : List A) (x : A) → IsFirst P xs x → IsFirst Q xs x
-first_same P Q same [] x is = is
-first_same P Q same (first ∷ rest) x is =
-    ⊎_elim
-    (λ here. inl (here.0, (same first).0 here.1))
-    (λ later. inr (λ holds. later.0 ((same first).1 holds), first_same P Q same rest x later.1))
-    is
-
 -- where the same entity types are known, a name names no other both times
 no_other-same : (names other : Names) → ((name : PlainName) → Contains names.entities name ↔ Contains other.entities name)
     → (namespace : Option PlainName) (name : PlainName) → NamesNoOther names namespace name → NamesNoOther other namespace name
 no_other-same names other same namespace name no_other it resolves =
-    no_other it (first_same (IsDefined other Entity) (IsDefined names Entity)
-    (λ each. (
-      ⊎_elim (λ common. absurd common.0) (λ of. inr (tt, (same each).1 of.1)),
-      ⊎_elim (λ common. absurd common.0) (λ of. inr (tt, (same each).0 of.1)),
-    ))
+    no_other it (IsFirst-like (IsDefined other Entity) (IsDefined names Entity)
+    (λ each. ⊎_elim (λ common. absurd common.0) (λ of. inr (tt, (same each).1 of.1)))
+    (λ each. ⊎_elim (λ common. absurd common.0) (λ of. inr (tt, (same each).0 of.1)))
     (full_name namespace name).possibilities it resolves)
 
 -- each path is that of names in some namespace
