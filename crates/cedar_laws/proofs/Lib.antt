@@ -16,6 +16,7 @@ pub mod MentionLemmas
 pub mod MereLemmas
 pub mod MovedBags
 pub mod MovedLemmas
+mod NamesWrittenBack
 pub mod OrderLaws
 pub mod PlacedLemmas
 pub mod ReferenceDecisions

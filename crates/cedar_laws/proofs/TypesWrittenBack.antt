@@ -1,10 +1,9 @@
 -- Types that are written in a namespace are written out again.
-use Rattle.std.proofs.Common.{◌≡◌, Bool, false, List, [], ◌∷◌, Option, Some, None, ap, subst, sym, refl, inl, inr, arith, Contains}
+use Rattle.std.proofs.Common.{◌≡◌, false, List, [], ◌∷◌, Option, Some, None, ap, subst, refl, inl, inr, arith}
 use Rattle.std.specs.Option.{option_map, option_zip}
 use Rattle.cedar_below.specs.PlainName.{PlainName}
 use Rattle.cedar_below.specs.Text.{Text}
-use Rattle.cedar_declared.specs.Defined.{Defined, names_of}
-use Rattle.cedar_declared.specs.Names.{ResolvesTo}
+use Rattle.cedar_declared.specs.Defined.{Defined}
 use Rattle.cedar_declared.specs.TypeMentions.{FieldsMentionEntity, MentionsEntity}
 use Rattle.cedar_declared.specs.WrittenBack.{extension_written, fields_written, full_name, type_written}
 use Rattle.cedar_declared.specs.WrittenOut.{WrittenOut, MembersWrittenOut, as_text, as_long, as_truth, as_set, as_record, as_entity, as_extension, as_no_member, as_member}

@@ -29,7 +29,7 @@ use Rattle.cedar_declared.specs.EntityTypeKind.{standard_kind}
 use Rattle.cedar_declared.specs.Defined.{Defined, names_of}
 use Rattle.cedar_declared.specs.Names.{ResolvesTo}
 use Rattle.cedar_declared.specs.TypeMentions.{MentionsEntity}
-use Rattle.cedar_declared.specs.WrittenBack.{full_name, type_written}
+use Rattle.cedar_declared.specs.WrittenBack.{IsNameWrittenIn, IsWritable, IsWrittenBack, full_name, schema_names, type_written}
 use Rattle.cedar_declared.specs.WrittenOut.{WrittenOut}
 use Rattle.cedar_rules.specs.Clean.{IsClean}
 use Rattle.cedar_rules.specs.Has.{Has}
@@ -155,3 +155,10 @@ abbrev pub WrittenTypesAreWrittenOut : Type 0
 WrittenTypesAreWrittenOut = (defined : Defined) (namespace : Option PlainName) (ty : Ty) (expr : Expr)
     → type_written namespace ty ≡ Some expr
     → ((name : PlainName) → MentionsEntity ty name → IsNamedAgain defined namespace name) → WrittenOut defined expr ty
+
+-- a law: in the bag of a schema that is writable and written back, each name of an entity type that is written names it again,
+-- where the schema has it, as an entity type or as the type of an action
+abbrev pub WrittenNamesAreNamedAgain : Type 0
+WrittenNamesAreNamedAgain = (schema : PlainSchema) (bag : Bag) (extensions : Extensions) → IsWritable schema → IsWrittenBack schema bag
+    → (namespace : Option PlainName) (name : PlainName) → IsNameWrittenIn schema namespace name
+    → Contains (schema_names schema).entities name → IsNamedAgain (definitions bag extensions) namespace name
