@@ -1,6 +1,6 @@
 -- The types of declared schemas are clean: what an expression is written out as has no any-set.
-use Rattle.std.proofs.Common.{◌≡◌, Contains, Option, None, Some, inl, inr, ap, refl, sym, subst}
-use Rattle.cedar_declared.specs.DeclaredSchema.{AreDeclaredTags, IsDeclaredActionKind, IsDeclaredKind, IsDeclaredSchema}
+use Rattle.std.proofs.Common.{◌≡◌, Option, None, Some, inl, inr, sym, subst}
+use Rattle.cedar_declared.specs.DeclaredSchema.{AreDeclaredTags, IsDeclaredActionKind, IsDeclaredKind}
 use Rattle.cedar_declared.specs.Defined.{Defined}
 use Rattle.cedar_declared.specs.EntityTypeKind.{EntityTypeKind, standard_kind, enumerated_kind, external_kind}
 use Rattle.cedar_declared.specs.PlainSchema.{ActionKind, defined_action, external_action}
@@ -11,7 +11,7 @@ use Rattle.cedar_names.specs.ActionBody.{Requests, requests, elsewhere}
 use Rattle.cedar_names.specs.EntityBody.{EntityBody, standard, enumerated, external}
 use Rattle.cedar_names.specs.Expr.{Expr, Members}
 use Rattle.cedar_rules.specs.Clean.{AreClean, IsClean}
-use Rattle.cedar_rules.specs.Ty.{Ty, Fields, record_of}
+use Rattle.cedar_rules.specs.Ty.{Ty, Fields}
 
 mutual
   -- a type that is written out is clean

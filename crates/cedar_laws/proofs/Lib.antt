@@ -16,6 +16,7 @@ pub mod MentionLemmas
 pub mod MereLemmas
 pub mod MovedBags
 pub mod MovedLemmas
+mod NamesWrittenBack
 pub mod OrderLaws
 pub mod PlacedLemmas
 pub mod ReferenceDecisions
@@ -28,5 +29,6 @@ pub mod SchemaLaws
 pub mod SettledLaws
 pub mod SureBags
 pub mod TypeDecisions
+mod TypesWrittenBack
 pub mod ValidLaws
 pub mod WrittenTypes

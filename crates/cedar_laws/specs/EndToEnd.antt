@@ -26,6 +26,11 @@ use Rattle.cedar_declared.specs.Settled.{SettlesBag}
 use Rattle.cedar_declared.specs.ValidSchema.{IsTypeIn, IsValidSchema}
 use Rattle.cedar_declared.specs.Descent.{IsDescendantAction}
 use Rattle.cedar_declared.specs.EntityTypeKind.{standard_kind}
+use Rattle.cedar_declared.specs.Defined.{Defined, names_of}
+use Rattle.cedar_declared.specs.Names.{ResolvesTo}
+use Rattle.cedar_declared.specs.TypeMentions.{MentionsEntity}
+use Rattle.cedar_declared.specs.WrittenBack.{IsNameWrittenIn, IsWritable, IsWrittenBack, full_name, schema_names, type_written}
+use Rattle.cedar_declared.specs.WrittenOut.{WrittenOut}
 use Rattle.cedar_rules.specs.Clean.{IsClean}
 use Rattle.cedar_rules.specs.Has.{Has}
 use Rattle.cedar_rules.specs.Ty.{Ty, Fields, record_of}
@@ -137,3 +142,23 @@ abbrev pub EnvironmentsAreDeclared : Type 0
 EnvironmentsAreDeclared = (bag : Bag) (extensions : Extensions) → TypeNamesFit (extension_types extensions)
     → ¬ IsIllFormed bag extensions → (schema : PlainSchema) → IsDeclaredSchema bag extensions schema
     → AreDeclaredEnvironments bag extensions schema
+
+-- the name of an entity type that is written in full in the namespace names it again: it resolves to itself, and the entity
+-- type is defined
+pub record IsNamedAgain (defined : Defined) (namespace : Option PlainName) (name : PlainName) : Type 0 where
+  pub resolves : ResolvesTo (names_of defined) (full_name namespace name) name
+  pub there : Contains (names_of defined).entities name
+
+-- a law: a type that is written in a namespace is what is written out of the expression, over whatever is defined, where each
+-- name in it names its entity type again
+abbrev pub WrittenTypesAreWrittenOut : Type 0
+WrittenTypesAreWrittenOut = (defined : Defined) (namespace : Option PlainName) (ty : Ty) (expr : Expr)
+    → type_written namespace ty ≡ Some expr
+    → ((name : PlainName) → MentionsEntity ty name → IsNamedAgain defined namespace name) → WrittenOut defined expr ty
+
+-- a law: in the bag of a schema that is writable and written back, each name of an entity type that is written names it again,
+-- where the schema has it, as an entity type or as the type of an action
+abbrev pub WrittenNamesAreNamedAgain : Type 0
+WrittenNamesAreNamedAgain = (schema : PlainSchema) (bag : Bag) (extensions : Extensions) → IsWritable schema → IsWrittenBack schema bag
+    → (namespace : Option PlainName) (name : PlainName) → IsNameWrittenIn schema namespace name
+    → Contains (schema_names schema).entities name → IsNamedAgain (definitions bag extensions) namespace name

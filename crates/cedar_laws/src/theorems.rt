@@ -10,7 +10,7 @@ ghost use Rattle.cedar_names.specs.declared.json_schema.fragment.Fragment.{Fragm
 ghost use Rattle.cedar_names.specs.declared.json_schema.raw_name.RawName.{RawName};
 ghost use Rattle.cedar_declared.specs.Bag.{Bag, definitions};
 ghost use Rattle.cedar_declared.specs.Counted.{PlacesFit};
-ghost use Rattle.cedar_laws.specs.EndToEnd.{ActionEntitiesAreDeclared, AdmitsTheSame, BagsDeclareASchema, BagsDeclareAtMostOneSchema, DeclaredSchemasAreClosed, DeclaredSchemasAreValid, DeclaredTypesAreClean, DeclaredTypesHaveTheDeclaredValues, EnvironmentsAreDeclared, OrderIsNothing, SameBagsDeclareTheSame, SettlingChangesNothing};
+ghost use Rattle.cedar_laws.specs.EndToEnd.{ActionEntitiesAreDeclared, AdmitsTheSame, BagsDeclareASchema, BagsDeclareAtMostOneSchema, DeclaredSchemasAreClosed, DeclaredSchemasAreValid, DeclaredTypesAreClean, DeclaredTypesHaveTheDeclaredValues, EnvironmentsAreDeclared, OrderIsNothing, SameBagsDeclareTheSame, SettlingChangesNothing, WrittenNamesAreNamedAgain, WrittenTypesAreWrittenOut};
 ghost use Rattle.cedar_declared.specs.IllFormed.{IsIllFormed};
 ghost use Rattle.cedar_declared.specs.WrittenOut.{WrittenOut};
 ghost use Rattle.cedar_rules.specs.Ty.{Ty};
@@ -92,4 +92,16 @@ pub fn environments_are_declared()
 /// has the same faults as before, and declares the same schemas.
 pub fn settling_changes_nothing()
     ensures { SettlingChangesNothing }
+{}
+
+/// A type that is written in a namespace, with each name in full, is what the expression is written out
+/// as, over whatever is defined, where each name in it names its entity type again.
+pub fn written_types_are_written_out()
+    ensures { WrittenTypesAreWrittenOut }
+{}
+
+/// In the bag of a schema that is written back each name of an entity type that is written resolves to
+/// itself, where the schema has it, as an entity type or as the type of an action.
+pub fn written_names_are_named_again()
+    ensures { WrittenNamesAreNamedAgain }
 {}

@@ -38,7 +38,8 @@ pub moved_before : {A : Type 0} (xs ys zs : List A) → IsPermutation (xs ++ (ys
 moved_before {A} xs ys zs =
     let P : List A → Type 0 = λ items. IsPermutation items (ys ++ (xs ++ zs)) in
     let Q : List A → Type 0 = IsPermutation ((xs ++ ys) ++ zs) in
-    subst P (append_assoc xs ys zs) (subst Q (append_assoc ys xs zs) (IsPermutation-append_left zs (xs ++ ys) (ys ++ xs) (IsPermutation-append_comm xs ys)))
+    subst P (append_assoc xs ys zs) (subst Q (append_assoc ys xs zs) (IsPermutation-append_left zs (xs ++ ys) (ys ++ xs)
+    (IsPermutation-append_comm xs ys)))
 
 module _ {K X : Type 0} where
   -- what is found stands under a key that passes
@@ -63,7 +64,8 @@ module _ {K X : Type 0} where
     given_removed test [] v found = cc
     given_removed test (e ∷ es) v found = by (test e.0) refl found (given_removed test es v) where
       by : (b : Bool) → test e.0 ≡ b → cond b (Some e.1) (lookup test es) ≡ Some v
-          → (lookup test es ≡ Some v → (k : K) × (test k ≡ true) × IsPermutation (f (k, v) ++ flat_map f (remove_entry test es)) (flat_map f es))
+          → (lookup test es ≡ Some v → (k : K) × (test k ≡ true) × IsPermutation (f (k, v) ++ flat_map f (remove_entry test es))
+          (flat_map f es))
           → (k : K) × (test k ≡ true) × IsPermutation (f (k, v) ++ flat_map f (cond b es (e ∷ remove_entry test es))) (f e ++ flat_map f es)
       by true is first others =
           let value : e.1 ≡ v = cc in
@@ -82,7 +84,8 @@ module _ {K X : Type 0} where
         → IsPermutation (f (k, v) ++ flat_map f es) (flat_map f (insert_entry cmp es k v))
     given_inserted cmp [] k v absent = IsPermutation-refl (f (k, v) ++ [])
     given_inserted cmp (e ∷ es) k v absent = by (cmp k e.0) (given_inserted cmp es k v) absent where
-      by : (r : Ordering) → (lookup (is_at (cmp k)) es ≡ None → IsPermutation (f (k, v) ++ flat_map f es) (flat_map f (insert_entry cmp es k v)))
+      by : (r : Ordering) → (lookup (is_at (cmp k)) es ≡ None → IsPermutation (f (k, v) ++ flat_map f es) (flat_map f
+          (insert_entry cmp es k v)))
           → cond (is_eq r) (Some e.1) (lookup (is_at (cmp k)) es) ≡ None
           → IsPermutation (f (k, v) ++ (f e ++ flat_map f es))
           (flat_map f (match_ordering r ((k, v) ∷ e ∷ es) ((e.0, v) ∷ es) (e ∷ insert_entry cmp es k v)))
@@ -103,7 +106,8 @@ module _ {K X : Type 0} where
         All-cons P e.1 (map (λ (it : K × X). it.1) (remove_entry test es)) (All-head P e.1 (map (λ (it : K × X). it.1) es) all) others
 
   -- it holds of what is found
-  pub value_found : (P : X → Type 0) (test : K → Bool) (es : List (K × X)) (v : X) → lookup test es ≡ Some v → All P (map (λ e. e.1) es) → P v
+  pub value_found : (P : X → Type 0) (test : K → Bool) (es : List (K × X)) (v : X) → lookup test es ≡ Some v → All P (map
+      (λ e. e.1) es) → P v
   value_found P test [] v found all = cc
   value_found P test (e ∷ es) v found all =
       by (test e.0) found (λ later. value_found P test es v later (All-tail P e.1 (map (λ (it : K × X). it.1) es) all))
@@ -117,7 +121,8 @@ pub one_more : {A : Type 0} (front : List A) (item : A) (middle more back : List
     → IsPermutation (item ∷ ((front ++ middle) ++ back)) ((front ++ more) ++ back)
 one_more front item middle more back grown =
     IsPermutation-append_left back (item ∷ (front ++ middle)) (front ++ more)
-    (IsPermutation-trans _ _ _ (IsPermutation-sym _ _ (IsPermutation-middle front item middle)) (IsPermutation-append_right front _ _ grown))
+    (IsPermutation-trans _ _ _ (IsPermutation-sym _ _ (IsPermutation-middle front item middle))
+    (IsPermutation-append_right front _ _ grown))
 
 -- the same at the end
 pub one_more_end : {A : Type 0} (front : List A) (item : A) (middle more : List A) → IsPermutation (item ∷ middle) more
@@ -169,7 +174,8 @@ module _ (old taken new : Definitions) (namespace : Option Name) (definition cha
   -- it has one declaration more
   pub put_again : lookup (is_at (option_cmp ((name_ord.ghosts).cmp) namespace)) taken ≡ None
       → new ≡ insert_entry (option_cmp ((name_ord.ghosts).cmp)) taken namespace changed
-      → IsPermutation (item ∷ raw_declarations (plain_namespace namespace) definition) (raw_declarations (plain_namespace namespace) changed)
+      → IsPermutation (item ∷ raw_declarations (plain_namespace namespace) definition) (raw_declarations
+      (plain_namespace namespace) changed)
       → IsPermutation (definitions_bag old ++ item ∷ []) (definitions_bag new)
   put_again absent is grown =
       let show : Option Name × NamespaceDefinition RawName → List Declaration =
@@ -184,7 +190,8 @@ module _ (old taken new : Definitions) (namespace : Option Name) (definition cha
       (given_inserted show (option_cmp ((name_ord.ghosts).cmp)) taken namespace changed absent))))
 
   -- what the definition declares was declared before
-  pub was_declared : (it : Declaration) → Contains (raw_declarations (plain_namespace namespace) definition) it → Contains (definitions_bag old) it
+  pub was_declared : (it : Declaration) → Contains (raw_declarations (plain_namespace namespace) definition) it → Contains
+      (definitions_bag old) it
   was_declared it among =
       Contains-permutation _ _ it was
       (Contains-append_left (raw_declarations (plain_namespace namespace) definition) (definitions_bag taken) it among)

@@ -77,7 +77,8 @@ module _ (namespace : Option PlainName) (P Q : PlainName → Type 0) (same : (na
 module _ (names : Names) (namespace : Option PlainName) (IsAbove : PlainName → Type 0) where
   -- a standard entity type can be written exactly if its attributes and its tags can
   pub sound_standard : (fields : Fields) (openness : OpenTag) (tags : Option Ty) → IsSoundType names namespace (record_of fields openness)
-      → ((ty : Ty) → tags ≡ Some ty → IsSoundType names namespace ty) → IsSoundKind names namespace IsAbove (standard_kind fields openness tags)
+      → ((ty : Ty) → tags ≡ Some ty → IsSoundType names namespace ty) → IsSoundKind names namespace IsAbove
+      (standard_kind fields openness tags)
   sound_standard fields openness tags attributes tag_type =
       let P : Ty → Type 0 = IsSoundType names namespace in
       record {
@@ -99,7 +100,8 @@ pub type_edges-listed : (schema : PlainSchema) (lower upper : PlainName)
     → Contains (type_edges schema.entity_types) (lower, upper) ↔ ListsDescendant schema lower upper
 type_edges-listed schema lower upper = (
   λ among.
-      let found = Contains-flat_map (λ (it : PlainName × SchemaEntityType). edges_to it.0 it.1.descendants) schema.entity_types (lower, upper) among in
+      let found = Contains-flat_map (λ (it : PlainName × SchemaEntityType). edges_to it.0 it.1.descendants) schema.entity_types
+      (lower, upper) among in
       let one = Contains-preimage (λ (low : PlainName). (low, found.0.0)) found.0.1.descendants (lower, upper) found.2 in
       let P : PlainName → Type 0 = λ key. Contains schema.entity_types (key, found.0.1) in
       let Q : PlainName → Type 0 = Contains found.0.1.descendants in (
@@ -108,7 +110,8 @@ type_edges-listed schema lower upper = (
         subst Q (ap (λ (edge : PlainName × PlainName). edge.0) one.2) one.1,
       ),
   λ of.
-      Contains-given (λ (it : PlainName × SchemaEntityType). edges_to it.0 it.1.descendants) schema.entity_types (upper, of.0) (lower, upper) of.1
+      Contains-given (λ (it : PlainName × SchemaEntityType). edges_to it.0 it.1.descendants) schema.entity_types (upper, of.0)
+      (lower, upper) of.1
       (Contains-image (λ (low : PlainName). (low, upper)) of.0.descendants lower of.2),
 )
 
@@ -117,7 +120,8 @@ pub action_edges-listed : (schema : PlainSchema) (lower upper : PlainUid)
     → Contains (action_edges schema.actions) (lower, upper) ↔ ListsDescendantAction schema lower upper
 action_edges-listed schema lower upper = (
   λ among.
-      let found = Contains-flat_map (λ (it : PlainUid × SchemaAction). edges_to it.0 it.1.descendants) schema.actions (lower, upper) among in
+      let found = Contains-flat_map (λ (it : PlainUid × SchemaAction). edges_to it.0 it.1.descendants) schema.actions
+      (lower, upper) among in
       let one = Contains-preimage (λ (low : PlainUid). (low, found.0.0)) found.0.1.descendants (lower, upper) found.2 in
       let P : PlainUid → Type 0 = λ key. Contains schema.actions (key, found.0.1) in
       let Q : PlainUid → Type 0 = Contains found.0.1.descendants in (
@@ -154,7 +158,8 @@ written_parents namespace [] = refl
 written_parents namespace (first ∷ rest) = λ i. parent-same namespace first i ∷ written_parents namespace rest i
 
 -- a kind that is standard is made of its parts
-pub standard-parts : (kind : EntityTypeKind) (fields : Fields) (openness : OpenTag) (tags : Option Ty) → kind ≡ standard_kind fields openness tags
+pub standard-parts : (kind : EntityTypeKind) (fields : Fields) (openness : OpenTag) (tags : Option Ty)
+    → kind ≡ standard_kind fields openness tags
     → standard_kind (kind_fields kind) (kind_openness kind) (kind_tags kind) ≡ kind
 standard-parts kind fields openness tags is = ap (λ it. standard_kind (kind_fields it) (kind_openness it) (kind_tags it)) is ∙ sym is
 
@@ -165,7 +170,8 @@ shows_none f (x ∷ xs) none = absurd (none (f x) (Contains-cons (f x) (map f xs
 
 -- an enumerated kind that can be written has no parents
 pub enumerated_alone : (names : Names) (namespace : Option PlainName) (IsAbove : PlainName → Type 0) (kind : EntityTypeKind)
-    (choices : List Text) → kind ≡ enumerated_kind choices → IsSoundKind names namespace IsAbove kind → (upper : PlainName) → ¬ IsAbove upper
+    (choices : List Text) → kind ≡ enumerated_kind choices → IsSoundKind names namespace IsAbove kind → (upper : PlainName)
+    → ¬ IsAbove upper
 enumerated_alone names namespace IsAbove kind choices is sound =
     let P : EntityTypeKind → Type 0 = IsSoundKind names namespace IsAbove in (subst P is sound).without_parents tt
 
@@ -178,8 +184,10 @@ module _ (namespace : Option PlainName) where
       (requests (map (raw_reference namespace Entity) principals) (map (raw_reference namespace Entity) resources) expr)
   defined_written (defined_action principal_types resource_types ty) principals resources context expr is these those written =
       let same : ty ≡ context = cc in
-      let P : List PlainName → Type 0 = λ names. AreFullNames namespace (λ name. Contains names name) (map (raw_reference namespace Entity) principals) in
-      let Q : List PlainName → Type 0 = λ names. AreFullNames namespace (λ name. Contains names name) (map (raw_reference namespace Entity) resources) in (
+      let P : List PlainName → Type 0 = λ names. AreFullNames namespace (λ name. Contains names name) (map
+      (raw_reference namespace Entity) principals) in
+      let Q : List PlainName → Type 0 = λ names. AreFullNames namespace (λ name. Contains names name) (map
+      (raw_reference namespace Entity) resources) in (
         subst P these (written_names namespace principals),
         subst Q those (written_names namespace resources),
         ap (type_written namespace) same ∙ written,
@@ -192,7 +200,8 @@ module _ (namespace : Option PlainName) where
   external_written external_action is = tt
 
   -- an action can be written where its context can, and its principals and resources name no others
-  pub sound_action : (names : Names) (kind : ActionKind) (context : Ty) → kind_context kind ≡ Some context → IsSoundType names namespace context
+  pub sound_action : (names : Names) (kind : ActionKind) (context : Ty) → kind_context kind ≡ Some context
+      → IsSoundType names namespace context
       → ((name : PlainName) → Contains (kind_principals kind) name → NamesNoOther names namespace name)
       → ((name : PlainName) → Contains (kind_resources kind) name → NamesNoOther names namespace name)
       → IsSoundAction names namespace kind

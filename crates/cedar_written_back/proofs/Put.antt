@@ -75,7 +75,8 @@ module _ {A K : Type 0} (key : A → K) (R : A → Declaration → Type 0) (P : 
         )
 
     -- one more is put in
-    pub put_more : (it : Declaration) (after : Bag) → R x it → P x → IsPermutation (current ++ it ∷ []) after → PutSoFar key R P before all rest after
+    pub put_more : (it : Declaration) (after : Bag) → R x it → P x → IsPermutation (current ++ it ∷ []) after
+        → PutSoFar key R P before all rest after
     put_more it after holds sound grown = record {
       done = so_far.done ++ x ∷ [];
       split = whole ∙ sym (append_assoc so_far.done (x ∷ []) rest);

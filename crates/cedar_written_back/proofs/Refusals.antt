@@ -10,6 +10,7 @@ refuses_weaker P Q to fault.Memory why = tt
 refuses_weaker P Q to fault.Unwritable why = to why
 
 -- the same of an answer
-pub refusal_weaker : {A : Type 0} (P Q : Type 0) → (P → Q) → (answer : Result A WriteBackFault) → IfErr answer (Refuses P) → IfErr answer (Refuses Q)
+pub refusal_weaker : {A : Type 0} (P Q : Type 0) → (P → Q) → (answer : Result A WriteBackFault) → IfErr answer (Refuses P)
+    → IfErr answer (Refuses Q)
 refusal_weaker P Q to (Ok it) why = tt
 refusal_weaker P Q to (Err given) why = refuses_weaker P Q to given why

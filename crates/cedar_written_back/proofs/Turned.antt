@@ -119,7 +119,8 @@ module _ {E M : Type 0} (Turned : M → List E → Type 0) (initial : M) (all : 
     edges_more after more = record {
       done = so_far.done ++ chunk;
       split = so_far.split ∙ (ap (λ others. so_far.done ++ others) is ∙ sym (append_assoc so_far.done chunk rest));
-      turned = λ edges turned. subst (Turned after) (append_assoc edges so_far.done chunk) (more (edges ++ so_far.done) (so_far.turned edges turned));
+      turned = λ edges turned. subst (Turned after) (append_assoc edges so_far.done chunk) (more (edges ++ so_far.done)
+          (so_far.turned edges turned));
     }
 
   -- where none is left, all are

@@ -174,10 +174,12 @@ module _ (names : Names) (namespace : Option PlainName) where
     next_smaller = let h = at.smaller in omega arith
 
     -- its name is above all that are made
-    pub next_above : IsAscending all → AllByRecursion (λ other. text_cmp name other ≡ Greater) (map (λ (item : Text × (Bool × Expr)). item.0) made)
+    pub next_above : IsAscending all → AllByRecursion (λ other. text_cmp name other ≡ Greater) (map (λ (item : Text × (Bool
+        × Expr)). item.0) made)
     next_above up =
         let P : List Text → Type 0 = IsStrictlySortedBy text_cmp in
-        above_front text_cmp-total (map (λ (item : Text × (Bool × Expr)). item.0) made) name (field_names rest) (subst P (sym at.names_split) up)
+        above_front text_cmp-total (map (λ (item : Text × (Bool × Expr)). item.0) made) name (field_names rest) (subst P
+        (sym at.names_split) up)
 
     -- one more is written
     pub attributes_more : (expr : Expr) → type_written namespace ty ≡ Some expr → IsSoundType names namespace ty
@@ -185,13 +187,17 @@ module _ (names : Names) (namespace : Option PlainName) where
     attributes_more expr written sound = record {
       written = λ others other_written.
           at.written (member name required expr others)
-          (both-there (λ (both : Expr × Members). member name required both.0 both.1) (type_written namespace ty) (fields_written namespace rest)
+          (both-there (λ (both : Expr × Members). member name required both.0 both.1) (type_written namespace ty)
+          (fields_written namespace rest)
           expr others written other_written)
           ∙ ap Some (sym (before-pushed made (name, (required, expr)) others));
       sound = λ others. at.sound ((sound-field name required ty rest).1 (sound, others));
       left_sound = λ whole. ((sound-field name required ty rest).0 (at.left_sound whole)).1;
       names_split =
-          ap (λ texts. texts ++ field_names rest) (map-append (λ (item : Text × (Bool × Expr)). item.0) made ((name, (required, expr)) ∷ []))
+          ap (λ texts. texts ++ field_names rest) (map-append (λ (item : Text × (Bool × Expr)). item.0) made ((
+            name,
+            (required, expr),
+          ) ∷ []))
           ∙ (append_assoc (map (λ (item : Text × (Bool × Expr)). item.0) made) (name ∷ []) (field_names rest) ∙ at.names_split);
       smaller = let h = at.smaller in omega arith;
     }
@@ -225,5 +231,6 @@ pub put-behind : (name : Text) (key : String Global) (namespace : Option PlainNa
     → plain_members namespace (insert_entry string_cmp made key attribute) ≡ plain_members namespace made ++ (name, shown) ∷ []
 put-behind name key namespace made attribute shown same is above =
     ap (plain_members namespace) (insert_entry-end string_cmp made key attribute (above-keys name key namespace made same above))
-    ∙ (map-append (λ (entry : String Global × TypeOfAttribute RawName). (string_bytes entry.0, raw_attribute namespace entry.1)) made ((key, attribute) ∷ [])
+    ∙ (map-append (λ (entry : String Global × TypeOfAttribute RawName).
+    (string_bytes entry.0, raw_attribute namespace entry.1)) made ((key, attribute) ∷ [])
     ∙ (λ i. plain_members namespace made ++ (same i, is i) ∷ []))

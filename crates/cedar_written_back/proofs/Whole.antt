@@ -9,10 +9,10 @@ use Rattle.cedar_below.specs.PlainName.{PlainName, IsActionType}
 use Rattle.cedar_below.specs.PlainUid.{PlainUid}
 use Rattle.cedar_below.specs.Text.{Text}
 use Rattle.cedar_declared.proofs.OccurrenceLemmas.{Contains-image}
+use Rattle.cedar_declared.proofs.ResolutionLemmas.{IsFirst-like}
 use Rattle.cedar_declared.proofs.TurnLemmas.{turn_back, turn_forth, turn_weaker}
 use Rattle.cedar_declared.specs.Bag.{Bag}
 use Rattle.cedar_declared.specs.Names.{IsDefined, Names}
-use Rattle.cedar_declared.specs.Occurrences.{IsFirst}
 use Rattle.cedar_declared.specs.PlainSchema.{ActionEntity, PlainSchema, SchemaAction, SchemaEntityType}
 use Rattle.cedar_declared.specs.WrittenBack.{IsActionDeclaration, IsPathOf, IsTypeDeclaration, IsWritable, IsWrittenBack, NamesNoOther, full_name, schema_names}
 use Rattle.cedar_names.specs.ActionBody.{ActionBody}
@@ -26,24 +26,13 @@ use Rattle.cedar_written_back.specs.Parts.{known_names, known_schema, parts_sche
 use Rattle.cedar_written_back.specs.Sound.{IsSoundActionEntry, IsSoundEntityType}
 use Rattle.cedar_written_back.specs.declared.known.Known.{Known}
 
--- where a fact is the same as another, so is the first of which it holds
-first_same : {A : Type 0} (P Q : A → Type 0) → ((x : A) → P x ↔ Q x) → (xs : List A) (x : A) → IsFirst P xs x → IsFirst Q xs x
-first_same P Q same [] x is = is
-first_same P Q same (first ∷ rest) x is =
-    ⊎_elim
-    (λ here. inl (here.0, (same first).0 here.1))
-    (λ later. inr (λ holds. later.0 ((same first).1 holds), first_same P Q same rest x later.1))
-    is
-
 -- where the same entity types are known, a name names no other both times
 no_other-same : (names other : Names) → ((name : PlainName) → Contains names.entities name ↔ Contains other.entities name)
     → (namespace : Option PlainName) (name : PlainName) → NamesNoOther names namespace name → NamesNoOther other namespace name
 no_other-same names other same namespace name no_other it resolves =
-    no_other it (first_same (IsDefined other Entity) (IsDefined names Entity)
-    (λ each. (
-      ⊎_elim (λ common. absurd common.0) (λ of. inr (tt, (same each).1 of.1)),
-      ⊎_elim (λ common. absurd common.0) (λ of. inr (tt, (same each).0 of.1)),
-    ))
+    no_other it (IsFirst-like (IsDefined other Entity) (IsDefined names Entity)
+    (λ each. ⊎_elim (λ common. absurd common.0) (λ of. inr (tt, (same each).1 of.1)))
+    (λ each. ⊎_elim (λ common. absurd common.0) (λ of. inr (tt, (same each).0 of.1)))
     (full_name namespace name).possibilities it resolves)
 
 -- each path is that of names in some namespace
@@ -75,16 +64,19 @@ module _ (known : Known) (exact : (name : PlainName) → Contains (map type_name
 
   to_schema : (namespace : Option PlainName) (name : PlainName) → NamesNoOther (known_names known) namespace name
       → NamesNoOther (schema_names (parts_schema known.entity_types.now.entries known.actions.now.entries entities)) namespace name
-  to_schema = no_other-same (known_names known) (schema_names (parts_schema known.entity_types.now.entries known.actions.now.entries entities)) same_names
+  to_schema = no_other-same (known_names known) (schema_names
+      (parts_schema known.entity_types.now.entries known.actions.now.entries entities)) same_names
 
   to_known : (namespace : Option PlainName) (name : PlainName)
       → NamesNoOther (schema_names (parts_schema known.entity_types.now.entries known.actions.now.entries entities)) namespace name
       → NamesNoOther (known_names known) namespace name
-  to_known = no_other-same (schema_names (parts_schema known.entity_types.now.entries known.actions.now.entries entities)) (known_names known)
+  to_known = no_other-same (schema_names (parts_schema known.entity_types.now.entries known.actions.now.entries entities))
+      (known_names known)
       (λ name. ((same_names name).1, (same_names name).0))
 
   -- where each part can be written, the schema can
-  pub parts_writable : ((edge : PlainName × PlainName) → Contains (type_edges (known_schema known).entity_types) edge → IsKnownEdge known edge)
+  pub parts_writable : ((edge : PlainName × PlainName) → Contains (type_edges (known_schema known).entity_types) edge
+      → IsKnownEdge known edge)
       → ((edge : PlainUid × PlainUid) → Contains (action_edges (known_schema known).actions) edge → IsKnownActionEdge known edge)
       → ((it : PlainName × SchemaEntityType) → Contains (known_schema known).entity_types it → IsSoundEntityType known it)
       → ((it : PlainUid × SchemaAction) → Contains (known_schema known).actions it → IsSoundActionEntry known it)
@@ -109,16 +101,19 @@ module _ (known : Known) (exact : (name : PlainName) → Contains (map type_name
         let found = Contains-preimage (λ (it : PlainUid × SchemaAction). it.0) (known_schema known).actions uid has in
         let P : PlainUid → Type 0 = λ it. IsActionType it.ty in
         subst P found.2 (action_sound found.0 found.1).action_type;
-    entity_types_below = λ lower upper lists. (type_edge (lower, upper) ((type_edges-listed (known_schema known) lower upper).1 lists)).there;
+    entity_types_below = λ lower upper lists. (type_edge (lower, upper) ((type_edges-listed
+        (known_schema known) lower upper).1 lists)).there;
     none_enumerated = λ lower upper lists of.
         let namespace = namespace_of_path lower.path in
         (type_sound (lower, of.0) of.1 namespace.0 namespace.1).without_parents of.2 upper lists;
-    actions_below = λ lower upper lists. (action_edge (lower, upper) ((action_edges-listed (known_schema known) lower upper).1 lists)).there;
+    actions_below = λ lower upper lists. (action_edge (lower, upper) ((action_edges-listed
+        (known_schema known) lower upper).1 lists)).there;
   }
 
   module _ (writable : IsWritable (parts_schema known.entity_types.now.entries known.actions.now.entries entities)) where
     -- where the schema can be written, so can each edge of entity types
-    pub edge_writable : (edge : PlainName × PlainName) → Contains (type_edges (known_schema known).entity_types) edge → IsKnownEdge known edge
+    pub edge_writable : (edge : PlainName × PlainName) → Contains (type_edges (known_schema known).entity_types) edge
+        → IsKnownEdge known edge
     edge_writable edge among =
         let lists = (type_edges-listed (known_schema known) edge.0 edge.1).0 among in
         record {
@@ -127,7 +122,8 @@ module _ (known : Known) (exact : (name : PlainName) → Contains (map type_name
         }
 
     -- each edge of actions
-    pub action_edge_writable : (edge : PlainUid × PlainUid) → Contains (action_edges (known_schema known).actions) edge → IsKnownActionEdge known edge
+    pub action_edge_writable : (edge : PlainUid × PlainUid) → Contains (action_edges (known_schema known).actions) edge
+        → IsKnownActionEdge known edge
     action_edge_writable edge among =
         let lists = (action_edges-listed (known_schema known) edge.0 edge.1).0 among in
         record {
@@ -148,7 +144,8 @@ module _ (known : Known) (exact : (name : PlainName) → Contains (map type_name
     -- and each action
     pub action_writable : (it : PlainUid × SchemaAction) → Contains (known_schema known).actions it → IsSoundActionEntry known it
     action_writable it among = record {
-      action_type = writable.action_types it.0 (Contains-image (λ (entry : PlainUid × SchemaAction). entry.0) (known_schema known).actions it among);
+      action_type = writable.action_types it.0 (Contains-image (λ (entry : PlainUid × SchemaAction). entry.0)
+          (known_schema known).actions it among);
       kind = λ namespace is. record {
         context = λ ty of. record {
           written = writable.types namespace ty (inr (it, among, is, of));
@@ -197,5 +194,6 @@ parts_written known entities before middle after nothing types actions =
           })
           (known_schema known).actions actions.put actions.turn;
       in_some_order =
-          IsPermutation-trans _ _ _ (IsPermutation-append_left actions.put types.put middle (subst P nothing types.in_some_order)) actions.in_some_order;
+          IsPermutation-trans _ _ _ (IsPermutation-append_left actions.put types.put middle
+          (subst P nothing types.in_some_order)) actions.in_some_order;
     }

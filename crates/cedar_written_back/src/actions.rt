@@ -58,7 +58,11 @@ fn action_type(
     parents: Vec<ActionEntityUID<RawName>>,
 ) -> ActionType<RawName>
     ensures body { (namespace : Option PlainName) → action_body RawName (raw_reference namespace) namespace result
-        ≡ record { has_attributes = false; parents = map (parent_action RawName (raw_reference namespace) namespace) parents.items; applies_to = requests_written namespace applies_to } }
+        ≡ record {
+          has_attributes = false;
+          parents = map (parent_action RawName (raw_reference namespace) namespace) parents.items;
+          applies_to = requests_written namespace applies_to;
+        } }
     ensures applies { AppliesIfDefined result }
 {
     ActionType {
@@ -78,7 +82,8 @@ fn write_action(
     parents: Vec<ActionEntityUID<RawName>>,
     action: &ValidatorActionId,
 ) -> Result<ActionType<RawName>, WriteBackFault>
-    ensures written { IfOk result (λ it. IsActionWritten (plain_namespace namespace.now) (map written_uid parents.items) (action_of action.now).kind
+    ensures written { IfOk result (λ it. IsActionWritten (plain_namespace namespace.now) (map written_uid parents.items)
+        (action_of action.now).kind
         (action_body RawName (raw_reference (plain_namespace namespace.now)) (plain_namespace namespace.now) it)) }
     ensures applies { IfOk result AppliesIfDefined }
     ensures sound { OnOk result (IsSoundAction (known_names known.now) (plain_namespace namespace.now) (action_of action.now).kind) }

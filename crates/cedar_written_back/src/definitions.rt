@@ -36,7 +36,8 @@ fn take_definition(
 ) -> NamespaceDefinition<RawName>
     ensures taken { IsPermutation (raw_declarations (plain_namespace namespace.now) result ++ definitions_bag definitions.new.entries)
         (definitions_bag definitions.old.entries) }
-    ensures proper { AreProper definitions.old.entries → All AppliesIfDefined (values_of result.actions.entries) × AreProper definitions.new.entries }
+    ensures proper { AreProper definitions.old.entries
+        → All AppliesIfDefined (values_of result.actions.entries) × AreProper definitions.new.entries }
     ensures absent { get ⟦<Option<Name> as Ord>⟧.cmp definitions.new namespace.now ≡ None }
 {
     match definitions.remove(namespace) {

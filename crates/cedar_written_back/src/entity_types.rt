@@ -86,14 +86,17 @@ fn write_standard(
 ) -> Result<StandardEntityType<RawName>, WriteBackFault>
     ensures written { IfOk result (λ it. IsKindWritten (plain_namespace namespace.now)
         (λ upper. Contains (map raw_name parents.items) upper)
-        (standard_kind (kind_fields (entity_type_of ty.now).kind) (kind_openness (entity_type_of ty.now).kind) (kind_tags (entity_type_of ty.now).kind))
+        (standard_kind (kind_fields (entity_type_of ty.now).kind) (kind_openness (entity_type_of ty.now).kind)
+        (kind_tags (entity_type_of ty.now).kind))
         (kind_body RawName (raw_reference (plain_namespace namespace.now)) (written_kind.Standard it) false)) }
     ensures sound { OnOk result (IsSoundKind (known_names known.now) (plain_namespace namespace.now)
         (λ upper. Contains (map raw_name parents.items) upper)
-        (standard_kind (kind_fields (entity_type_of ty.now).kind) (kind_openness (entity_type_of ty.now).kind) (kind_tags (entity_type_of ty.now).kind))) }
+        (standard_kind (kind_fields (entity_type_of ty.now).kind) (kind_openness (entity_type_of ty.now).kind)
+        (kind_tags (entity_type_of ty.now).kind))) }
     ensures refusal { IfErr result (Refuses (¬ IsSoundKind (known_names known.now) (plain_namespace namespace.now)
         (λ upper. Contains (map raw_name parents.items) upper)
-        (standard_kind (kind_fields (entity_type_of ty.now).kind) (kind_openness (entity_type_of ty.now).kind) (kind_tags (entity_type_of ty.now).kind)))) }
+        (standard_kind (kind_fields (entity_type_of ty.now).kind) (kind_openness (entity_type_of ty.now).kind)
+        (kind_tags (entity_type_of ty.now).kind)))) }
 {
     let shape = write_shape(known, namespace, ty)?;
     let tags = write_tags(known, namespace, ty.tag_type())?;

@@ -52,7 +52,8 @@ pub(crate) fn action_types(
 impl<'a> Known<'a> {
     /// Whether there is an entity type of the name.
     pub(crate) fn has_entity_type(&self, name: &EntityType) -> bool
-        ensures { IsTrue result ↔ Contains (map (λ (it : PlainName × SchemaEntityType). it.0) (known_schema self.now).entity_types) (type_name name.now) }
+        ensures { IsTrue result ↔ Contains (map (λ (it : PlainName × SchemaEntityType). it.0)
+            (known_schema self.now).entity_types) (type_name name.now) }
     {
         self.entity_types.contains_key(name)
     }
@@ -109,7 +110,8 @@ impl<'a> Known<'a> {
     ) -> Result<RawName, WriteBackFault>
         ensures name { IfOk result (λ written. raw_name written ≡ type_name name.now) }
         ensures no_other { OnOk result (NamesNoOther (known_names self.now) (plain_namespace namespace.now) (type_name name.now)) }
-        ensures refusal { IfErr result (Refuses (¬ NamesNoOther (known_names self.now) (plain_namespace namespace.now) (type_name name.now))) }
+        ensures refusal { IfErr result (Refuses
+            (¬ NamesNoOther (known_names self.now) (plain_namespace namespace.now) (type_name name.now))) }
     {
         if !self.names_no_other(namespace, name)? {
             return Err(WriteBackFault::Unwritable);
@@ -125,7 +127,8 @@ impl<'a> Known<'a> {
     ) -> Result<ActionEntityUID<RawName>, WriteBackFault>
         ensures uid { IfOk result (λ written. written_uid written ≡ uid_of uid.now) }
         ensures no_other { OnOk result (NamesNoOtherAction (known_names self.now) (plain_namespace namespace.now) (uid_of uid.now)) }
-        ensures refusal { IfErr result (Refuses (¬ NamesNoOtherAction (known_names self.now) (plain_namespace namespace.now) (uid_of uid.now))) }
+        ensures refusal { IfErr result (Refuses
+            (¬ NamesNoOtherAction (known_names self.now) (plain_namespace namespace.now) (uid_of uid.now))) }
     {
         if !self.names_no_other_action(namespace, uid)? {
             return Err(WriteBackFault::Unwritable);

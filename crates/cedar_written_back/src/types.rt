@@ -144,8 +144,10 @@ pub(crate) fn write_record(
     ensures written { IfOk result (λ variant.
         type_written (plain_namespace namespace.now) (record_of (fields_of attrs.now) openness.ClosedAttributes)
         ≡ Some (raw_variant (plain_namespace namespace.now) variant)) }
-    ensures sound { OnOk result (IsSoundType (known_names known.now) (plain_namespace namespace.now) (record_of (fields_of attrs.now) openness.ClosedAttributes)) }
-    ensures refusal { IfErr result (Refuses (¬ IsSoundType (known_names known.now) (plain_namespace namespace.now) (record_of (fields_of attrs.now) openness.ClosedAttributes))) }
+    ensures sound { OnOk result (IsSoundType (known_names known.now) (plain_namespace namespace.now)
+        (record_of (fields_of attrs.now) openness.ClosedAttributes)) }
+    ensures refusal { IfErr result (Refuses (¬ IsSoundType (known_names known.now) (plain_namespace namespace.now)
+        (record_of (fields_of attrs.now) openness.ClosedAttributes))) }
 {
     let mut attributes = BTreeMap::new(known.alloc);
     for (name, attribute) in attrs.iter() {

@@ -81,7 +81,8 @@ sample_bag =
     entity_here (codes "Group") [] no_member
     ∷ declared_within (codes "User")
     (entity_type (standard (refer_within Entity (codes "Group") ∷ [])
-    (record_expr (member (codes "a") false long_expr (member (codes "g") true (named (refer_within Entity (codes "Group"))) no_member)) false)
+    (record_expr (member (codes "a") false long_expr (member (codes "g") true (named (refer_within Entity
+    (codes "Group"))) no_member)) false)
     None))
     ∷ action_here (codes "view") (reference_to None Entity (within_sample (codes "User")) ∷ [])
     ∷ []

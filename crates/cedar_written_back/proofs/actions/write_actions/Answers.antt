@@ -27,7 +27,8 @@ pub loop-uid-init : goal.loop-uid-init
 loop-uid-init c =
     let entries = c.args.known.now.actions.now.entries in
     record {
-      put = put_none (λ (it : PlainUid × SchemaAction). it.0) (IsActionDeclaration (known_schema c.args.known.now)) (IsSoundActionEntry c.args.known.now)
+      put = put_none (λ (it : PlainUid × SchemaAction). it.0) (IsActionDeclaration (known_schema c.args.known.now))
+          (IsSoundActionEntry c.args.known.now)
           (definitions_bag c.args.definitions.now.entries) (map plain_action_entry entries) _
           (ap (map plain_action_entry) c.into_iter-uid-iterator.ensures.into_iter_gives.0)
           (uids_once entries c.into_iter-uid-iterator.ensures.into_iter_gives.5);
@@ -89,8 +90,10 @@ loop-uid-preserved c =
     let Lists : PlainUid → Type 0 = λ upper. ListsDescendantAction schema it.0 upper in
     let same : (upper : PlainUid) → Contains uids upper ↔ Lists upper = λ upper.
     let Q : List PlainUid → Type 0 = λ items. Contains items upper in (
-      λ among. (action_edges-listed schema it.0 upper).0 ((c.requires.turned.listed c.in-Some.uid.now upper).0 (subst Q c.in_ok-above.ensures among)),
-      λ lists. subst Q (sym c.in_ok-above.ensures) ((c.requires.turned.listed c.in-Some.uid.now upper).1 ((action_edges-listed schema it.0 upper).1 lists)),
+      λ among. (action_edges-listed schema it.0 upper).0 ((c.requires.turned.listed c.in-Some.uid.now upper).0
+          (subst Q c.in_ok-above.ensures among)),
+      λ lists. subst Q (sym c.in_ok-above.ensures) ((c.requires.turned.listed c.in-Some.uid.now upper).1
+          ((action_edges-listed schema it.0 upper).1 lists)),
     ) in
     let written = c.in_ok-declared.ensures.written in
     let R : List ActionReference → Type 0 = AreFullUids namespace Lists in
@@ -104,16 +107,20 @@ loop-uid-preserved c =
           subst S (one_namespace namespace other (path ∙ sym is)) c.in_ok-declared.ensures.sound;
     } in
     record {
-      put = put_more (λ (entry : PlainUid × SchemaAction). entry.0) (IsActionDeclaration schema) (IsSoundActionEntry known) old schema.actions
-          _ _ it current steps c.loop-uid.invariant.put (action_declared namespace id body) (definitions_bag c.put_action.new.definitions.entries)
+      put = put_more (λ (entry : PlainUid × SchemaAction). entry.0) (IsActionDeclaration schema)
+          (IsSoundActionEntry known) old schema.actions
+          _ _ it current steps c.loop-uid.invariant.put (action_declared namespace id body)
+          (definitions_bag c.put_action.new.definitions.entries)
           (record {
             uid = here;
             parents = body.parents;
             applies_to = body.applies_to;
-            declares = ap (λ (attributes : Bool). action (record { has_attributes = attributes; parents = body.parents; applies_to = body.applies_to }))
+            declares = ap (λ (attributes : Bool). action
+                (record { has_attributes = attributes; parents = body.parents; applies_to = body.applies_to }))
                 written.without_attributes;
             above = subst R (sym written.parents_are)
-                (full_uids-same namespace (λ upper. Contains uids upper) Lists same (map (full_uid namespace) uids) (full_uids namespace uids));
+                (full_uids-same namespace (λ upper. Contains uids upper) Lists same (map (full_uid namespace) uids)
+                (full_uids namespace uids));
             kind = written.requests_are;
           })
           sound

@@ -70,7 +70,8 @@ returns-clause-proper c =
     let proper = c.take_definition-definition.ensures.proper all in
     let one : IsProper changed = record {
       declares = λ namespace. end-some
-          (λ (entry : String Global × ActionType RawName). action_declared namespace (string_bytes entry.0) (action_body RawName (raw_reference namespace) namespace entry.1))
+          (λ (entry : String Global × ActionType RawName). action_declared namespace (string_bytes entry.0) (action_body RawName
+          (raw_reference namespace) namespace entry.1))
           (common_declarations RawName (raw_reference namespace) namespace definition.common_types.entries
           ++ entity_declarations RawName (raw_reference namespace) namespace definition.entity_types.entries)
           c.put.new.map.entries some;

@@ -48,7 +48,8 @@ returns-clause-put c =
     let absent : lookup (is_at ((id_ord.ghosts).cmp id)) entries ≡ None =
     absent_key (is_at ((id_ord.ghosts).cmp id)) entries (λ key value tie there.
     let text : unreserved_id_text id ≡ unreserved_id_text key =
-    (text_cmp-Equal (unreserved_id_text id) (unreserved_id_text key)).0 (tied _ (sym (ap is_eq (unreserved_id_ord-text_cmp id key)) ∙ tie)) in
+    (text_cmp-Equal (unreserved_id_text id) (unreserved_id_text key)).0 (tied _ (sym (ap is_eq
+    (unreserved_id_ord-text_cmp id key)) ∙ tie)) in
     let Q : Text → Type 0 = λ word. Contains (definitions_bag old) (type_declared namespace word (raw_entity_body namespace value)) in
     fresh (raw_entity_body namespace value) (subst Q (sym text)
     (was_declared old taken new c.args.namespace definition changed item was (show (key, value))
@@ -73,7 +74,8 @@ returns-clause-proper c =
     let proper = c.take_definition-definition.ensures.proper all in
     let one : IsProper changed = record {
       declares = λ namespace. middle-some
-          (λ (entry : UnreservedId × EntityType RawName). type_declared namespace (unreserved_id_text entry.0) (raw_entity_body namespace entry.1))
+          (λ (entry : UnreservedId × EntityType RawName). type_declared namespace (unreserved_id_text entry.0)
+          (raw_entity_body namespace entry.1))
           (common_declarations RawName (raw_reference namespace) namespace definition.common_types.entries)
           (action_declarations RawName (raw_reference namespace) namespace definition.actions.entries)
           c.put.new.map.entries some;

@@ -26,7 +26,8 @@ returns-in-Some-clause-taken c =
     let P : Definitions → Type 0 = λ entries. IsPermutation
     (raw_declarations (plain_namespace c.args.namespace.now) definition ++ definitions_bag entries) (definitions_bag all) in
     let Q : Option PlainName → Type 0 = λ it. IsPermutation
-    (raw_declarations it definition ++ definitions_bag (Rattle.std.specs.Map.remove_entry (is_at (option_cmp ((name_ord.ghosts).cmp) c.args.namespace.now)) all)) (definitions_bag all) in
+    (raw_declarations it definition ++ definitions_bag (Rattle.std.specs.Map.remove_entry (is_at (option_cmp
+    ((name_ord.ghosts).cmp) c.args.namespace.now)) all)) (definitions_bag all) in
     subst P (sym c.in-Some.ensures.entries) (subst Q (namespace_tie c.args.namespace.now removed.0 removed.1) removed.2)
 
 pub returns-in-Some-clause-proper : goal.returns-in-Some-clause-proper

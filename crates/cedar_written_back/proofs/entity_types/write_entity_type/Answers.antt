@@ -20,7 +20,8 @@ returns-in_err-standard-in-Standard-clause-refusal c =
     (λ upper. Contains (map raw_name c.args.parents.items) upper) in
     let p = err_from_is_err_and c.from_residual.result c.from_residual.ensures.1 in
     rw (p.1, p.2)
-    (refuses_weaker (¬ P (standard_kind (kind_fields kind) (kind_openness kind) (kind_tags kind))) (¬ P kind) (λ unsound sound. unsound (subst P (sym (standard-parts kind _ _ _ (ap plain_kind c.in-Standard.is))) sound))
+    (refuses_weaker (¬ P (standard_kind (kind_fields kind) (kind_openness kind) (kind_tags kind))) (¬ P kind)
+    (λ unsound sound. unsound (subst P (sym (standard-parts kind _ _ _ (ap plain_kind c.in-Standard.is))) sound))
     _ c.in_err-standard-in-Standard.ensures.refusal)
 
 pub returns-in_ok-standard-in-Standard-clause-sound : goal.returns-in_ok-standard-in-Standard-clause-sound
@@ -35,7 +36,8 @@ returns-in-Enum-clause-refusal c =
     refusal_weaker _ _
     (λ some sound. some (shows_none raw_name c.args.parents.items
     (enumerated_alone (known_names c.args.known.now) (plain_namespace c.args.namespace.now)
-    (λ upper. Contains (map raw_name c.args.parents.items) upper) (entity_type_of c.args.ty.now).kind _ (ap plain_kind c.in-Enum.is) sound)))
+    (λ upper. Contains (map raw_name c.args.parents.items) upper) (entity_type_of c.args.ty.now).kind _
+    (ap plain_kind c.in-Enum.is) sound)))
     c.write_enumerated.result c.write_enumerated.ensures.refusal
 
 pub returns-in-External-clause-written : goal.returns-in-External-clause-written
@@ -44,4 +46,5 @@ returns-in-External-clause-written c =
     let above : PlainName → Type 0 = (λ upper. Contains (map raw_name c.args.parents.items) upper) in
     let P : EntityTypeKind → Type 0 = λ kind. IsKindWritten namespace above kind (raw_entity_body namespace c.external_type.result) in
     let Q : EntityBody → Type 0 = IsKindWritten namespace above external_kind in
-    subst P (sym (ap plain_kind c.in-External.is)) (subst Q (sym (c.external_type.ensures namespace)) (written_names namespace c.args.parents.items))
+    subst P (sym (ap plain_kind c.in-External.is)) (subst Q (sym (c.external_type.ensures namespace))
+    (written_names namespace c.args.parents.items))

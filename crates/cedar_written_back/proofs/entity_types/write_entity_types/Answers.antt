@@ -25,7 +25,8 @@ pub loop-name-init : goal.loop-name-init
 loop-name-init c =
     let entries = c.args.known.now.entity_types.now.entries in
     record {
-      put = put_none (λ (it : PlainName × SchemaEntityType). it.0) (IsTypeDeclaration (known_schema c.args.known.now)) (IsSoundEntityType c.args.known.now)
+      put = put_none (λ (it : PlainName × SchemaEntityType). it.0) (IsTypeDeclaration (known_schema c.args.known.now))
+          (IsSoundEntityType c.args.known.now)
           (definitions_bag c.args.definitions.now.entries) (map plain_entry entries) _
           (ap (map plain_entry) c.into_iter-name-iterator.ensures.into_iter_gives.0)
           (names_once entries c.into_iter-name-iterator.ensures.into_iter_gives.5);
@@ -39,13 +40,16 @@ returns-in_err-declared-clause-refusal c =
     let it : PlainName × SchemaEntityType = plain_entry (c.in-Some.name.now, c.in-Some.ty.now) in
     let namespace = plain_namespace c.in_ok-namespace.namespace in
     let P : List Text → Type 0 = IsPathOf namespace in
-    let path : IsPathOf namespace it.0.path = subst P (ap (λ (name : PlainName). name.path) c.name.ensures.name) c.in_ok-namespace.ensures in
+    let path : IsPathOf namespace it.0.path = subst P (ap (λ
+    (name : PlainName). name.path) c.name.ensures.name) c.in_ok-namespace.ensures in
     let Above : PlainName → Type 0 = λ upper. Contains (map raw_name c.in_ok-above.above.items) upper in
     let Lists : PlainName → Type 0 = λ upper. ListsDescendant schema it.0 upper in
     let same : (upper : PlainName) → Lists upper ↔ Above upper = λ upper.
     let Q : List PlainName → Type 0 = λ names. Contains names upper in (
-      λ lists. subst Q (sym c.in_ok-above.ensures) ((c.requires.turned.listed c.in-Some.name.now upper).1 ((type_edges-listed schema it.0 upper).1 lists)),
-      λ among. (type_edges-listed schema it.0 upper).0 ((c.requires.turned.listed c.in-Some.name.now upper).0 (subst Q c.in_ok-above.ensures among)),
+      λ lists. subst Q (sym c.in_ok-above.ensures) ((c.requires.turned.listed c.in-Some.name.now upper).1
+          ((type_edges-listed schema it.0 upper).1 lists)),
+      λ among. (type_edges-listed schema it.0 upper).0 ((c.requires.turned.listed c.in-Some.name.now upper).0
+          (subst Q c.in_ok-above.ensures among)),
     ) in
     let p = err_from_is_err_and c.from_residual-in_err-declared.result c.from_residual-in_err-declared.ensures.1 in
     rw (p.1, p.2)
@@ -69,7 +73,8 @@ loop-name-preserved c =
     let id = unreserved_id_text c.in_ok-id.id in
     let body = raw_entity_body namespace c.in_ok-declared.declared in
     let P : List Text → Type 0 = IsPathOf namespace in
-    let path : IsPathOf namespace it.0.path = subst P (ap (λ (name : PlainName). name.path) c.name.ensures.name) c.in_ok-namespace.ensures in
+    let path : IsPathOf namespace it.0.path = subst P (ap (λ
+    (name : PlainName). name.path) c.name.ensures.name) c.in_ok-namespace.ensures in
     let base : id ≡ it.0.base = c.in_ok-id.ensures ∙ ap (λ (name : PlainName). name.base) c.name-in-loop-name.ensures.name in
     let here : name_within namespace id ≡ it.0 =
     (λ i. let word : Text = base i in let words : List Text = path i in record { base = word; path = words }) in
@@ -77,8 +82,10 @@ loop-name-preserved c =
     let Lists : PlainName → Type 0 = λ upper. ListsDescendant schema it.0 upper in
     let same : (upper : PlainName) → Above upper ↔ Lists upper = λ upper.
     let Q : List PlainName → Type 0 = λ names. Contains names upper in (
-      λ among. (type_edges-listed schema it.0 upper).0 ((c.requires.turned.listed c.in-Some.name.now upper).0 (subst Q c.in_ok-above.ensures among)),
-      λ lists. subst Q (sym c.in_ok-above.ensures) ((c.requires.turned.listed c.in-Some.name.now upper).1 ((type_edges-listed schema it.0 upper).1 lists)),
+      λ among. (type_edges-listed schema it.0 upper).0 ((c.requires.turned.listed c.in-Some.name.now upper).0
+          (subst Q c.in_ok-above.ensures among)),
+      λ lists. subst Q (sym c.in_ok-above.ensures) ((c.requires.turned.listed c.in-Some.name.now upper).1
+          ((type_edges-listed schema it.0 upper).1 lists)),
     ) in
     let old = definitions_bag c.args.definitions.now.entries in
     let current = definitions_bag c.loop-name.definitions.entries in
@@ -88,8 +95,10 @@ loop-name-preserved c =
     subst S (one_namespace namespace other (path ∙ sym is))
     (sound_kind-same namespace Above Lists same (known_names known) it.1.kind c.in_ok-declared.ensures.sound) in
     record {
-      put = put_more (λ (entry : PlainName × SchemaEntityType). entry.0) (IsTypeDeclaration schema) (IsSoundEntityType known) old schema.entity_types
-          _ _ it current steps c.loop-name.invariant.put (type_declared namespace id body) (definitions_bag c.put_entity_type.new.definitions.entries)
+      put = put_more (λ (entry : PlainName × SchemaEntityType). entry.0) (IsTypeDeclaration schema)
+          (IsSoundEntityType known) old schema.entity_types
+          _ _ it current steps c.loop-name.invariant.put (type_declared namespace id body)
+          (definitions_bag c.put_entity_type.new.definitions.entries)
           (record {
             name = here;
             body = body;

@@ -22,7 +22,8 @@ returns-in_err-shape-clause-refusal c =
     rw (p.1, p.2)
     (refuses_weaker (¬ IsSoundType names namespace (record_of (kind_fields kind) (kind_openness kind)))
     (¬ IsSoundKind names namespace (λ upper. Contains (map raw_name c.args.parents.items) upper)
-    (standard_kind (kind_fields kind) (kind_openness kind) (kind_tags kind))) (λ unsound sound. unsound (sound.types (record_of (kind_fields kind) (kind_openness kind)) (inl refl)))
+    (standard_kind (kind_fields kind) (kind_openness kind) (kind_tags kind))) (λ unsound sound. unsound (sound.types (record_of
+    (kind_fields kind) (kind_openness kind)) (inl refl)))
     _ c.in_err-shape.ensures.refusal)
 
 pub returns-clause-written : goal.returns-clause-written

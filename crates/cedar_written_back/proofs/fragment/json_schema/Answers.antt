@@ -82,7 +82,8 @@ write_actions-requires-clause-none c =
       actions = c.args.actions;
       action_types = record { ref_ptr = c.args.entity_types.ref_ptr; now = c.in_ok-action_types.action_types };
     } in
-    no_action (known_schema known) (definitions_bag c.new-definitions.result.entries) (definitions_bag c.write_entity_types.new.definitions.entries)
+    no_action (known_schema known) (definitions_bag c.new-definitions.result.entries)
+    (definitions_bag c.write_entity_types.new.definitions.entries)
     (ap definitions_bag c.new-definitions.ensures.empty) c.in_ok-write_entity_types.ensures.put
 
 pub returns-clause-writable : goal.returns-clause-writable
@@ -104,11 +105,13 @@ returns-clause-written c = λ entities.
       actions = c.args.actions;
       action_types = record { ref_ptr = c.args.entity_types.ref_ptr; now = c.in_ok-action_types.action_types };
     } in
-    parts_written known entities (definitions_bag c.new-definitions.result.entries) (definitions_bag c.write_entity_types.new.definitions.entries)
+    parts_written known entities (definitions_bag c.new-definitions.result.entries)
+    (definitions_bag c.write_entity_types.new.definitions.entries)
     (definitions_bag c.write_actions.new.definitions.entries) (ap definitions_bag c.new-definitions.ensures.empty)
     c.in_ok-write_entity_types.ensures.put c.in_ok-write_actions.ensures.put
 
 pub returns-clause-definitions : goal.returns-clause-definitions
 returns-clause-definitions c =
     let P : Definitions → Type 0 = AreProper in
-    c.in_ok-write_actions.ensures.proper (c.in_ok-write_entity_types.ensures.proper (subst P (sym c.new-definitions.ensures.empty) (All-nil IsProper)))
+    c.in_ok-write_actions.ensures.proper (c.in_ok-write_entity_types.ensures.proper (subst P
+    (sym c.new-definitions.ensures.empty) (All-nil IsProper)))

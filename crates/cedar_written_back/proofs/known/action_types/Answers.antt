@@ -41,7 +41,8 @@ returns c =
     let P : List EntityUID → Type 0 = λ items. AnswersAlike c.loop-uid.types.keys (map (λ (uid : EntityUID). uid.ty) items) in
     λ name.
     let Q : List PlainName → Type 0 = λ items. Contains items name in
-    let same = SameItems-searches c.loop-uid.types.keys (map (λ (uid : EntityUID). uid.ty) uids) (subst P all c.loop-uid.invariant) name in (
+    let same = SameItems-searches c.loop-uid.types.keys (map (λ (uid : EntityUID). uid.ty) uids)
+    (subst P all c.loop-uid.invariant) name in (
       λ among. subst Q (types_of c.args.actions.now.entries) (same.0 among),
       λ among. same.1 (subst Q (sym (types_of c.args.actions.now.entries)) among),
     )

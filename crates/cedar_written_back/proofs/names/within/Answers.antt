@@ -23,4 +23,5 @@ unreachable-requires c =
     (λ i. let word : Text = sym base i in let words : List Text = sym path i in record { base = word; path = words }) in
     let P : PlainName → Type 0 = λ it. ¬ IsReserved it in
     false≢true (c.in-None.ensures.valid.1 (subst P same
-    (within-unreserved namespace name.base c.args.namespace.now.unreserved (λ is. c.args.name.now.unreserved (Rattle.std.proofs.Common.inl is)))))
+    (within-unreserved namespace name.base c.args.namespace.now.unreserved (λ is. c.args.name.now.unreserved
+    (Rattle.std.proofs.Common.inl is)))))

@@ -41,6 +41,8 @@ returns-in_err-turn_action-clause-refusal c =
 
 pub returns-clause-turned : goal.returns-clause-turned
 returns-clause-turned c =
-    edges_all (AreActionsTurned c.args.known.now) c.new-parents.result (action_edges (known_schema c.args.known.now).actions) _ c.loop-upper.parents
+    edges_all (AreActionsTurned c.args.known.now) c.new-parents.result (action_edges
+    (known_schema c.args.known.now).actions) _ c.loop-upper.parents
     (ap (λ entries. action_edges (map plain_action_entry entries)) c.in-None.ensures.steps.0) c.loop-upper.invariant []
-    (turned_none ((key_ord.ghosts).cmp) uid_of written_uid uid_tie (IsKnownActionEdge c.args.known.now) c.new-parents.result c.new-parents.ensures.empty)
+    (turned_none ((key_ord.ghosts).cmp) uid_of written_uid uid_tie
+    (IsKnownActionEdge c.args.known.now) c.new-parents.result c.new-parents.ensures.empty)

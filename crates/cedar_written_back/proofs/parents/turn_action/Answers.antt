@@ -16,7 +16,8 @@ pub loop-lower-init : goal.loop-lower-init
 loop-lower-init c =
     let upper = uid_of c.args.upper.now in
     edges_none (AreActionsTurned c.args.known.now) c.args.parents.now (edges_to upper (action_of c.args.action.now).descendants) _
-    (ap (λ lowers. edges_to upper (map uid_of lowers)) c.into_iter-lower-iterator.ensures.into_iter_gives ∙ ap (edges_to upper) c.descendants-lower-items.ensures.uids)
+    (ap (λ lowers. edges_to upper (map uid_of lowers)) c.into_iter-lower-iterator.ensures.into_iter_gives ∙ ap
+    (edges_to upper) c.descendants-lower-items.ensures.uids)
 
 pub returns-in_err-parent-clause-refusal : goal.returns-in_err-parent-clause-refusal
 returns-in_err-parent-clause-refusal c =
@@ -54,5 +55,6 @@ loop-lower-preserved c =
 pub returns-clause-turned : goal.returns-clause-turned
 returns-clause-turned c =
     let upper = uid_of c.args.upper.now in
-    edges_all (AreActionsTurned c.args.known.now) c.args.parents.now (edges_to upper (action_of c.args.action.now).descendants) _ c.loop-lower.parents
+    edges_all (AreActionsTurned c.args.known.now) c.args.parents.now (edges_to upper
+    (action_of c.args.action.now).descendants) _ c.loop-lower.parents
     (ap (λ lowers. edges_to upper (map uid_of lowers)) c.in-None.ensures.steps.0) c.loop-lower.invariant

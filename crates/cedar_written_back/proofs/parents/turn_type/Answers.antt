@@ -16,7 +16,8 @@ pub loop-lower-init : goal.loop-lower-init
 loop-lower-init c =
     let upper = type_name c.args.upper.now in
     edges_none (AreTypesTurned c.args.known.now) c.args.parents.now (edges_to upper (descendant_names c.args.ty.now)) _
-    (ap (λ lowers. edges_to upper (map type_name lowers)) (c.into_iter-lower-iterator.ensures.into_iter_gives ∙ c.iter-lower-items.ensures.rest))
+    (ap (λ lowers. edges_to upper (map type_name lowers)) (c.into_iter-lower-iterator.ensures.into_iter_gives
+    ∙ c.iter-lower-items.ensures.rest))
 
 pub returns-in_err-parent-clause-refusal : goal.returns-in_err-parent-clause-refusal
 returns-in_err-parent-clause-refusal c =

@@ -12,7 +12,8 @@ use Rattle.cedar_written_back.specs.Parts.{known_names, plain_namespace}
 use Rattle.cedar_written_back.proofs.parents.type_parent.Goals as goal
 
 pub returns-then-not-has_entity_type-clause-refusal : goal.returns-then-not-has_entity_type-clause-refusal
-returns-then-not-has_entity_type-clause-refusal c = λ sound. false≢true (sym c.if-not-has_entity_type.true ∙ c.has_entity_type.ensures.1 sound.there)
+returns-then-not-has_entity_type-clause-refusal c = λ sound. false≢true (sym c.if-not-has_entity_type.true
+    ∙ c.has_entity_type.ensures.1 sound.there)
 
 pub returns-clause-sound : goal.returns-clause-sound
 returns-clause-sound c =

@@ -41,6 +41,8 @@ returns-in_err-turn_type-clause-refusal c =
 
 pub returns-clause-turned : goal.returns-clause-turned
 returns-clause-turned c =
-    edges_all (AreTypesTurned c.args.known.now) c.new-parents.result (type_edges (known_schema c.args.known.now).entity_types) _ c.loop-upper.parents
+    edges_all (AreTypesTurned c.args.known.now) c.new-parents.result (type_edges
+    (known_schema c.args.known.now).entity_types) _ c.loop-upper.parents
     (ap (λ entries. type_edges (map plain_entry entries)) c.in-None.ensures.steps.0) c.loop-upper.invariant []
-    (turned_none ((key_ord.ghosts).cmp) type_name raw_name type_tie (IsKnownEdge c.args.known.now) c.new-parents.result c.new-parents.ensures.empty)
+    (turned_none ((key_ord.ghosts).cmp) type_name raw_name type_tie
+    (IsKnownEdge c.args.known.now) c.new-parents.result c.new-parents.ensures.empty)

@@ -26,7 +26,8 @@ pub write_record-loop-name-init : goal.write_record-loop-name-init
 write_record-loop-name-init t c =
     let namespace = plain_namespace c.args.namespace.now in
     attributes_none (known_names c.args.known.now) namespace (fields_of c.args.attrs.now) _ _
-    (ap (λ entries. fields_from (plain_attributes entries)) c.into_iter-name-iterator.ensures.into_iter_gives ∙ c.iter-name-items.ensures.attributes)
+    (ap (λ entries. fields_from (plain_attributes entries)) c.into_iter-name-iterator.ensures.into_iter_gives
+    ∙ c.iter-name-items.ensures.attributes)
     (ap (plain_members namespace) c.new-attributes.ensures.empty)
 
 pub write_record-returns-in_err-ty-clause-refusal : goal.write_record-returns-in_err-ty-clause-refusal
@@ -56,7 +57,8 @@ write_record-loop-name-preserved t c =
     let ty = (attribute_of attribute).1 in
     let made = c.loop-name.attributes.entries in
     let P : Ty → Type 0 = IsSoundType names namespace in
-    let same : ty_of c.deref.result.now ≡ ty = ap ty_of c.deref.ensures ∙ ap (λ (p : Bool × Ty). p.1) (sym (attribute_of-parts attribute)) in
+    let same : ty_of c.deref.result.now ≡ ty = ap ty_of c.deref.ensures ∙ ap (λ (p : Bool × Ty). p.1) (sym
+    (attribute_of-parts attribute)) in
     let flag = ap (λ (p : Bool × Ty). p.0) (attribute_of-parts attribute) in
     let steps = ap (λ entries. fields_from (plain_attributes entries)) c.in-Some.ensures.steps in
     let expr = raw_variant namespace c.in_ok-ty.ty in
@@ -89,7 +91,8 @@ write_type-returns-in-ExtensionType-clause-written t c =
     let namespace = plain_namespace c.args.namespace.now in
     let is : ty_of c.args.ty.now ≡ extension_of (plain_name c.in-ExtensionType.name) =
     ap ty_of c.in-ExtensionType.is ∙ ty_of-extension c.in-ExtensionType.name in
-    ok_to _ _ (λ variant written. ap (type_written namespace) is ∙ written namespace) c.write_extension.result c.write_extension.ensures.written
+    ok_to _ _ (λ variant written. ap (type_written namespace) is
+    ∙ written namespace) c.write_extension.result c.write_extension.ensures.written
 
 pub write_type-returns-in-ExtensionType-clause-sound : goal.write_type-returns-in-ExtensionType-clause-sound
 write_type-returns-in-ExtensionType-clause-sound t c =

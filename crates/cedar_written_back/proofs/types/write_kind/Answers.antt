@@ -22,7 +22,8 @@ returns-in_err-write_name-in-Some-clause-refusal c =
     let p = err_from_is_err_and c.from_residual.result c.from_residual.ensures.1 in
     rw (p.1, p.2)
     (refuses_weaker (¬ NamesNoOther names namespace name) (¬ P (kind_ty c.args.kind.now))
-    (λ other sound. other ((sound-union names namespace (lub_names c.in-Entity.union) name only).0 (subst P (ap kind_ty c.in-Entity.is) sound)))
+    (λ other sound. other ((sound-union names namespace (lub_names c.in-Entity.union) name only).0 (subst P
+    (ap kind_ty c.in-Entity.is) sound)))
     _ c.in_err-write_name-in-Some.ensures.refusal)
 
 pub returns-in_ok-write_name-in-Some-clause-sound : goal.returns-in_ok-write_name-in-Some-clause-sound

@@ -79,7 +79,15 @@ returns c =
             declares = refl;
             kind = (
               λ reference. (
-                λ among. (alias_name (codes "Group"), (group.1, (0, omega arith, refl), (0, omega arith, refl)), Contains-single parent reference among),
+                λ among. (
+                  alias_name (codes "Group"),
+                  (
+                    group.1,
+                    (0, omega arith, refl),
+                    (0, omega arith, refl),
+                  ),
+                  Contains-single parent reference among,
+                ),
                 λ of. Contains-cons parent [] reference
                     (inl (ap (full_name (Some sample_namespace)) (listed (within_sample (codes "User")) of.0 of.1).1 ∙ of.2)),
               ),

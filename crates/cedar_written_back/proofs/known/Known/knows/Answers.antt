@@ -11,7 +11,8 @@ use Rattle.cedar_written_back.proofs.known.Known.knows.Goals as goal
 pub returns-then-has_entity_type : goal.returns-then-has_entity_type
 returns-then-has_entity_type c = (
   λ there. Contains-append_left (map (λ (it : PlainName × SchemaEntityType). it.0) (known_schema c.args.self.now).entity_types)
-      (map type_name c.args.self.now.action_types.now.keys) (type_name c.args.name.now) (c.has_entity_type.ensures.0 c.if-has_entity_type.true),
+      (map type_name c.args.self.now.action_types.now.keys) (type_name c.args.name.now)
+      (c.has_entity_type.ensures.0 c.if-has_entity_type.true),
   λ known. c.if-has_entity_type.true,
 )
 

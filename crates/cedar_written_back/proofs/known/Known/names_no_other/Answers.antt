@@ -15,7 +15,8 @@ returns-in_ok-other-in-Some c =
     let namespace = plain_name c.in-Some.namespace in
     let key : type_name c.in_ok-other-in-Some.other ≡ name_within (Some namespace) name.base =
     c.in_ok-other-in-Some.ensures ∙ ap (λ (it : PlainName). name_within (Some namespace) it.base) c.name-in-Some.ensures.name in
-    let path : name.path ≡ [] = ap (λ (it : PlainName). it.path) (sym c.name.ensures.name) ∙ c.is_unqualified.ensures.0 c.if-is_unqualified.true in
+    let path : name.path ≡ [] = ap (λ (it : PlainName). it.path) (sym c.name.ensures.name)
+    ∙ c.is_unqualified.ensures.0 c.if-is_unqualified.true in
     let P : PlainName → Type 0 = λ it. IsTrue c.knows.result ↔ Contains names.entities it in
     let Q : Option PlainName → Type 0 = λ it. IsTrue (not c.knows.result) ↔ NamesNoOther names it name in
     subst Q (sym (ap plain_namespace c.in-Some.is))

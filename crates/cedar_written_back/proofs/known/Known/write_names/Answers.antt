@@ -22,7 +22,12 @@ returns-in_err-write_name-clause-refusal c =
     let p = err_from_is_err_and c.from_residual.result c.from_residual.ensures.1 in
     rw (p.1, p.2)
     (refuses_weaker (¬ P name) ((it : PlainName) × Contains (map type_name c.args.names) it × ¬ P it)
-    (λ other. (name, written_here P (map type_name c.args.names) _ _ _ name (ap (map type_name) c.in-Some.ensures.steps) c.loop-name.invariant, other))
+    (λ other. (
+      name,
+      written_here P (map type_name c.args.names) _ _ _ name (ap
+          (map type_name) c.in-Some.ensures.steps) c.loop-name.invariant,
+      other,
+    ))
     _ c.in_err-write_name.ensures.refusal)
 
 pub loop-name-preserved : goal.loop-name-preserved
