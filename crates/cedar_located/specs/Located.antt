@@ -1,12 +1,16 @@
 use Rattle.std.specs.Prelude.{◌≡◌, ◌∷◌, List, map}
-use Rattle.std.specs.List.{filter}
+use Rattle.std.specs.List.{filter, flat_map}
 use Rattle.cedar_below.specs.declared.internal_name.InternalName.{InternalName}
-use Rattle.cedar_fragments.specs.Located.{DefinedNamespace, LocatedName}
+use Rattle.cedar_fragments.specs.Located.{DefinedNamespace, LocatedName, fragment_common_names, named_namespaces, raw_common_names, raw_namespaces}
+use Rattle.cedar_fragments.specs.declared.namespace.fragment.ValidatorSchemaFragment.{ValidatorSchemaFragment}
 use Rattle.cedar_located.specs.ShownCommonTypes.{is_shown, shown_name}
 use Rattle.cedar_located.specs.ShownNamespaces.{HoldsNamespaces, built_in_namespace}
 use Rattle.cedar_located.specs.declared.gathering.Located.{Located}
 use Rattle.cedar_located.specs.declared.located_common_type.LocatedCommonType.{LocatedCommonType}
 use Rattle.cedar_located.specs.declared.located_namespace.LocatedNamespace.{LocatedNamespace}
+use Rattle.cedar_names.specs.declared.json_schema.conditional_name.ConditionalName.{ConditionalName}
+use Rattle.cedar_names.specs.declared.json_schema.fragment.Fragment.{Fragment}
+use Rattle.cedar_names.specs.declared.json_schema.raw_name.RawName.{RawName}
 
 -- the common types that are shown, in order
 abbrev pub common_entries : Located → List LocatedCommonType
@@ -22,3 +26,13 @@ namespace_entries it = it.namespaces.entries
 pub record Shows (names : List LocatedName) (defined : List DefinedNamespace) (it : Located) : Type 0 where
   pub common_types : map shown_name (common_entries it) ≡ filter is_shown names
   pub namespaces : HoldsNamespaces (built_in_namespace ∷ defined) it.namespaces
+
+-- what is shown of fragments whose names say what they may stand for
+abbrev pub ShowsFragments : List (ValidatorSchemaFragment ConditionalName ConditionalName) → Located → Type 0
+ShowsFragments fragments =
+    Shows (flat_map (fragment_common_names ConditionalName ConditionalName) fragments)
+    (flat_map (named_namespaces ConditionalName ConditionalName) fragments)
+
+-- what is shown of fragments as they are written
+abbrev pub ShowsWritten : List (Fragment RawName) → Located → Type 0
+ShowsWritten fragments = Shows (flat_map raw_common_names fragments) (flat_map raw_namespaces fragments)

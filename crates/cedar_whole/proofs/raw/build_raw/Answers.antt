@@ -9,15 +9,15 @@ use Rattle.cedar_names.specs.Declaration.{raw_bag}
 use Rattle.cedar_whole.specs.SchemaParts.{parts_schema}
 use Rattle.cedar_whole.proofs.raw.build_raw.Goals as goal
 
-pub returns-in_err-fragments : goal.returns-in_err-fragments
-returns-in_err-fragments c =
+pub returns-in_err-fragments-clause-built : goal.returns-in_err-fragments-clause-built
+returns-in_err-fragments-clause-built c =
     let given = c.args.extensions.now in
     let refused = built_from (raw_bag c.args.fragments.items) given c.requires (Err (fault_of c.in_err-fragments.field-0.0))
     (⊎_elim (λ memory. inl memory) (λ at_fault. inr (at_fault.1 given)) c.in_err-fragments.ensures.fault) tt tt in
     let p = err_from_is_err_and c.from_residual.result c.from_residual.ensures.1 in
     rw (p.1, p.2) refused
 
-pub returns : goal.returns
-returns c =
+pub returns-clause-built : goal.returns-clause-built
+returns-clause-built c =
     let P : Bag → Type 0 = λ bag. IsBuiltFrom bag c.args.extensions.now (result_map_both parts_schema fault_of c.build.result) in
-    subst P c.in_ok-fragments.ensures.bag c.build.ensures
+    subst P c.in_ok-fragments.ensures.bag c.build.ensures.built
