@@ -9,6 +9,7 @@ pub use cedar_entities::{
     ValidatorEntityTypeKind,
 };
 pub use cedar_fragments::{defs, namespace};
+pub use cedar_located::{LocatedCommonType, LocatedNamespace, LocatedType};
 pub use cedar_names::{below, json_schema};
 pub use cedar_queries::{
     ActionGroups, ActionsFor, Ancestors, ApplicableTypes, CompleteError, IncompleteSchemaError,
@@ -20,6 +21,7 @@ pub use cedar_types::{
 };
 pub use schema::ValidatorSchema;
 
+mod located;
 pub mod lookup;
 mod queries;
 mod schema;
