@@ -4,11 +4,12 @@ use Rattle.std.proofs.lemmas.List.{map-append}
 use Rattle.std.proofs.lemmas.List.Elements.{filter-append}
 use Rattle.std.proofs.lemmas.Simd.{map-map}
 use Rattle.std.specs.List.{filter, flat_map}
+use Rattle.cedar_below.specs.Text.{Text}
 use Rattle.cedar_fragments.specs.Located.{LocatedName, definition_common_types, fragment_common_names, fragment_definitions, located_name}
 use Rattle.cedar_fragments.specs.declared.namespace.common_types.CommonTypeDef.{CommonTypeDef}
 use Rattle.cedar_fragments.specs.declared.namespace.fragment.ValidatorSchemaFragment.{ValidatorSchemaFragment}
 use Rattle.cedar_located.proofs.InOrder.{map-flat_map}
-use Rattle.cedar_located.specs.ShownCommonTypes.{ShownCommonType, common_types_to_show, declared_common_type, fragment_common_types, is_shown, shown_common_type, shown_name}
+use Rattle.cedar_located.specs.ShownCommonTypes.{ShownCommonType, common_types_to_show, declared_common_type, fragment_common_types, is_shown, shown_common_type, shown_name, with_base}
 use Rattle.cedar_located.specs.declared.located_common_type.LocatedCommonType.{LocatedCommonType}
 
 -- a test of what a function shows keeps just what it keeps of what is shown
@@ -46,16 +47,18 @@ module _ (N : Type 0) where
 -- what is shown of the common types of fragments has the names that are to be shown of them
 pub names_shown : (N A : Type 0) (fragments : List (ValidatorSchemaFragment N A)) (shown : List LocatedCommonType)
     → map shown_common_type shown ≡ common_types_to_show N (flat_map (fragment_common_types N A) fragments)
-    → map shown_name shown ≡ filter is_shown (flat_map (fragment_common_names N A) fragments)
+    → map shown_name shown ≡ map with_base (filter is_shown (flat_map (fragment_common_names N A) fragments))
 names_shown N A fragments shown is =
     let defs = flat_map (fragment_common_types N A) fragments in
-    let at : ShownCommonType → LocatedName = λ it. it.at in
+    let kept = filter (λ def. is_shown (located_name def.name)) defs in
+    let read : ShownCommonType → Text × LocatedName = λ it. (it.base, it.at) in
     let name : CommonTypeDef N → LocatedName = λ def. located_name def.name in
     let named : (x : ValidatorSchemaFragment N A) → map name (fragment_common_types N A x) ≡ fragment_common_names N A x =
     λ x. map-flat_map name (definition_common_types N A) (fragment_definitions N A x) in
-    sym (map-map at shown_common_type shown)
-    ∙ (ap (map at) is
-    ∙ (map-map at (declared_common_type N) (filter (λ def. is_shown (located_name def.name)) defs)
-    ∙ (map-filter name is_shown defs
+    sym (map-map read shown_common_type shown)
+    ∙ (ap (map read) is
+    ∙ (map-map read (declared_common_type N) kept
+    ∙ (sym (map-map with_base name kept)
+    ∙ ap (map with_base) (map-filter name is_shown defs
     ∙ ap (filter is_shown) (map-flat_map name (fragment_common_types N A) fragments
-    ∙ ap (λ f. flat_map f fragments) (λ i x. named x i)))))
+    ∙ ap (λ f. flat_map f fragments) (λ i x. named x i))))))

@@ -27,9 +27,13 @@ shown_common_type it = record {
   type_loc = it.type_loc;
 }
 
--- the full name of a common type of a schema, with where it was declared
-abbrev pub shown_name : LocatedCommonType → LocatedName
-shown_name it = (shown_common_type it).at
+-- the base name of a common type of a schema, and its full name with where it was declared
+abbrev pub shown_name : LocatedCommonType → Text × LocatedName
+shown_name it = ((shown_common_type it).base, (shown_common_type it).at)
+
+-- the base name of a full name, and the full name itself
+abbrev pub with_base : LocatedName → Text × LocatedName
+with_base it = (it.name.base, it)
 
 -- a common type is shown if it is known where it was declared and its base name is none of a primitive type
 abbrev pub is_shown : LocatedName → Bool

@@ -1,12 +1,8 @@
 //! What a schema shows of its fragments.
 
 ghost use Rattle.std.specs.Prelude.{◌≡◌, ◌∷◌, [], IfOk, map};
-ghost use Rattle.std.specs.List.{flat_map};
 ghost use Rattle.std.specs.Slice.Iter.{iter_rest};
-ghost use Rattle.cedar_fragments.specs.Located.{fragment_common_names, named_namespaces};
-ghost use Rattle.cedar_located.specs.Located.{Shows, common_entries, namespace_entries};
-ghost use Rattle.cedar_located.specs.ShownCommonTypes.{common_types_to_show, fragment_common_types, shown_common_type};
-ghost use Rattle.cedar_names.specs.declared.json_schema.conditional_name.ConditionalName.{ConditionalName as Conditional};
+ghost use Rattle.cedar_located.specs.Located.{ShowsFragments, common_entries, namespace_entries};
 
 use crate::common_types::located_common_types;
 use crate::located_common_type::LocatedCommonType;
@@ -62,10 +58,7 @@ pub fn located_in(
     alloc: Global,
     fragments: &[ValidatorSchemaFragment<ConditionalName, ConditionalName>],
 ) -> M<Located>
-    ensures common_types { IfOk result (λ it. map shown_common_type (common_entries it)
-        ≡ common_types_to_show Conditional (flat_map (fragment_common_types Conditional Conditional) fragments.now)) }
-    ensures shown { IfOk result (Shows (flat_map (fragment_common_names Conditional Conditional) fragments.now)
-        (flat_map (named_namespaces Conditional Conditional) fragments.now)) }
+    ensures { IfOk result (ShowsFragments fragments.now) }
 {
     Ok(Located {
         common_types: located_common_types(alloc, fragments)?,

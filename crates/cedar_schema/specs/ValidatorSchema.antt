@@ -12,6 +12,7 @@ use Rattle.cedar_declared.specs.PlainSchema.{PlainSchema}
 use Rattle.cedar_derived.specs.ActionEntities.{schema_with}
 use Rattle.cedar_entities.specs.ValidatorEntityType.{plain_entry}
 use Rattle.cedar_entities.specs.declared.entity_type.ValidatorEntityType.{ValidatorEntityType}
+use Rattle.cedar_located.specs.declared.gathering.Located.{Located}
 use Rattle.cedar_schema.specs.declared.schema.ValidatorSchema.{ValidatorSchema}
 
 -- the entity types of a schema, each under its name, in the order of the names
@@ -34,3 +35,7 @@ action_of_uid schema uid = get_by (λ key. uid_cmp uid (uid_of key)) schema.acti
 abbrev pub schema_of : ValidatorSchema → PlainSchema
 schema_of schema =
     schema_with (map plain_entry schema.entity_types.entries) schema.actions.entries (entities_of schema.action_entities)
+
+-- what a schema shows of its fragments
+abbrev pub located_of : ValidatorSchema → Located
+located_of schema = schema.located

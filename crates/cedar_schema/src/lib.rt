@@ -10,6 +10,7 @@ pub use cedar_entities::{
 };
 pub use cedar_fragments::{defs, namespace};
 pub use cedar_leaves::TypeIterator;
+pub use cedar_located::{LocatedCommonType, LocatedNamespace, LocatedType};
 pub use cedar_names::{below, json_schema};
 pub use cedar_queries::{
     ActionGroups, ActionsFor, Ancestors, ApplicableTypes, CompleteError, IncompleteSchemaError,
@@ -23,6 +24,7 @@ pub use cedar_types::{
 pub use cedar_written_back::WriteBackFault;
 pub use schema::ValidatorSchema;
 
+mod located;
 pub mod lookup;
 mod queries;
 mod schema;

@@ -14,6 +14,7 @@ use cedar_declared::SchemaError;
 use cedar_derived::{action_entities, environments};
 use cedar_entities::{UnlinkedRequestEnv, ValidatorEntityType};
 use cedar_fragments::namespace::ValidatorSchemaFragment;
+use cedar_located::Located;
 use cedar_names::json_schema::{ConditionalName, Fragment, NamespaceDefinition, RawName};
 use cedar_validated::{Validated, actions_by_uid, types_by_name, validate};
 use cedar_whole::{SchemaParts, build, build_raw};
@@ -23,9 +24,10 @@ use std::collections::BTreeMap;
 /// A schema: its entity types and its actions.
 ///
 /// It holds two things beside them that follow of the actions, which it answers without looking
-/// further: the entities of the actions, and the environments of requests.
+/// further: the entities of the actions, and the environments of requests. A schema that was built from
+/// fragments also shows their common types and namespaces, with where these were written.
 ///
-/// Equality ignores locations.
+/// Equality ignores locations, and what is shown of fragments.
 #[derive(Drop)]
 #[derive_where(Debug, PartialEq, Eq)]
 pub struct ValidatorSchema {
@@ -35,6 +37,8 @@ pub struct ValidatorSchema {
     pub(crate) action_entities: Entities,
     #[derive_where(skip(EqHashOrd))]
     pub(crate) environments: Vec<UnlinkedRequestEnv>,
+    #[derive_where(skip(EqHashOrd))]
+    pub(crate) located: Located,
     ghost entities_of_actions: { ∥ AreActionEntities
         (schema_with (map plain_entry entity_types.entries) actions.entries (entities_of action_entities)) ∥₁ },
     ghost environments_of_actions: { ∥ AreEnvironmentsOf
@@ -59,9 +63,11 @@ impl ValidatorSchema {
     ghost use Rattle.cedar_declared.specs.ValidSchema.{IsSchemaFault, IsValidSchema};
     ghost use Rattle.cedar_entities.specs.declared.entity_type.ValidatorEntityType.{ValidatorEntityType as EntityTypeOfSchema};
     ghost use Rattle.cedar_fragments.specs.FragmentDeclarations.{conditional_bag};
+    ghost use Rattle.cedar_fragments.specs.Located.{written_common_names};
     ghost use Rattle.cedar_laws.specs.EndToEnd.{IsBuiltFrom};
+    ghost use Rattle.cedar_located.specs.Located.{Shows, ShowsFragments, ShowsWritten, common_entries, namespace_entries};
     ghost use Rattle.cedar_names.specs.Declaration.{raw_bag, raw_declarations, raw_fragment};
-    ghost use Rattle.cedar_schema.specs.ValidatorSchema.{action_entries, action_of_uid, entity_type_named, schema_entries, schema_of};
+    ghost use Rattle.cedar_schema.specs.ValidatorSchema.{action_entries, action_of_uid, entity_type_named, located_of, schema_entries, schema_of};
     ghost use Rattle.cedar_validated.specs.LastNamed.{last_named, last_of_uid};
     ghost use Rattle.cedar_whole.specs.SchemaParts.{parts_schema};
 
@@ -69,6 +75,8 @@ impl ValidatorSchema {
     pub fn empty(alloc: Global) -> Self
         ensures entity_types { schema_entries result ≡ [] }
         ensures actions { action_entries result ≡ [] }
+        ensures common_types { common_entries (located_of result) ≡ [] }
+        ensures namespaces { namespace_entries (located_of result) ≡ [] }
     {
         let action_entities = Entities::new(alloc);
         // That no entities are in order is known from their iterator.
@@ -78,6 +86,7 @@ impl ValidatorSchema {
             actions: BTreeMap::new(alloc),
             action_entities,
             environments: Vec::new(alloc),
+            located: Located::nothing(alloc),
         }
     }
 
@@ -87,11 +96,13 @@ impl ValidatorSchema {
         ensures schema { IfOk result (λ schema. schema_of schema ≡ parts_schema parts) }
         ensures entity_types { IfOk result (λ schema. schema_entries schema ≡ parts.entity_types.entries) }
         ensures actions { IfOk result (λ schema. action_entries schema ≡ parts.actions.entries) }
+        ensures located { IfOk result (λ schema. located_of schema ≡ parts.located) }
     {
         let SchemaParts {
             entity_types,
             actions,
             action_entities,
+            located,
         } = parts;
         let environments = environments(alloc, &actions)?;
         Ok(ValidatorSchema {
@@ -99,6 +110,7 @@ impl ValidatorSchema {
             actions,
             action_entities,
             environments,
+            located,
         })
     }
 
@@ -116,7 +128,8 @@ impl ValidatorSchema {
         extensions: &Extensions,
     ) -> Result<Self, SchemaError>
         requires { TypeNamesFit (extension_types extensions.now) }
-        ensures { IsBuiltFrom (conditional_bag fragments.items) extensions.now (result_map_both schema_of fault_of result) }
+        ensures built { IsBuiltFrom (conditional_bag fragments.items) extensions.now (result_map_both schema_of fault_of result) }
+        ensures located { IfOk result (λ schema. ShowsFragments fragments.items (located_of schema)) }
     {
         let parts = build(alloc, fragments, extensions)?;
         Ok(ValidatorSchema::from_parts(alloc, parts)?)
@@ -133,7 +146,8 @@ impl ValidatorSchema {
         extensions: &Extensions,
     ) -> Result<Self, SchemaError>
         requires { TypeNamesFit (extension_types extensions.now) }
-        ensures { IsBuiltFrom (raw_bag fragments.items) extensions.now (result_map_both schema_of fault_of result) }
+        ensures built { IsBuiltFrom (raw_bag fragments.items) extensions.now (result_map_both schema_of fault_of result) }
+        ensures located { IfOk result (λ schema. ShowsWritten fragments.items (located_of schema)) }
     {
         let parts = build_raw(alloc, fragments, extensions)?;
         Ok(ValidatorSchema::from_parts(alloc, parts)?)
@@ -146,7 +160,8 @@ impl ValidatorSchema {
         extensions: &Extensions,
     ) -> Result<Self, SchemaError>
         requires { TypeNamesFit (extension_types extensions.now) }
-        ensures { IsBuiltFrom (raw_fragment fragment) extensions.now (result_map_both schema_of fault_of result) }
+        ensures built { IsBuiltFrom (raw_fragment fragment) extensions.now (result_map_both schema_of fault_of result) }
+        ensures located { IfOk result (λ schema. ShowsWritten (fragment ∷ []) (located_of schema)) }
     {
         let mut fragments = Vec::new(alloc);
         fragments.push(fragment)?;
@@ -161,7 +176,8 @@ impl ValidatorSchema {
         extensions: &Extensions,
     ) -> Result<Self, SchemaError>
         requires { TypeNamesFit (extension_types extensions.now) }
-        ensures { IsBuiltFrom (raw_declarations None definition) extensions.now (result_map_both schema_of fault_of result) }
+        ensures built { IsBuiltFrom (raw_declarations None definition) extensions.now (result_map_both schema_of fault_of result) }
+        ensures located { IfOk result (λ schema. Shows (written_common_names None definition.common_types.entries) [] (located_of schema)) }
     {
         let mut definitions = BTreeMap::new(alloc);
         definitions.insert(None, definition)?;
@@ -186,6 +202,8 @@ impl ValidatorSchema {
         ensures actions { IfOk result (λ schema. (it : A.IntoIter) × (xs : List ActionOfSchema)
             × A.into_iter_gives actions it × Drains A.IntoIter.next_gives it xs
             × ((uid : Uid) → action_of_uid schema (uid_of uid) ≡ last_of_uid (uid_of uid) xs)) }
+        ensures common_types { IfOk result (λ schema. common_entries (located_of schema) ≡ []) }
+        ensures namespaces { IfOk result (λ schema. namespace_entries (located_of schema) ≡ []) }
     {
         let entity_types = types_by_name(alloc, Vec::from_iter(alloc, entity_types)?)?;
         let actions = actions_by_uid(alloc, Vec::from_iter(alloc, actions)?)?;
@@ -194,6 +212,7 @@ impl ValidatorSchema {
             entity_types,
             actions,
             action_entities,
+            located: Located::nothing(alloc),
         };
         ValidatorSchema::from_parts(alloc, parts)
     }
@@ -214,6 +233,7 @@ impl ValidatorSchema {
             ⊎ IsSchemaFault extensions.now (schema_of self) (fault_of error)) }
         ensures valid { OnOk result (IsValidSchema extensions.now (schema_of self)) }
         ensures closed { IfOk result (λ schema. ClosesSchema (schema_of self) (schema_of schema)) }
+        ensures located { IfOk result (λ schema. located_of schema ≡ located_of self) }
     {
         let Validated {
             entity_types,
@@ -224,6 +244,7 @@ impl ValidatorSchema {
             entity_types,
             actions,
             action_entities,
+            located: self.located,
         };
         Ok(ValidatorSchema::from_parts(alloc, parts)?)
     }

@@ -18,6 +18,7 @@ ghost use Rattle.cedar_fragments.specs.FragmentDeclarations.{conditional_bag};
 ghost use Rattle.cedar_fragments.specs.HeldNames.{held_names};
 ghost use Rattle.cedar_gathered.specs.Gathered.{settled_bag};
 ghost use Rattle.cedar_laws.specs.EndToEnd.{IsBuiltFrom};
+ghost use Rattle.cedar_located.specs.Located.{ShowsFragments};
 ghost use Rattle.cedar_whole.specs.SchemaParts.{parts_schema};
 ghost use Rattle.cedar_whole.specs.SettledBag.{IsSettledOver};
 
@@ -32,6 +33,7 @@ use cedar_entities::ValidatorEntityType;
 use cedar_fragments::defs::AllDefs;
 use cedar_fragments::namespace::ValidatorSchemaFragment;
 use cedar_gathered::{Declarations, gather};
+use cedar_located::{Located, located_in};
 use cedar_names::json_schema::ConditionalName;
 use cedar_resolved::{Settled, settle};
 use cedar_written::KnownTypes;
@@ -48,6 +50,8 @@ pub struct SchemaParts {
     pub actions: BTreeMap<EntityUID, ValidatorActionId>,
     /// The entities of the actions that are defined, each below all its ancestors.
     pub action_entities: Entities,
+    /// The common types and namespaces of the fragments, with where these were written.
+    pub located: Located,
 }
 
 /// That the names of entity types ascend in their map.
@@ -69,10 +73,12 @@ fn build_settled(
     alloc: Global,
     fragments: Vec<ValidatorSchemaFragment<InternalName, EntityType>>,
     defs: &AllDefs,
+    located: Located,
     extensions: &Extensions,
 ) -> Result<SchemaParts, SchemaError>
     ensures declared { IfOk result (λ parts. IsSettledOver (settled_bag fragments.items) extensions.now (held_names defs.now)
         → IsDeclaredSchema (settled_bag fragments.items) extensions.now (parts_schema parts)) }
+    ensures located { IfOk result (λ parts. parts.located ≡ located) }
     ensures well_formed { OnOk result (IsSettledOver (settled_bag fragments.items) extensions.now (held_names defs.now)
         → ¬ IsIllFormed (settled_bag fragments.items) extensions.now) }
     ensures fault { IfErr result (λ error. IsSettledOver (settled_bag fragments.items) extensions.now (held_names defs.now)
@@ -99,6 +105,7 @@ fn build_settled(
         entity_types,
         actions,
         action_entities,
+        located,
     })
 }
 
@@ -113,8 +120,10 @@ pub fn build(
     extensions: &Extensions,
 ) -> Result<SchemaParts, SchemaError>
     requires { TypeNamesFit (extension_types extensions.now) }
-    ensures { IsBuiltFrom (conditional_bag fragments.items) extensions.now (result_map_both parts_schema fault_of result) }
+    ensures built { IsBuiltFrom (conditional_bag fragments.items) extensions.now (result_map_both parts_schema fault_of result) }
+    ensures located { IfOk result (λ parts. ShowsFragments fragments.items parts.located) }
 {
+    let located = located_in(alloc, &fragments)?;
     let Settled { fragments, defs } = settle(alloc, fragments, extensions)?;
-    build_settled(alloc, fragments, &defs, extensions)
+    build_settled(alloc, fragments, &defs, located, extensions)
 }

@@ -2,8 +2,11 @@ use Rattle.cedar_located.proofs.ShownLemmas.{names_shown}
 use Rattle.cedar_names.specs.declared.json_schema.conditional_name.ConditionalName.{ConditionalName}
 use Rattle.cedar_located.proofs.gathering.located_in.Goals as goal
 
-pub returns-clause-shown : goal.returns-clause-shown
-returns-clause-shown c = record {
-  common_types = names_shown ConditionalName ConditionalName c.args.fragments.now _ c.in_ok-located_common_types.ensures;
-  namespaces = c.in_ok-located_namespaces.ensures;
+pub returns : goal.returns
+returns c = record {
+  shown = record {
+    common_types = names_shown ConditionalName ConditionalName c.args.fragments.now _ c.in_ok-located_common_types.ensures;
+    namespaces = c.in_ok-located_namespaces.ensures;
+  };
+  types = c.in_ok-located_common_types.ensures;
 }

@@ -1,17 +1,8 @@
-use Rattle.std.proofs.Common.{◌≡◌, ◌⊎◌, List, Vec, Err, inl, inr, subst, ⊎_elim}
+use Rattle.std.proofs.Common.{Err, inl, inr, ⊎_elim}
 use Rattle.std.proofs.lemmas.Result.{err_from_is_err_and, IfErr-weaker, IfOk-weaker, on_ok_weaker}
-use Rattle.std.specs.declared.alloc.Global.{Global}
-use Rattle.cedar_below.specs.declared.entity_type.EntityType.{EntityType}
-use Rattle.cedar_below.specs.declared.internal_name.InternalName.{InternalName}
-use Rattle.cedar_declared.specs.Bag.{defined_names}
-use Rattle.cedar_declared.specs.Fault.{want_of_memory}
-use Rattle.cedar_declared.specs.IllFormed.{IsFault}
 use Rattle.cedar_declared.specs.SchemaError.{fault_of}
-use Rattle.cedar_declared.specs.Settled.{SettlesBag}
 use Rattle.cedar_fragments.specs.FragmentDeclarations.{conditional_bag}
-use Rattle.cedar_fragments.specs.HeldNames.{held_names, HoldsJust}
-use Rattle.cedar_fragments.specs.declared.defs.all_defs.AllDefs.{AllDefs}
-use Rattle.cedar_fragments.specs.declared.namespace.fragment.ValidatorSchemaFragment.{ValidatorSchemaFragment}
+use Rattle.cedar_fragments.specs.HeldNames.{held_names}
 use Rattle.cedar_gathered.specs.Gathered.{settled_bag}
 use Rattle.cedar_laws.proofs.BuiltFrom.{built_from}
 use Rattle.cedar_laws.proofs.SettledLaws.{settling}
@@ -20,16 +11,16 @@ use Rattle.cedar_whole.proofs.SettledOver.{settled_over}
 use Rattle.cedar_whole.specs.SchemaParts.{parts_schema}
 use Rattle.cedar_whole.proofs.building.build.Goals as goal
 
-pub returns-in_err-fragments : goal.returns-in_err-fragments
-returns-in_err-fragments c =
+pub returns-in_err-fragments-clause-built : goal.returns-in_err-fragments-clause-built
+returns-in_err-fragments-clause-built c =
     let bag = conditional_bag c.args.fragments.items in
     let given = c.args.extensions.now in
     let refused = built_from bag given c.requires (Err (fault_of c.in_err-fragments.field-0.0)) c.in_err-fragments.ensures.fault tt tt in
-    let p = err_from_is_err_and c.from_residual.result c.from_residual.ensures.1 in
+    let p = err_from_is_err_and c.from_residual-in_err-fragments.result c.from_residual-in_err-fragments.ensures.1 in
     rw (p.1, p.2) refused
 
-pub returns : goal.returns
-returns c =
+pub returns-clause-built : goal.returns-clause-built
+returns-clause-built c =
     let bag = conditional_bag c.args.fragments.items in
     let given = c.args.extensions.now in
     let fragments = c.in_ok-fragments.field-0.fragments.items in

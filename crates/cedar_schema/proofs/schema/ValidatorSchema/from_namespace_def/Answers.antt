@@ -1,4 +1,4 @@
-use Rattle.std.proofs.Common.{◌≡◌, ◌∙◌, ◌∷◌, [], None, ap, refl, subst}
+use Rattle.std.proofs.Common.{◌≡◌, ◌∙◌, ◌∷◌, [], List, IfOk, None, ap, refl, subst}
 use Rattle.std.proofs.lemmas.List.{append-nil}
 use Rattle.std.specs.List.{flat_map}
 use Rattle.std.specs.Option.{option_map}
@@ -6,17 +6,30 @@ use Rattle.std.specs.Result.{result_map_both}
 use Rattle.cedar_below.specs.Name.{plain_name}
 use Rattle.cedar_declared.specs.Bag.{Bag}
 use Rattle.cedar_declared.specs.SchemaError.{fault_of}
+use Rattle.cedar_fragments.specs.Located.{DefinedNamespace, LocatedName, entry_common_names, entry_namespaces, written_common_names}
 use Rattle.cedar_laws.specs.EndToEnd.{IsBuiltFrom}
+use Rattle.cedar_located.specs.Located.{Shows}
 use Rattle.cedar_names.specs.Declaration.{raw_declarations}
 use Rattle.cedar_schema.proofs.schema.ValidatorSchema.from_namespace_def.Goals as goal
-use Rattle.cedar_schema.specs.ValidatorSchema.{schema_of}
+use Rattle.cedar_schema.specs.ValidatorSchema.{located_of, schema_of}
 
-pub returns : goal.returns
-returns c =
+pub returns-clause-built : goal.returns-clause-built
+returns-clause-built c =
     let P : Bag → Type 0 = λ bag. IsBuiltFrom bag c.args.extensions.now (result_map_both schema_of fault_of c.from_schema_frag.result) in
     let alone : c.insert.new.self.entries ≡ (None, c.args.definition) ∷ [] =
     rw (c.in_ok-insert.ensures.entries, c.new-definitions.ensures.empty) refl in
     subst P
     (ap (flat_map (λ entry. raw_declarations (option_map plain_name entry.0) entry.1)) alone
     ∙ append-nil (raw_declarations None c.args.definition))
-    c.from_schema_frag.ensures
+    c.from_schema_frag.ensures.built
+
+pub returns-clause-located : goal.returns-clause-located
+returns-clause-located c =
+    let alone : c.insert.new.self.entries ≡ (None, c.args.definition) ∷ [] =
+    rw (c.in_ok-insert.ensures.entries, c.new-definitions.ensures.empty) refl in
+    let names = append-nil (flat_map entry_common_names c.insert.new.self.entries)
+    ∙ (ap (flat_map entry_common_names) alone ∙ append-nil (written_common_names None c.args.definition.common_types.entries)) in
+    let namespaces = append-nil (flat_map entry_namespaces c.insert.new.self.entries) ∙ ap (flat_map entry_namespaces) alone in
+    let P : List LocatedName × List DefinedNamespace → Type 0 = λ it.
+    IfOk c.from_schema_frag.result (λ schema. Shows it.0 it.1 (located_of schema)) in
+    subst P (λ i. (names i, namespaces i)) c.from_schema_frag.ensures.located

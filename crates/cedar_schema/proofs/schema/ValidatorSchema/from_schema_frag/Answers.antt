@@ -1,17 +1,27 @@
-use Rattle.std.proofs.Common.{◌∙◌, ◌++◌, ◌∷◌, [], ap, subst}
+use Rattle.std.proofs.Common.{◌∙◌, ◌++◌, ◌∷◌, [], List, IfOk, ap, subst}
 use Rattle.std.proofs.lemmas.List.{append-nil}
 use Rattle.std.specs.Result.{result_map_both}
 use Rattle.cedar_declared.specs.Bag.{Bag}
 use Rattle.cedar_declared.specs.SchemaError.{fault_of}
 use Rattle.cedar_laws.specs.EndToEnd.{IsBuiltFrom}
+use Rattle.cedar_located.specs.Located.{ShowsWritten}
 use Rattle.cedar_names.specs.Declaration.{raw_bag, raw_fragment}
+use Rattle.cedar_names.specs.declared.json_schema.fragment.Fragment.{Fragment}
+use Rattle.cedar_names.specs.declared.json_schema.raw_name.RawName.{RawName}
 use Rattle.cedar_schema.proofs.schema.ValidatorSchema.from_schema_frag.Goals as goal
-use Rattle.cedar_schema.specs.ValidatorSchema.{schema_of}
+use Rattle.cedar_schema.specs.ValidatorSchema.{located_of, schema_of}
 
-pub returns : goal.returns
-returns c =
+pub returns-clause-built : goal.returns-clause-built
+returns-clause-built c =
     let P : Bag → Type 0 = λ bag. IsBuiltFrom bag c.args.extensions.now (result_map_both schema_of fault_of c.from_raw_fragments.result) in
     subst P
     (ap raw_bag (c.in_ok-push.ensures.items ∙ ap (λ items. items ++ c.args.fragment ∷ []) c.new-fragments.ensures.items)
     ∙ append-nil (raw_fragment c.args.fragment))
-    c.from_raw_fragments.ensures
+    c.from_raw_fragments.ensures.built
+
+pub returns-clause-located : goal.returns-clause-located
+returns-clause-located c =
+    let P : List (Fragment RawName) → Type 0 = λ fragments.
+    IfOk c.from_raw_fragments.result (λ schema. ShowsWritten fragments (located_of schema)) in
+    subst P (c.in_ok-push.ensures.items ∙ ap (λ items. items ++ c.args.fragment ∷ []) c.new-fragments.ensures.items)
+    c.from_raw_fragments.ensures.located

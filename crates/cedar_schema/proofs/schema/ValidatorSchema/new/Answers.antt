@@ -7,6 +7,7 @@ use Rattle.cedar_below.specs.EntityUID.{uid_of}
 use Rattle.cedar_below.specs.PlainName.{name_cmp}
 use Rattle.cedar_below.specs.PlainUid.{uid_cmp}
 use Rattle.cedar_entities.specs.ValidatorEntityType.{plain_entry}
+use Rattle.cedar_located.specs.Located.{common_entries, namespace_entries}
 use Rattle.cedar_validated.specs.LastNamed.{last_named, last_of_uid}
 use Rattle.cedar_schema.proofs.schema.ValidatorSchema.new.Goals as goal
 
@@ -42,4 +43,10 @@ returns g c =
                 ∙ (c.in_ok-actions.ensures uid ∙ ap (last_of_uid (uid_of uid)) actions.4.0),
           ))
           c.from_parts.ensures.actions;
+      common_types =
+          IfOk-weaker c.from_parts.result _ _ (λ schema same. ap common_entries same ∙ c.nothing.ensures.common_types)
+          c.from_parts.ensures.located;
+      namespaces =
+          IfOk-weaker c.from_parts.result _ _ (λ schema same. ap namespace_entries same ∙ c.nothing.ensures.namespaces)
+          c.from_parts.ensures.located;
     }
