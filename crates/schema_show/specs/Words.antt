@@ -11,12 +11,16 @@ case_names =
 abbrev pub mode_names : List Text
 mode_names = codes "strict" ∷ codes "permissive" ∷ []
 
--- the names of the types that are joined
-abbrev pub type_names : List Text
-type_names =
-    codes "never" ∷ codes "true" ∷ codes "false" ∷ codes "bool" ∷ codes "long" ∷ codes "string" ∷ codes "any-set"
+-- the names of the types that are separated
+abbrev pub stated_names : List Text
+stated_names =
+    codes "true" ∷ codes "false" ∷ codes "bool" ∷ codes "long" ∷ codes "string" ∷ codes "any-set"
     ∷ codes "set-bool" ∷ codes "set-long" ∷ codes "any-entity" ∷ codes "foo" ∷ codes "bar" ∷ codes "any-record"
-    ∷ codes "unit" ∷ codes "r1" ∷ codes "r2" ∷ codes "r3" ∷ codes "opt" ∷ []
+    ∷ codes "unit" ∷ codes "r1" ∷ codes "r2" ∷ codes "r3" ∷ []
+
+-- the names of the types that are joined: these, and one of no value and one with an optional attribute
+abbrev pub type_names : List Text
+type_names = codes "never" ∷ codes "opt" ∷ stated_names
 
 -- the words ask for the join of two types in a mode
 pub record IsJoin (words : List Text) : Type 0 where
@@ -34,6 +38,15 @@ pub record IsShow (words : List Text) : Type 0 where
   pub is_case : Contains case_names case
   pub asked : words ≡ codes "show" ∷ case ∷ []
 
--- the words give a command: `list`, `show` with the name of a case, or `join` with a mode and two types
+-- the words ask whether a value separates two types
+pub record IsSeparate (words : List Text) : Type 0 where
+  pub first : Text
+  pub second : Text
+  pub is_first : Contains stated_names first
+  pub is_second : Contains stated_names second
+  pub asked : words ≡ codes "separate" ∷ first ∷ second ∷ []
+
+-- the words give a command: `list`, `show` with the name of a case, `join` with a mode and two types, or `separate` with
+-- two types
 abbrev pub IsCommand : List Text → Type 0
-IsCommand words = (words ≡ codes "list" ∷ []) ⊎ (IsShow words ⊎ IsJoin words)
+IsCommand words = (words ≡ codes "list" ∷ []) ⊎ (IsShow words ⊎ (IsJoin words ⊎ IsSeparate words))

@@ -1,7 +1,7 @@
 //! What the words of the program ask for.
 
 ghost use Rattle.std.specs.Prelude.{◌≡◌, ◌↔◌, codes, Contains, IsSome, map, string_bytes};
-ghost use Rattle.schema_show.specs.Words.{IsCommand, case_names, mode_names, type_names};
+ghost use Rattle.schema_show.specs.Words.{IsCommand, case_names, mode_names, stated_names, type_names};
 
 use cedar_schema::below::ValidationMode;
 
@@ -53,11 +53,10 @@ fn case_named(name: &str) -> Option<Case>
     }
 }
 
-/// A type that the program joins.
+/// A type that the program separates from others: no `Never` stands in it, and each attribute in it is
+/// required.
 #[derive(Clone, Copy, Debug, PartialEq, Eq)]
-pub enum SampleType {
-    /// No value.
-    Never,
+pub enum StatedType {
     /// The value true.
     True,
     /// The value false.
@@ -90,35 +89,53 @@ pub enum SampleType {
     BarAndString,
     /// The closed record `{bar: Long}`.
     BarAlone,
+}
+
+/// A type that the program joins.
+#[derive(Clone, Copy, Debug, PartialEq, Eq)]
+pub enum SampleType {
+    /// No value.
+    Never,
     /// The closed record `{y?: Long}`.
     Optional,
+    /// A type that is separated from others too.
+    Stated(StatedType),
+}
+
+/// The type of a name, if it is one of those that are separated.
+#[tactic(auto, using(crate::proofs::Names::stated_from_names))]
+fn stated_named(name: &str) -> Option<StatedType>
+    ensures { IsSome result ↔ Contains stated_names name.now }
+{
+    match name {
+        "true" => Some(StatedType::True),
+        "false" => Some(StatedType::False),
+        "bool" => Some(StatedType::Bool),
+        "long" => Some(StatedType::Long),
+        "string" => Some(StatedType::String),
+        "any-set" => Some(StatedType::AnySet),
+        "set-bool" => Some(StatedType::SetOfBool),
+        "set-long" => Some(StatedType::SetOfLong),
+        "any-entity" => Some(StatedType::AnyEntity),
+        "foo" => Some(StatedType::Foo),
+        "bar" => Some(StatedType::Bar),
+        "any-record" => Some(StatedType::AnyRecord),
+        "unit" => Some(StatedType::Unit),
+        "r1" => Some(StatedType::BarAndFalse),
+        "r2" => Some(StatedType::BarAndString),
+        "r3" => Some(StatedType::BarAlone),
+        _ => None,
+    }
 }
 
 /// The type of a name, if it is one of those that are joined.
-#[tactic(auto, using(crate::proofs::Names::type_from_names))]
 fn type_named(name: &str) -> Option<SampleType>
     ensures { IsSome result ↔ Contains type_names name.now }
 {
     match name {
         "never" => Some(SampleType::Never),
-        "true" => Some(SampleType::True),
-        "false" => Some(SampleType::False),
-        "bool" => Some(SampleType::Bool),
-        "long" => Some(SampleType::Long),
-        "string" => Some(SampleType::String),
-        "any-set" => Some(SampleType::AnySet),
-        "set-bool" => Some(SampleType::SetOfBool),
-        "set-long" => Some(SampleType::SetOfLong),
-        "any-entity" => Some(SampleType::AnyEntity),
-        "foo" => Some(SampleType::Foo),
-        "bar" => Some(SampleType::Bar),
-        "any-record" => Some(SampleType::AnyRecord),
-        "unit" => Some(SampleType::Unit),
-        "r1" => Some(SampleType::BarAndFalse),
-        "r2" => Some(SampleType::BarAndString),
-        "r3" => Some(SampleType::BarAlone),
         "opt" => Some(SampleType::Optional),
-        _ => None,
+        _ => Some(SampleType::Stated(stated_named(name)?)),
     }
 }
 
@@ -143,6 +160,8 @@ pub enum Command {
     Show(Case),
     /// To print the join of two types in a mode.
     Join(ValidationMode, SampleType, SampleType),
+    /// To tell whether a value separates two types.
+    Separate(StatedType, StatedType),
 }
 
 /// The command of one word.
@@ -176,6 +195,16 @@ fn join_command(word: &str, mode: &str, first: &str, second: &str) -> Option<Com
     }
 }
 
+/// The command of a word and the names of two types.
+fn separate_command(word: &str, first: &str, second: &str) -> Option<Command>
+    ensures { IsSome result ↔ ((word.now ≡ codes "separate") × Contains stated_names first.now × Contains stated_names second.now) }
+{
+    match word {
+        "separate" => Some(Command::Separate(stated_named(first)?, stated_named(second)?)),
+        _ => None,
+    }
+}
+
 /// The command that some words give, compared exactly, or None where they give none.
 pub fn command_of(words: &[String]) -> Option<Command>
     ensures { IsSome result ↔ IsCommand (map string_bytes words.now) }
@@ -183,6 +212,11 @@ pub fn command_of(words: &[String]) -> Option<Command>
     match words {
         [list] => list_command(list.as_str()),
         [show, case] => show_command(show.as_str(), case.as_str()),
+        [separate, first, second] => separate_command(
+            separate.as_str(),
+            first.as_str(),
+            second.as_str(),
+        ),
         [join, mode, first, second] => join_command(
             join.as_str(),
             mode.as_str(),

@@ -1,14 +1,24 @@
-//! The types that the program joins, and the text of a join.
+//! The types that the program joins and separates.
 
-use crate::command::SampleType;
+ghost use Rattle.std.specs.Prelude.{IfOk};
+ghost use Rattle.std.specs.List.{AllByRecursion};
+ghost use Rattle.cedar_types.specs.Meaning.{ty_of};
+ghost use Rattle.schema_show.specs.Samples.{IsStatedAlone};
+
+use crate::command::{SampleType, StatedType};
 use crate::declaring::name;
-use cedar_schema::below::{EntityType, M, ValidationMode};
+use cedar_schema::below::{EntityType, Extensions, M, Name, ValidationMode};
+use cedar_schema::member::separating_value;
 use cedar_schema::{AttributeType, JoinError, OpenTag, Type};
 use std::alloc::Global;
+use std::collections::BTreeMap;
 use std::rc::Rc;
 
 /// The sets of elements of a type.
-fn set_of(alloc: Global, element: Type) -> M<Type> {
+fn set_of(alloc: Global, element: Type) -> M<Type>
+    requires { IsStatedAlone (ty_of element) }
+    ensures { IfOk result (λ ty. IsStatedAlone (ty_of ty)) }
+{
     Ok(Type::set(Rc::new(alloc, element)?))
 }
 
@@ -21,52 +31,86 @@ fn attribute(alloc: Global, text: &str, ty: Type, required: bool) -> M<(String, 
     ))
 }
 
-/// The closed record `{bar: Long}`, and with `foo` of another type.
-fn bar_and(alloc: Global, foo: Type) -> M<Type> {
-    let attributes = [
-        attribute(alloc, "bar", Type::primitive_long(), true)?,
-        attribute(alloc, "foo", foo, true)?,
-    ];
+/// The closed record of required attributes.
+fn closed(alloc: Global, items: Vec<(String, Rc<Type>)>) -> M<Type>
+    requires { AllByRecursion (λ item. IsStatedAlone (ty_of item.1.value)) items.items }
+    ensures { IfOk result (λ ty. IsStatedAlone (ty_of ty)) }
+{
+    Type::record_with_required_attributes(alloc, items, OpenTag::ClosedAttributes)
+}
+
+/// The closed record `{bar: Long}`.
+fn bar_alone(alloc: Global) -> M<Type>
+    ensures { IfOk result (λ ty. IsStatedAlone (ty_of ty)) }
+{
+    let mut items = Vec::new(alloc);
+    items.push((String::from_str(alloc, "bar")?, Rc::new(alloc, Type::Long)?))?;
+    closed(alloc, items)
+}
+
+/// The closed record `{bar: Long}` with `foo` of another type.
+fn bar_and(alloc: Global, foo: Type) -> M<Type>
+    requires { IsStatedAlone (ty_of foo) }
+    ensures { IfOk result (λ ty. IsStatedAlone (ty_of ty)) }
+{
+    let mut items = Vec::new(alloc);
+    items.push((String::from_str(alloc, "bar")?, Rc::new(alloc, Type::Long)?))?;
+    items.push((String::from_str(alloc, "foo")?, Rc::new(alloc, foo)?))?;
+    closed(alloc, items)
+}
+
+/// The closed record of one optional attribute of whole numbers.
+fn optional(alloc: Global) -> M<Type> {
+    let attributes = [attribute(alloc, "y", Type::primitive_long(), false)?];
     Type::record_with_attributes(alloc, attributes, OpenTag::ClosedAttributes)
 }
 
-/// The closed record of one attribute of whole numbers.
-fn one_attribute(alloc: Global, text: &str, required: bool) -> M<Type> {
-    let attributes = [attribute(alloc, text, Type::primitive_long(), required)?];
-    Type::record_with_attributes(alloc, attributes, OpenTag::ClosedAttributes)
+/// The type of the entities of the type that a text names.
+fn entity_of(alloc: Global, ty: Name) -> M<Type>
+    ensures { IfOk result (λ ty. IsStatedAlone (ty_of ty)) }
+{
+    Type::named_entity_reference(alloc, EntityType::new(ty))
 }
 
-/// The closed record without attributes.
-fn unit(alloc: Global) -> M<Type> {
-    Type::record_with_attributes(alloc, Vec::new(alloc), OpenTag::ClosedAttributes)
+/// The type that a sample stands for, which needs no samples for being stated.
+fn stated_type(alloc: Global, sample: StatedType) -> M<Type>
+    ensures { IfOk result (λ ty. IsStatedAlone (ty_of ty)) }
+{
+    match sample {
+        StatedType::True => Ok(Type::singleton_boolean(true)),
+        StatedType::False => Ok(Type::singleton_boolean(false)),
+        StatedType::Bool => Ok(Type::primitive_boolean()),
+        StatedType::Long => Ok(Type::primitive_long()),
+        StatedType::String => Ok(Type::primitive_string()),
+        StatedType::AnySet => Ok(Type::any_set()),
+        StatedType::SetOfBool => set_of(alloc, Type::primitive_boolean()),
+        StatedType::SetOfLong => set_of(alloc, Type::primitive_long()),
+        StatedType::AnyEntity => Ok(Type::any_entity_reference()),
+        StatedType::Foo => entity_of(alloc, name(alloc, "Foo")?),
+        StatedType::Bar => entity_of(alloc, name(alloc, "Bar")?),
+        StatedType::AnyRecord => Type::any_record(alloc),
+        StatedType::Unit => closed(alloc, Vec::new(alloc)),
+        StatedType::BarAndFalse => bar_and(alloc, Type::singleton_boolean(false)),
+        StatedType::BarAndString => bar_and(alloc, Type::primitive_string()),
+        StatedType::BarAlone => bar_alone(alloc),
+    }
 }
 
 /// The type that a sample stands for.
 fn type_of(alloc: Global, sample: SampleType) -> M<Type> {
     match sample {
         SampleType::Never => Ok(Type::Never),
-        SampleType::True => Ok(Type::singleton_boolean(true)),
-        SampleType::False => Ok(Type::singleton_boolean(false)),
-        SampleType::Bool => Ok(Type::primitive_boolean()),
-        SampleType::Long => Ok(Type::primitive_long()),
-        SampleType::String => Ok(Type::primitive_string()),
-        SampleType::AnySet => Ok(Type::any_set()),
-        SampleType::SetOfBool => set_of(alloc, Type::primitive_boolean()),
-        SampleType::SetOfLong => set_of(alloc, Type::primitive_long()),
-        SampleType::AnyEntity => Ok(Type::any_entity_reference()),
-        SampleType::Foo => {
-            Type::named_entity_reference(alloc, EntityType::new(name(alloc, "Foo")?))
-        }
-        SampleType::Bar => {
-            Type::named_entity_reference(alloc, EntityType::new(name(alloc, "Bar")?))
-        }
-        SampleType::AnyRecord => Type::any_record(alloc),
-        SampleType::Unit => unit(alloc),
-        SampleType::BarAndFalse => bar_and(alloc, Type::singleton_boolean(false)),
-        SampleType::BarAndString => bar_and(alloc, Type::primitive_string()),
-        SampleType::BarAlone => one_attribute(alloc, "bar", true),
-        SampleType::Optional => one_attribute(alloc, "y", false),
+        SampleType::Optional => optional(alloc),
+        SampleType::Stated(sample) => stated_type(alloc, sample),
     }
+}
+
+/// Whether a value that the one type has and the other hasn't is found.
+pub(crate) fn is_separated(alloc: Global, first: StatedType, second: StatedType) -> M<bool> {
+    let (first, second) = (stated_type(alloc, first)?, stated_type(alloc, second)?);
+    let extensions = Extensions::new(Vec::new(alloc), BTreeMap::new(alloc));
+    let value = separating_value(alloc, &first, &second, &extensions, &[])?;
+    Ok(value.is_some())
 }
 
 /// The join of two types in a mode.

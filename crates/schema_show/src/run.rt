@@ -5,7 +5,7 @@ ghost use Rattle.schema_show.specs.Words.{IsCommand};
 
 use crate::cases::{fragments_of, sample_extensions};
 use crate::command::{Case, Command, command_of};
-use crate::joined::joined;
+use crate::joined::{is_separated, joined};
 use cedar_schema::below::{M, Memory};
 use cedar_schema::{JoinError, SchemaError, Type, ValidatorSchema};
 use schema_lines::lines_of;
@@ -14,7 +14,7 @@ use std::io;
 use std::io::Write;
 
 /// How to call the program.
-const USAGE: &str = "usage: schema_show list | show CASE | join MODE A B\n";
+const USAGE: &str = "usage: schema_show list | show CASE | join MODE A B | separate A B\n";
 
 /// The names of the built-in cases, one a line.
 const LIST: &str = "alias\nboth\ncycle\nempty\nlinked\nphotos\nring\nshadow\nshapes\nsplit\ntint\n";
@@ -85,6 +85,17 @@ fn outcome_of(alloc: Global, command: Command) -> M<Outcome>
         Command::Show(case) => lines_or_refusal(alloc, schema_of(alloc, case)),
         Command::Join(mode, first, second) => {
             join_or_refusal(alloc, joined(alloc, mode, first, second))
+        }
+        Command::Separate(first, second) => {
+            let line = if is_separated(alloc, first, second)? {
+                "separated\n"
+            } else {
+                "none\n"
+            };
+            Ok(Outcome {
+                text: String::from_str(alloc, line)?,
+                status: 0,
+            })
         }
     }
 }

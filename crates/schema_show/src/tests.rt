@@ -23,7 +23,7 @@ impl Write for Broken {
 }
 
 /// The line on how to call the program.
-const USAGE_LINE: &str = "usage: schema_show list | show CASE | join MODE A B\n";
+const USAGE_LINE: &str = "usage: schema_show list | show CASE | join MODE A B | separate A B\n";
 
 /// The names of the cases.
 const CASES: &str =
@@ -202,9 +202,32 @@ fn joins_print_their_text(rt: HostRuntime) -> Result<(), Fail> {
 }
 
 #[test]
+fn separations_are_told(rt: HostRuntime) -> Result<(), Fail> {
+    for (first, second, want) in [
+        ("true", "bool", "none\n"),
+        ("foo", "any-entity", "none\n"),
+        ("r3", "any-record", "none\n"),
+        ("set-bool", "any-set", "none\n"),
+        ("unit", "unit", "none\n"),
+        ("bool", "true", "separated\n"),
+        ("foo", "bar", "separated\n"),
+        ("any-entity", "foo", "separated\n"),
+        ("any-record", "r3", "separated\n"),
+        ("unit", "r3", "separated\n"),
+        ("r1", "r2", "separated\n"),
+        ("set-bool", "set-long", "separated\n"),
+        ("any-set", "set-bool", "separated\n"),
+        ("long", "string", "separated\n"),
+    ] {
+        check_run(&rt, &["separate", first, second], 0, want)?;
+    }
+    Ok(())
+}
+
+#[test]
 fn other_words_are_answered_by_the_usage(rt: HostRuntime) -> Result<(), Fail> {
     let alloc = rt.alloc();
-    let cases: [(&str, &[&str]); 15] = [
+    let cases: [(&str, &[&str]); 20] = [
         ("no words", &[]),
         ("an empty word", &[""]),
         ("an unknown command", &["draw"]),
@@ -222,6 +245,14 @@ fn other_words_are_answered_by_the_usage(rt: HostRuntime) -> Result<(), Fail> {
         (
             "a further word of join",
             &["join", "strict", "true", "false", "bool"],
+        ),
+        ("a type without values", &["separate", "never", "bool"]),
+        ("an optional attribute", &["separate", "opt", "opt"]),
+        ("a second without values", &["separate", "bool", "never"]),
+        ("a missing second type", &["separate", "bool"]),
+        (
+            "a further word of separate",
+            &["separate", "bool", "true", "false"],
         ),
     ];
     for (place, texts) in cases {
