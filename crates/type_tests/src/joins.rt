@@ -20,7 +20,7 @@ fn printed<T: Display + Drop>(alloc: Global, answer: Result<T, JoinError>) -> Re
 }
 
 /// Pairs of types, each with what they are joined to in strict mode and in permissive mode.
-const JOINS: [(&str, &str, &str, &str); 11] = [
+const JOINS: [(&str, &str, &str, &str); 12] = [
     ("true", "false", "Bool", "Bool"),
     ("long", "string", "None", "None"),
     ("set-bool", "set-long", "None", "None"),
@@ -67,6 +67,12 @@ const JOINS: [(&str, &str, &str, &str); 11] = [
         "Set<__cedar::internal::Any>",
         "Set<__cedar::internal::Any>",
     ),
+    (
+        "any-set-and-long",
+        "two-longs",
+        "None",
+        "__cedar::internal::OpenRecord{t: Long,}",
+    ),
 ];
 
 #[test]
@@ -91,7 +97,7 @@ fn types_are_joined_by_their_rules(rt: HostRuntime) -> Result<(), Fail> {
 }
 
 /// Lists of types, each with what it is reduced to in permissive mode.
-const REDUCTIONS: [(&[&str], &str); 7] = [
+const REDUCTIONS: [(&[&str], &str); 13] = [
     (&[], "__cedar::internal::Never"),
     (
         &["set-bool", "any-set", "set-long"],
@@ -111,6 +117,12 @@ const REDUCTIONS: [(&[&str], &str); 7] = [
     ),
     (&["set-bool", "set-long", "any-set"], "None"),
     (&["set-long", "set-bool", "any-set"], "None"),
+    (&["set-true", "set-false", "set-bool"], "Set<Bool>"),
+    (&["set-true", "set-bool", "set-false"], "Set<Bool>"),
+    (&["set-false", "set-true", "set-bool"], "Set<Bool>"),
+    (&["set-false", "set-bool", "set-true"], "Set<Bool>"),
+    (&["set-bool", "set-true", "set-false"], "Set<Bool>"),
+    (&["set-bool", "set-false", "set-true"], "Set<Bool>"),
 ];
 
 #[test]
