@@ -97,7 +97,7 @@ module _ (schema closed : PlainSchema) (types : HoldsInTurn (ClosesType schema) 
       let P : PlainName → Type 0 = Chain (ListsDescendant schema) lower in
       subst P it.2.key ((it.2.descendants lower).0 lists.2)
 
-  action_chain_listed : (lower upper : PlainUid) → Chain (ListsDescendantAction schema) lower upper
+  pub action_chain_listed : (lower upper : PlainUid) → Chain (ListsDescendantAction schema) lower upper
       → ListsDescendantAction closed lower upper
   action_chain_listed lower upper chain =
       let last = last_step (ListsDescendantAction schema) lower upper chain in
