@@ -1,3 +1,4 @@
+pub mod Comparisons
 pub mod InOrder
 pub mod NamespaceLemmas
 pub mod ShownLemmas

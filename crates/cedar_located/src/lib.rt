@@ -14,3 +14,4 @@ mod located_namespace;
 mod located_type;
 mod namespaces;
 mod places;
+pub mod theorems;
