@@ -24,6 +24,8 @@ mod names;
 #[cfg(test)]
 mod orders;
 #[cfg(test)]
+mod places;
+#[cfg(test)]
 mod queries;
 #[cfg(test)]
 mod questions;

@@ -15,7 +15,7 @@ use std::collections::BTreeMap;
 use std::test::Fail;
 
 /// A place in the text of a number.
-fn place(source: u32) -> Loc {
+pub(crate) fn place(source: u32) -> Loc {
     Loc {
         source,
         start: 2,

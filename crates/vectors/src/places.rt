@@ -1,0 +1,169 @@
+//! Common types and namespaces that schemas show, with where they were written.
+
+use crate::answers::{build, sample_extensions};
+use crate::locations::place;
+use crate::names::{internal_name, namespace, raw, unreserved_id};
+use crate::shorthand::nothing;
+use cedar_schema::below::Loc;
+use cedar_schema::json_schema::{
+    CommonType, CommonTypeId, Fragment, NamespaceDefinition, RawName, Type, TypeVariant,
+};
+use cedar_schema::{LocatedCommonType, LocatedType, Type as Written, ValidatorSchema};
+use std::alloc::Global;
+use std::collections::BTreeMap;
+use std::test::Fail;
+
+/// The type of numbers, written at a place.
+fn number_at(loc: Option<Loc>) -> Type<RawName> {
+    Type::Plain {
+        ty: TypeVariant::Long,
+        loc,
+    }
+}
+
+/// The definition of a common type of a name, declared at a place.
+fn declares(
+    alloc: Global,
+    id: &str,
+    ty: Type<RawName>,
+    loc: Option<Loc>,
+) -> Result<NamespaceDefinition<RawName>, Fail> {
+    let id = CommonTypeId::new(unreserved_id(alloc, id)?).ok_or("a word of Cedar's own")?;
+    let mut definition = nothing(alloc);
+    definition.common_types.insert(id, CommonType { ty, loc })?;
+    Ok(definition)
+}
+
+/// The fragment of a definition in a namespace.
+fn within(
+    alloc: Global,
+    text: &str,
+    definition: NamespaceDefinition<RawName>,
+) -> Result<Fragment<RawName>, Fail> {
+    let mut definitions = BTreeMap::new(alloc);
+    definitions.insert(namespace(alloc, text)?, definition)?;
+    Ok(Fragment(definitions))
+}
+
+/// The names of the namespaces of a schema, and where they were defined.
+fn namespaces_of(alloc: Global, schema: &ValidatorSchema) -> Result<String, Fail> {
+    let mut shown = String::new(alloc);
+    for namespace in schema.namespaces() {
+        let text = format!(in alloc; "{} {};", namespace.name, number_of(namespace.def_loc))?;
+        shown.push_str(text.as_str())?;
+    }
+    Ok(shown)
+}
+
+/// The number of the text of a place, or 0.
+fn number_of(loc: Option<Loc>) -> u32 {
+    match loc {
+        Some(loc) => loc.source,
+        None => 0,
+    }
+}
+
+/// A common type as text: its base name and its full name, where it was declared, and where its type was
+/// written.
+fn text_of(alloc: Global, common: &LocatedCommonType) -> Result<String, Fail> {
+    let declared = number_of(common.name_loc);
+    let written = number_of(common.type_loc);
+    Ok(format!(in alloc;
+        "{} {} {declared} {written};",
+        common.name, common.full_name
+    )?)
+}
+
+/// The common types of a schema.
+fn common_types_of(alloc: Global, schema: &ValidatorSchema) -> Result<String, Fail> {
+    let mut shown = String::new(alloc);
+    for common in schema.common_types() {
+        shown.push_str(text_of(alloc, common)?.as_str())?;
+    }
+    Ok(shown)
+}
+
+#[test]
+fn no_fragments_have_the_namespace_of_the_built_in_types(rt: HostRuntime) -> Result<(), Fail> {
+    let alloc = rt.alloc();
+    let schema = build(alloc, Vec::new(alloc))??;
+    assert_eq!(rt; namespaces_of(alloc, &schema)?.as_str(), "__cedar 0;");
+    for namespace in schema.namespaces() {
+        assert!(rt; namespace.clone()? == *namespace);
+    }
+    let empty = ValidatorSchema::empty(alloc);
+    assert_eq!(rt; namespaces_of(alloc, &empty)?.as_str(), "");
+    assert!(rt; schema == empty);
+    Ok(())
+}
+
+#[test]
+fn each_namespace_is_shown_once(rt: HostRuntime) -> Result<(), Fail> {
+    let alloc = rt.alloc();
+    let mut fragments = Vec::new(alloc);
+    for (name, source) in [("N", 1), ("", 2), ("N", 3), ("N::M", 4)] {
+        let mut definition = nothing(alloc);
+        definition.loc = Some(place(source));
+        fragments.push(within(alloc, name, definition)?)?;
+    }
+    let schema = build(alloc, fragments)??;
+    let wanted = "N::M 4;N 3;__cedar 0;";
+    assert_eq!(rt; namespaces_of(alloc, &schema)?.as_str(), wanted);
+    let extensions = sample_extensions(alloc)?;
+    let schema = schema.try_validate(alloc, &extensions)?;
+    assert_eq!(rt; namespaces_of(alloc, &schema)?.as_str(), wanted);
+    Ok(())
+}
+
+#[test]
+fn common_types_are_shown_where_they_were_declared(rt: HostRuntime) -> Result<(), Fail> {
+    let alloc = rt.alloc();
+    for (loc, wanted) in [(Some(place(1)), "T N::T 1 2;T M::T 1 2;"), (None, "")] {
+        let mut fragments = Vec::new(alloc);
+        for name in ["N", "M"] {
+            let definition = declares(alloc, "T", number_at(Some(place(2))), loc)?;
+            fragments.push(within(alloc, name, definition)?)?;
+        }
+        let schema = build(alloc, fragments)??;
+        assert_eq!(rt; common_types_of(alloc, &schema)?.as_str(), wanted);
+    }
+    Ok(())
+}
+
+#[test]
+fn types_were_written_where_their_elements_were(rt: HostRuntime) -> Result<(), Fail> {
+    let alloc = rt.alloc();
+    let numbers = TypeVariant::Set {
+        element: Box::new(alloc, number_at(Some(place(3))))?,
+    };
+    let numbers = Type::Plain {
+        ty: numbers,
+        loc: Some(place(2)),
+    };
+    let referring = Type::CommonTypeRef {
+        type_name: raw(alloc, "T")?,
+        loc: Some(place(5)),
+    };
+    let first = within(alloc, "N", declares(alloc, "T", numbers, Some(place(1)))?)?;
+    let second = within(alloc, "N", declares(alloc, "S", referring, Some(place(4)))?)?;
+    let schema = build(alloc, vec![in alloc; first, second]?)??;
+    assert_eq!(rt;
+        common_types_of(alloc, &schema)?.as_str(),
+        "T N::T 1 3;S N::S 4 5;"
+    );
+    Ok(())
+}
+
+#[test]
+fn located_types_compare_their_locations(rt: HostRuntime) -> Result<(), Fail> {
+    let alloc = rt.alloc();
+    let here = LocatedType::new_with_loc(Written::Long, Some(place(1)));
+    let there = LocatedType::new(Written::Long).with_loc(Some(place(2)));
+    assert!(rt; here != there);
+    assert!(rt; here.clone()? == here);
+    assert!(rt; there.with_loc(Some(place(1))) == here);
+    let common = LocatedCommonType::new(alloc, &internal_name(alloc, "N::T")?, here)?;
+    assert_eq!(rt; text_of(alloc, &common)?.as_str(), "T N::T 0 1;");
+    assert!(rt; common.clone()? == common);
+    Ok(())
+}
