@@ -17,7 +17,8 @@ map-filter : {A B : Type 0} (f : A → B) (test : B → Bool) (xs : List A) → 
 map-filter f test [] = refl
 map-filter f test (x ∷ xs) =
     elim (test (f x)) as
-    (λ b. map f (cond b (x ∷ filter (λ x. test (f x)) xs) (filter (λ x. test (f x)) xs)) ≡ cond b (f x ∷ filter test (map f xs)) (filter test (map f xs)))
+    (λ b. map f (cond b (x ∷ filter (λ x. test (f x)) xs) (filter (λ x. test (f x)) xs))
+    ≡ cond b (f x ∷ filter test (map f xs)) (filter test (map f xs)))
     [ true ↦ ap (λ rest. f x ∷ rest) (map-filter f test xs) | false ↦ map-filter f test xs ]
 
 module _ (N : Type 0) where

@@ -88,6 +88,9 @@ fn no_fragments_have_the_namespace_of_the_built_in_types(rt: HostRuntime) -> Res
     let alloc = rt.alloc();
     let schema = build(alloc, Vec::new(alloc))??;
     assert_eq!(rt; namespaces_of(alloc, &schema)?.as_str(), "__cedar 0;");
+    for namespace in schema.namespaces() {
+        assert!(rt; namespace.clone()? == *namespace);
+    }
     let empty = ValidatorSchema::empty(alloc);
     assert_eq!(rt; namespaces_of(alloc, &empty)?.as_str(), "");
     assert!(rt; schema == empty);
