@@ -43,7 +43,7 @@ module _ (schema closed : PlainSchema) (closes : ClosesSchema schema closed) whe
           let P : PlainName → Type 0 = Chain (ListsDescendant schema) lower in (
             λ among. subst P (sym first.key) (back.chain lower other.0 ((second.descendants lower).0 among)),
             λ chain. (second.descendants lower).1
-            (one (chain_listed schema closed closes.entity_types closes.actions lower other.0 (subst P first.key chain))),
+                (one (chain_listed schema closed closes.entity_types closes.actions lower other.0 (subst P first.key chain))),
           );
     }
 
@@ -57,7 +57,7 @@ module _ (schema closed : PlainSchema) (closes : ClosesSchema schema closed) whe
           let P : PlainUid → Type 0 = Chain (ListsDescendantAction schema) lower in (
             λ among. subst P (sym first.key) (back.action_chain lower other.0 ((second.descendants lower).0 among)),
             λ chain. (second.descendants lower).1
-            (one (action_chain_listed schema closed closes.entity_types closes.actions lower other.0 (subst P first.key chain))),
+                (one (action_chain_listed schema closed closes.entity_types closes.actions lower other.0 (subst P first.key chain))),
           );
     }
 
