@@ -7,8 +7,8 @@ use Rattle.cedar_rules.specs.Ty.{Fields, Ty, end, field, record_of, set_of}
 abbrev mutual
   -- how many parts a type has
   pub ty_size : Ty → ℕ
-  ty_size (set_of ty) = ty_size ty + 1
-  ty_size (record_of fields openness) = fields_size fields + 2
+  ty_size (set_of ty) = ty_size ty + 2
+  ty_size (record_of fields openness) = fields_size fields + 3
   ty_size _ = 0
 
   -- how many the types of attributes have

@@ -12,6 +12,7 @@ ghost use Rattle.cedar_rules.specs.Below.{Below, FieldsBelow};
 ghost use Rattle.cedar_rules.specs.Fields.{field_names};
 ghost use Rattle.cedar_rules.specs.Has.{Has};
 ghost use Rattle.cedar_rules.specs.Stated.{AreStatedWith, IsStatedWith};
+ghost use Rattle.cedar_rules.specs.Ty.{record_of, set_of};
 ghost use Rattle.cedar_rules.specs.declared.open_tag.OpenTag.TheVariants.{ClosedAttributes};
 ghost use Rattle.cedar_separated.specs.Filling.{IsAttributeStart, IsRecordStart};
 ghost use Rattle.cedar_separated.specs.Separation.{IsSeparation};
@@ -156,6 +157,62 @@ fn separating_start(
     }
 }
 
+/// A record that the one record type has and the other hasn't, if there is one, or want of memory: a
+/// start, with samples of the attributes that it lacks.
+#[cycle(separating)]
+fn separating_record(
+    alloc: Global,
+    lower: &Attributes,
+    openness: OpenTag,
+    upper: &Attributes,
+    upper_openness: OpenTag,
+    extensions: &Extensions,
+    samples: &[Value],
+) -> M<Option<RestrictedExpr>>
+    requires first { AreStatedWith extensions.now (value_trees samples.now) (fields_of lower.now) }
+    requires second { AreStatedWith extensions.now (value_trees samples.now) (fields_of upper.now) }
+    ensures { IfOk result (λ found. IsSeparation extensions.now (record_of (fields_of lower.now) openness)
+        (record_of (fields_of upper.now) upper_openness) (option_map tree_of found)) }
+{
+    let found = separating_start(
+        alloc,
+        lower,
+        openness,
+        upper,
+        upper_openness,
+        extensions,
+        samples,
+    )?;
+    match found {
+        Some(start) => {
+            let values = fill(alloc, start, lower, extensions, samples)?;
+            Ok(Some(RestrictedExpr::Record(values)))
+        }
+        None => Ok(None),
+    }
+}
+
+/// A set that the one set type has and the other hasn't, if there is one, or want of memory: of one
+/// element, which separates the types of their elements.
+#[cycle(separating)]
+fn separating_set(
+    alloc: Global,
+    lower: &Type,
+    upper: &Type,
+    extensions: &Extensions,
+    samples: &[Value],
+) -> M<Option<RestrictedExpr>>
+    requires first { IsStatedWith extensions.now (value_trees samples.now) (ty_of lower.now) }
+    requires second { IsStatedWith extensions.now (value_trees samples.now) (ty_of upper.now) }
+    ensures { IfOk result (λ found. IsSeparation extensions.now (set_of (ty_of lower.now)) (set_of (ty_of upper.now))
+        (option_map tree_of found)) }
+{
+    match separating_expr(alloc, lower, upper, extensions, samples)? {
+        Some(value) => Ok(Some(set_of_one(alloc, value)?)),
+        None => Ok(None),
+    }
+}
+
 /// An expression of a value that the one type has and the other hasn't, if there is one, or want of
 /// memory.
 ///
@@ -190,12 +247,7 @@ fn separating_expr(
         ) => match (lower, upper) {
             (_, None) => Ok(None),
             (None, Some(upper)) => Ok(Some(set_of_one(alloc, other_value(alloc, upper))?)),
-            (Some(lower), Some(upper)) => {
-                match separating_expr(alloc, lower, upper, extensions, samples)? {
-                    Some(value) => Ok(Some(set_of_one(alloc, value)?)),
-                    None => Ok(None),
-                }
-            }
+            (Some(lower), Some(upper)) => separating_set(alloc, lower, upper, extensions, samples),
         },
         (
             Type::Record {
@@ -206,24 +258,15 @@ fn separating_expr(
                 attrs: upper,
                 open_attributes: upper_openness,
             },
-        ) => {
-            let found = separating_start(
-                alloc,
-                lower,
-                *openness,
-                upper,
-                *upper_openness,
-                extensions,
-                samples,
-            )?;
-            match found {
-                Some(start) => {
-                    let values = fill(alloc, start, lower, extensions, samples)?;
-                    Ok(Some(RestrictedExpr::Record(values)))
-                }
-                None => Ok(None),
-            }
-        }
+        ) => separating_record(
+            alloc,
+            lower,
+            *openness,
+            upper,
+            *upper_openness,
+            extensions,
+            samples,
+        ),
         (Type::ExtensionType { name: lower }, Type::ExtensionType { name: upper }) => {
             if lower.is_same(upper) {
                 Ok(None)

@@ -86,6 +86,76 @@ entity Team standard
 entity User standard
 ";
 
+/// Joins: the mode, two types by name, the status and what is printed.
+const JOINS: [(&str, &str, &str, u8, &str); 18] = [
+    ("strict", "true", "false", 0, "Bool\n"),
+    ("permissive", "set-bool", "set-long", 1, "refused: None\n"),
+    (
+        "strict",
+        "any-set",
+        "set-long",
+        0,
+        "Set<__cedar::internal::Any>\n",
+    ),
+    (
+        "permissive",
+        "r1",
+        "unit",
+        0,
+        "__cedar::internal::OpenRecord{}\n",
+    ),
+    ("strict", "r1", "unit", 1, "refused: RecordWidth\n"),
+    (
+        "strict",
+        "any-record",
+        "unit",
+        0,
+        "__cedar::internal::OpenRecord{}\n",
+    ),
+    ("strict", "any-record", "r3", 1, "refused: RecordWidth\n"),
+    (
+        "permissive",
+        "unit",
+        "opt",
+        0,
+        "__cedar::internal::OpenRecord{}\n",
+    ),
+    ("strict", "foo", "any-entity", 1, "refused: EntityType\n"),
+    (
+        "strict",
+        "never",
+        "r1",
+        0,
+        "{bar: Long,foo: __cedar::internal::False,}\n",
+    ),
+    (
+        "permissive",
+        "r1",
+        "r2",
+        0,
+        "__cedar::internal::OpenRecord{bar: Long,}\n",
+    ),
+    ("strict", "r1", "r2", 1, "refused: None\n"),
+    (
+        "permissive",
+        "foo",
+        "bar",
+        0,
+        "__cedar::internal::Union<Bar, Foo>\n",
+    ),
+    ("permissive", "bool", "string", 1, "refused: None\n"),
+    (
+        "permissive",
+        "any-entity",
+        "any-record",
+        1,
+        "refused: EntityRecord\n",
+    ),
+    ("permissive", "opt", "opt", 0, "{y?: Long,}\n"),
+    ("strict", "r2", "r2", 0, "{bar: Long,foo: String,}\n"),
+    ("strict", "long", "long", 0, "Long\n"),
+];
+
 fn words_of(alloc: Global, texts: &[&str]) -> Result<Vec<String>, Fail> {
     let mut words = Vec::new(alloc);
     for text in texts {
@@ -128,74 +198,7 @@ fn commands_print_what_they_name(rt: HostRuntime) -> Result<(), Fail> {
 
 #[test]
 fn joins_print_their_text(rt: HostRuntime) -> Result<(), Fail> {
-    for (mode, first, second, status, want) in [
-        ("strict", "true", "false", 0, "Bool\n"),
-        ("permissive", "set-bool", "set-long", 1, "refused: None\n"),
-        (
-            "strict",
-            "any-set",
-            "set-long",
-            0,
-            "Set<__cedar::internal::Any>\n",
-        ),
-        (
-            "permissive",
-            "r1",
-            "unit",
-            0,
-            "__cedar::internal::OpenRecord{}\n",
-        ),
-        ("strict", "r1", "unit", 1, "refused: RecordWidth\n"),
-        (
-            "strict",
-            "any-record",
-            "unit",
-            0,
-            "__cedar::internal::OpenRecord{}\n",
-        ),
-        ("strict", "any-record", "r3", 1, "refused: RecordWidth\n"),
-        (
-            "permissive",
-            "unit",
-            "opt",
-            0,
-            "__cedar::internal::OpenRecord{}\n",
-        ),
-        ("strict", "foo", "any-entity", 1, "refused: EntityType\n"),
-        (
-            "strict",
-            "never",
-            "r1",
-            0,
-            "{bar: Long,foo: __cedar::internal::False,}\n",
-        ),
-        (
-            "permissive",
-            "r1",
-            "r2",
-            0,
-            "__cedar::internal::OpenRecord{bar: Long,}\n",
-        ),
-        ("strict", "r1", "r2", 1, "refused: None\n"),
-        (
-            "permissive",
-            "foo",
-            "bar",
-            0,
-            "__cedar::internal::Union<Bar, Foo>\n",
-        ),
-        ("permissive", "bool", "string", 1, "refused: None\n"),
-        (
-            "permissive",
-            "any-entity",
-            "any-record",
-            1,
-            "refused: EntityRecord\n",
-        ),
-        ("permissive", "opt", "opt", 0, "{y?: Long,}\n"),
-        ("strict", "r2", "r2", 0, "{bar: Long,foo: String,}\n"),
-        ("strict", "long", "long", 0, "Long\n"),
-    ] {
+    for (mode, first, second, status, want) in JOINS {
         check_run(&rt, &["join", mode, first, second], status, want)?;
     }
     Ok(())

@@ -7,7 +7,7 @@ use Rattle.std.specs.declared.string.String.{String}
 use Rattle.cedar_below.proofs.TreeLemmas.{tree_of-record}
 use Rattle.cedar_below.specs.RestrictedExpr.{entries_of, tree_of}
 use Rattle.cedar_below.specs.Text.{Text}
-use Rattle.cedar_below.specs.Tree.{Entries, Tree, entry, map_value, no_entry, no_tree, set_value, tree}
+use Rattle.cedar_below.specs.Tree.{Entries, Tree, entry, no_entry, no_tree, set_value, tree}
 use Rattle.cedar_below.specs.declared.value.RestrictedExpr.{RestrictedExpr}
 use Rattle.cedar_below.specs.declared.validation_mode.ValidationMode.TheVariants.{Permissive}
 use Rattle.cedar_rules.proofs.InclusionLemmas.{found-Decides}
@@ -24,7 +24,7 @@ use Rattle.cedar_separated.proofs.StartLemmas.{AreStatedWith-of, SeparatingSoFar
 use Rattle.cedar_separated.proofs.TypeSeparation.{any_set_separates, ty_of-any_set}
 use Rattle.cedar_separated.specs.Filling.{IsAttributeStart, IsRecordStart, IsStart}
 use Rattle.cedar_separated.specs.Separation.{IsSeparation, Separates}
-use Rattle.cedar_types.proofs.MemberParts.{attribute_of-parts, ty_of-entity, ty_of-record, ty_of-set}
+use Rattle.cedar_types.proofs.MemberParts.{attribute_of-parts, ty_of-entity, ty_of-set}
 use Rattle.cedar_types.specs.Attributes.{plain_attributes}
 use Rattle.cedar_types.specs.EntityKind.{kind_ty}
 use Rattle.cedar_types.specs.Layers.{IsAscending-fields}
@@ -170,25 +170,19 @@ separating_expr-returns-in-Entity-Entity t c =
     subst B (sym (ap ty_of c.in-Entity-Entity.is-1 ∙ ty_of-entity upper))
     (subst A (sym (ap ty_of c.in-Entity-Entity.is-0 ∙ ty_of-entity lower)) (each extensions))) c.separating_entity.ensures
 
-pub separating_expr-returns-in_ok-values-in-Some-found :
-    goal.separating_expr-returns-in_ok-values-in-Some-found
-separating_expr-returns-in_ok-values-in-Some-found t c =
+pub separating_record-returns-in_ok-values-in-Some : goal.separating_record-returns-in_ok-values-in-Some
+separating_record-returns-in_ok-values-in-Some t c =
     let extensions = c.args.extensions.now in
-    let lower = c.in-Record-Record.lower in
-    let upper = c.in-Record-Record.upper in
-    let openness = c.in-Record-Record.openness in
-    let upper_openness = c.in-Record-Record.upper_openness in
-    let values = c.in_ok-values-in-Some-found.values in
-    let F : Option _ → Type 0 = λ found. IsRecordStart extensions (fields_of lower) openness (fields_of upper) upper_openness
+    let lower = fields_of c.args.lower.now in
+    let upper = fields_of c.args.upper.now in
+    let values = c.in_ok-values-in-Some.values in
+    let F : Option _ → Type 0 = λ found. IsRecordStart extensions lower c.args.openness upper c.args.upper_openness
     (option_map entries_of found) in
-    let found : F (Some c.in-Some-found.start) = subst F c.in-Some-found.is c.in_ok-found-in-Record-Record.ensures in
-    let separates = start_separates extensions (fields_of lower) (fields_of upper) openness upper_openness
-    (entries_of c.in-Some-found.start) (entries_of values) found c.in_ok-values-in-Some-found.ensures in
-    let A : Ty → Type 0 = λ ty. Separates extensions ty (record_of (fields_of upper) upper_openness) (map_value (entries_of values)) in
-    let B : Ty → Type 0 = λ ty. Separates extensions (ty_of c.args.a.now) ty (map_value (entries_of values)) in
-    let V : Tree → Type 0 = Separates extensions (ty_of c.args.a.now) (ty_of c.args.b.now) in
-    subst V (sym (tree_of-record values)) (subst B (sym (ap ty_of c.in-Record-Record.is-1 ∙ ty_of-record upper upper_openness))
-    (subst A (sym (ap ty_of c.in-Record-Record.is-0 ∙ ty_of-record lower openness)) separates))
+    let found : F (Some c.in-Some.start) = subst F c.in-Some.is c.in_ok-found.ensures in
+    let separates = start_separates extensions lower upper c.args.openness c.args.upper_openness
+    (entries_of c.in-Some.start) (entries_of values) found c.in_ok-values-in-Some.ensures in
+    let V : Tree → Type 0 = Separates extensions (record_of lower c.args.openness) (record_of upper c.args.upper_openness) in
+    subst V (sym (tree_of-record values)) separates
 
 pub separating_expr-returns-in_ok-set_of_one-in-None-Some :
     goal.separating_expr-returns-in_ok-set_of_one-in-None-Some
