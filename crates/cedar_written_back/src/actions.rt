@@ -1,7 +1,6 @@
 //! Actions, written.
 
-ghost use Rattle.std.specs.Prelude.{◌≡◌, Contains, IfErr, IfOk, List, OnOk, Option, Some, false, map};
-ghost use Rattle.cedar_actions.specs.ActionKind.{kind_context};
+ghost use Rattle.std.specs.Prelude.{◌≡◌, Contains, IfErr, IfOk, List, OnOk, Option, false, map};
 ghost use Rattle.cedar_actions.specs.ValidatorActionId.{action_of};
 ghost use Rattle.cedar_below.specs.PlainUid.{PlainUid};
 ghost use Rattle.cedar_below.specs.PlainName.{PlainName};
@@ -10,7 +9,6 @@ ghost use Rattle.cedar_declared.specs.PlainSchema.{SchemaAction};
 ghost use Rattle.cedar_declared.specs.WrittenBack.{AreRequestsWritten, IsActionDeclaration};
 ghost use Rattle.cedar_names.specs.ActionBody.{ActionBody, action_body, parent_action};
 ghost use Rattle.cedar_names.specs.RawExpr.{raw_reference};
-ghost use Rattle.cedar_types.specs.Meaning.{ty_of};
 ghost use Rattle.cedar_written_back.specs.Definitions.{AppliesIfDefined, AreProper, ArePut, IsActionWritten, action_declared, definitions_bag, requests_written};
 ghost use Rattle.cedar_written_back.specs.Parents.{AreActionsTurned, action_edges};
 ghost use Rattle.cedar_written_back.specs.Parts.{known_names, known_schema, plain_namespace, written_uid};
@@ -28,28 +26,28 @@ use cedar_below::Name;
 use cedar_names::json_schema::{
     ActionEntityUID, ActionType, ApplySpec, AttributesOrContext, RawName,
 };
-use cedar_types::Type;
 
-/// The requests of an action that is defined, as they are declared in the namespace.
+/// The requests of an action, as they are declared in the namespace; none for an external one.
 fn write_requests(
     known: &Known,
     namespace: &Option<Name>,
     action: &ValidatorActionId,
-    context: &Type,
-) -> Result<ApplySpec<RawName>, WriteBackFault>
-    requires { kind_context (action_of action.now).kind ≡ Some (ty_of context.now) }
+) -> Result<Option<ApplySpec<RawName>>, WriteBackFault>
     ensures written { IfOk result (λ it. AreRequestsWritten (plain_namespace namespace.now) (action_of action.now).kind
-        (requests_written (plain_namespace namespace.now) (Some it))) }
+        (requests_written (plain_namespace namespace.now) it)) }
     ensures sound { OnOk result (IsSoundAction (known_names known.now) (plain_namespace namespace.now) (action_of action.now).kind) }
     ensures refusal { IfErr result (Refuses (¬ IsSoundAction (known_names known.now) (plain_namespace namespace.now)
         (action_of action.now).kind)) }
 {
+    let Some(context) = action.context() else {
+        return Ok(None);
+    };
     let context = write_type(known, namespace, context)?;
-    Ok(ApplySpec {
+    Ok(Some(ApplySpec {
         principal_types: known.write_names(namespace, action.principals())?,
         resource_types: known.write_names(namespace, action.resources())?,
         context: AttributesOrContext(plain(context)),
-    })
+    }))
 }
 
 /// An action with these parents, for these requests; an external one where there are none.
@@ -90,13 +88,8 @@ fn write_action(
     ensures refusal { IfErr result (Refuses (¬ IsSoundAction (known_names known.now) (plain_namespace namespace.now)
         (action_of action.now).kind)) }
 {
-    match action.context() {
-        Some(context) => {
-            let requests = write_requests(known, namespace, action, context)?;
-            Ok(action_type(Some(requests), parents))
-        }
-        None => Ok(action_type(None, parents)),
-    }
+    let applies_to = write_requests(known, namespace, action)?;
+    Ok(action_type(applies_to, parents))
 }
 
 /// Declares each action in its namespace.

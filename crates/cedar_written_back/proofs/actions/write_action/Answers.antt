@@ -2,26 +2,16 @@ use Rattle.std.proofs.Common.{map, refl, sym, subst}
 use Rattle.cedar_written_back.specs.Parts.{plain_namespace, written_uid}
 use Rattle.cedar_actions.specs.ValidatorActionId.{action_of}
 use Rattle.cedar_names.specs.ActionBody.{ActionBody}
-use Rattle.cedar_written_back.proofs.KindLemmas.{external_written, written_parents}
+use Rattle.cedar_written_back.proofs.KindLemmas.{written_parents}
 use Rattle.cedar_written_back.specs.Definitions.{IsActionWritten}
 use Rattle.cedar_written_back.proofs.actions.write_action.Goals as goal
 
-pub returns-in_ok-requests-in-Some-clause-written : goal.returns-in_ok-requests-in-Some-clause-written
-returns-in_ok-requests-in-Some-clause-written c =
+pub returns-clause-written : goal.returns-clause-written
+returns-clause-written c =
     let namespace = plain_namespace c.args.namespace.now in
     let P : ActionBody → Type 0 = IsActionWritten namespace (map written_uid c.args.parents.items) (action_of c.args.action.now).kind in
     subst P (sym (c.action_type.ensures.body namespace)) (record {
       without_attributes = refl;
       parents_are = written_parents namespace c.args.parents.items;
-      requests_are = c.in_ok-requests-in-Some.ensures.written;
-    })
-
-pub returns-in-None-clause-written : goal.returns-in-None-clause-written
-returns-in-None-clause-written c =
-    let namespace = plain_namespace c.args.namespace.now in
-    let P : ActionBody → Type 0 = IsActionWritten namespace (map written_uid c.args.parents.items) (action_of c.args.action.now).kind in
-    subst P (sym (c.action_type-in-None.ensures.body namespace)) (record {
-      without_attributes = refl;
-      parents_are = written_parents namespace c.args.parents.items;
-      requests_are = external_written namespace (action_of c.args.action.now).kind c.in-None.ensures;
+      requests_are = c.in_ok-applies_to.ensures.written;
     })

@@ -45,7 +45,7 @@ pub returns-clause-written : goal.returns-clause-written
 returns-clause-written c =
     let namespace = plain_namespace c.args.namespace.now in
     defined_written namespace (action_of c.args.action.now).kind c.in_ok-write_names.field-0.items c.in_ok-write_names-2.field-0.items
-    (ty_of c.args.context.now) _ c.requires (c.in_ok-write_names.ensures.names ∙ c.principals.ensures.names)
+    (ty_of c.in-Some.context.now) _ (sym c.in-Some.ensures) (c.in_ok-write_names.ensures.names ∙ c.principals.ensures.names)
     (c.in_ok-write_names-2.ensures.names ∙ c.resources.ensures.names)
     (c.in_ok-context.ensures.written ∙ ap Some (sym (c.plain.ensures namespace)))
 
@@ -53,7 +53,7 @@ pub returns-clause-sound : goal.returns-clause-sound
 returns-clause-sound c =
     let names = known_names c.args.known.now in
     let namespace = plain_namespace c.args.namespace.now in
-    sound_action namespace names (action_of c.args.action.now).kind (ty_of c.args.context.now) c.requires c.in_ok-context.ensures.sound
+    sound_action namespace names (action_of c.args.action.now).kind (ty_of c.in-Some.context.now) (sym c.in-Some.ensures) c.in_ok-context.ensures.sound
     (λ name among.
     let P : List PlainName → Type 0 = λ items. Contains items name in
     c.in_ok-write_names.ensures.no_other name (subst P (sym c.principals.ensures.names) among))
