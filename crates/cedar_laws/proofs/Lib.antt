@@ -6,6 +6,7 @@ pub mod ChainInduction
 pub mod CleanSchemas
 pub mod CountLemmas
 pub mod DeclaredKinds
+mod EntriesWrittenBack
 pub mod EnumeratedLemmas
 pub mod EnvironmentLaws
 pub mod KindLemmas
