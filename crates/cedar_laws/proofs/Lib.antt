@@ -19,6 +19,7 @@ pub mod MovedBags
 pub mod MovedLemmas
 mod NamesWrittenBack
 pub mod OrderLaws
+mod ParentsWrittenBack
 pub mod PlacedLemmas
 pub mod ReferenceDecisions
 pub mod SaidFaults
