@@ -10,6 +10,7 @@ mod EntriesWrittenBack
 pub mod EnumeratedLemmas
 pub mod EnvironmentLaws
 pub mod KindLemmas
+mod KindsWrittenBack
 pub mod ListDecisions
 pub mod ListedEntities
 pub mod MeaningLemmas

@@ -1,8 +1,8 @@
 use Rattle.std.specs.Prelude.{◌≡◌, ◌⊎◌, ◌↔◌, Result, IfOk, IfErr, OnOk, Option, Some, Contains, List, map}
-use Rattle.std.specs.List.Sorted.{IsPermutation}
+use Rattle.std.specs.List.Sorted.{IsPermutation, IsStrictlySortedBy}
 use Rattle.cedar_below.specs.Extensions.{extension_types}
-use Rattle.cedar_below.specs.PlainName.{PlainName}
-use Rattle.cedar_below.specs.PlainUid.{PlainUid}
+use Rattle.cedar_below.specs.PlainName.{PlainName, name_cmp}
+use Rattle.cedar_below.specs.PlainUid.{PlainUid, uid_cmp}
 use Rattle.cedar_below.specs.Tree.{Tree, no_entry}
 use Rattle.cedar_below.specs.TypeNames.{TypeNamesFit}
 use Rattle.cedar_below.specs.declared.extension.Extensions.{Extensions}
@@ -162,3 +162,13 @@ abbrev pub WrittenNamesAreNamedAgain : Type 0
 WrittenNamesAreNamedAgain = (schema : PlainSchema) (bag : Bag) (extensions : Extensions) → IsWritable schema → IsWrittenBack schema bag
     → (namespace : Option PlainName) (name : PlainName) → IsNameWrittenIn schema namespace name
     → Contains (schema_names schema).entities name → IsNamedAgain (definitions bag extensions) namespace name
+
+-- the entity types and the actions of the schema stand in the order of their names
+pub record IsInOrder (schema : PlainSchema) : Type 0 where
+  pub entity_types : IsStrictlySortedBy name_cmp (map (λ it. it.0) schema.entity_types)
+  pub actions : IsStrictlySortedBy uid_cmp (map (λ it. it.0) schema.actions)
+
+-- each entity type and each action of the schema stands under its own name
+pub record StandsUnderItsNames (schema : PlainSchema) : Type 0 where
+  pub entity_types : (it : PlainName × SchemaEntityType) → Contains schema.entity_types it → it.1.name ≡ it.0
+  pub actions : (it : PlainUid × SchemaAction) → Contains schema.actions it → it.1.uid ≡ it.0
