@@ -29,6 +29,7 @@ pub mod SameBagLaws
 pub mod SameEntities
 pub mod SchemaExistence
 pub mod SchemaLaws
+mod SchemasWrittenBack
 pub mod SettledLaws
 pub mod SureBags
 pub mod TypeDecisions

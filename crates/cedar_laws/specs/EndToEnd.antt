@@ -1,5 +1,6 @@
 use Rattle.std.specs.Prelude.{◌≡◌, ◌⊎◌, ◌↔◌, Result, IfOk, IfErr, OnOk, Option, Some, Contains, List, map}
 use Rattle.std.specs.List.Sorted.{IsPermutation, IsStrictlySortedBy}
+use Rattle.cedar_below.specs.Chain.{Chain}
 use Rattle.cedar_below.specs.Extensions.{extension_types}
 use Rattle.cedar_below.specs.PlainName.{PlainName, name_cmp}
 use Rattle.cedar_below.specs.PlainUid.{PlainUid, uid_cmp}
@@ -23,8 +24,8 @@ use Rattle.cedar_declared.specs.PlainSchema.{SchemaEntityType, SchemaAction, def
 use Rattle.cedar_declared.specs.SameBag.{SameBag}
 use Rattle.cedar_declared.specs.SameSchema.{SameSchema}
 use Rattle.cedar_declared.specs.Settled.{SettlesBag}
-use Rattle.cedar_declared.specs.ValidSchema.{IsTypeIn, IsValidSchema}
-use Rattle.cedar_declared.specs.Descent.{IsDescendantAction}
+use Rattle.cedar_declared.specs.ValidSchema.{IsTypeIn, IsValidSchema, ListsDescendant, ListsDescendantAction}
+use Rattle.cedar_declared.specs.Descent.{IsDescendant, IsDescendantAction}
 use Rattle.cedar_declared.specs.EntityTypeKind.{standard_kind}
 use Rattle.cedar_declared.specs.Defined.{Defined, names_of}
 use Rattle.cedar_declared.specs.Names.{ResolvesTo}
@@ -172,3 +173,18 @@ pub record IsInOrder (schema : PlainSchema) : Type 0 where
 pub record StandsUnderItsNames (schema : PlainSchema) : Type 0 where
   pub entity_types : (it : PlainName × SchemaEntityType) → Contains schema.entity_types it → it.1.name ≡ it.0
   pub actions : (it : PlainUid × SchemaAction) → Contains schema.actions it → it.1.uid ≡ it.0
+
+-- a law: a valid schema that is writable and written back, with its entity types and actions in order and under their own names,
+-- is declared by its bag with its descendants closed
+abbrev pub WrittenSchemasAreDeclared : Type 0
+WrittenSchemasAreDeclared = (schema closed : PlainSchema) (bag : Bag) (extensions : Extensions) → IsInOrder schema
+    → StandsUnderItsNames schema → IsWritable schema → IsValidSchema extensions schema → IsWrittenBack schema bag
+    → ClosesSchema schema closed → IsDeclaredSchema bag extensions closed
+
+-- a law: in the bag of a schema that is writable and written back the descendants are those that one or more steps of the listed
+-- ones reach
+abbrev pub WrittenDescendantsAreReached : Type 0
+WrittenDescendantsAreReached = (schema : PlainSchema) (bag : Bag) (extensions : Extensions) → IsWritable schema
+    → IsWrittenBack schema bag
+    → ((lower upper : PlainName) → IsDescendant bag extensions lower upper ↔ Chain (ListsDescendant schema) lower upper)
+    × ((lower upper : PlainUid) → IsDescendantAction bag lower upper ↔ Chain (ListsDescendantAction schema) lower upper)

@@ -10,7 +10,7 @@ ghost use Rattle.cedar_names.specs.declared.json_schema.fragment.Fragment.{Fragm
 ghost use Rattle.cedar_names.specs.declared.json_schema.raw_name.RawName.{RawName};
 ghost use Rattle.cedar_declared.specs.Bag.{Bag, definitions};
 ghost use Rattle.cedar_declared.specs.Counted.{PlacesFit};
-ghost use Rattle.cedar_laws.specs.EndToEnd.{ActionEntitiesAreDeclared, AdmitsTheSame, BagsDeclareASchema, BagsDeclareAtMostOneSchema, DeclaredSchemasAreClosed, DeclaredSchemasAreValid, DeclaredTypesAreClean, DeclaredTypesHaveTheDeclaredValues, EnvironmentsAreDeclared, OrderIsNothing, SameBagsDeclareTheSame, SettlingChangesNothing, WrittenNamesAreNamedAgain, WrittenTypesAreWrittenOut};
+ghost use Rattle.cedar_laws.specs.EndToEnd.{ActionEntitiesAreDeclared, AdmitsTheSame, BagsDeclareASchema, BagsDeclareAtMostOneSchema, DeclaredSchemasAreClosed, DeclaredSchemasAreValid, DeclaredTypesAreClean, DeclaredTypesHaveTheDeclaredValues, EnvironmentsAreDeclared, OrderIsNothing, SameBagsDeclareTheSame, SettlingChangesNothing, WrittenDescendantsAreReached, WrittenNamesAreNamedAgain, WrittenSchemasAreDeclared, WrittenTypesAreWrittenOut};
 ghost use Rattle.cedar_declared.specs.IllFormed.{IsIllFormed};
 ghost use Rattle.cedar_declared.specs.WrittenOut.{WrittenOut};
 ghost use Rattle.cedar_rules.specs.Ty.{Ty};
@@ -104,4 +104,16 @@ pub fn written_types_are_written_out()
 /// itself, where the schema has it, as an entity type or as the type of an action.
 pub fn written_names_are_named_again()
     ensures { WrittenNamesAreNamedAgain }
+{}
+
+/// In the bag of a schema that is writable and written back each entity type and action is a descendant of
+/// just those that one or more steps of the listed descendants lead from it to.
+pub fn written_descendants_are_reached()
+    ensures { WrittenDescendantsAreReached }
+{}
+
+/// A valid schema that is writable and written back, with its entity types and actions in order and under
+/// their own names, is declared by its bag, with its descendants closed.
+pub fn written_schemas_are_declared()
+    ensures { WrittenSchemasAreDeclared }
 {}
