@@ -9,6 +9,7 @@ pub mod DeclaredKinds
 mod EntriesWrittenBack
 pub mod EnumeratedLemmas
 pub mod EnvironmentLaws
+mod ExpressionsWrittenBack
 pub mod KindLemmas
 mod KindsWrittenBack
 pub mod ListDecisions

@@ -56,12 +56,12 @@ module _ (namespace : Option PlainName) (IsAbove : PlainName → Type 0) where
   above_parent external_kind (external parents) is other name above = (is (full_name namespace name)).1 (name, above, refl)
 
 -- what lists another among its descendants is in the schema
-upper_there : (schema : PlainSchema) (lower upper : PlainName) → ListsDescendant schema lower upper → HasEntityType schema upper
+pub upper_there : (schema : PlainSchema) (lower upper : PlainName) → ListsDescendant schema lower upper → HasEntityType schema upper
 upper_there schema lower upper lists =
     Contains-image (λ (each : PlainName × SchemaEntityType). each.0) schema.entity_types (upper, lists.0) lists.1
 
 -- so of actions
-upper_action_there : (schema : PlainSchema) (lower upper : PlainUid) → ListsDescendantAction schema lower upper → HasAction schema upper
+pub upper_action_there : (schema : PlainSchema) (lower upper : PlainUid) → ListsDescendantAction schema lower upper → HasAction schema upper
 upper_action_there schema lower upper lists =
     Contains-image (λ (each : PlainUid × SchemaAction). each.0) schema.actions (upper, lists.0) lists.1
 
@@ -74,7 +74,7 @@ module _ (schema : PlainSchema) (bag : Bag) (extensions : Extensions) (writable 
       (Contains-append_left (map (λ it. it.0) schema.entity_types) (map (λ it. it.0.ty) schema.actions) name has)
 
   -- a parent in the bag lists the one among its descendants
-  parent_lists : (lower upper : PlainName) → HasParent bag extensions lower upper → ListsDescendant schema lower upper
+  pub parent_lists : (lower upper : PlainName) → HasParent bag extensions lower upper → ListsDescendant schema lower upper
   parent_lists lower upper (reference, (body, among, parent), resolves) =
       let from = declared_type_from schema bag written lower body among in
       let entry = from.2 in
@@ -101,7 +101,7 @@ module _ (schema : PlainSchema) (bag : Bag) (extensions : Extensions) (writable 
       (full_name entry.namespace upper, (found.0, found.1, parent), again.resolves)
 
   -- a uid that is written in full names the action again
-  action_again : (namespace : Option PlainName) (uid : PlainUid) → IsUidWrittenIn schema namespace uid → HasAction schema uid
+  pub action_again : (namespace : Option PlainName) (uid : PlainUid) → IsUidWrittenIn schema namespace uid → HasAction schema uid
       → NamesAction (action_uids bag) (full_uid namespace uid) uid
   action_again namespace uid in_place has =
       let uids = map (λ (it : PlainUid × SchemaAction). it.0) schema.actions in
