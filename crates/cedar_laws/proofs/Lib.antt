@@ -5,6 +5,7 @@ pub mod ChainDecisions
 pub mod ChainInduction
 pub mod CleanSchemas
 pub mod CountLemmas
+mod CountsWrittenBack
 pub mod DeclaredKinds
 mod EntriesWrittenBack
 pub mod EnumeratedLemmas

@@ -44,7 +44,7 @@ itself_in_turn R (x ∷ xs) each =
     (each x (Contains-cons x xs x (inl refl)), itself_in_turn R xs (λ y among. each y (Contains-cons x xs y (inr among))))
 
 -- some list isn't none
-some_first : {A : Type 0} (items : List A) → items ≢ [] → (item : A) × Contains items item
+pub some_first : {A : Type 0} (items : List A) → items ≢ [] → (item : A) × Contains items item
 some_first [] some = absurd (some refl)
 some_first (first ∷ rest) some = (first, Contains-cons first rest first (inl refl))
 
