@@ -11,6 +11,7 @@ mod EntriesWrittenBack
 pub mod EnumeratedLemmas
 pub mod EnvironmentLaws
 mod ExpressionsWrittenBack
+mod FaultsWrittenBack
 pub mod KindLemmas
 mod KindsWrittenBack
 pub mod ListDecisions

@@ -10,7 +10,7 @@ ghost use Rattle.cedar_names.specs.declared.json_schema.fragment.Fragment.{Fragm
 ghost use Rattle.cedar_names.specs.declared.json_schema.raw_name.RawName.{RawName};
 ghost use Rattle.cedar_declared.specs.Bag.{Bag, definitions};
 ghost use Rattle.cedar_declared.specs.Counted.{PlacesFit};
-ghost use Rattle.cedar_laws.specs.EndToEnd.{ActionEntitiesAreDeclared, AdmitsTheSame, BagsDeclareASchema, BagsDeclareAtMostOneSchema, DeclaredSchemasAreClosed, DeclaredSchemasAreValid, DeclaredTypesAreClean, DeclaredTypesHaveTheDeclaredValues, EnvironmentsAreDeclared, OrderIsNothing, SameBagsDeclareTheSame, SettlingChangesNothing, WrittenDescendantsAreReached, WrittenNamesAreNamedAgain, WrittenSchemasAreDeclared, WrittenTypesAreWrittenOut};
+ghost use Rattle.cedar_laws.specs.EndToEnd.{ActionEntitiesAreDeclared, AdmitsTheSame, BagsDeclareASchema, BagsDeclareAtMostOneSchema, DeclaredSchemasAreClosed, DeclaredSchemasAreValid, DeclaredTypesAreClean, DeclaredTypesHaveTheDeclaredValues, EnvironmentsAreDeclared, OrderIsNothing, SameBagsDeclareTheSame, SettlingChangesNothing, WrittenDescendantsAreReached, WrittenNamesAreNamedAgain, WrittenSchemasAreDeclared, WrittenSchemasAreWellFormed, WrittenTypesAreWrittenOut};
 ghost use Rattle.cedar_declared.specs.IllFormed.{IsIllFormed};
 ghost use Rattle.cedar_declared.specs.WrittenOut.{WrittenOut};
 ghost use Rattle.cedar_rules.specs.Ty.{Ty};
@@ -116,4 +116,10 @@ pub fn written_descendants_are_reached()
 /// their own names, is declared by its bag, with its descendants closed.
 pub fn written_schemas_are_declared()
     ensures { WrittenSchemasAreDeclared }
+{}
+
+/// The bag of a valid schema that is writable and written back isn't ill-formed, where its entity types and
+/// actions are in order, none of them is reserved, and its contexts are records.
+pub fn written_schemas_are_well_formed()
+    ensures { WrittenSchemasAreWellFormed }
 {}
