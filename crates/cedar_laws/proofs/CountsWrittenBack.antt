@@ -1,5 +1,5 @@
 -- In the bag of a schema that is in order and written back nothing is defined twice.
-use Rattle.std.proofs.Common.{◌≡◌, ◌⊎◌, List, [], ◌∷◌, ◌++◌, map, ap, sym, subst, ◌∙◌, refl, inl, inr, ⊎_elim, arith, Contains}
+use Rattle.std.proofs.Common.{◌≡◌, ◌⊎◌, List, [], ◌∷◌, ◌++◌, map, ap, subst, ◌∙◌, refl, inl, inr, ⊎_elim, arith, Contains}
 use Rattle.std.proofs.lemmas.List.{map-append}
 use Rattle.std.proofs.lemmas.List.Sorted.{IsPermutation-sym}
 use Rattle.std.specs.List.{flat_map}
@@ -23,7 +23,6 @@ use Rattle.cedar_laws.proofs.EntriesWrittenBack.{no_common_type}
 use Rattle.cedar_laws.proofs.OrderLaws.{order_is_nothing}
 use Rattle.cedar_laws.specs.EndToEnd.{IsInOrder}
 use Rattle.cedar_names.specs.ActionBody.{ActionBody, Requests, elsewhere, requests}
-use Rattle.cedar_names.specs.Declaration.{Body, Declaration}
 use Rattle.cedar_names.specs.EntityBody.{EntityBody}
 use Rattle.cedar_names.specs.Expr.{Expr}
 
@@ -34,7 +33,8 @@ twice_among (first ∷ rest) x twice =
     Contains-cons first rest x (⊎_elim (λ here. inl here.0) (λ later. inr (twice_among rest x later)) twice)
 
 -- where each entry gives one under its own key at most, a key that stands twice in what they give stands twice in theirs
-module _ {K V W : Type 0} (f : K × V → List (K × W)) (each : (it : K × V) → (f it ≡ []) ⊎ ((value : W) × (f it ≡ (it.0, value) ∷ []))) where
+module _ {K V W : Type 0} (f : K × V → List (K × W))
+    (each : (it : K × V) → (f it ≡ []) ⊎ ((value : W) × (f it ≡ (it.0, value) ∷ []))) where
   -- a key of what the entries give is one of theirs
   given_key : (entries : List (K × V)) (key : K) → Contains (map (λ it. it.0) (flat_map f entries)) key
       → Contains (map (λ it. it.0) entries) key
@@ -106,13 +106,14 @@ module _ (schema : PlainSchema) where
       ∙ types_declare_no_action others rest after turn.1
 
   -- the declarations of actions declare their uids
-  actions_declare_their_uids : (actions : List (PlainUid × SchemaAction)) (bag : Bag) → HoldsInTurn (IsActionDeclaration schema) actions bag
-      → map (λ it. it.0) (declared_actions bag) ≡ map (λ it. it.0) actions
+  actions_declare_their_uids : (actions : List (PlainUid × SchemaAction)) (bag : Bag)
+      → HoldsInTurn (IsActionDeclaration schema) actions bag → map (λ it. it.0) (declared_actions bag) ≡ map (λ it. it.0) actions
   actions_declare_their_uids [] [] turn = refl
   actions_declare_their_uids [] (d ∷ rest) turn = absurd turn
   actions_declare_their_uids (it ∷ others) [] turn = absurd turn
   actions_declare_their_uids (it ∷ others) (d ∷ rest) turn =
-      ap (λ body. map (λ (each : PlainUid × ActionBody). each.0) (action_in (declared_uid d) body ++ declared_actions rest)) turn.0.declares
+      ap (λ body. map (λ (each : PlainUid × ActionBody). each.0) (action_in (declared_uid d) body ++ declared_actions rest))
+      turn.0.declares
       ∙ (λ i. turn.0.uid i ∷ actions_declare_their_uids others rest turn.1 i)
 
 module _ (schema : PlainSchema) (bag : Bag) (order : IsInOrder schema) (written : IsWrittenBack schema bag) where
@@ -137,14 +138,16 @@ module _ (schema : PlainSchema) (bag : Bag) (order : IsInOrder schema) (written 
       ∙ actions_declare_their_uids schema schema.actions written.actions written.each_action in
       let P : List PlainUid → Type 0 = λ uids. Twice uids uid in
       Twice-ascending uid_cmp uid_cmp-total (map (λ it. it.0) schema.actions) uid order.actions
-      (subst P keys (twice_given (λ it. action_definition_in it.0 it.1.applies_to) one_definition_in (declared_actions ordered) uid other))
+      (subst P keys
+      (twice_given (λ it. action_definition_in it.0 it.1.applies_to) one_definition_in (declared_actions ordered) uid other))
 
 -- no common type is defined twice, since none is declared
 pub common_types_once : (schema : PlainSchema) (bag : Bag) (extensions : Extensions) → TypeNamesFit (extension_types extensions)
     → IsWrittenBack schema bag → (name : PlainName) → ¬ Twice (map (λ it. it.0) (declared_common bag ++ built_ins extensions)) name
 common_types_once schema bag extensions fit written name twice =
     let none : ¬ Contains (map (λ (it : PlainName × Expr). it.0) (declared_common bag)) name =
-    λ among. no_common_type schema bag written _ (Contains-preimage (λ (it : PlainName × Expr). it.0) (declared_common bag) name among).1 in
+    λ among. no_common_type schema bag written _
+    (Contains-preimage (λ (it : PlainName × Expr). it.0) (declared_common bag) name among).1 in
     let P : List PlainName → Type 0 = λ names. Twice names name in
     let keys = map-append (λ (it : PlainName × Expr). it.0) (declared_common bag) (built_ins extensions) in
     ⊎_elim

@@ -1,5 +1,5 @@
 -- What the bag of a schema that is written back declares, entry by entry.
-use Rattle.std.proofs.Common.{◌≡◌, ◌↔◌, false, Option, map, ap, sym, subst, ◌∙◌, refl, inl, inr, ⊎_elim, Contains}
+use Rattle.std.proofs.Common.{◌≡◌, ◌↔◌, false, Option, map, ap, sym, subst, ◌∙◌, refl, ⊎_elim, Contains}
 use Rattle.cedar_below.proofs.Lists.{Contains-preimage}
 use Rattle.cedar_below.specs.PlainName.{PlainName}
 use Rattle.cedar_below.specs.PlainUid.{PlainUid}
@@ -11,7 +11,7 @@ use Rattle.cedar_declared.specs.ValidSchema.{HasAction, HasEntityType, ListsDesc
 use Rattle.cedar_declared.specs.WrittenBack.{AreFullUids, AreRequestsWritten, IsActionDeclaration, IsKindWritten, IsPathOf, IsTypeDeclaration, IsWrittenBack}
 use Rattle.cedar_laws.proofs.NamesWrittenBack.{action_there, from_schema, type_there}
 use Rattle.cedar_names.specs.ActionBody.{ActionBody}
-use Rattle.cedar_names.specs.Declaration.{Body, Declaration, action, entity_type}
+use Rattle.cedar_names.specs.Declaration.{Declaration, action, entity_type}
 use Rattle.cedar_names.specs.EntityBody.{EntityBody}
 use Rattle.cedar_names.specs.Expr.{Expr}
 

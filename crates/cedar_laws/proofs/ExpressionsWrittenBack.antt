@@ -1,16 +1,15 @@
 -- What stands in the expressions of types that are written, and which expressions count in the bag of a schema that is written back.
-use Rattle.std.proofs.Common.{◌≡◌, false, List, [], ◌∷◌, Option, Some, None, ap, sym, subst, ◌∙◌, refl, inl, inr, ⊎_elim, arith, Contains}
+use Rattle.std.proofs.Common.{◌≡◌, false, List, [], ◌∷◌, Option, Some, None, ap, subst, ◌∙◌, refl, inl, inr, ⊎_elim, arith}
 use Rattle.std.proofs.lemmas.Bool.{false≢true}
 use Rattle.std.specs.Option.{option_zip}
 use Rattle.cedar_below.specs.PlainName.{PlainName}
-use Rattle.cedar_below.specs.PlainUid.{PlainUid}
 use Rattle.cedar_below.specs.Text.{Text}
 use Rattle.cedar_below.specs.declared.extension.Extensions.{Extensions}
 use Rattle.cedar_declared.specs.Bag.{Bag, definitions}
 use Rattle.cedar_declared.specs.Counted.{CountsIn, CountsInEntity, CountsInRequests, HasToResolve, IsCounted, IsEntityPlace, IsPlaced, IsPrincipalOrResource}
 use Rattle.cedar_declared.specs.EntityTypeKind.{EntityTypeKind, enumerated_kind, external_kind, standard_kind}
 use Rattle.cedar_declared.specs.Mentions.{HasOpenRecord, MembersHaveOpenRecord, MembersMentionExtension, MembersRefer, MentionsExtension, Refers}
-use Rattle.cedar_declared.specs.PlainSchema.{ActionKind, PlainSchema, SchemaAction, SchemaEntityType, defined_action, external_action}
+use Rattle.cedar_declared.specs.PlainSchema.{ActionKind, PlainSchema, defined_action, external_action}
 use Rattle.cedar_declared.specs.TypeMentions.{FieldsMentionEntity, FieldsMentionExtensionType, MentionsEntity, MentionsExtensionType}
 use Rattle.cedar_declared.specs.ValidSchema.{HasEntityType, IsContextOf, IsPrincipalOrResourceOf, IsTypeOfKind, IsValidSchema, ListsDescendant}
 use Rattle.cedar_declared.specs.WrittenBack.{AreRequestsWritten, AreTagsWritten, IsKindWritten, IsNameWrittenIn, IsTypeWrittenIn, IsWritable, IsWrittenBack, extension_written, fields_written, full_name, type_written}
@@ -20,7 +19,7 @@ use Rattle.cedar_laws.proofs.NamesWrittenBack.{from_schema}
 use Rattle.cedar_laws.proofs.ParentsWrittenBack.{parent_above, type_again, upper_there}
 use Rattle.cedar_laws.proofs.TypesWrittenBack.{map_some, zip_some}
 use Rattle.cedar_laws.specs.EndToEnd.{IsNamedAgain}
-use Rattle.cedar_names.specs.ActionBody.{ActionBody, Requests, elsewhere, requests}
+use Rattle.cedar_names.specs.ActionBody.{Requests, elsewhere, requests}
 use Rattle.cedar_names.specs.Declaration.{Body}
 use Rattle.cedar_names.specs.EntityBody.{EntityBody, enumerated, external, standard}
 use Rattle.cedar_names.specs.Expr.{Expr, Members, extension_expr, long_expr, member, named, no_member, record_expr, set_expr, text_expr, truth_expr}
@@ -231,8 +230,7 @@ module _ (schema : PlainSchema) (bag : Bag) (extensions : Extensions) (written :
       ⊎_elim
       (λ counted.
       let of = counted_of counted.0 counted.1 in
-      let found = (type_says of.namespace of.ty counted.0 of.is).refers reference counted.2 in
-      (
+      let found = (type_says of.namespace of.ty counted.0 of.is).refers reference counted.2 in (
         of.namespace,
         found.0,
         mentioned_again schema bag extensions writable written valid of.namespace of.ty of.place found.0 found.1,

@@ -1,10 +1,10 @@
 -- The bag of a valid schema that is written back isn't ill-formed.
-use Rattle.std.proofs.Common.{◌≡◌, ◌≢◌, ◌⊎◌, List, [], ◌∷◌, Option, Some, map, ap, sym, subst, ◌∙◌, refl, inl, inr, ⊎_elim, true, Contains}
+use Rattle.std.proofs.Common.{◌≡◌, ◌⊎◌, List, [], Option, map, sym, subst, ◌∙◌, refl, inl, inr, ⊎_elim, Contains}
 use Rattle.std.proofs.lemmas.Bool.{false≢true}
 use Rattle.std.proofs.lemmas.List.Elements.{Contains-append_cases}
 use Rattle.cedar_below.proofs.Chains.{first_step}
 use Rattle.cedar_below.proofs.Lists.{Contains-preimage}
-use Rattle.cedar_below.specs.Chain.{Chain, one}
+use Rattle.cedar_below.specs.Chain.{one}
 use Rattle.cedar_below.specs.Extensions.{extension_types}
 use Rattle.cedar_below.specs.Identifier.{reserved_word}
 use Rattle.cedar_below.specs.PlainName.{PlainName, IsActionType, IsUnqualified}
@@ -26,11 +26,11 @@ use Rattle.cedar_declared.specs.Fault.{Fault, action_attributes, open_record, un
 use Rattle.cedar_declared.specs.IllFormed.{HasAttributes, HasUnknownParent, IsFault, RefersToCommon}
 use Rattle.cedar_declared.specs.Mentions.{MentionsExtension}
 use Rattle.cedar_declared.specs.Names.{IsDefined, IsUnresolved, NamesNoAction, ResolvesTo}
-use Rattle.cedar_declared.specs.PlainSchema.{ActionKind, PlainSchema, SchemaAction, defined_action, external_action}
+use Rattle.cedar_declared.specs.PlainSchema.{ActionKind, PlainSchema, defined_action, external_action}
 use Rattle.cedar_declared.specs.Together.{IsExternalType, defined_actions}
 use Rattle.cedar_declared.specs.TypeMentions.{MentionsExtensionType}
-use Rattle.cedar_declared.specs.ValidSchema.{HasAction, HasEntityType, IsContextOf, IsEnumerated, IsExternal, IsOfKind, IsValidSchema, ListsDescendant}
-use Rattle.cedar_declared.specs.WrittenBack.{IsKindWritten, IsWritable, IsWrittenBack, full_name, full_uid}
+use Rattle.cedar_declared.specs.ValidSchema.{HasEntityType, IsContextOf, IsEnumerated, IsExternal, IsOfKind, IsValidSchema, ListsDescendant}
+use Rattle.cedar_declared.specs.WrittenBack.{IsKindWritten, IsWritable, IsWrittenBack, full_name}
 use Rattle.cedar_declared.specs.WrittenOut.{IsNoRecord, IsRecordType, WrittenOut}
 use Rattle.cedar_laws.proofs.CountsWrittenBack.{actions_once, common_types_once, types_once}
 use Rattle.cedar_laws.proofs.EntriesWrittenBack.{declared_action_from, declared_type_from, no_common_type, same_types, same_uids}
@@ -41,7 +41,7 @@ use Rattle.cedar_laws.proofs.ParentsWrittenBack.{parent_lists, same_action_desce
 use Rattle.cedar_laws.proofs.SchemasWrittenBack.{external_written}
 use Rattle.cedar_laws.proofs.ValidLaws.{some_first}
 use Rattle.cedar_laws.specs.EndToEnd.{HasNoReservedName, HasRecordContexts, IsInOrder, WrittenSchemasAreWellFormed}
-use Rattle.cedar_names.specs.ActionBody.{ActionBody, Requests, requests}
+use Rattle.cedar_names.specs.ActionBody.{Requests, requests}
 use Rattle.cedar_names.specs.EntityBody.{EntityBody, enumerated, external, standard}
 use Rattle.cedar_names.specs.Expr.{Expr}
 use Rattle.cedar_names.specs.Reference.{ActionReference, Reference}
@@ -72,8 +72,10 @@ module _ (defined : Defined) where
   context_written principals resources context external_action is = absurd is
 
   -- what is written out as a record type isn't written out as another
-  record_alone : HasOneDefinition defined → (expr : Expr) (ty : Ty) → WrittenOut defined expr ty → IsRecordType ty → ¬ IsNoRecord defined expr
-  record_alone once expr ty written is_record (other, also, none) = none (subst IsRecordType (written_once defined once written also) is_record)
+  record_alone : HasOneDefinition defined → (expr : Expr) (ty : Ty) → WrittenOut defined expr ty → IsRecordType ty
+      → ¬ IsNoRecord defined expr
+  record_alone once expr ty written is_record (other, also, none) =
+      none (subst IsRecordType (written_once defined once written also) is_record)
 
 module _ (schema : PlainSchema) (bag : Bag) (extensions : Extensions) (written : IsWrittenBack schema bag) where
   -- no action is declared with attributes
@@ -125,9 +127,9 @@ module _ (schema : PlainSchema) (bag : Bag) (extensions : Extensions) (written :
       let Q : EntityBody → Type 0 = IsKindWritten entry.namespace (λ upper. ListsDescendant schema name upper) from.0.kind in
       ⊎_elim
       (λ definition. absurd (undefined
-      (Contains-image (λ (each : PlainName × EntityBody). each.0) _ (name, it.0.1) (declared_definition bag name it.0.1 definition among))))
-      (λ is_external.
-      (
+      (Contains-image (λ (each : PlainName × EntityBody). each.0) _ (name, it.0.1)
+      (declared_definition bag name it.0.1 definition among))))
+      (λ is_external. (
         from.0,
         from.1,
         external_written entry.namespace (λ upper. ListsDescendant schema name upper) from.0.kind is_external.0
@@ -247,18 +249,16 @@ module _ (schema : PlainSchema) (bag : Bag) (extensions : Extensions) (written :
         none_foreign writable valid name expr counted mentions unqualified unknown
     no_fault (reserved_name name) (there, reserved) = none_reserved plain name there reserved
     no_fault (external_below_enumerated lower upper) (choices, is_external, among, descends) =
-        valid (external_below_enumerated lower upper)
-        (
+        valid (external_below_enumerated lower upper) (
           external_there lower is_external,
           enumerated_there upper choices among,
           (same_descendants schema bag extensions writable written lower upper).0 descends,
         )
     no_fault (enumerated_below lower upper) (choices, parents, reference, among, also, parent, resolves) =
-        valid (enumerated_below lower upper)
-        (
+        valid (enumerated_below lower upper) (
           enumerated_there lower choices among,
           one (parent_lists schema bag extensions writable written lower upper
-          (reference, (external parents, also, parent), resolves)),
+              (reference, (external parents, also, parent), resolves)),
         )
     no_fault _ at_fault = at_fault
 

@@ -95,12 +95,11 @@ module _ (defined : Defined) (namespace : Option PlainName) where
   kind_back : (IsAbove : PlainName → Type 0) (kind : EntityTypeKind) (body : EntityBody) → IsKindWritten namespace IsAbove kind body
       → ((ty : Ty) → IsTypeOfKind kind ty → (expr : Expr) → type_written namespace ty ≡ Some expr → WrittenOut defined expr ty)
       → IsDeclaredKind defined body kind
-  kind_back IsAbove (standard_kind fields ClosedAttributes tags) (standard parents shape written) is back =
-      (
-        back (record_of fields ClosedAttributes) (inl refl) shape is.1,
-        refl,
-        tags_back tags written is.2 (λ ty same. back ty (inr same)),
-      )
+  kind_back IsAbove (standard_kind fields ClosedAttributes tags) (standard parents shape written) is back = (
+    back (record_of fields ClosedAttributes) (inl refl) shape is.1,
+    refl,
+    tags_back tags written is.2 (λ ty same. back ty (inr same)),
+  )
   kind_back IsAbove (standard_kind fields OpenAttributes tags) (standard parents shape written) is back =
       let clash : None ≡ Some shape = is.1 in absurd cc
   kind_back IsAbove (standard_kind fields openness tags) (enumerated ids) is back = absurd is
@@ -132,12 +131,11 @@ module _ (defined : Defined) (namespace : Option PlainName) where
       → ((ty : Ty) → IsContextOf kind ty → (expr : Expr) → type_written namespace ty ≡ Some expr → WrittenOut defined expr ty)
       → ((name : PlainName) → IsPrincipalOrResourceOf kind name → IsNamedAgain defined namespace name)
       → IsDeclaredActionKind defined applies_to kind
-  requests_back (defined_action ps rs ty) (requests principals resources context) is back again =
-      (
-        names_back ps principals is.0 (λ name among. again name (inl among)),
-        names_back rs resources is.1 (λ name among. again name (inr among)),
-        back ty refl context is.2,
-      )
+  requests_back (defined_action ps rs ty) (requests principals resources context) is back again = (
+    names_back ps principals is.0 (λ name among. again name (inl among)),
+    names_back rs resources is.1 (λ name among. again name (inr among)),
+    back ty refl context is.2,
+  )
   requests_back (defined_action ps rs ty) elsewhere is back again = absurd is
   requests_back external_action (requests principals resources context) is back again = absurd is
   requests_back external_action elsewhere is back again = tt
@@ -165,8 +163,9 @@ module _ (schema : PlainSchema) (bag : Bag) (extensions : Extensions) (writable 
       (λ ty of expr is. written_out_again entry.namespace ty (inl (it, among, entry.path, of)) expr is)
 
   -- a principal or a resource of an action is named again
-  pub request_again : (it : PlainUid × SchemaAction) → Contains schema.actions it → (body : ActionBody) (entry : IsActionWritten schema it body)
-      → (name : PlainName) → IsPrincipalOrResourceOf it.1.kind name → IsNamedAgain (definitions bag extensions) entry.namespace name
+  pub request_again : (it : PlainUid × SchemaAction) → Contains schema.actions it → (body : ActionBody)
+      (entry : IsActionWritten schema it body) → (name : PlainName) → IsPrincipalOrResourceOf it.1.kind name
+      → IsNamedAgain (definitions bag extensions) entry.namespace name
   request_again it among body entry name of =
       type_again schema bag extensions writable written entry.namespace name (inr (inr (it, among, entry.path, of)))
       (request_known schema extensions valid it among name of)

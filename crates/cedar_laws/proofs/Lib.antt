@@ -4,6 +4,7 @@ pub mod BuiltFrom
 pub mod ChainDecisions
 pub mod ChainInduction
 pub mod CleanSchemas
+pub mod ComeBack
 pub mod CountLemmas
 mod CountsWrittenBack
 pub mod DeclaredKinds
@@ -11,7 +12,7 @@ mod EntriesWrittenBack
 pub mod EnumeratedLemmas
 pub mod EnvironmentLaws
 mod ExpressionsWrittenBack
-mod FaultsWrittenBack
+pub mod FaultsWrittenBack
 pub mod KindLemmas
 mod KindsWrittenBack
 pub mod ListDecisions
@@ -32,7 +33,7 @@ pub mod SameBagLaws
 pub mod SameEntities
 pub mod SchemaExistence
 pub mod SchemaLaws
-mod SchemasWrittenBack
+pub mod SchemasWrittenBack
 pub mod SettledLaws
 pub mod SureBags
 pub mod TypeDecisions

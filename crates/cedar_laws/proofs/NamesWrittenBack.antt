@@ -75,7 +75,8 @@ module _ (schema : PlainSchema) (bag : Bag) (written : IsWrittenBack schema bag)
 
   module _ (extensions : Extensions) where
     -- the bag defines the entity types that the schema does
-    pub same_entities : (name : PlainName) → Contains (schema_names schema).entities name ↔ Contains (definitions bag extensions).entities name
+    pub same_entities : (name : PlainName) → Contains (schema_names schema).entities name
+        ↔ Contains (definitions bag extensions).entities name
     same_entities name =
         let types = map (λ (it : PlainName × SchemaEntityType). it.0) schema.entity_types in
         let of_actions = map (λ (it : PlainUid × SchemaAction). it.0.ty) schema.actions in

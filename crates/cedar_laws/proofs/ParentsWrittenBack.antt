@@ -1,5 +1,5 @@
 -- In the bag of a schema that is written back each is below those that list it among their descendants.
-use Rattle.std.proofs.Common.{◌≡◌, ◌↔◌, Option, map, ap, sym, subst, ◌∙◌, refl, inl, inr, ⊎_elim, arith, Contains}
+use Rattle.std.proofs.Common.{◌≡◌, ◌↔◌, Option, map, ap, sym, subst, refl, inl, inr, ⊎_elim, arith, Contains}
 use Rattle.std.proofs.lemmas.List.Elements.{Contains-append_left}
 use Rattle.cedar_below.proofs.Chains.{refined}
 use Rattle.cedar_below.proofs.Lists.{Contains-preimage}
@@ -17,7 +17,7 @@ use Rattle.cedar_declared.specs.Names.{IsDefined, NamesAction}
 use Rattle.cedar_declared.specs.Occurrences.{IsFirst}
 use Rattle.cedar_declared.specs.PlainSchema.{PlainSchema, SchemaAction, SchemaEntityType}
 use Rattle.cedar_declared.specs.ValidSchema.{HasAction, HasEntityType, IsEnumerated, ListsDescendant, ListsDescendantAction}
-use Rattle.cedar_declared.specs.WrittenBack.{IsKindWritten, IsNameWrittenIn, IsUidWrittenIn, IsWritable, IsWrittenBack, full_name, full_uid, schema_names}
+use Rattle.cedar_declared.specs.WrittenBack.{IsKindWritten, IsNameWrittenIn, IsUidWrittenIn, IsWritable, IsWrittenBack, full_name, full_uid}
 use Rattle.cedar_laws.proofs.EntriesWrittenBack.{action_declared, declared_action_from, declared_type_from, same_uids, type_declared}
 use Rattle.cedar_laws.proofs.ListDecisions.{find_first}
 use Rattle.cedar_laws.proofs.NamesWrittenBack.{named_again, stands_for_itself}
@@ -61,11 +61,13 @@ upper_there schema lower upper lists =
     Contains-image (λ (each : PlainName × SchemaEntityType). each.0) schema.entity_types (upper, lists.0) lists.1
 
 -- so of actions
-pub upper_action_there : (schema : PlainSchema) (lower upper : PlainUid) → ListsDescendantAction schema lower upper → HasAction schema upper
+pub upper_action_there : (schema : PlainSchema) (lower upper : PlainUid) → ListsDescendantAction schema lower upper
+    → HasAction schema upper
 upper_action_there schema lower upper lists =
     Contains-image (λ (each : PlainUid × SchemaAction). each.0) schema.actions (upper, lists.0) lists.1
 
-module _ (schema : PlainSchema) (bag : Bag) (extensions : Extensions) (writable : IsWritable schema) (written : IsWrittenBack schema bag) where
+module _ (schema : PlainSchema) (bag : Bag) (extensions : Extensions) (writable : IsWritable schema)
+    (written : IsWrittenBack schema bag) where
   -- the name of an entity type of the schema is named again
   pub type_again : (namespace : Option PlainName) (name : PlainName) → IsNameWrittenIn schema namespace name → HasEntityType schema name
       → IsNamedAgain (definitions bag extensions) namespace name
@@ -78,8 +80,10 @@ module _ (schema : PlainSchema) (bag : Bag) (extensions : Extensions) (writable 
   parent_lists lower upper (reference, (body, among, parent), resolves) =
       let from = declared_type_from schema bag written lower body among in
       let entry = from.2 in
-      let above = parent_above entry.namespace (λ other. ListsDescendant schema lower other) from.0.kind body entry.kind reference parent in
-      let again = type_again entry.namespace above.0 (inr (inl (lower, entry.path, above.1))) (upper_there schema lower above.0 above.1) in
+      let above = parent_above entry.namespace (λ other. ListsDescendant schema lower other) from.0.kind body entry.kind
+      reference parent in
+      let again = type_again entry.namespace above.0 (inr (inl (lower, entry.path, above.1)))
+      (upper_there schema lower above.0 above.1) in
       let names = defined_names bag extensions in
       let P : Reference → Type 0 = λ each. IsFirst (IsDefined names each.kind) each.possibilities upper in
       let same = IsFirst-same (IsDefined names Entity) (full_name entry.namespace above.0).possibilities above.0 upper
@@ -112,9 +116,11 @@ module _ (schema : PlainSchema) (bag : Bag) (extensions : Extensions) (writable 
       ⊎_elim
       (λ first.
       let other : PlainUid = record { ty = first.0; eid = uid.eid } in
-      let same = writable.uids namespace uid in_place other
-      (IsFirst-like InBag InSchema (λ ty. (same_uids schema bag written (record { ty = ty; eid = uid.eid })).0)
-      (λ ty. (same_uids schema bag written (record { ty = ty; eid = uid.eid })).1) possibilities first.0 first.1, refl) in
+      let same = writable.uids namespace uid in_place other (
+        IsFirst-like InBag InSchema (λ ty. (same_uids schema bag written (record { ty = ty; eid = uid.eid })).0)
+            (λ ty. (same_uids schema bag written (record { ty = ty; eid = uid.eid })).1) possibilities first.0 first.1,
+        refl,
+      ) in
       (subst P (ap (λ (each : PlainUid). each.ty) same) first.1, refl))
       (λ none. absurd (none uid.ty (stands_for_itself namespace uid.ty) ((same_uids schema bag written uid).1 has)))
       (find_first InBag (λ ty. decide_among decide_uids (action_uids bag) (record { ty = ty; eid = uid.eid })) possibilities)
@@ -141,8 +147,7 @@ module _ (schema : PlainSchema) (bag : Bag) (extensions : Extensions) (writable 
       let found = action_declared schema bag written (lower, it.0.1) (subst P it.2 it.1) in
       let entry = found.2 in
       let reference = full_uid entry.namespace upper in
-      let parent = (entry.parents reference).1 (upper, lists, refl) in
-      (
+      let parent = (entry.parents reference).1 (upper, lists, refl) in (
         reference,
         (found.0, found.1, parent),
         action_again entry.namespace upper (lower, entry.path, lists) (upper_action_there schema lower upper lists),
@@ -154,6 +159,7 @@ module _ (schema : PlainSchema) (bag : Bag) (extensions : Extensions) (writable 
       (refined (λ k l has. one (parent_lists k l has)), refined (λ k l lists. one (lists_parent k l lists)))
 
   -- the same of actions
-  pub same_action_descendants : (lower upper : PlainUid) → IsDescendantAction bag lower upper ↔ Chain (ListsDescendantAction schema) lower upper
+  pub same_action_descendants : (lower upper : PlainUid) → IsDescendantAction bag lower upper
+      ↔ Chain (ListsDescendantAction schema) lower upper
   same_action_descendants lower upper =
       (refined (λ k l has. one (parent_lists_action k l has)), refined (λ k l lists. one (lists_parent_action k l lists)))

@@ -1,5 +1,5 @@
 -- The bag of a valid schema that is written back declares the schema with its descendants closed.
-use Rattle.std.proofs.Common.{◌≡◌, ◌↔◌, List, [], ◌∷◌, Option, map, sym, subst, ◌∙◌, refl, inl, inr, ⊎_elim, Contains}
+use Rattle.std.proofs.Common.{◌≡◌, ◌↔◌, List, [], ◌∷◌, Option, map, sym, subst, ◌∙◌, refl, ⊎_elim, Contains}
 use Rattle.std.specs.List.Sorted.{IsStrictlySortedBy}
 use Rattle.cedar_below.proofs.Lists.{Contains-preimage}
 use Rattle.cedar_below.proofs.PlainNames.{name_cmp-total, uid_cmp-total}
@@ -11,18 +11,18 @@ use Rattle.cedar_declared.proofs.OccurrenceLemmas.{Contains-image, Twice-ascendi
 use Rattle.cedar_declared.proofs.TogetherLemmas.{AreRequests, IsDefinition, action_definition_declared, action_definition_says, declared_action_definition, declared_definition, definition_declared, definition_or_external, definition_says, requests_or_elsewhere}
 use Rattle.cedar_declared.proofs.TurnLemmas.{turn_back, turn_forth}
 use Rattle.cedar_declared.specs.Bag.{Bag, declared_actions, declared_entities}
-use Rattle.cedar_declared.specs.ClosedSchema.{ClosesAction, ClosesSchema, ClosesType}
-use Rattle.cedar_declared.specs.DeclaredSchema.{IsDeclaredAction, IsDeclaredActionKind, IsDeclaredEntityType, IsDeclaredKind, IsDeclaredSchema}
+use Rattle.cedar_declared.specs.ClosedSchema.{ClosesAction, ClosesType}
+use Rattle.cedar_declared.specs.DeclaredSchema.{IsDeclaredAction, IsDeclaredActionKind, IsDeclaredEntityType, IsDeclaredKind}
 use Rattle.cedar_declared.specs.Descent.{IsDescendant, IsDescendantAction}
 use Rattle.cedar_declared.specs.EntityTypeKind.{EntityTypeKind, enumerated_kind, external_kind, standard_kind}
 use Rattle.cedar_declared.specs.PlainSchema.{ActionKind, PlainSchema, SchemaAction, SchemaEntityType, defined_action, external_action}
 use Rattle.cedar_declared.specs.Together.{ActionSays, EntitySays, defined_actions, defined_entities}
-use Rattle.cedar_declared.specs.ValidSchema.{HasAction, HasEntityType, IsExternal, IsValidSchema, ListsDescendant}
+use Rattle.cedar_declared.specs.ValidSchema.{IsExternal, IsValidSchema, ListsDescendant}
 use Rattle.cedar_declared.specs.WrittenBack.{AreRequestsWritten, IsKindWritten, IsWritable, IsWrittenBack}
 use Rattle.cedar_laws.proofs.EntriesWrittenBack.{IsActionWritten, IsTypeWritten, action_declared, declared_action_from, declared_type_from, same_types, same_uids, type_declared}
 use Rattle.cedar_laws.proofs.KindsWrittenBack.{action_kind_declared, kind_declared}
 use Rattle.cedar_laws.proofs.ParentsWrittenBack.{same_action_descendants, same_descendants}
-use Rattle.cedar_laws.specs.EndToEnd.{IsInOrder, StandsUnderItsNames, WrittenDescendantsAreReached, WrittenSchemasAreDeclared}
+use Rattle.cedar_laws.specs.EndToEnd.{IsInOrder, WrittenDescendantsAreReached, WrittenSchemasAreDeclared}
 use Rattle.cedar_names.specs.ActionBody.{ActionBody, Requests, elsewhere, requests}
 use Rattle.cedar_names.specs.EntityBody.{EntityBody, enumerated, external, standard}
 
@@ -50,7 +50,8 @@ module _ (namespace : Option PlainName) where
   requests_written_once external_action (requests principals resources context) are is other is' = is
   requests_written_once external_action elsewhere are is other is' = are
 
-module _ (schema : PlainSchema) (bag : Bag) (extensions : Extensions) (order : IsInOrder schema) (written : IsWrittenBack schema bag) where
+module _ (schema : PlainSchema) (bag : Bag) (extensions : Extensions) (order : IsInOrder schema)
+    (written : IsWrittenBack schema bag) where
   -- an entity type of the schema has one entry
   one_type : (name : PlainName) (it other : SchemaEntityType) → Contains schema.entity_types (name, it)
       → Contains schema.entity_types (name, other) → it ≡ other
@@ -89,8 +90,7 @@ module _ (schema : PlainSchema) (bag : Bag) (extensions : Extensions) (order : I
       let Q : EntityBody → Type 0 = IsKindWritten entry.namespace (λ upper. ListsDescendant schema it.0 upper) it.1.kind in
       let kind = external_written entry.namespace (λ upper. ListsDescendant schema it.0 upper) it.1.kind is_external.0
       (subst Q is_external.1 entry.kind) in
-      subst P (sym is_external.1)
-      (
+      subst P (sym is_external.1) (
         Contains-image (λ (each : PlainName × EntityBody). each.0) (declared_entities bag) (it.0, body) among,
         external_undefined it.0 it.1 there kind,
       ))
@@ -119,8 +119,7 @@ module _ (schema : PlainSchema) (bag : Bag) (extensions : Extensions) (order : I
       (λ is_elsewhere.
       let P : Requests → Type 0 = ActionSays bag it.0 in
       let Q : Requests → Type 0 = AreRequestsWritten entry.namespace it.1.kind in
-      subst P (sym is_elsewhere)
-      (
+      subst P (sym is_elsewhere) (
         Contains-image (λ (each : PlainUid × ActionBody). each.0) (declared_actions bag) (it.0, body) among,
         elsewhere_undefined it.0 it.1 there entry.namespace (subst Q is_elsewhere entry.applies_to),
       ))
@@ -181,7 +180,8 @@ written_schemas_are_declared schema closed bag extensions order named writable v
           closed.entity_types schema.entity_types
           (turn_back (ClosesType schema) (λ (y : PlainName × SchemaEntityType) (x : PlainName × SchemaEntityType). ClosesType schema x y)
           (λ x y is. is) schema.entity_types closed.entity_types closes.entity_types) it among in
-          closed_type_declared schema bag extensions order written writable valid from.0 it from.1 (named.entity_types from.0 from.1) from.2;
+          closed_type_declared schema bag extensions order written writable valid from.0 it from.1
+          (named.entity_types from.0 from.1) from.2;
       each_entity_type = λ name among. subst (λ keys. Contains keys name) types ((same_types schema bag written name).0 among);
       entity_types_in_order = subst (IsStrictlySortedBy name_cmp) types order.entity_types;
       actions = λ it among.
@@ -189,7 +189,8 @@ written_schemas_are_declared schema closed bag extensions order named writable v
           closed.actions schema.actions
           (turn_back (ClosesAction schema) (λ (y : PlainUid × SchemaAction) (x : PlainUid × SchemaAction). ClosesAction schema x y)
           (λ x y is. is) schema.actions closed.actions closes.actions) it among in
-          closed_action_declared schema bag extensions order written writable valid from.0 it from.1 (named.actions from.0 from.1) from.2;
+          closed_action_declared schema bag extensions order written writable valid from.0 it from.1
+          (named.actions from.0 from.1) from.2;
       each_action = λ uid among. subst (λ keys. Contains keys uid) actions ((same_uids schema bag written uid).0 among);
       actions_in_order = subst (IsStrictlySortedBy uid_cmp) actions order.actions;
       action_entities = closes.action_entities;

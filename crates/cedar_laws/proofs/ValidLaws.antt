@@ -180,7 +180,7 @@ module _ (bag : Bag) (extensions : Extensions) (schema : PlainSchema) (fit : Typ
       type_in
 
   -- the name of an entity type of the schema is declared
-  declared_type : (name : PlainName) → HasEntityType schema name → Contains (map (λ it. it.0) (declared_entities bag)) name
+  pub declared_type : (name : PlainName) → HasEntityType schema name → Contains (map (λ it. it.0) (declared_entities bag)) name
   declared_type name has =
       let found = Contains-preimage (λ it. it.0) schema.entity_types name has in
       let it = declared.entity_types found.0 found.1 in
@@ -188,7 +188,7 @@ module _ (bag : Bag) (extensions : Extensions) (schema : PlainSchema) (fit : Typ
       subst P found.2 (said_is_declared bag found.0.0 it.body it.says)
 
   -- the uid of an action of the schema is declared
-  declared_action_uid : (uid : PlainUid) → HasAction schema uid → Contains (action_uids bag) uid
+  pub declared_action_uid : (uid : PlainUid) → HasAction schema uid → Contains (action_uids bag) uid
   declared_action_uid uid has =
       let found = Contains-preimage (λ it. it.0) schema.actions uid has in
       let it = declared.actions found.0 found.1 in

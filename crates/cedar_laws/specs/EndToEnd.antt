@@ -206,3 +206,11 @@ WrittenDescendantsAreReached = (schema : PlainSchema) (bag : Bag) (extensions : 
     → IsWrittenBack schema bag
     → ((lower upper : PlainName) → IsDescendant bag extensions lower upper ↔ Chain (ListsDescendant schema) lower upper)
     × ((lower upper : PlainUid) → IsDescendantAction bag lower upper ↔ Chain (ListsDescendantAction schema) lower upper)
+
+-- a law: the schema that a bag declares which isn't ill-formed comes back, where the references of the bag fit their places and the
+-- schema is writable: the bag of it written back isn't ill-formed either, and declares it
+abbrev pub DeclaredSchemasComeBack : Type 0
+DeclaredSchemasComeBack = (bag again : Bag) (extensions : Extensions) (schema : PlainSchema)
+    → TypeNamesFit (extension_types extensions) → PlacesFit bag → ¬ IsIllFormed bag extensions
+    → IsDeclaredSchema bag extensions schema → IsWritable schema → IsWrittenBack schema again
+    → (¬ IsIllFormed again extensions) × IsDeclaredSchema again extensions schema
