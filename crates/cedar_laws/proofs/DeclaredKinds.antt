@@ -40,7 +40,7 @@ written_closed defined (as_common reference name body resolves common written) i
 written_closed defined (as_extension name) is = absurd is
 
 -- a type is a record type or isn't
-decide_record : (ty : Ty) → IsDecided (IsRecordType ty)
+pub decide_record : (ty : Ty) → IsDecided (IsRecordType ty)
 decide_record (record_of fields openness) = inl tt
 decide_record _ = inr (λ is. is)
 

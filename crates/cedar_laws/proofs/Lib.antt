@@ -4,11 +4,17 @@ pub mod BuiltFrom
 pub mod ChainDecisions
 pub mod ChainInduction
 pub mod CleanSchemas
+pub mod ComeBack
 pub mod CountLemmas
+mod CountsWrittenBack
 pub mod DeclaredKinds
+mod EntriesWrittenBack
 pub mod EnumeratedLemmas
 pub mod EnvironmentLaws
+mod ExpressionsWrittenBack
+pub mod FaultsWrittenBack
 pub mod KindLemmas
+mod KindsWrittenBack
 pub mod ListDecisions
 pub mod ListedEntities
 pub mod MeaningLemmas
@@ -18,6 +24,7 @@ pub mod MovedBags
 pub mod MovedLemmas
 mod NamesWrittenBack
 pub mod OrderLaws
+mod ParentsWrittenBack
 pub mod PlacedLemmas
 pub mod ReferenceDecisions
 pub mod SaidFaults
@@ -26,6 +33,7 @@ pub mod SameBagLaws
 pub mod SameEntities
 pub mod SchemaExistence
 pub mod SchemaLaws
+pub mod SchemasWrittenBack
 pub mod SettledLaws
 pub mod SureBags
 pub mod TypeDecisions

@@ -24,7 +24,7 @@ use Rattle.cedar_names.specs.Reference.{names_within, possible_names}
 use Rattle.cedar_names.specs.declared.json_schema.reference_type.ReferenceType.TheVariants.{Entity}
 
 -- a name is one of those that it may stand for
-stands_for_itself : (namespace : Option PlainName) (name : PlainName) → Contains (possible_names namespace name) name
+pub stands_for_itself : (namespace : Option PlainName) (name : PlainName) → Contains (possible_names namespace name) name
 stands_for_itself None name = (0, omega arith, refl)
 stands_for_itself (Some namespace) name = by name.base name.path where
   by : (base : Text) (path : List Text) → Contains (names_within namespace base path) (record { base = base; path = path })
@@ -33,7 +33,7 @@ stands_for_itself (Some namespace) name = by name.base name.path where
 
 module _ (schema : PlainSchema) (bag : Bag) (written : IsWrittenBack schema bag) where
   -- what an entity type of the schema is declared as stands in the bag
-  type_there : (it : PlainName × SchemaEntityType) → Contains schema.entity_types it
+  pub type_there : (it : PlainName × SchemaEntityType) → Contains schema.entity_types it
       → (d : Declaration) × Contains bag d × IsTypeDeclaration schema it d
   type_there it among =
       let found = turn_forth (IsTypeDeclaration schema) schema.entity_types written.entity_types written.each_entity_type it among in (
@@ -44,7 +44,7 @@ module _ (schema : PlainSchema) (bag : Bag) (written : IsWrittenBack schema bag)
       )
 
   -- so does what an action is declared as
-  action_there : (it : PlainUid × SchemaAction) → Contains schema.actions it → (d : Declaration) × Contains bag d
+  pub action_there : (it : PlainUid × SchemaAction) → Contains schema.actions it → (d : Declaration) × Contains bag d
       × IsActionDeclaration schema it d
   action_there it among =
       let found = turn_forth (IsActionDeclaration schema) schema.actions written.actions written.each_action it among in (
@@ -55,7 +55,7 @@ module _ (schema : PlainSchema) (bag : Bag) (written : IsWrittenBack schema bag)
       )
 
   -- a declaration of the bag is that of an entity type or of an action
-  from_schema : (d : Declaration) → Contains bag d
+  pub from_schema : (d : Declaration) → Contains bag d
       → ((it : PlainName × SchemaEntityType) × Contains schema.entity_types it × IsTypeDeclaration schema it d)
       ⊎ ((it : PlainUid × SchemaAction) × Contains schema.actions it × IsActionDeclaration schema it d)
   from_schema d among =
@@ -75,7 +75,8 @@ module _ (schema : PlainSchema) (bag : Bag) (written : IsWrittenBack schema bag)
 
   module _ (extensions : Extensions) where
     -- the bag defines the entity types that the schema does
-    same_entities : (name : PlainName) → Contains (schema_names schema).entities name ↔ Contains (definitions bag extensions).entities name
+    pub same_entities : (name : PlainName) → Contains (schema_names schema).entities name
+        ↔ Contains (definitions bag extensions).entities name
     same_entities name =
         let types = map (λ (it : PlainName × SchemaEntityType). it.0) schema.entity_types in
         let of_actions = map (λ (it : PlainUid × SchemaAction). it.0.ty) schema.actions in

@@ -14,12 +14,12 @@ use Rattle.cedar_rules.specs.declared.bool_type.BoolType.TheVariants.{AnyBool, T
 use Rattle.cedar_rules.specs.declared.open_tag.OpenTag.TheVariants.{OpenAttributes, ClosedAttributes}
 
 -- what a function gives of something it gives of what is there
-map_some : {A B : Type 0} (f : A → B) (a : Option A) (b : B) → option_map f a ≡ Some b → (x : A) × (a ≡ Some x) × (f x ≡ b)
+pub map_some : {A B : Type 0} (f : A → B) (a : Option A) (b : B) → option_map f a ≡ Some b → (x : A) × (a ≡ Some x) × (f x ≡ b)
 map_some f None b is = cc
 map_some f (Some x) b is = let same : f x ≡ b = cc in (x, refl, same)
 
 -- a pair is of two that are there
-zip_some : {A B : Type 0} (a : Option A) (b : Option B) (both : A × B) → option_zip a b ≡ Some both
+pub zip_some : {A B : Type 0} (a : Option A) (b : Option B) (both : A × B) → option_zip a b ≡ Some both
     → (a ≡ Some both.0) × (b ≡ Some both.1)
 zip_some None None both is = cc
 zip_some None (Some y) both is = cc

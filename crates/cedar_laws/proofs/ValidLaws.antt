@@ -44,7 +44,7 @@ itself_in_turn R (x ∷ xs) each =
     (each x (Contains-cons x xs x (inl refl)), itself_in_turn R xs (λ y among. each y (Contains-cons x xs y (inr among))))
 
 -- some list isn't none
-some_first : {A : Type 0} (items : List A) → items ≢ [] → (item : A) × Contains items item
+pub some_first : {A : Type 0} (items : List A) → items ≢ [] → (item : A) × Contains items item
 some_first [] some = absurd (some refl)
 some_first (first ∷ rest) some = (first, Contains-cons first rest first (inl refl))
 
@@ -180,7 +180,7 @@ module _ (bag : Bag) (extensions : Extensions) (schema : PlainSchema) (fit : Typ
       type_in
 
   -- the name of an entity type of the schema is declared
-  declared_type : (name : PlainName) → HasEntityType schema name → Contains (map (λ it. it.0) (declared_entities bag)) name
+  pub declared_type : (name : PlainName) → HasEntityType schema name → Contains (map (λ it. it.0) (declared_entities bag)) name
   declared_type name has =
       let found = Contains-preimage (λ it. it.0) schema.entity_types name has in
       let it = declared.entity_types found.0 found.1 in
@@ -188,7 +188,7 @@ module _ (bag : Bag) (extensions : Extensions) (schema : PlainSchema) (fit : Typ
       subst P found.2 (said_is_declared bag found.0.0 it.body it.says)
 
   -- the uid of an action of the schema is declared
-  declared_action_uid : (uid : PlainUid) → HasAction schema uid → Contains (action_uids bag) uid
+  pub declared_action_uid : (uid : PlainUid) → HasAction schema uid → Contains (action_uids bag) uid
   declared_action_uid uid has =
       let found = Contains-preimage (λ it. it.0) schema.actions uid has in
       let it = declared.actions found.0 found.1 in

@@ -1,8 +1,10 @@
 use Rattle.std.specs.Prelude.{◌≡◌, ◌⊎◌, ◌↔◌, Result, IfOk, IfErr, OnOk, Option, Some, Contains, List, map}
-use Rattle.std.specs.List.Sorted.{IsPermutation}
+use Rattle.std.specs.List.Sorted.{IsPermutation, IsStrictlySortedBy}
+use Rattle.cedar_below.specs.Chain.{Chain}
 use Rattle.cedar_below.specs.Extensions.{extension_types}
-use Rattle.cedar_below.specs.PlainName.{PlainName}
-use Rattle.cedar_below.specs.PlainUid.{PlainUid}
+use Rattle.cedar_below.specs.Identifier.{reserved_word}
+use Rattle.cedar_below.specs.PlainName.{PlainName, name_cmp}
+use Rattle.cedar_below.specs.PlainUid.{PlainUid, uid_cmp}
 use Rattle.cedar_below.specs.Tree.{Tree, no_entry}
 use Rattle.cedar_below.specs.TypeNames.{TypeNamesFit}
 use Rattle.cedar_below.specs.declared.extension.Extensions.{Extensions}
@@ -23,14 +25,14 @@ use Rattle.cedar_declared.specs.PlainSchema.{SchemaEntityType, SchemaAction, def
 use Rattle.cedar_declared.specs.SameBag.{SameBag}
 use Rattle.cedar_declared.specs.SameSchema.{SameSchema}
 use Rattle.cedar_declared.specs.Settled.{SettlesBag}
-use Rattle.cedar_declared.specs.ValidSchema.{IsTypeIn, IsValidSchema}
-use Rattle.cedar_declared.specs.Descent.{IsDescendantAction}
+use Rattle.cedar_declared.specs.ValidSchema.{HasAction, HasEntityType, IsContextOf, IsTypeIn, IsValidSchema, ListsDescendant, ListsDescendantAction}
+use Rattle.cedar_declared.specs.Descent.{IsDescendant, IsDescendantAction}
 use Rattle.cedar_declared.specs.EntityTypeKind.{standard_kind}
 use Rattle.cedar_declared.specs.Defined.{Defined, names_of}
 use Rattle.cedar_declared.specs.Names.{ResolvesTo}
 use Rattle.cedar_declared.specs.TypeMentions.{MentionsEntity}
 use Rattle.cedar_declared.specs.WrittenBack.{IsNameWrittenIn, IsWritable, IsWrittenBack, full_name, schema_names, type_written}
-use Rattle.cedar_declared.specs.WrittenOut.{WrittenOut}
+use Rattle.cedar_declared.specs.WrittenOut.{IsRecordType, WrittenOut}
 use Rattle.cedar_rules.specs.Clean.{IsClean}
 use Rattle.cedar_rules.specs.Has.{Has}
 use Rattle.cedar_rules.specs.Ty.{Ty, Fields, record_of}
@@ -162,3 +164,53 @@ abbrev pub WrittenNamesAreNamedAgain : Type 0
 WrittenNamesAreNamedAgain = (schema : PlainSchema) (bag : Bag) (extensions : Extensions) → IsWritable schema → IsWrittenBack schema bag
     → (namespace : Option PlainName) (name : PlainName) → IsNameWrittenIn schema namespace name
     → Contains (schema_names schema).entities name → IsNamedAgain (definitions bag extensions) namespace name
+
+-- the entity types and the actions of the schema stand in the order of their names
+pub record IsInOrder (schema : PlainSchema) : Type 0 where
+  pub entity_types : IsStrictlySortedBy name_cmp (map (λ it. it.0) schema.entity_types)
+  pub actions : IsStrictlySortedBy uid_cmp (map (λ it. it.0) schema.actions)
+
+-- each entity type and each action of the schema stands under its own name
+pub record StandsUnderItsNames (schema : PlainSchema) : Type 0 where
+  pub entity_types : (it : PlainName × SchemaEntityType) → Contains schema.entity_types it → it.1.name ≡ it.0
+  pub actions : (it : PlainUid × SchemaAction) → Contains schema.actions it → it.1.uid ≡ it.0
+
+-- no entity type of the schema stands in a reserved namespace, and no action
+pub record HasNoReservedName (schema : PlainSchema) : Type 0 where
+  pub entity_types : (name : PlainName) → HasEntityType schema name → ¬ Contains name.path reserved_word
+  pub actions : (uid : PlainUid) → HasAction schema uid → ¬ Contains uid.ty.path reserved_word
+
+-- the context of each action of the schema is a record
+abbrev pub HasRecordContexts : PlainSchema → Type 0
+HasRecordContexts schema =
+    (it : PlainUid × SchemaAction) (ty : Ty) → Contains schema.actions it → IsContextOf it.1.kind ty → IsRecordType ty
+
+-- a law: the bag of a valid schema that is writable and written back isn't ill-formed, where its entity types and actions are in
+-- order, none of them is reserved, and its contexts are records
+abbrev pub WrittenSchemasAreWellFormed : Type 0
+WrittenSchemasAreWellFormed = (schema : PlainSchema) (bag : Bag) (extensions : Extensions) → TypeNamesFit (extension_types extensions)
+    → IsInOrder schema → HasNoReservedName schema → HasRecordContexts schema → IsWritable schema
+    → IsValidSchema extensions schema → IsWrittenBack schema bag → ¬ IsIllFormed bag extensions
+
+-- a law: a valid schema that is writable and written back, with its entity types and actions in order and under their own names,
+-- is declared by its bag with its descendants closed
+abbrev pub WrittenSchemasAreDeclared : Type 0
+WrittenSchemasAreDeclared = (schema closed : PlainSchema) (bag : Bag) (extensions : Extensions) → IsInOrder schema
+    → StandsUnderItsNames schema → IsWritable schema → IsValidSchema extensions schema → IsWrittenBack schema bag
+    → ClosesSchema schema closed → IsDeclaredSchema bag extensions closed
+
+-- a law: in the bag of a schema that is writable and written back the descendants are those that one or more steps of the listed
+-- ones reach
+abbrev pub WrittenDescendantsAreReached : Type 0
+WrittenDescendantsAreReached = (schema : PlainSchema) (bag : Bag) (extensions : Extensions) → IsWritable schema
+    → IsWrittenBack schema bag
+    → ((lower upper : PlainName) → IsDescendant bag extensions lower upper ↔ Chain (ListsDescendant schema) lower upper)
+    × ((lower upper : PlainUid) → IsDescendantAction bag lower upper ↔ Chain (ListsDescendantAction schema) lower upper)
+
+-- a law: the schema that a bag declares which isn't ill-formed comes back, where the references of the bag fit their places and the
+-- schema is writable: the bag of it written back isn't ill-formed either, and declares it
+abbrev pub DeclaredSchemasComeBack : Type 0
+DeclaredSchemasComeBack = (bag again : Bag) (extensions : Extensions) (schema : PlainSchema)
+    → TypeNamesFit (extension_types extensions) → PlacesFit bag → ¬ IsIllFormed bag extensions
+    → IsDeclaredSchema bag extensions schema → IsWritable schema → IsWrittenBack schema again
+    → (¬ IsIllFormed again extensions) × IsDeclaredSchema again extensions schema

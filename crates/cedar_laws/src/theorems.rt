@@ -10,7 +10,7 @@ ghost use Rattle.cedar_names.specs.declared.json_schema.fragment.Fragment.{Fragm
 ghost use Rattle.cedar_names.specs.declared.json_schema.raw_name.RawName.{RawName};
 ghost use Rattle.cedar_declared.specs.Bag.{Bag, definitions};
 ghost use Rattle.cedar_declared.specs.Counted.{PlacesFit};
-ghost use Rattle.cedar_laws.specs.EndToEnd.{ActionEntitiesAreDeclared, AdmitsTheSame, BagsDeclareASchema, BagsDeclareAtMostOneSchema, DeclaredSchemasAreClosed, DeclaredSchemasAreValid, DeclaredTypesAreClean, DeclaredTypesHaveTheDeclaredValues, EnvironmentsAreDeclared, OrderIsNothing, SameBagsDeclareTheSame, SettlingChangesNothing, WrittenNamesAreNamedAgain, WrittenTypesAreWrittenOut};
+ghost use Rattle.cedar_laws.specs.EndToEnd.{ActionEntitiesAreDeclared, AdmitsTheSame, BagsDeclareASchema, BagsDeclareAtMostOneSchema, DeclaredSchemasAreClosed, DeclaredSchemasAreValid, DeclaredSchemasComeBack, DeclaredTypesAreClean, DeclaredTypesHaveTheDeclaredValues, EnvironmentsAreDeclared, OrderIsNothing, SameBagsDeclareTheSame, SettlingChangesNothing, WrittenDescendantsAreReached, WrittenNamesAreNamedAgain, WrittenSchemasAreDeclared, WrittenSchemasAreWellFormed, WrittenTypesAreWrittenOut};
 ghost use Rattle.cedar_declared.specs.IllFormed.{IsIllFormed};
 ghost use Rattle.cedar_declared.specs.WrittenOut.{WrittenOut};
 ghost use Rattle.cedar_rules.specs.Ty.{Ty};
@@ -104,4 +104,29 @@ pub fn written_types_are_written_out()
 /// itself, where the schema has it, as an entity type or as the type of an action.
 pub fn written_names_are_named_again()
     ensures { WrittenNamesAreNamedAgain }
+{}
+
+/// In the bag of a schema that is writable and written back an entity type or an action is a descendant of
+/// another exactly where one or more steps of the listed descendants lead from the one to the other.
+pub fn written_descendants_are_reached()
+    ensures { WrittenDescendantsAreReached }
+{}
+
+/// A valid schema that is writable and written back, with its entity types and actions in order and under
+/// their own names, is declared by its bag, with its descendants closed.
+pub fn written_schemas_are_declared()
+    ensures { WrittenSchemasAreDeclared }
+{}
+
+/// The bag of a valid schema that is writable and written back isn't ill-formed, where its entity types and
+/// actions are in order, none of them is reserved, and its contexts are records.
+pub fn written_schemas_are_well_formed()
+    ensures { WrittenSchemasAreWellFormed }
+{}
+
+/// The schema that a bag declares which isn't ill-formed comes back, where the references of the bag fit
+/// their places and the schema is writable: the bag of it written back isn't ill-formed either, and
+/// declares the same schema.
+pub fn declared_schemas_come_back()
+    ensures { DeclaredSchemasComeBack }
 {}
