@@ -177,7 +177,7 @@ impl Piece {
                 (1000, 5),
                 (5000, 1),
             ]),
-            Piece::BuildCommonChain => sizes([(10, 1000), (100, 100), (1000, 10)]),
+            Piece::BuildCommonChain => sizes([(10, 1000), (1000, 10), (100_000, 1)]),
             Piece::CloseChain => sizes([(50, 200), (150, 20), (500, 2)]),
             Piece::CloseRing => sizes([(30, 500), (100, 50), (300, 5)]),
             Piece::CloseStar | Piece::CloseTrees => sizes([(50, 1000), (500, 100), (5000, 5)]),

@@ -167,6 +167,12 @@ const COMMON: &[(&str, &str, &str)] = &[
         "N: type A = {b: n:M::B} | M: type B = Set<n:N::C> | N: type C = e:U | N: entity U shape n:A",
         "attr N::U b: Set<N::U>; entity N::U standard",
     ),
+    (
+        "an alias in one namespace, an entity type of its name in another",
+        "N: type A = {s: n:String}; N: entity String; N: entity U shape n:A | M: type B = {s: n:String}; M: entity V shape n:B",
+        "attr M::V s: String; attr N::U s: N::String; entity M::V standard; entity N::String standard; \
+         entity N::U standard",
+    ),
 ];
 
 /// The hierarchy of entity types.
@@ -237,6 +243,12 @@ const LINKED: &[(&str, &str, &str)] = &[
         "external declarations alone are joined",
         "external entity U in A | external entity U in B | external entity U | entity A; entity B",
         "descendant A U; descendant B U; entity A standard; entity B standard; entity U external",
+    ),
+    (
+        "two external declarations and a definition, each with a parent of its own",
+        "external entity U in A | external entity U in B | entity U in C | entity A; entity B; entity C",
+        "descendant A U; descendant B U; descendant C U; entity A standard; entity B standard; entity C standard; \
+         entity U standard",
     ),
     (
         "an enumerated definition fulfils an external declaration without parents",
