@@ -1,2 +1,3 @@
 pub mod ActionEquality
+pub mod NamedTypes
 pub mod SetLemmas

@@ -12,8 +12,8 @@ use std::hash::Hash;
 /// Equality is that of the two sets.
 #[derive(Debug, Drop, PartialEq, Eq)]
 pub struct ValidatorApplySpec<N: Eq + Hash> {
-    principals: HashSet<N>,
-    resources: HashSet<N>,
+    pub(crate) principals: HashSet<N>,
+    pub(crate) resources: HashSet<N>,
 }
 
 impl<N: Eq + Hash> ValidatorApplySpec<N> {

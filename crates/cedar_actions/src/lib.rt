@@ -8,5 +8,6 @@ mod action_id;
 mod action_kind;
 mod apply_spec;
 mod hierarchy;
+mod qualified;
 mod sets;
 pub mod theorems;

@@ -23,6 +23,8 @@ mod qualified;
 #[cfg(test)]
 mod refusals;
 #[cfg(test)]
+mod requests;
+#[cfg(test)]
 mod settled;
 #[cfg(test)]
 mod types;
