@@ -2,6 +2,7 @@ use Rattle.std.proofs.Common.{ap, map, ◌∙◌}
 use Rattle.std.proofs.lemmas.Result.{IfOk-weaker}
 use Rattle.std.specs.BTreeMap.{is_at}
 use Rattle.std.specs.Map.{lookup}
+use Rattle.cedar_below.specs.Entities.{entities_of}
 use Rattle.cedar_below.specs.EntityType.{type_name}
 use Rattle.cedar_below.specs.EntityUID.{uid_of}
 use Rattle.cedar_below.specs.PlainName.{name_cmp}
@@ -9,10 +10,23 @@ use Rattle.cedar_below.specs.PlainUid.{uid_cmp}
 use Rattle.cedar_entities.specs.ValidatorEntityType.{plain_entry}
 use Rattle.cedar_located.specs.Located.{common_entries, namespace_entries}
 use Rattle.cedar_validated.specs.LastNamed.{last_named, last_of_uid}
+use Rattle.cedar_schema.proofs.SchemaNames.{last_under_names, last_under_uids, schema_under_names}
 use Rattle.cedar_schema.proofs.schema.ValidatorSchema.new.Goals as goal
 
-pub from_parts-requires : goal.from_parts-requires
-from_parts-requires g c = c.in_ok-action_entities.ensures (map plain_entry c.in_ok-entity_types.entity_types.entries)
+pub from_parts-requires-clause-entities : goal.from_parts-requires-clause-entities
+from_parts-requires-clause-entities g c = c.in_ok-action_entities.ensures (map plain_entry c.in_ok-entity_types.entity_types.entries)
+
+pub from_parts-requires-clause-under_names : goal.from_parts-requires-clause-under_names
+from_parts-requires-clause-under_names g c =
+    let types = c.in_ok-entity_types.entity_types.entries in
+    let actions = c.in_ok-actions.actions.entries in
+    let given_types = c.in_ok-from_iter.ensures.ran in
+    let given_actions = c.in_ok-from_iter-2.ensures.ran in
+    schema_under_names types actions (entities_of c.in_ok-action_entities.action_entities)
+    (last_under_names types given_types.1 c.keys-names.ensures.ordered
+    (λ name. c.in_ok-entity_types.ensures name ∙ ap (last_named (type_name name)) given_types.4.0))
+    (last_under_uids actions given_actions.1 c.keys-uids.ensures.ordered
+    (λ uid. c.in_ok-actions.ensures uid ∙ ap (last_of_uid (uid_of uid)) given_actions.4.0))
 
 pub returns : goal.returns
 returns g c =
