@@ -1,20 +1,12 @@
 -- What is known of the names of every schema: they ascend, entity types and actions stand under their own, and none is reserved.
-use Rattle.std.proofs.Common.{◌≡◌, ◌∙◌, ◌∷◌, Bool, Contains, IsTrue, List, None, Option, Some, [], ap, arith, cond, false, inl, inr, map, refl, subst, sym, true, ⊎_elim}
+use Rattle.std.proofs.Common.{◌≡◌, ◌∙◌, ◌∷◌, Contains, List, [], inr, map, refl, subst, sym}
 use Rattle.std.proofs.Math.Logic.{∥∥₁_elim}
 use Rattle.std.proofs.Props.{props}
-use Rattle.std.proofs.lemmas.Cmp.{eq_by_cmp_equiv}
-use Rattle.std.proofs.lemmas.Map.Keys.{IsDistinct-from_sorted}
-use Rattle.std.proofs.lemmas.Map.Views.{lookup-from_Contains}
-use Rattle.std.specs.BTreeMap.{is_at}
-use Rattle.std.specs.Cmp.{IsTotalOrder}
 use Rattle.std.specs.List.Sorted.{IsStrictlySortedBy}
-use Rattle.std.specs.Map.{keys_of, lookup}
-use Rattle.std.specs.Option.{option_or}
-use Rattle.std.specs.Ordering.{is_eq}
-use Rattle.std.specs.declared.cmp.Ordering.{Ordering}
+use Rattle.std.specs.Map.{keys_of}
 use Rattle.cedar_actions.specs.ValidatorActionId.{action_of, plain_action_entry}
 use Rattle.cedar_actions.specs.declared.action_id.ValidatorActionId.{ValidatorActionId}
-use Rattle.cedar_below.proofs.Lists.{Contains-cons, Contains-cons_cases, Contains-preimage}
+use Rattle.cedar_below.proofs.Lists.{Contains-preimage}
 use Rattle.cedar_below.proofs.Names.{entity_type_ord-name_cmp}
 use Rattle.cedar_below.proofs.Ordered.{IsStrictlySortedBy-map}
 use Rattle.cedar_below.proofs.PlainNames.{name_cmp-Equal, uid_cmp-Equal}
@@ -22,7 +14,6 @@ use Rattle.cedar_below.proofs.Uids.{entity_uid_ord-uid_cmp}
 use Rattle.cedar_below.specs.EntityType.{type_name}
 use Rattle.cedar_below.specs.EntityUID.{uid_of}
 use Rattle.cedar_below.specs.Identifier.{reserved_word}
-use Rattle.cedar_below.specs.Lists.{HoldsInTurn}
 use Rattle.cedar_below.specs.PlainName.{PlainName, name_cmp}
 use Rattle.cedar_below.specs.PlainUid.{PlainUid, uid_cmp}
 use Rattle.cedar_below.specs.contracts.entity_type.EntityTypeOrd.TheImpl as entity_type_ord
@@ -31,7 +22,6 @@ use Rattle.cedar_below.specs.declared.entity.Entity.{Entity}
 use Rattle.cedar_below.specs.declared.entity_type.EntityType.{EntityType}
 use Rattle.cedar_below.specs.declared.entity_uid.EntityUID.{EntityUID}
 use Rattle.cedar_below.specs.declared.extension.Extensions.{Extensions}
-use Rattle.cedar_declared.proofs.OccurrenceLemmas.{name_test, uid_test}
 use Rattle.cedar_declared.specs.Bag.{Bag}
 use Rattle.cedar_declared.specs.ClosedSchema.{ClosesAction, ClosesSchema, ClosesType}
 use Rattle.cedar_declared.specs.DeclaredSchema.{IsDeclaredSchema}
@@ -40,9 +30,9 @@ use Rattle.cedar_derived.specs.ActionEntities.{schema_with}
 use Rattle.cedar_entities.specs.ValidatorEntityType.{entity_type_of, plain_entry}
 use Rattle.cedar_entities.specs.declared.entity_type.ValidatorEntityType.{ValidatorEntityType}
 use Rattle.cedar_laws.specs.EndToEnd.{HasNoReservedName, IsInOrder, StandsUnderItsNames}
+use Rattle.cedar_validated.proofs.InTurn.{in_turn_back}
 use Rattle.cedar_schema.specs.ValidatorSchema.{schema_of}
 use Rattle.cedar_schema.specs.declared.schema.ValidatorSchema.{ValidatorSchema}
-use Rattle.cedar_validated.specs.LastNamed.{last_named, last_of_uid, last_that}
 
 abbrev Types : Type 0
 Types = List (EntityType × ValidatorEntityType)
@@ -77,52 +67,7 @@ known_order schema = record {
   actions = ∥∥₁_elim schema.in_order (Prim.hlevel props) (λ order. order.actions);
 }
 
--- the last of some items that passes a test passes it
-last_passes : {A : Type 0} (test : A → Bool) (items : List A) (it : A) → last_that test items ≡ Some it → IsTrue (test it)
-last_passes test [] it found = absurd cc
-last_passes {A = A} test (item ∷ rest) it found = by (last_that test rest) (test item) (last_passes test rest it) (λ passes. passes) found
-  where
-    by : (o : Option A) (b : Bool) → (o ≡ Some it → IsTrue (test it)) → (IsTrue b → IsTrue (test item))
-        → option_or o (cond b (Some item) None) ≡ Some it → IsTrue (test it)
-    by (Some other) b later first same = later same
-    by None true later first same =
-        let passes = first refl in
-        cc
-    by None false later first same = absurd cc
-
--- where a look-up of each key among entries in order finds the last of some items that passes the test of the key, each entry passes
--- the test of its own
-own_test : {K X : Type 0} (R : K → K → Ordering) → IsTotalOrder R → (test : K → X → Bool) (entries : List (K × X)) (items : List X)
-    → IsStrictlySortedBy R (keys_of entries) → ((key : K) → lookup (is_at (R key)) entries ≡ last_that (test key) items)
-    → (it : K × X) → Contains entries it → IsTrue (test it.0 it.1)
-own_test R total test entries items ordered finds it among =
-    last_passes (test it.0) items it.1
-    (sym (finds it.0)
-    ∙ lookup-from_Contains (eq_by_cmp_equiv total) it.0 it.1 entries (IsDistinct-from_sorted R (keys_of entries) ordered) among)
-
--- entity types that are found as the last of their names stand under their names
-pub last_under_names : (types : Types) (items : List ValidatorEntityType)
-    → IsStrictlySortedBy ((entity_type_ord.ghosts).cmp) (keys_of types)
-    → ((name : EntityType) → lookup (is_at (λ key. name_cmp (type_name name) (type_name key))) types ≡ last_named (type_name name) items)
-    → (it : EntityType × ValidatorEntityType) → Contains types it → (entity_type_of it.1).name ≡ type_name it.0
-last_under_names types items ordered finds it among =
-    sym ((name_test (type_name it.0) (entity_type_of it.1).name).0
-    (own_test ((entity_type_ord.ghosts).cmp) entity_type_ord.Laws.total-law
-    (λ key each. is_eq (name_cmp (type_name key) (entity_type_of each).name)) types items ordered
-    (λ key. ap (λ compare. lookup (is_at compare) types) (λ i other. entity_type_ord-name_cmp key other i) ∙ finds key) it among))
-
--- the same of actions and their uids
-pub last_under_uids : (actions : Actions) (items : List ValidatorActionId)
-    → IsStrictlySortedBy ((entity_uid_ord.ghosts).cmp) (keys_of actions)
-    → ((uid : EntityUID) → lookup (is_at (λ key. uid_cmp (uid_of uid) (uid_of key))) actions ≡ last_of_uid (uid_of uid) items)
-    → (it : EntityUID × ValidatorActionId) → Contains actions it → (action_of it.1).uid ≡ uid_of it.0
-last_under_uids actions items ordered finds it among =
-    sym ((uid_test (uid_of it.0) (action_of it.1).uid).0
-    (own_test ((entity_uid_ord.ghosts).cmp) entity_uid_ord.Laws.total-law
-    (λ key each. is_eq (uid_cmp (uid_of key) (action_of each).uid)) actions items ordered
-    (λ key. ap (λ compare. lookup (is_at compare) actions) (λ i other. entity_uid_ord-uid_cmp key other i) ∙ finds key) it among))
-
--- so a schema of entries that stand under their names does
+-- a schema of entries that stand under their names does
 pub schema_under_names : (types : Types) (actions : Actions) (entities : List Entity)
     → ((it : EntityType × ValidatorEntityType) → Contains types it → (entity_type_of it.1).name ≡ type_name it.0)
     → ((it : EntityUID × ValidatorActionId) → Contains actions it → (action_of it.1).uid ≡ uid_of it.0)
@@ -136,29 +81,15 @@ schema_under_names types actions entities named with_uids = record {
       let P : PlainUid × SchemaAction → Type 0 = λ each. each.1.uid ≡ each.0 in subst P entry.2 (with_uids entry.0 entry.1);
 }
 
--- where two lists agree in turn, each item of the other has one of the one
-agrees_back : {A B : Type 0} (R : A → B → Type 0) (xs : List A) (ys : List B) → HoldsInTurn R xs ys → (y : B) → Contains ys y
-    → (x : A) × Contains xs x × R x y
-agrees_back R [] [] holds y among = absurd (omega (arith, among.1))
-agrees_back R [] (other ∷ others) holds y among = absurd holds
-agrees_back R (first ∷ rest) [] holds y among = absurd holds
-agrees_back {B = B} R (first ∷ rest) (other ∷ others) holds y among =
-    ⊎_elim
-    (λ same. let P : B → Type 0 = λ it. R first it in
-    (first, Contains-cons first rest first (inl refl), subst P same holds.0))
-    (λ later. let it = agrees_back R rest others holds.1 y later in
-    (it.0, Contains-cons first rest it.0 (inr it.1), it.2))
-    (Contains-cons_cases other others y among)
-
 -- a schema that stands under its names does when it is closed
 pub closed_under_names : (schema closed : PlainSchema) → ClosesSchema schema closed → StandsUnderItsNames schema
     → StandsUnderItsNames closed
 closed_under_names schema closed closes stands = record {
   entity_types = λ it among.
-      let from = agrees_back (ClosesType schema) schema.entity_types closed.entity_types closes.entity_types it among in
+      let from = in_turn_back (ClosesType schema) schema.entity_types closed.entity_types closes.entity_types it among in
       sym from.2.name ∙ (stands.entity_types from.0 from.1 ∙ from.2.key);
   actions = λ it among.
-      let from = agrees_back (ClosesAction schema) schema.actions closed.actions closes.actions it among in
+      let from = in_turn_back (ClosesAction schema) schema.actions closed.actions closes.actions it among in
       sym from.2.uid ∙ (stands.actions from.0 from.1 ∙ from.2.key);
 }
 

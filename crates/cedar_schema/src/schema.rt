@@ -216,9 +216,6 @@ impl ValidatorSchema {
     {
         let entity_types = types_by_name(alloc, Vec::from_iter(alloc, entity_types)?)?;
         let actions = actions_by_uid(alloc, Vec::from_iter(alloc, actions)?)?;
-        // That each stands under its own name is known where they are in order, which their iterators say.
-        let _names = entity_types.keys();
-        let _uids = actions.keys();
         let action_entities = action_entities(alloc, &actions)?;
         let parts = SchemaParts {
             entity_types,

@@ -10,7 +10,7 @@ use Rattle.cedar_below.specs.PlainUid.{uid_cmp}
 use Rattle.cedar_entities.specs.ValidatorEntityType.{plain_entry}
 use Rattle.cedar_located.specs.Located.{common_entries, namespace_entries}
 use Rattle.cedar_validated.specs.LastNamed.{last_named, last_of_uid}
-use Rattle.cedar_schema.proofs.SchemaNames.{last_under_names, last_under_uids, schema_under_names}
+use Rattle.cedar_schema.proofs.SchemaNames.{schema_under_names}
 use Rattle.cedar_schema.proofs.schema.ValidatorSchema.new.Goals as goal
 
 pub from_parts-requires-clause-entities : goal.from_parts-requires-clause-entities
@@ -18,15 +18,8 @@ from_parts-requires-clause-entities g c = c.in_ok-action_entities.ensures (map p
 
 pub from_parts-requires-clause-under_names : goal.from_parts-requires-clause-under_names
 from_parts-requires-clause-under_names g c =
-    let types = c.in_ok-entity_types.entity_types.entries in
-    let actions = c.in_ok-actions.actions.entries in
-    let given_types = c.in_ok-from_iter.ensures.ran in
-    let given_actions = c.in_ok-from_iter-2.ensures.ran in
-    schema_under_names types actions (entities_of c.in_ok-action_entities.action_entities)
-    (last_under_names types given_types.1 c.keys-names.ensures.ordered
-    (λ name. c.in_ok-entity_types.ensures name ∙ ap (last_named (type_name name)) given_types.4.0))
-    (last_under_uids actions given_actions.1 c.keys-uids.ensures.ordered
-    (λ uid. c.in_ok-actions.ensures uid ∙ ap (last_of_uid (uid_of uid)) given_actions.4.0))
+    schema_under_names c.in_ok-entity_types.entity_types.entries c.in_ok-actions.actions.entries
+    (entities_of c.in_ok-action_entities.action_entities) c.in_ok-entity_types.ensures.under_names c.in_ok-actions.ensures.under_uids
 
 pub returns : goal.returns
 returns g c =
@@ -43,7 +36,7 @@ returns g c =
             types.2,
             (types_end.0, (types.3.0, types.3.1, types_end.1)),
             λ name. ap (lookup (is_at (λ key. name_cmp (type_name name) (type_name key)))) same
-                ∙ (c.in_ok-entity_types.ensures name ∙ ap (last_named (type_name name)) types.4.0),
+                ∙ (c.in_ok-entity_types.ensures.last name ∙ ap (last_named (type_name name)) types.4.0),
           ))
           c.from_parts.ensures.entity_types;
       actions =
@@ -54,7 +47,7 @@ returns g c =
             actions.2,
             (actions_end.0, (actions.3.0, actions.3.1, actions_end.1)),
             λ uid. ap (lookup (is_at (λ key. uid_cmp (uid_of uid) (uid_of key)))) same
-                ∙ (c.in_ok-actions.ensures uid ∙ ap (last_of_uid (uid_of uid)) actions.4.0),
+                ∙ (c.in_ok-actions.ensures.last uid ∙ ap (last_of_uid (uid_of uid)) actions.4.0),
           ))
           c.from_parts.ensures.actions;
       common_types =
