@@ -1,5 +1,5 @@
 -- What is known of the names of every schema: they ascend, entity types and actions stand under their own, and none is reserved.
-use Rattle.std.proofs.Common.{◌≡◌, ◌∙◌, ◌∷◌, Contains, List, [], inr, map, refl, subst, sym}
+use Rattle.std.proofs.Common.{◌≡◌, ◌∙◌, Contains, List, inr, map, refl, subst, sym}
 use Rattle.std.proofs.Math.Logic.{∥∥₁_elim}
 use Rattle.std.proofs.Props.{props}
 use Rattle.std.specs.List.Sorted.{IsStrictlySortedBy}
@@ -31,6 +31,7 @@ use Rattle.cedar_entities.specs.ValidatorEntityType.{entity_type_of, plain_entry
 use Rattle.cedar_entities.specs.declared.entity_type.ValidatorEntityType.{ValidatorEntityType}
 use Rattle.cedar_laws.specs.EndToEnd.{HasNoReservedName, IsInOrder, StandsUnderItsNames}
 use Rattle.cedar_validated.proofs.InTurn.{in_turn_back}
+use Rattle.cedar_validated.proofs.Keyed.{key_of_uid, named_key, names_of_keys}
 use Rattle.cedar_schema.specs.ValidatorSchema.{schema_of}
 use Rattle.cedar_schema.specs.declared.schema.ValidatorSchema.{ValidatorSchema}
 
@@ -40,12 +41,6 @@ Types = List (EntityType × ValidatorEntityType)
 abbrev Actions : Type 0
 Actions = List (EntityUID × ValidatorActionId)
 
--- entries under plain names have the names that their keys stand for
-plain_keys : {K V P Q : Type 0} (f : K → P) (plain : K × V → P × Q) → ((e : K × V) → (plain e).0 ≡ f e.0) → (es : List (K × V))
-    → map f (keys_of es) ≡ map (λ (it : P × Q). it.0) (map plain es)
-plain_keys f plain keyed [] = refl
-plain_keys f plain keyed (e ∷ es) = λ i. sym (keyed e) i ∷ plain_keys f plain keyed es i
-
 -- what is held by maps whose keys ascend is in order
 pub schema_in_order : (types : Types) (actions : Actions) (entities : List Entity)
     → IsStrictlySortedBy ((entity_type_ord.ghosts).cmp) (keys_of types)
@@ -53,10 +48,10 @@ pub schema_in_order : (types : Types) (actions : Actions) (entities : List Entit
     → IsInOrder (schema_with (map plain_entry types) actions entities)
 schema_in_order types actions entities names uids = record {
   entity_types =
-      subst (IsStrictlySortedBy name_cmp) (plain_keys type_name plain_entry (λ e. refl) types)
+      subst (IsStrictlySortedBy name_cmp) (sym (names_of_keys type_name plain_entry (λ e. refl) types))
       (IsStrictlySortedBy-map ((entity_type_ord.ghosts).cmp) name_cmp type_name entity_type_ord-name_cmp (keys_of types) names);
   actions =
-      subst (IsStrictlySortedBy uid_cmp) (plain_keys uid_of plain_action_entry (λ e. refl) actions)
+      subst (IsStrictlySortedBy uid_cmp) (sym (names_of_keys uid_of plain_action_entry (λ e. refl) actions))
       (IsStrictlySortedBy-map ((entity_uid_ord.ghosts).cmp) uid_cmp uid_of entity_uid_ord-uid_cmp (keys_of actions) uids);
 }
 
@@ -116,17 +111,10 @@ known_names schema = record {
 pub no_reserved_name : (schema : ValidatorSchema) → HasNoReservedName (schema_of schema)
 no_reserved_name schema = record {
   entity_types = λ name has reserved.
-      let types = schema.entity_types.entries in
-      let P : List PlainName → Type 0 = λ names. Contains names name in
-      let Q : PlainName → Type 0 = λ each. Contains each.path reserved_word in
-      let key = Contains-preimage type_name (keys_of types) name
-      (subst P (sym (plain_keys type_name plain_entry (λ e. refl) types)) has) in
-      key.0.0.unreserved (inr (subst Q (sym key.2) reserved));
+      let key = named_key schema.entity_types.entries name has in
+      let P : PlainName → Type 0 = λ each. Contains each.path reserved_word in key.0.0.unreserved (inr (subst P (sym key.2) reserved));
   actions = λ uid has reserved.
-      let actions = schema.actions.entries in
-      let P : List PlainUid → Type 0 = λ uids. Contains uids uid in
-      let Q : PlainUid → Type 0 = λ each. Contains each.ty.path reserved_word in
-      let key = Contains-preimage uid_of (keys_of actions) uid
-      (subst P (sym (plain_keys uid_of plain_action_entry (λ e. refl) actions)) has) in
-      key.0.ty.0.unreserved (inr (subst Q (sym key.2) reserved));
+      let key = key_of_uid schema.actions.entries uid has in
+      let P : PlainUid → Type 0 = λ each. Contains each.ty.path reserved_word in
+      key.0.ty.0.unreserved (inr (subst P (sym key.2) reserved));
 }

@@ -5,7 +5,7 @@ pub mod ClosedAgain
 mod Graphs
 mod HierarchyLemmas
 pub mod InTurn
-mod Keyed
+pub mod Keyed
 mod KnownLemmas
 mod LastLemmas
 mod MentionLemmas
