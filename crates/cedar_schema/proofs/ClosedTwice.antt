@@ -1,5 +1,5 @@
 -- What closes the same schema is the same schema.
-use Rattle.std.proofs.Common.{◌≡◌, List, [], ◌∷◌, refl, sym, subst, ◌∙◌}
+use Rattle.std.proofs.Common.{List, [], ◌∷◌, refl, sym, subst, ◌∙◌}
 use Rattle.cedar_below.specs.Lists.{HoldsInTurn}
 use Rattle.cedar_below.specs.PlainName.{PlainName}
 use Rattle.cedar_below.specs.PlainUid.{PlainUid}

@@ -1,2 +1,3 @@
 mod ClosedTwice
 pub mod SchemaEquality
+mod SchemaNames

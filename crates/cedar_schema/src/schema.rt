@@ -7,6 +7,7 @@ ghost use Rattle.cedar_declared.specs.Environments.{AreEnvironmentsOf};
 ghost use Rattle.cedar_derived.specs.ActionEntities.{schema_with};
 ghost use Rattle.cedar_entities.specs.RequestEnv.{owned_environment};
 ghost use Rattle.cedar_entities.specs.ValidatorEntityType.{plain_entry};
+ghost use Rattle.cedar_laws.specs.EndToEnd.{IsInOrder, StandsUnderItsNames};
 
 use cedar_actions::ValidatorActionId;
 use cedar_below::{Entities, EntityType, EntityUID, Extensions, M};
@@ -44,6 +45,10 @@ pub struct ValidatorSchema {
     ghost environments_of_actions: { ∥ AreEnvironmentsOf
         (schema_with (map plain_entry entity_types.entries) actions.entries (entities_of action_entities))
         (map owned_environment environments.items) ∥₁ },
+    ghost in_order: { ∥ IsInOrder
+        (schema_with (map plain_entry entity_types.entries) actions.entries (entities_of action_entities)) ∥₁ },
+    ghost under_names: { ∥ StandsUnderItsNames
+        (schema_with (map plain_entry entity_types.entries) actions.entries (entities_of action_entities)) ∥₁ },
 }
 
 impl ValidatorSchema {
@@ -92,7 +97,8 @@ impl ValidatorSchema {
 
     /// The schema of what was built, with its environments, or want of memory.
     fn from_parts(alloc: Global, parts: SchemaParts) -> M<Self>
-        requires { AreActionEntities (parts_schema parts) }
+        requires entities { AreActionEntities (parts_schema parts) }
+        requires under_names { StandsUnderItsNames (parts_schema parts) }
         ensures schema { IfOk result (λ schema. schema_of schema ≡ parts_schema parts) }
         ensures entity_types { IfOk result (λ schema. schema_entries schema ≡ parts.entity_types.entries) }
         ensures actions { IfOk result (λ schema. action_entries schema ≡ parts.actions.entries) }
@@ -104,6 +110,9 @@ impl ValidatorSchema {
             action_entities,
             located,
         } = parts;
+        // That names and uids are in order is known from their iterators.
+        let _names = entity_types.keys();
+        let _uids = actions.keys();
         let environments = environments(alloc, &actions)?;
         Ok(ValidatorSchema {
             entity_types,

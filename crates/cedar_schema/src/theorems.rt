@@ -7,12 +7,15 @@ ghost use Rattle.cedar_below.specs.declared.extension.Extensions.{Extensions};
 ghost use Rattle.cedar_declared.specs.Bag.{Bag};
 ghost use Rattle.cedar_declared.specs.ClosedSchema.{ClosesSchema};
 ghost use Rattle.cedar_declared.specs.Counted.{PlacesFit};
+ghost use Rattle.cedar_declared.specs.DeclaredSchema.{IsDeclaredSchema};
 ghost use Rattle.cedar_declared.specs.Fault.{Fault, want_of_memory};
+ghost use Rattle.cedar_declared.specs.IllFormed.{IsIllFormed};
 ghost use Rattle.cedar_declared.specs.PlainSchema.{PlainSchema};
 ghost use Rattle.cedar_declared.specs.SameBag.{SameBag};
 ghost use Rattle.cedar_declared.specs.SameSchema.{SameSchema};
 ghost use Rattle.cedar_declared.specs.ValidSchema.{IsValidSchema};
-ghost use Rattle.cedar_laws.specs.EndToEnd.{IsBuiltFrom};
+ghost use Rattle.cedar_declared.specs.WrittenBack.{IsWritable, IsWrittenBack};
+ghost use Rattle.cedar_laws.specs.EndToEnd.{HasRecordContexts, IsBuiltFrom};
 ghost use Rattle.cedar_schema.specs.ValidatorSchema.{schema_of};
 ghost use Rattle.cedar_schema.specs.declared.schema.ValidatorSchema.{ValidatorSchema};
 
@@ -53,4 +56,29 @@ pub fn validation_again_changes_nothing()
         → IsValidSchema extensions (schema_of schema) → IsValidSchema extensions (schema_of closed) }
     ensures equal { (schema closed again : ValidatorSchema) → ClosesSchema (schema_of schema) (schema_of closed)
         → ClosesSchema (schema_of closed) (schema_of again) → IsTrue (⟦<ValidatorSchema as PartialEq>⟧.eq closed again) }
+{}
+
+/// A schema that is built from declarations, whose references fit their places as those of every raw fragment do,
+/// comes back where it is writable: what is built from it written back is an equal schema, or a refusal for want of
+/// memory.
+pub fn written_schemas_are_built_again()
+    ensures equal { (bag again : Bag) (extensions : Extensions) (schema other : ValidatorSchema)
+        → TypeNamesFit (extension_types extensions) → PlacesFit bag → IsBuiltFrom bag extensions (Ok (schema_of schema))
+        → IsWritable (schema_of schema) → IsWrittenBack (schema_of schema) again
+        → IsBuiltFrom again extensions (Ok (schema_of other)) → IsTrue (⟦<ValidatorSchema as PartialEq>⟧.eq schema other) }
+    ensures refused { (bag again : Bag) (extensions : Extensions) (schema : ValidatorSchema) (fault : Fault)
+        → TypeNamesFit (extension_types extensions) → PlacesFit bag → IsBuiltFrom bag extensions (Ok (schema_of schema))
+        → IsWritable (schema_of schema) → IsWrittenBack (schema_of schema) again
+        → IsBuiltFrom again extensions (Err fault) → fault ≡ want_of_memory }
+{}
+
+/// A valid schema whose contexts are records is written back, where it is writable, as declarations that have no
+/// fault, and that declare what validation gives of it.
+pub fn written_schemas_declare_what_validation_gives()
+    ensures well_formed { (bag : Bag) (extensions : Extensions) (schema : ValidatorSchema) → TypeNamesFit (extension_types extensions)
+        → IsValidSchema extensions (schema_of schema) → HasRecordContexts (schema_of schema) → IsWritable (schema_of schema)
+        → IsWrittenBack (schema_of schema) bag → ¬ IsIllFormed bag extensions }
+    ensures declared { (bag : Bag) (extensions : Extensions) (schema closed : ValidatorSchema)
+        → IsValidSchema extensions (schema_of schema) → IsWritable (schema_of schema) → IsWrittenBack (schema_of schema) bag
+        → ClosesSchema (schema_of schema) (schema_of closed) → IsDeclaredSchema bag extensions (schema_of closed) }
 {}

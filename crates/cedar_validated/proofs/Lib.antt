@@ -4,11 +4,12 @@ mod Checking
 pub mod ClosedAgain
 mod Graphs
 mod HierarchyLemmas
-mod InTurn
-mod Keyed
+pub mod InTurn
+pub mod Keyed
 mod KnownLemmas
 mod LastLemmas
 mod MentionLemmas
+mod OwnNames
 mod PlaceLemmas
 mod Results
 mod Shadowed

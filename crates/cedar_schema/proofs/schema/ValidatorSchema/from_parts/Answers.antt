@@ -2,11 +2,15 @@ use Rattle.std.proofs.Common.{map}
 use Rattle.std.proofs.lemmas.Grind.{merely}
 use Rattle.cedar_below.specs.Entities.{entities_of}
 use Rattle.cedar_entities.specs.ValidatorEntityType.{plain_entry}
+use Rattle.cedar_schema.proofs.SchemaNames.{schema_in_order}
 use Rattle.cedar_schema.proofs.schema.ValidatorSchema.from_parts.Goals as goal
 
 pub invariant_of-result : goal.invariant_of-result
 invariant_of-result c = record {
-  entities_of_actions = merely c.requires;
+  entities_of_actions = merely c.requires.entities;
   environments_of_actions = merely
       (c.in_ok-environments.ensures (map plain_entry c.args.parts.entity_types.entries) (entities_of c.args.parts.action_entities));
+  in_order = merely (schema_in_order c.args.parts.entity_types.entries c.args.parts.actions.entries
+      (entities_of c.args.parts.action_entities) c.keys-names.ensures.ordered c.keys-uids.ensures.ordered);
+  under_names = merely c.requires.under_names;
 }

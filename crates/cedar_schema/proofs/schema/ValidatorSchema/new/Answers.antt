@@ -2,6 +2,7 @@ use Rattle.std.proofs.Common.{ap, map, ◌∙◌}
 use Rattle.std.proofs.lemmas.Result.{IfOk-weaker}
 use Rattle.std.specs.BTreeMap.{is_at}
 use Rattle.std.specs.Map.{lookup}
+use Rattle.cedar_below.specs.Entities.{entities_of}
 use Rattle.cedar_below.specs.EntityType.{type_name}
 use Rattle.cedar_below.specs.EntityUID.{uid_of}
 use Rattle.cedar_below.specs.PlainName.{name_cmp}
@@ -9,10 +10,16 @@ use Rattle.cedar_below.specs.PlainUid.{uid_cmp}
 use Rattle.cedar_entities.specs.ValidatorEntityType.{plain_entry}
 use Rattle.cedar_located.specs.Located.{common_entries, namespace_entries}
 use Rattle.cedar_validated.specs.LastNamed.{last_named, last_of_uid}
+use Rattle.cedar_schema.proofs.SchemaNames.{schema_under_names}
 use Rattle.cedar_schema.proofs.schema.ValidatorSchema.new.Goals as goal
 
-pub from_parts-requires : goal.from_parts-requires
-from_parts-requires g c = c.in_ok-action_entities.ensures (map plain_entry c.in_ok-entity_types.entity_types.entries)
+pub from_parts-requires-clause-entities : goal.from_parts-requires-clause-entities
+from_parts-requires-clause-entities g c = c.in_ok-action_entities.ensures (map plain_entry c.in_ok-entity_types.entity_types.entries)
+
+pub from_parts-requires-clause-under_names : goal.from_parts-requires-clause-under_names
+from_parts-requires-clause-under_names g c =
+    schema_under_names c.in_ok-entity_types.entity_types.entries c.in_ok-actions.actions.entries
+    (entities_of c.in_ok-action_entities.action_entities) c.in_ok-entity_types.ensures.under_names c.in_ok-actions.ensures.under_uids
 
 pub returns : goal.returns
 returns g c =
@@ -29,7 +36,7 @@ returns g c =
             types.2,
             (types_end.0, (types.3.0, types.3.1, types_end.1)),
             λ name. ap (lookup (is_at (λ key. name_cmp (type_name name) (type_name key)))) same
-                ∙ (c.in_ok-entity_types.ensures name ∙ ap (last_named (type_name name)) types.4.0),
+                ∙ (c.in_ok-entity_types.ensures.last name ∙ ap (last_named (type_name name)) types.4.0),
           ))
           c.from_parts.ensures.entity_types;
       actions =
@@ -40,7 +47,7 @@ returns g c =
             actions.2,
             (actions_end.0, (actions.3.0, actions.3.1, actions_end.1)),
             λ uid. ap (lookup (is_at (λ key. uid_cmp (uid_of uid) (uid_of key)))) same
-                ∙ (c.in_ok-actions.ensures uid ∙ ap (last_of_uid (uid_of uid)) actions.4.0),
+                ∙ (c.in_ok-actions.ensures.last uid ∙ ap (last_of_uid (uid_of uid)) actions.4.0),
           ))
           c.from_parts.ensures.actions;
       common_types =

@@ -2,6 +2,7 @@ use Rattle.std.proofs.Common.{rules, sym, subst}
 use Rattle.cedar_below.specs.Entities.{entities_of}
 use Rattle.cedar_declared.specs.ClosedSchema.{ClosesSchema}
 use Rattle.cedar_declared.specs.PlainSchema.{PlainSchema}
+use Rattle.cedar_schema.proofs.SchemaNames.{closed_under_names, known_names}
 use Rattle.cedar_schema.specs.ValidatorSchema.{schema_of}
 use Rattle.cedar_schema.proofs.schema.ValidatorSchema.try_validate.Goals as goal
 
@@ -10,8 +11,13 @@ returns-in_err-entity_types-clause-fault c =
     let at_fault = c.in_err-entity_types.ensures.fault (entities_of c.args.self.action_entities) in
     search (rules, at_fault)
 
-pub from_parts-requires : goal.from_parts-requires
-from_parts-requires c = (c.in_ok-entity_types.ensures.closed (entities_of c.args.self.action_entities)).action_entities
+pub from_parts-requires-clause-entities : goal.from_parts-requires-clause-entities
+from_parts-requires-clause-entities c = (c.in_ok-entity_types.ensures.closed (entities_of c.args.self.action_entities)).action_entities
+
+pub from_parts-requires-clause-under_names : goal.from_parts-requires-clause-under_names
+from_parts-requires-clause-under_names c =
+    let closes = c.in_ok-entity_types.ensures.closed (entities_of c.args.self.action_entities) in
+    closed_under_names (schema_of c.args.self) _ closes (known_names c.args.self)
 
 pub returns-clause-closed : goal.returns-clause-closed
 returns-clause-closed c =

@@ -1,0 +1,120 @@
+-- What is known of the names of every schema: they ascend, entity types and actions stand under their own, and none is reserved.
+use Rattle.std.proofs.Common.{◌≡◌, ◌∙◌, Contains, List, inr, map, refl, subst, sym}
+use Rattle.std.proofs.Math.Logic.{∥∥₁_elim}
+use Rattle.std.proofs.Props.{props}
+use Rattle.std.specs.List.Sorted.{IsStrictlySortedBy}
+use Rattle.std.specs.Map.{keys_of}
+use Rattle.cedar_actions.specs.ValidatorActionId.{action_of, plain_action_entry}
+use Rattle.cedar_actions.specs.declared.action_id.ValidatorActionId.{ValidatorActionId}
+use Rattle.cedar_below.proofs.Lists.{Contains-preimage}
+use Rattle.cedar_below.proofs.Names.{entity_type_ord-name_cmp}
+use Rattle.cedar_below.proofs.Ordered.{IsStrictlySortedBy-map}
+use Rattle.cedar_below.proofs.PlainNames.{name_cmp-Equal, uid_cmp-Equal}
+use Rattle.cedar_below.proofs.Uids.{entity_uid_ord-uid_cmp}
+use Rattle.cedar_below.specs.EntityType.{type_name}
+use Rattle.cedar_below.specs.EntityUID.{uid_of}
+use Rattle.cedar_below.specs.Identifier.{reserved_word}
+use Rattle.cedar_below.specs.PlainName.{PlainName, name_cmp}
+use Rattle.cedar_below.specs.PlainUid.{PlainUid, uid_cmp}
+use Rattle.cedar_below.specs.contracts.entity_type.EntityTypeOrd.TheImpl as entity_type_ord
+use Rattle.cedar_below.specs.contracts.entity_uid.EntityUIDOrd.TheImpl as entity_uid_ord
+use Rattle.cedar_below.specs.declared.entity.Entity.{Entity}
+use Rattle.cedar_below.specs.declared.entity_type.EntityType.{EntityType}
+use Rattle.cedar_below.specs.declared.entity_uid.EntityUID.{EntityUID}
+use Rattle.cedar_below.specs.declared.extension.Extensions.{Extensions}
+use Rattle.cedar_declared.specs.Bag.{Bag}
+use Rattle.cedar_declared.specs.ClosedSchema.{ClosesAction, ClosesSchema, ClosesType}
+use Rattle.cedar_declared.specs.DeclaredSchema.{IsDeclaredSchema}
+use Rattle.cedar_declared.specs.PlainSchema.{PlainSchema, SchemaAction, SchemaEntityType}
+use Rattle.cedar_derived.specs.ActionEntities.{schema_with}
+use Rattle.cedar_entities.specs.ValidatorEntityType.{entity_type_of, plain_entry}
+use Rattle.cedar_entities.specs.declared.entity_type.ValidatorEntityType.{ValidatorEntityType}
+use Rattle.cedar_laws.specs.EndToEnd.{HasNoReservedName, IsInOrder, StandsUnderItsNames}
+use Rattle.cedar_validated.proofs.InTurn.{in_turn_back}
+use Rattle.cedar_validated.proofs.Keyed.{key_of_uid, named_key, names_of_keys}
+use Rattle.cedar_schema.specs.ValidatorSchema.{schema_of}
+use Rattle.cedar_schema.specs.declared.schema.ValidatorSchema.{ValidatorSchema}
+
+abbrev Types : Type 0
+Types = List (EntityType × ValidatorEntityType)
+
+abbrev Actions : Type 0
+Actions = List (EntityUID × ValidatorActionId)
+
+-- what is held by maps whose keys ascend is in order
+pub schema_in_order : (types : Types) (actions : Actions) (entities : List Entity)
+    → IsStrictlySortedBy ((entity_type_ord.ghosts).cmp) (keys_of types)
+    → IsStrictlySortedBy ((entity_uid_ord.ghosts).cmp) (keys_of actions)
+    → IsInOrder (schema_with (map plain_entry types) actions entities)
+schema_in_order types actions entities names uids = record {
+  entity_types =
+      subst (IsStrictlySortedBy name_cmp) (sym (names_of_keys type_name plain_entry (λ e. refl) types))
+      (IsStrictlySortedBy-map ((entity_type_ord.ghosts).cmp) name_cmp type_name entity_type_ord-name_cmp (keys_of types) names);
+  actions =
+      subst (IsStrictlySortedBy uid_cmp) (sym (names_of_keys uid_of plain_action_entry (λ e. refl) actions))
+      (IsStrictlySortedBy-map ((entity_uid_ord.ghosts).cmp) uid_cmp uid_of entity_uid_ord-uid_cmp (keys_of actions) uids);
+}
+
+-- every schema is in order
+pub known_order : (schema : ValidatorSchema) → IsInOrder (schema_of schema)
+known_order schema = record {
+  entity_types = ∥∥₁_elim schema.in_order (Prim.hlevel props) (λ order. order.entity_types);
+  actions = ∥∥₁_elim schema.in_order (Prim.hlevel props) (λ order. order.actions);
+}
+
+-- a schema of entries that stand under their names does
+pub schema_under_names : (types : Types) (actions : Actions) (entities : List Entity)
+    → ((it : EntityType × ValidatorEntityType) → Contains types it → (entity_type_of it.1).name ≡ type_name it.0)
+    → ((it : EntityUID × ValidatorActionId) → Contains actions it → (action_of it.1).uid ≡ uid_of it.0)
+    → StandsUnderItsNames (schema_with (map plain_entry types) actions entities)
+schema_under_names types actions entities named with_uids = record {
+  entity_types = λ it among.
+      let entry = Contains-preimage plain_entry types it among in
+      let P : PlainName × SchemaEntityType → Type 0 = λ each. each.1.name ≡ each.0 in subst P entry.2 (named entry.0 entry.1);
+  actions = λ it among.
+      let entry = Contains-preimage plain_action_entry actions it among in
+      let P : PlainUid × SchemaAction → Type 0 = λ each. each.1.uid ≡ each.0 in subst P entry.2 (with_uids entry.0 entry.1);
+}
+
+-- a schema that stands under its names does when it is closed
+pub closed_under_names : (schema closed : PlainSchema) → ClosesSchema schema closed → StandsUnderItsNames schema
+    → StandsUnderItsNames closed
+closed_under_names schema closed closes stands = record {
+  entity_types = λ it among.
+      let from = in_turn_back (ClosesType schema) schema.entity_types closed.entity_types closes.entity_types it among in
+      sym from.2.name ∙ (stands.entity_types from.0 from.1 ∙ from.2.key);
+  actions = λ it among.
+      let from = in_turn_back (ClosesAction schema) schema.actions closed.actions closes.actions it among in
+      sym from.2.uid ∙ (stands.actions from.0 from.1 ∙ from.2.key);
+}
+
+-- and a schema that a bag declares
+pub declared_under_names : (bag : Bag) (extensions : Extensions) (schema : PlainSchema) → IsDeclaredSchema bag extensions schema
+    → StandsUnderItsNames schema
+declared_under_names bag extensions schema declared = record {
+  entity_types = λ it among. (declared.entity_types it among).name;
+  actions = λ it among. (declared.actions it among).uid;
+}
+
+-- every schema stands under its names
+pub known_names : (schema : ValidatorSchema) → StandsUnderItsNames (schema_of schema)
+known_names schema = record {
+  entity_types = λ it among.
+      (name_cmp-Equal it.1.name it.0).0 (∥∥₁_elim schema.under_names (Prim.hlevel props)
+      (λ stands. (name_cmp-Equal it.1.name it.0).1 (stands.entity_types it among)));
+  actions = λ it among.
+      (uid_cmp-Equal it.1.uid it.0).0 (∥∥₁_elim schema.under_names (Prim.hlevel props)
+      (λ stands. (uid_cmp-Equal it.1.uid it.0).1 (stands.actions it among)));
+}
+
+-- no name of a schema is reserved
+pub no_reserved_name : (schema : ValidatorSchema) → HasNoReservedName (schema_of schema)
+no_reserved_name schema = record {
+  entity_types = λ name has reserved.
+      let key = named_key schema.entity_types.entries name has in
+      let P : PlainName → Type 0 = λ each. Contains each.path reserved_word in key.0.0.unreserved (inr (subst P (sym key.2) reserved));
+  actions = λ uid has reserved.
+      let key = key_of_uid schema.actions.entries uid has in
+      let P : PlainUid → Type 0 = λ each. Contains each.ty.path reserved_word in
+      key.0.ty.0.unreserved (inr (subst P (sym key.2) reserved));
+}

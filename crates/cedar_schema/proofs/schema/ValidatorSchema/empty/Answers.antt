@@ -1,0 +1,9 @@
+use Rattle.std.proofs.lemmas.Grind.{merely}
+use Rattle.cedar_below.specs.Entities.{entities_of}
+use Rattle.cedar_schema.proofs.SchemaNames.{schema_in_order}
+use Rattle.cedar_schema.proofs.schema.ValidatorSchema.empty.Goals as goal
+
+pub invariant_of-result-clause-in_order : goal.invariant_of-result-clause-in_order
+invariant_of-result-clause-in_order c =
+    merely (schema_in_order c.new.result.entries c.new-2.result.entries (entities_of c.new-action_entities.result)
+    c.new.ensures.ordered c.new-2.ensures.ordered)

@@ -1,0 +1,9 @@
+use Rattle.cedar_fragments.specs.FragmentDeclarations.{conditional_bag}
+use Rattle.cedar_schema.proofs.SchemaNames.{declared_under_names}
+use Rattle.cedar_schema.proofs.schema.ValidatorSchema.from_schema_fragments.Goals as goal
+use Rattle.cedar_whole.specs.SchemaParts.{parts_schema}
+
+pub from_parts-requires-clause-under_names : goal.from_parts-requires-clause-under_names
+from_parts-requires-clause-under_names c =
+    declared_under_names (conditional_bag c.args.fragments.items) c.args.extensions.now (parts_schema c.in_ok-parts.parts)
+    c.in_ok-parts.ensures.built.declared
