@@ -28,7 +28,7 @@ module _ (bag : Bag) (extensions : Extensions) (schema : PlainSchema) (declared 
   declared_in_order = record { entity_types = declared.entity_types_in_order; actions = declared.actions_in_order }
 
   -- and stands under its names
-  declared_under_names : StandsUnderItsNames schema
+  pub declared_under_names : StandsUnderItsNames schema
   declared_under_names = record {
     entity_types = λ it among. (declared.entity_types it among).name;
     actions = λ it among. (declared.actions it among).uid;

@@ -88,14 +88,6 @@ closed_under_names schema closed closes stands = record {
       sym from.2.uid ∙ (stands.actions from.0 from.1 ∙ from.2.key);
 }
 
--- and a schema that a bag declares
-pub declared_under_names : (bag : Bag) (extensions : Extensions) (schema : PlainSchema) → IsDeclaredSchema bag extensions schema
-    → StandsUnderItsNames schema
-declared_under_names bag extensions schema declared = record {
-  entity_types = λ it among. (declared.entity_types it among).name;
-  actions = λ it among. (declared.actions it among).uid;
-}
-
 -- every schema stands under its names
 pub known_names : (schema : ValidatorSchema) → StandsUnderItsNames (schema_of schema)
 known_names schema = record {
