@@ -21,6 +21,10 @@ pub record ShownNamespace : Type 0 where
 abbrev pub shown_namespace : LocatedNamespace → ShownNamespace
 shown_namespace it = record { text = string_bytes it.name; name_loc = it.name_loc; def_loc = it.def_loc }
 
+-- a namespace under its full name, as it is shown
+abbrev pub shown_entry : InternalName × LocatedNamespace → PlainName × ShownNamespace
+shown_entry entry = (name_of entry.0, shown_namespace entry.1)
+
 -- a namespace that is defined, as it is to be shown
 abbrev pub printed_namespace : DefinedNamespace → ShownNamespace
 printed_namespace it = record { text = name_text it.name; name_loc = it.name_loc; def_loc = it.def_loc }

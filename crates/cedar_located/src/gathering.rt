@@ -3,12 +3,15 @@
 ghost use Rattle.std.specs.Prelude.{◌≡◌, ◌∷◌, [], IfOk, map};
 ghost use Rattle.std.specs.Slice.Iter.{iter_rest};
 ghost use Rattle.cedar_located.specs.Located.{ShowsFragments, common_entries, namespace_entries};
+ghost use Rattle.cedar_located.specs.ShownCommonTypes.{shown_common_type};
+ghost use Rattle.cedar_located.specs.ShownNamespaces.{shown_entry};
 
 use crate::common_types::located_common_types;
 use crate::located_common_type::LocatedCommonType;
 use crate::located_namespace::LocatedNamespace;
 use crate::namespaces::{NamespacesByName, located_namespaces};
 use cedar_below::{InternalName, M};
+use cedar_copied::{copied_entries, copied_items};
 use cedar_fragments::namespace::ValidatorSchemaFragment;
 use cedar_names::json_schema::ConditionalName;
 use std::alloc::Global;
@@ -46,6 +49,22 @@ impl Located {
         ensures { result ≡ map (λ entry. entry.1) (namespace_entries self.now) }
     {
         self.namespaces.values()
+    }
+
+    /// The same common types and namespaces with the same locations, or want of memory.
+    pub fn clone(&self) -> M<Self>
+        ensures common_types { IfOk result (λ copy.
+            map shown_common_type (common_entries copy) ≡ map shown_common_type (common_entries self.now)) }
+        ensures namespaces { IfOk result (λ copy. map shown_entry (namespace_entries copy) ≡ map shown_entry (namespace_entries self.now)) }
+    {
+        Ok(Located {
+            common_types: copied_items(&self.common_types, LocatedCommonType::clone)?,
+            namespaces: copied_entries(
+                &self.namespaces,
+                InternalName::clone,
+                LocatedNamespace::clone,
+            )?,
+        })
     }
 }
 

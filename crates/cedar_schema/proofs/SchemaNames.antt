@@ -14,6 +14,7 @@ use Rattle.cedar_below.proofs.Uids.{entity_uid_ord-uid_cmp}
 use Rattle.cedar_below.specs.EntityType.{type_name}
 use Rattle.cedar_below.specs.EntityUID.{uid_of}
 use Rattle.cedar_below.specs.Identifier.{reserved_word}
+use Rattle.cedar_below.specs.Lists.{HoldsInTurn}
 use Rattle.cedar_below.specs.PlainName.{PlainName, name_cmp}
 use Rattle.cedar_below.specs.PlainUid.{PlainUid, uid_cmp}
 use Rattle.cedar_below.specs.contracts.entity_type.EntityTypeOrd.TheImpl as entity_type_ord
@@ -21,11 +22,10 @@ use Rattle.cedar_below.specs.contracts.entity_uid.EntityUIDOrd.TheImpl as entity
 use Rattle.cedar_below.specs.declared.entity.Entity.{Entity}
 use Rattle.cedar_below.specs.declared.entity_type.EntityType.{EntityType}
 use Rattle.cedar_below.specs.declared.entity_uid.EntityUID.{EntityUID}
-use Rattle.cedar_below.specs.declared.extension.Extensions.{Extensions}
-use Rattle.cedar_declared.specs.Bag.{Bag}
+use Rattle.cedar_declared.proofs.TurnLemmas.{turn_forth}
 use Rattle.cedar_declared.specs.ClosedSchema.{ClosesAction, ClosesSchema, ClosesType}
-use Rattle.cedar_declared.specs.DeclaredSchema.{IsDeclaredSchema}
-use Rattle.cedar_declared.specs.PlainSchema.{PlainSchema, SchemaAction, SchemaEntityType}
+use Rattle.cedar_declared.specs.PlainSchema.{ActionEntity, PlainSchema, SchemaAction, SchemaEntityType}
+use Rattle.cedar_declared.specs.SameSchema.{SameAction, SameEntityType}
 use Rattle.cedar_derived.specs.ActionEntities.{schema_with}
 use Rattle.cedar_entities.specs.ValidatorEntityType.{entity_type_of, plain_entry}
 use Rattle.cedar_entities.specs.declared.entity_type.ValidatorEntityType.{ValidatorEntityType}
@@ -86,6 +86,21 @@ closed_under_names schema closed closes stands = record {
   actions = λ it among.
       let from = in_turn_back (ClosesAction schema) schema.actions closed.actions closes.actions it among in
       sym from.2.uid ∙ (stands.actions from.0 from.1 ∙ from.2.key);
+}
+
+-- and one whose entity types and actions are the same in turn
+pub same_under_names : (types others : List (PlainName × SchemaEntityType)) (actions other_actions : List (PlainUid × SchemaAction))
+    (entities other_entities : List ActionEntity) → HoldsInTurn SameEntityType others types
+    → HoldsInTurn SameAction other_actions actions
+    → StandsUnderItsNames (record { entity_types = types; actions = actions; action_entities = entities })
+    → StandsUnderItsNames (record { entity_types = others; actions = other_actions; action_entities = other_entities })
+same_under_names types others actions other_actions entities other_entities type_turn action_turn stands = record {
+  entity_types = λ it among.
+      let from = turn_forth SameEntityType others types type_turn it among in
+      from.2.name ∙ (stands.entity_types from.0 from.1 ∙ sym from.2.key);
+  actions = λ it among.
+      let from = turn_forth SameAction other_actions actions action_turn it among in
+      from.2.uid ∙ (stands.actions from.0 from.1 ∙ sym from.2.key);
 }
 
 -- every schema stands under its names

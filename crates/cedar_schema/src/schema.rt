@@ -17,7 +17,9 @@ use cedar_entities::{UnlinkedRequestEnv, ValidatorEntityType};
 use cedar_fragments::namespace::ValidatorSchemaFragment;
 use cedar_located::Located;
 use cedar_names::json_schema::{ConditionalName, Fragment, NamespaceDefinition, RawName};
-use cedar_validated::{Validated, actions_by_uid, types_by_name, validate};
+use cedar_validated::{
+    Validated, actions_by_uid, copied_actions, copied_types, types_by_name, validate,
+};
 use cedar_whole::{SchemaParts, build, build_raw};
 use std::alloc::Global;
 use std::collections::BTreeMap;
@@ -59,11 +61,13 @@ impl ValidatorSchema {
     ghost use Rattle.cedar_below.specs.EntityType.{type_name};
     ghost use Rattle.cedar_below.specs.EntityUID.{uid_of};
     ghost use Rattle.cedar_below.specs.Extensions.{extension_types};
+    ghost use Rattle.cedar_below.specs.Lists.{HoldsInTurn};
     ghost use Rattle.cedar_below.specs.TypeNames.{TypeNamesFit};
     ghost use Rattle.cedar_below.specs.declared.entity_type.EntityType.{EntityType as Name};
     ghost use Rattle.cedar_below.specs.declared.entity_uid.EntityUID.{EntityUID as Uid};
     ghost use Rattle.cedar_declared.specs.ClosedSchema.{ClosesSchema};
     ghost use Rattle.cedar_declared.specs.Fault.{want_of_memory};
+    ghost use Rattle.cedar_declared.specs.SameSchema.{SameSchema};
     ghost use Rattle.cedar_declared.specs.SchemaError.{fault_of};
     ghost use Rattle.cedar_declared.specs.ValidSchema.{IsSchemaFault, IsValidSchema};
     ghost use Rattle.cedar_entities.specs.declared.entity_type.ValidatorEntityType.{ValidatorEntityType as EntityTypeOfSchema};
@@ -71,8 +75,11 @@ impl ValidatorSchema {
     ghost use Rattle.cedar_fragments.specs.Located.{written_common_names};
     ghost use Rattle.cedar_laws.specs.EndToEnd.{IsBuiltFrom};
     ghost use Rattle.cedar_located.specs.Located.{Shows, ShowsFragments, ShowsWritten, common_entries, namespace_entries};
+    ghost use Rattle.cedar_located.specs.ShownCommonTypes.{shown_common_type};
+    ghost use Rattle.cedar_located.specs.ShownNamespaces.{shown_entry};
     ghost use Rattle.cedar_names.specs.Declaration.{raw_bag, raw_declarations, raw_fragment};
     ghost use Rattle.cedar_schema.specs.ValidatorSchema.{action_entries, action_of_uid, entity_type_named, located_of, schema_entries, schema_of};
+    ghost use Rattle.cedar_validated.specs.Copies.{IsActionCopied, IsTypeCopied};
     ghost use Rattle.cedar_validated.specs.LastNamed.{last_named, last_of_uid};
     ghost use Rattle.cedar_whole.specs.SchemaParts.{parts_schema};
 
@@ -256,5 +263,27 @@ impl ValidatorSchema {
             located: self.located,
         };
         Ok(ValidatorSchema::from_parts(alloc, parts)?)
+    }
+
+    /// An equal schema with the same locations, which shows the same of its fragments, or want of memory.
+    pub fn clone(&self) -> M<Self>
+        ensures schema { IfOk result (λ copy. SameSchema (schema_of copy) (schema_of self.now)) }
+        ensures entity_types { IfOk result (λ copy. HoldsInTurn IsTypeCopied (schema_entries self.now) (schema_entries copy)) }
+        ensures actions { IfOk result (λ copy. HoldsInTurn IsActionCopied (action_entries self.now) (action_entries copy)) }
+        ensures common_types { IfOk result (λ copy. map shown_common_type (common_entries (located_of copy))
+            ≡ map shown_common_type (common_entries (located_of self.now))) }
+        ensures namespaces { IfOk result (λ copy. map shown_entry (namespace_entries (located_of copy))
+            ≡ map shown_entry (namespace_entries (located_of self.now))) }
+    {
+        let alloc = *self.environments.allocator();
+        let actions = copied_actions(&self.actions)?;
+        let action_entities = action_entities(alloc, &actions)?;
+        let parts = SchemaParts {
+            entity_types: copied_types(&self.entity_types)?,
+            actions,
+            action_entities,
+            located: self.located.clone()?,
+        };
+        ValidatorSchema::from_parts(alloc, parts)
     }
 }

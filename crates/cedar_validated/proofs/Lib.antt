@@ -2,6 +2,7 @@ mod ActionGraph
 mod Agreeing
 mod Checking
 pub mod ClosedAgain
+pub mod CopyLemmas
 mod Graphs
 mod HierarchyLemmas
 pub mod InTurn

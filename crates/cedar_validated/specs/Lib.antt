@@ -1,3 +1,4 @@
+pub mod Copies
 pub mod Hierarchy
 pub mod LastNamed
 pub mod Mentions

@@ -9,7 +9,7 @@ use std::alloc::Global;
 use std::test::Fail;
 
 /// Declarations of the same base names in two namespaces.
-const SOME: &str = "N: entity U; N: action view; entity V; action all";
+pub(crate) const SOME: &str = "N: entity U; N: action view; entity V; action all";
 
 /// The uid of a type and an id.
 pub(crate) fn uid(alloc: Global, ty: &str, id: &str) -> Result<EntityUID, Fail> {

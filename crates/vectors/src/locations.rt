@@ -231,6 +231,7 @@ fn locations_of_an_external_declaration_are_its_own(rt: HostRuntime) -> Result<(
     let schema = build(alloc, vec![in alloc; only]?)??;
     let wanted = (Some(place(1)), Some(place(3)), Some(place(4)));
     assert!(rt; locations(alloc, &schema)? == wanted);
+    assert!(rt; locations(alloc, &schema.clone()?)? == wanted);
     Ok(())
 }
 

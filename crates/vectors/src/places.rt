@@ -112,6 +112,7 @@ fn each_namespace_is_shown_once(rt: HostRuntime) -> Result<(), Fail> {
     let extensions = sample_extensions(alloc)?;
     let schema = schema.try_validate(alloc, &extensions)?;
     assert_eq!(rt; namespaces_of(alloc, &schema)?.as_str(), wanted);
+    assert_eq!(rt; namespaces_of(alloc, &schema.clone()?)?.as_str(), wanted);
     Ok(())
 }
 
@@ -126,6 +127,7 @@ fn common_types_are_shown_where_they_were_declared(rt: HostRuntime) -> Result<()
         }
         let schema = build(alloc, fragments)??;
         assert_eq!(rt; common_types_of(alloc, &schema)?.as_str(), wanted);
+        assert_eq!(rt; common_types_of(alloc, &schema.clone()?)?.as_str(), wanted);
     }
     Ok(())
 }

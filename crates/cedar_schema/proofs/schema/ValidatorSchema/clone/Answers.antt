@@ -1,0 +1,43 @@
+use Rattle.std.proofs.Common.{map, subst, sym}
+use Rattle.std.proofs.lemmas.Result.{IfOk-weaker}
+use Rattle.cedar_below.specs.Entities.{entities_of}
+use Rattle.cedar_declared.specs.PlainSchema.{PlainSchema}
+use Rattle.cedar_declared.specs.SameSchema.{SameSchema}
+use Rattle.cedar_derived.specs.ActionEntities.{schema_with}
+use Rattle.cedar_entities.specs.ValidatorEntityType.{plain_entry}
+use Rattle.cedar_laws.proofs.MereLemmas.{known_entities}
+use Rattle.cedar_laws.proofs.SameEntities.{same_entities}
+use Rattle.cedar_actions.specs.ValidatorActionId.{plain_action_entry}
+use Rattle.cedar_schema.proofs.SchemaNames.{known_names, same_under_names}
+use Rattle.cedar_schema.proofs.schema.ValidatorSchema.clone.Goals as goal
+use Rattle.cedar_schema.specs.ValidatorSchema.{schema_of}
+use Rattle.cedar_validated.proofs.CopyLemmas.{actions_same, types_same}
+
+pub from_parts-requires-clause-entities : goal.from_parts-requires-clause-entities
+from_parts-requires-clause-entities c = c.in_ok-action_entities.ensures (map plain_entry c.in_ok-copied_types.field-0.entries)
+
+pub from_parts-requires-clause-under_names : goal.from_parts-requires-clause-under_names
+from_parts-requires-clause-under_names c =
+    let self = c.args.self.now in
+    let types = c.in_ok-copied_types.field-0.entries in
+    let actions = c.in_ok-actions.actions.entries in
+    same_under_names (map plain_entry self.entity_types.entries) (map plain_entry types)
+    (map plain_action_entry self.actions.entries) (map plain_action_entry actions) (schema_of self).action_entities _
+    (types_same self.entity_types.entries types c.in_ok-copied_types.ensures)
+    (actions_same self.actions.entries actions c.in_ok-actions.ensures) (known_names self)
+
+pub returns-clause-schema : goal.returns-clause-schema
+returns-clause-schema c =
+    let self = c.args.self.now in
+    let types = c.in_ok-copied_types.field-0.entries in
+    let actions = c.in_ok-actions.actions.entries in
+    let copied : PlainSchema = schema_with (map plain_entry types) actions (entities_of c.in_ok-action_entities.action_entities) in
+    let turn = actions_same self.actions.entries actions c.in_ok-actions.ensures in
+    let same : SameSchema copied (schema_of self) = record {
+      entity_types = types_same self.entity_types.entries types c.in_ok-copied_types.ensures;
+      actions = turn;
+      action_entities = same_entities copied (schema_of self) (c.in_ok-action_entities.ensures (map plain_entry types))
+          (known_entities (schema_of self) self.entities_of_actions) turn;
+    } in
+    let P : PlainSchema → Type 0 = λ schema. SameSchema schema (schema_of self) in
+    IfOk-weaker c.from_parts.result _ _ (λ copy is. subst P (sym is) same) c.from_parts.ensures.schema

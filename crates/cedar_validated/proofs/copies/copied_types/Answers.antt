@@ -1,0 +1,37 @@
+use Rattle.std.proofs.Common.{ap, subst, ◌∙◌}
+use Rattle.std.proofs.lemmas.Result.{IfOk-weaker}
+use Rattle.cedar_below.proofs.Names.{entity_type_ord-Equal}
+use Rattle.cedar_below.specs.EntityType.{type_loc, type_name}
+use Rattle.cedar_below.specs.Lists.{SameItems}
+use Rattle.cedar_below.specs.contracts.entity_type.EntityTypeOrd.TheImpl as entity_type_ord
+use Rattle.cedar_copied.proofs.ShownLemmas.{copy_ties}
+use Rattle.cedar_declared.proofs.TurnLemmas.{turn_weaker}
+use Rattle.cedar_entities.specs.ValidatorEntityType.{PlainEntityType, descendant_names, entity_type_of}
+use Rattle.cedar_entities.specs.declared.entity_type.ValidatorEntityType.{ValidatorEntityType}
+use Rattle.cedar_validated.specs.Copies.{IsTypeCopied}
+use Rattle.cedar_validated.proofs.copies.copied_types.Goals as goal
+
+pub copied_entries-requires-clause-ties : goal.copied_entries-requires-clause-ties
+copied_entries-requires-clause-ties c key answer ran =
+    copy_ties (entity_type_ord.ghosts).cmp type_name entity_type_ord-Equal key ran.shown.now answer ran.shows ran.says.met.0
+
+pub returns : goal.returns
+returns c =
+    IfOk-weaker c.copied_entries.result _ _
+    (λ copies turn.
+    turn_weaker _ IsTypeCopied
+    (λ it copy ran.
+    let same = ran.1.says.met.0 ∙ ap entity_type_of ran.1.shows in
+    let P : ValidatorEntityType → Type 0 = λ given. SameItems (descendant_names copy.1) (descendant_names given) in
+    record {
+      same = record {
+        key = ran.0.says.met.0 ∙ ap type_name ran.0.shows;
+        name = ap (λ (each : PlainEntityType). each.name) same;
+        kind = ap (λ (each : PlainEntityType). each.kind) same;
+        descendants = subst P ran.1.shows ran.1.says.met.1.0;
+      };
+      key_loc = ran.0.says.met.1 ∙ ap type_loc ran.0.shows;
+      loc = ran.1.says.met.1.1 ∙ ap (λ each. each.loc) ran.1.shows;
+    })
+    c.args.types.now.entries copies.entries turn)
+    c.copied_entries.ensures
