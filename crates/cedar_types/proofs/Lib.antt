@@ -2,6 +2,7 @@ pub mod CleanSteps
 pub mod CompareLemmas
 pub mod ConsistentSteps
 pub mod CoredWalk
+pub mod EntriesLeftSteps
 pub mod EqualityLaws
 pub mod FieldLemmas
 pub mod JoinSteps

@@ -1,5 +1,6 @@
 pub mod AttributeJoin
 pub mod Attributes
+pub mod EntriesLeft
 pub mod EntityKind
 pub mod EntityLUB
 pub mod Layers

@@ -15,6 +15,7 @@ mod consistent;
 mod core_type;
 mod entity_kind;
 mod entity_lub;
+mod entries_left;
 mod join;
 mod join_order;
 mod member;

@@ -17,6 +17,7 @@ ghost use Rattle.cedar_types.specs.Meaning.{ty_of, fields_of};
 
 use crate::attributes::Attributes;
 use crate::entity_kind::EntityKind;
+use crate::entries_left::EntriesLeft;
 use crate::types::Type;
 use cedar_below::{
     EntityUID, ExtensionFunctionLookupError, Extensions, Name, RestrictedExpr, Value,
@@ -131,6 +132,8 @@ fn elements_have<'v>(values: &'v [RestrictedExpr], ty: &Type, extensions: &Exten
 /// Whether the listed attributes have their types and those that are required are there, or the
 /// lookup fault of a function that the value of one calls. Past an attribute that settles it, none is
 /// looked at.
+///
+/// It goes over both together, once.
 #[cycle(member)]
 fn fields_have<'v>(
     values: &'v BTreeMap<String, RestrictedExpr>,
@@ -143,8 +146,9 @@ fn fields_have<'v>(
         (λ unknown. FieldsMeet extensions.now unknown (entries_of values.now) fields) }
 {
     let mut so_far = Ok(true);
+    let mut left = EntriesLeft::new(values);
     for (name, attribute) in attrs.attrs.as_slice() {
-        let answer = match values.get(name) {
+        let answer = match left.value_at(name) {
             Some(value) => (*attribute.attr_type).typecheck_restricted_expr(value, extensions),
             None => Ok(!attribute.is_required),
         };

@@ -1,19 +1,27 @@
-use Rattle.std.proofs.Common.{Bool, true, false, not, List, Ok, ap, sym, subst, ◌∙◌, string_bytes}
+use Rattle.std.proofs.Common.{◌≡◌, ◌≢◌, Bool, true, false, not, List, Ok, ap, sym, subst, ◌∙◌, string_bytes}
 use Rattle.std.proofs.Math.ListN.{drop_of_length-le}
+use Rattle.std.specs.BTreeMap.{get_by_text}
+use Rattle.std.specs.Option.{option_copied}
 use Rattle.std.specs.declared.alloc.Global.{Global}
+use Rattle.std.specs.declared.cmp.Ordering.TheVariants.{Less}
 use Rattle.std.specs.declared.string.String.{String}
 use Rattle.cedar_below.proofs.TreeLemmas.{drop-at, tree_of-uid, tree_of-set, tree_of-record, tree_of-call}
 use Rattle.cedar_below.specs.EntityUID.{uid_of}
 use Rattle.cedar_below.specs.RestrictedExpr.{tree_of, trees_of, entries_of}
+use Rattle.cedar_below.specs.Text.{Text, text_cmp}
 use Rattle.cedar_below.specs.Tree.{call_value, entry_at}
 use Rattle.cedar_below.specs.Name.{plain_name}
 use Rattle.cedar_below.specs.declared.value.RestrictedExpr.{RestrictedExpr}
+use Rattle.cedar_sorted.specs.ByName.{NamesAscend, value_at}
 use Rattle.cedar_types.specs.MembershipAnswer.{Answer}
+use Rattle.cedar_types.specs.EntriesLeft.{entries_left}
 use Rattle.cedar_types.specs.Attributes.{plain_attributes}
 use Rattle.cedar_types.specs.Meaning.{ty_of, fields_of, attribute_of}
 use Rattle.cedar_rules.specs.Ty.{Ty, extension_of, Fields, fields_from}
+use Rattle.cedar_types.specs.declared.attributes.Attributes.{out-Attributes}
 use Rattle.cedar_types.specs.declared.attributes.AttributeType.{AttributeType}
 use Rattle.cedar_types.specs.declared.types.Type.TheVariants as type
+use Rattle.cedar_types.proofs.EntriesLeftSteps.{Serves, Serves-first, Serves-next}
 use Rattle.cedar_types.proofs.MembershipLemmas.{IsMembershipSoFar-none, IsMembershipSoFar-all, IsMembershipSoFar-stops}
 use Rattle.cedar_types.specs.Layers.{fields_of-pairs}
 use Rattle.cedar_types.proofs.MemberParts.{IsMembershipFor, IsMembershipForEach, IsMembershipFor-at, IsMembershipFor-uid, IsMembershipFor-listed, IsMembershipFor-unlisted, IsMembershipForEntry, IsMembershipForEntry-Some, IsMembershipForEntry-None, ElementsSoFar, ElementsSoFar-more, FieldsSoFar, FieldsSoFar-more, attribute_of-parts, ty_of-set, ty_of-record, ty_of-entity, ty_of-extension}
@@ -51,12 +59,13 @@ member::elements_have-returns t c =
 
 pub member::fields_have-loop-name-init : goal.member::fields_have-loop-name-init
 member::fields_have-loop-name-init t c =
-    let P : Fields → Type 0 = λ rest. FieldsSoFar c.args.extensions.now (entries_of c.args.values.now)
-    (fields_of c.args.attrs.now) rest (Ok true) in
-    subst P
-    (fields_of-pairs c.args.attrs.now ∙ ap (λ entries. fields_from (plain_attributes entries))
-    (sym (c.as_slice-name-items.ensures ∙ ap (λ all. all.entries.items) c.deref.ensures)))
-    (IsMembershipSoFar-none _ _ _)
+    let attrs = c.args.attrs.now in
+    let P : Fields → Type 0 = λ rest. FieldsSoFar c.args.extensions.now (entries_of c.args.values.now) (fields_of attrs) rest (Ok true) in
+    let items = sym (c.as_slice-name-items.ensures ∙ ap (λ all. all.entries.items) c.deref.ensures) in (
+      subst P (fields_of-pairs attrs ∙ ap (λ entries. fields_from (plain_attributes entries)) items) (IsMembershipSoFar-none _ _ _),
+      Serves-first c.args.values.now.entries (entries_left c.new-left.result) c.as_slice-name-items.result.now c.new-left.ensures.all
+          c.new-left.ensures.ascend (subst NamesAscend items (out-Attributes attrs).attrs.value.ascending),
+    )
 
 pub member::fields_have-loop-name-preserved : goal.member::fields_have-loop-name-preserved
 member::fields_have-loop-name-preserved t c =
@@ -66,11 +75,14 @@ member::fields_have-loop-name-preserved t c =
     let name = string_bytes item.0 in
     let attribute = attribute_of item.1 in
     let parts = attribute_of-parts item.1 in
+    let left = entries_left c.loop-name.left in
     let P : List (String Global × AttributeType) → Type 0 = λ entries. FieldsSoFar extensions (entries_of values)
-    (fields_of c.args.attrs.now) (fields_from (plain_attributes entries)) c.loop-name.so_far in
+    (fields_of c.args.attrs.now) (fields_from (plain_attributes entries)) c.loop-name.so_far × Serves values.entries left entries in
     let before = subst P (drop-at _ c.loop-name.name-index item c.loop-name-test.true c.loop-name-item.is) c.loop-name.invariant in
+    let found : option_copied c.value_at.result ≡ get_by_text values name =
+    c.value_at.ensures.value ∙ (ap (λ text. value_at text left) c.deref-in-loop-name.ensures ∙ before.1.finds.0) in
     let Q : Answer → Type 0 = IsMembershipForEntry extensions (entry_at name (entries_of values)) attribute in
-    let right : Q c.match-get.answer = elim c.match-get.branch [
+    let right : Q c.match-value_at.answer = elim c.match-value_at.branch [
       | member::fields_have-in-Some w ↦ (
           let call = w.typecheck_restricted_expr-answer in
           let R : Ty → Type 0 = λ ty. IsMembershipFor extensions (tree_of w.in-Some.value.now) ty call.result in
@@ -81,17 +93,22 @@ member::fields_have-loop-name-preserved t c =
                 call.ensures.fault;
           } in
           subst Q (sym w.answer-is)
-          (IsMembershipForEntry-Some extensions name values attribute c.get.result
-          w.in-Some.value call.result c.get.ensures.value w.in-Some.is
+          (IsMembershipForEntry-Some extensions name values attribute c.value_at.result
+          w.in-Some.value call.result found w.in-Some.is
           (subst R (ap ty_of w.deref-in-Some.ensures ∙ ap (λ (p : Bool × Ty). p.1) (sym parts)) right))
           )
       | member::fields_have-in-None w ↦ IsMembershipForEntry-None extensions
-          name values attribute c.get.result c.match-get.answer c.get.ensures.value
+          name values attribute c.value_at.result c.match-value_at.answer found
           w.in-None.is (w.answer-is ∙ ap (λ (p : Bool × Ty). Ok (not p.0)) (sym parts))
     ] in
-    FieldsSoFar-more extensions (entries_of values) (fields_of c.args.attrs.now) _
-    name attribute c.loop-name.so_far c.match-get.answer c.both-so_far.result
-    (record { yes = c.both-so_far.ensures.yes; no = c.both-so_far.ensures.no; fault = c.both-so_far.ensures.fault }) right before
+    let after = entries_left c.value_at.new.self in
+    let K : Text → Type 0 = λ text. (other : Text) → text_cmp other text ≢ Less → value_at other after ≡ value_at other left in
+    let keeps = subst K c.deref-in-loop-name.ensures c.value_at.ensures.keeps in (
+      FieldsSoFar-more extensions (entries_of values) (fields_of c.args.attrs.now) _
+          name attribute c.loop-name.so_far c.match-value_at.answer c.both-so_far.result
+          (record { yes = c.both-so_far.ensures.yes; no = c.both-so_far.ensures.no; fault = c.both-so_far.ensures.fault }) right before.0,
+      Serves-next values.entries left after item _ before.1 c.value_at.ensures.ascend keeps,
+    )
 
 pub member::fields_have-returns-in-Ok-false : goal.member::fields_have-returns-in-Ok-false
 member::fields_have-returns-in-Ok-false t c =
@@ -101,11 +118,14 @@ member::fields_have-returns-in-Ok-false t c =
     let name = string_bytes item.0 in
     let attribute = attribute_of item.1 in
     let parts = attribute_of-parts item.1 in
+    let left = entries_left c.loop-name.left in
     let P : List (String Global × AttributeType) → Type 0 = λ entries. FieldsSoFar extensions (entries_of values)
-    (fields_of c.args.attrs.now) (fields_from (plain_attributes entries)) c.loop-name.so_far in
+    (fields_of c.args.attrs.now) (fields_from (plain_attributes entries)) c.loop-name.so_far × Serves values.entries left entries in
     let before = subst P (drop-at _ c.loop-name.name-index item c.loop-name-test.true c.loop-name-item.is) c.loop-name.invariant in
+    let found : option_copied c.value_at.result ≡ get_by_text values name =
+    c.value_at.ensures.value ∙ (ap (λ text. value_at text left) c.deref-in-loop-name.ensures ∙ before.1.finds.0) in
     let Q : Answer → Type 0 = IsMembershipForEntry extensions (entry_at name (entries_of values)) attribute in
-    let right : Q c.match-get.answer = elim c.match-get.branch [
+    let right : Q c.match-value_at.answer = elim c.match-value_at.branch [
       | member::fields_have-in-Some w ↦ (
           let call = w.typecheck_restricted_expr-answer in
           let R : Ty → Type 0 = λ ty. IsMembershipFor extensions (tree_of w.in-Some.value.now) ty call.result in
@@ -116,17 +136,17 @@ member::fields_have-returns-in-Ok-false t c =
                 call.ensures.fault;
           } in
           subst Q (sym w.answer-is)
-          (IsMembershipForEntry-Some extensions name values attribute c.get.result
-          w.in-Some.value call.result c.get.ensures.value w.in-Some.is
+          (IsMembershipForEntry-Some extensions name values attribute c.value_at.result
+          w.in-Some.value call.result found w.in-Some.is
           (subst R (ap ty_of w.deref-in-Some.ensures ∙ ap (λ (p : Bool × Ty). p.1) (sym parts)) right))
           )
       | member::fields_have-in-None w ↦ IsMembershipForEntry-None extensions
-          name values attribute c.get.result c.match-get.answer c.get.ensures.value
+          name values attribute c.value_at.result c.match-value_at.answer found
           w.in-None.is (w.answer-is ∙ ap (λ (p : Bool × Ty). Ok (not p.0)) (sym parts))
     ] in
     let more = FieldsSoFar-more extensions (entries_of values) (fields_of c.args.attrs.now) _
-    name attribute c.loop-name.so_far c.match-get.answer c.both-so_far.result
-    (record { yes = c.both-so_far.ensures.yes; no = c.both-so_far.ensures.no; fault = c.both-so_far.ensures.fault }) right before in
+    name attribute c.loop-name.so_far c.match-value_at.answer c.both-so_far.result
+    (record { yes = c.both-so_far.ensures.yes; no = c.both-so_far.ensures.no; fault = c.both-so_far.ensures.fault }) right before.0 in
     IsMembershipSoFar-stops c.both-so_far.result _ _ _ _ _ _ (c.in-Ok-false.is ∙ ap Ok (sym c.in-Ok-false.field-0-is ∙ c.in-Ok-false.field-0-test)) more
 
 pub member::fields_have-returns : goal.member::fields_have-returns
@@ -134,7 +154,7 @@ member::fields_have-returns t c =
     let P : List (String Global × AttributeType) → Type 0 = λ entries. FieldsSoFar c.args.extensions.now
     (entries_of c.args.values.now) (fields_of c.args.attrs.now) (fields_from (plain_attributes entries)) c.loop-name.so_far in
     IsMembershipSoFar-all c.loop-name.so_far _ _ _ _
-    (subst P (drop_of_length-le c.as_slice-name-items.result.now c.loop-name-test.false) c.loop-name.invariant)
+    (subst P (drop_of_length-le c.as_slice-name-items.result.now c.loop-name-test.false) c.loop-name.invariant.0)
 
 pub types::Type::typecheck_restricted_expr-returns-in-Entity-EntityUid : goal.types::Type::typecheck_restricted_expr-returns-in-Entity-EntityUid
 types::Type::typecheck_restricted_expr-returns-in-Entity-EntityUid t c =

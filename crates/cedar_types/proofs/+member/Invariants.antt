@@ -5,6 +5,8 @@ use Rattle.cedar_types.specs.Meaning.{ty_of, fields_of}
 use Rattle.cedar_rules.specs.Ty.{fields_from}
 use Rattle.cedar_types.specs.declared.attributes.Attributes.{size-Attributes}
 use Rattle.cedar_types.specs.declared.types.Type.{size-Type}
+use Rattle.cedar_types.proofs.EntriesLeftSteps.{Serves}
+use Rattle.cedar_types.specs.EntriesLeft.{entries_left}
 use Rattle.cedar_types.proofs.MemberParts.{ElementsSoFar, FieldsSoFar}
 use Rattle.cedar_types.proofs.+member.Given as goal
 
@@ -24,3 +26,4 @@ invariant-member::elements_have-loop-value l =
 abbrev pub invariant-member::fields_have-loop-name : goal.invariant-member::fields_have-loop-name
 invariant-member::fields_have-loop-name l =
     FieldsSoFar l.extensions (entries_of l.values) (fields_of l.attrs) (fields_from (plain_attributes (drop l.name-index l.name-items))) l.so_far
+    × Serves l.values.entries (entries_left l.left) (drop l.name-index l.name-items)
