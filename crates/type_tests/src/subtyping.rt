@@ -66,7 +66,7 @@ fn types_are_below_others_by_their_rules(rt: HostRuntime) -> Result<(), Fail> {
 }
 
 /// Types with a value, and whether the value has the type; or None for the fault of `nosuch`.
-const MEMBERS: [(&str, &str, Option<bool>); 20] = [
+const MEMBERS: [(&str, &str, Option<bool>); 25] = [
     ("long", "1", Some(true)),
     ("string", "1", Some(false)),
     ("string", "x", Some(true)),
@@ -78,6 +78,11 @@ const MEMBERS: [(&str, &str, Option<bool>); 20] = [
     ("a-long", "{}", Some(false)),
     ("a-long", "{a: x}", Some(false)),
     ("a-long", "{a: 1, z: nosuch()}", Some(false)),
+    ("a-long-open", "{0: x, a: 1, z: nosuch()}", Some(true)),
+    ("one-optional", "{bar: 1}", Some(false)),
+    ("one-optional", "{foo: 1}", Some(true)),
+    ("one-optional", "{bar: 1, foo: 1}", Some(true)),
+    ("one-optional", "{bar: 1, foo: x}", Some(false)),
     ("address", "{a: nosuch(), b: x}", Some(false)),
     ("ipaddr", "ip(x)", Some(true)),
     ("ipaddr", "ip()", Some(true)),
