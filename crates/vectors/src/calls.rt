@@ -3,8 +3,8 @@
 use crate::answers::{sample_extensions, schema_of, shown};
 use crate::names::entity_type;
 use crate::shorthand::fragment_of;
-use cedar_schema::ValidatorSchema;
 use cedar_schema::below::{Eid, EntityUID};
+use cedar_schema::{Type, ValidatorSchema};
 use std::alloc::Global;
 use std::test::Fail;
 
@@ -37,6 +37,19 @@ fn entity_types_are_found_by_name(rt: HostRuntime) -> Result<(), Fail> {
             assert!(rt; *ty.name() == name, "at {name}");
         }
     }
+    Ok(())
+}
+
+#[test]
+fn attributes_have_the_entity_type_itself(rt: HostRuntime) -> Result<(), Fail> {
+    let alloc = rt.alloc();
+    let wanted = Type::named_entity_reference(alloc, entity_type(alloc, "U")?)?;
+    let schema = schema_of(alloc, "entity U {u: e:U}")?;
+    let ty = schema
+        .get_entity_type(&entity_type(alloc, "U")?)
+        .ok_or("no entity type")?;
+    let attribute = ty.attr("u").ok_or("no attribute")?;
+    assert!(rt; *attribute.attr_type == wanted);
     Ok(())
 }
 
