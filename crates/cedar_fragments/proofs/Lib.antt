@@ -1,4 +1,5 @@
 pub mod AttributeLemmas
+pub mod CopyLemmas
 pub mod DeclaredAsLemmas
 pub mod DeclaredNames
 pub mod DeclaredParts
@@ -8,6 +9,7 @@ pub mod InTurn
 pub mod ListedSoFar
 pub mod NamesSoFar
 pub mod OneMore
+pub mod PlacedFragments
 pub mod QualifiedLemmas
 pub mod ResolveLemmas
 pub mod SetLemmas

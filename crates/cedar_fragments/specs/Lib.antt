@@ -1,8 +1,10 @@
 pub mod ActionDeclarations
 pub mod DeclaredAs
 pub mod DefinitionFault
+pub mod FragmentCopies
 pub mod FragmentDeclarations
 pub mod FragmentFault
+pub mod FragmentLocs
 pub mod FragmentNamespaces
 pub mod GivenCommonTypes
 pub mod HeldNames

@@ -1,4 +1,5 @@
 pub mod Converted
+pub mod CopyLemmas
 pub mod Equality
 pub mod ExprLemmas
 pub mod FitLemmas

@@ -2,6 +2,7 @@ pub mod ActionBody
 pub mod CommonTypeId
 pub mod ConditionalExpr
 pub mod ConditionalName
+pub mod Copies
 pub mod Declaration
 pub mod EntityBody
 pub mod Expr
@@ -12,4 +13,5 @@ pub mod RawExpr
 pub mod RawName
 pub mod Reference
 pub mod ReservedTypeWord
+pub mod TypeLocs
 pub mod WrittenExpr

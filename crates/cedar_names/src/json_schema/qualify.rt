@@ -15,7 +15,7 @@ use std::alloc::Global;
 use std::collections::BTreeMap;
 
 /// Puts a value under a key, or answers want of memory.
-fn put<K: Ord + Drop, V: Drop>(map: &mut BTreeMap<K, V>, key: K, value: V) -> M<()>
+pub(crate) fn put<K: Ord + Drop, V: Drop>(map: &mut BTreeMap<K, V>, key: K, value: V) -> M<()>
     ensures { OnOk result (map.new.entries ≡ insert_entry K.cmp map.old.entries key value) }
 {
     let _old = map.insert(key, value)?;

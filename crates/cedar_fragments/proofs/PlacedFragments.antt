@@ -1,0 +1,69 @@
+-- The references of fragments fit their places.
+use Rattle.std.proofs.Common.{◌≡◌, List, ◌++◌, Option, None, Some, map, ap, sym, subst, ⊎_elim, ◌∙◌, arith, Contains}
+use Rattle.std.proofs.lemmas.List.Elements.{Contains-append_cases}
+use Rattle.std.specs.List.{flat_map}
+use Rattle.cedar_below.proofs.Lists.{Contains-preimage}
+use Rattle.cedar_declared.proofs.OccurrenceLemmas.{Contains-flat_map}
+use Rattle.cedar_declared.specs.Counted.{IsEntityPlace, IsPrincipalOrResource, PlacesFit, entity_parents}
+use Rattle.cedar_fragments.specs.ActionDeclarations.{action_fragment_declaration, action_fragment_declarations, fragment_requests}
+use Rattle.cedar_fragments.specs.FragmentDeclarations.{definition_declarations, fragment_declarations}
+use Rattle.cedar_fragments.specs.TypeDeclarations.{common_type_declaration, common_type_declarations, entity_type_declaration, entity_type_declarations, fragment_body}
+use Rattle.cedar_fragments.specs.declared.namespace.actions.ActionRequests.{ActionRequests}
+use Rattle.cedar_fragments.specs.declared.namespace.definition.ValidatorNamespaceDef.{ValidatorNamespaceDef}
+use Rattle.cedar_fragments.specs.declared.namespace.entity_types.EntityTypeFragment.{EntityTypeFragment}
+use Rattle.cedar_fragments.specs.declared.namespace.entity_types.EntityTypeFragment.TheVariants as variant
+use Rattle.cedar_fragments.specs.declared.namespace.fragment.ValidatorSchemaFragment.{ValidatorSchemaFragment}
+use Rattle.cedar_names.specs.Declaration.{Declaration}
+use Rattle.cedar_names.specs.Reference.{Reference}
+use Rattle.cedar_names.specs.declared.json_schema.reference_type.ReferenceType.{ReferenceType}
+use Rattle.cedar_names.specs.declared.json_schema.reference_type.ReferenceType.TheVariants.{Entity}
+
+-- where a name at the place of an entity type refers to one
+module _ (N : Type 0) (refer : ReferenceType → N → Reference) (fits : (name : N) → (refer Entity name).kind ≡ Entity) where
+  -- each of some names at such places does
+  named_fit : (names : List N) (reference : Reference) → Contains (map (refer Entity) names) reference → reference.kind ≡ Entity
+  named_fit names reference among =
+      let found = Contains-preimage (refer Entity) names reference among in
+      ap (λ (each : Reference). each.kind) (sym found.2) ∙ fits found.0
+
+  -- the parents of an entity type do
+  parents_fit : (it : EntityTypeFragment N) (reference : Reference)
+      → Contains (entity_parents (fragment_body N refer it)) reference → reference.kind ≡ Entity
+  parents_fit (variant.Standard attributes parents tags) reference among = named_fit parents.items reference among
+  parents_fit (variant.Enum choices) reference among = absurd (omega (arith, among.1))
+  parents_fit (variant.External parents) reference among = named_fit parents.items reference among
+
+  -- the principals and resources of an action do
+  requests_fit : (it : Option (ActionRequests N)) (reference : Reference)
+      → IsPrincipalOrResource (fragment_requests N refer it) reference → reference.kind ≡ Entity
+  requests_fit None reference place = absurd place
+  requests_fit (Some it) reference place =
+      ⊎_elim (named_fit it.principals.items reference) (named_fit it.resources.items reference) place
+
+  module _ (A : Type 0) (refer_action : ReferenceType → A → Reference) where
+    -- the references of a definition do
+    definition_fits : (definition : ValidatorNamespaceDef N A) (it : Declaration) (reference : Reference)
+        → Contains (definition_declarations N refer A refer_action definition) it → IsEntityPlace it.body reference → reference.kind ≡ Entity
+    definition_fits definition it reference among place =
+        let P : Declaration → Type 0 = λ each. IsEntityPlace each.body reference in
+        let common = common_type_declarations N refer definition.common_types in
+        let entities = entity_type_declarations N refer definition.entity_types in
+        let actions = action_fragment_declarations N refer A refer_action definition.actions in
+        ⊎_elim
+        (λ types. ⊎_elim
+        (λ here. let found = Contains-preimage (common_type_declaration N refer) definition.common_types.defs.items it here in
+        absurd (subst P (sym found.2) place))
+        (λ here. let found = Contains-preimage (entity_type_declaration N refer) definition.entity_types.defs.items it here in
+        parents_fit found.0.fragment reference (subst P (sym found.2) place))
+        (Contains-append_cases common entities it types))
+        (λ here. let found = Contains-preimage (action_fragment_declaration N refer A refer_action) definition.actions.defs.items it here in
+        requests_fit found.0.fragment.requests reference (subst P (sym found.2) place))
+        (Contains-append_cases (common ++ entities) actions it among)
+
+    -- the references of some fragments do
+    pub fragments_fit : (fragments : List (ValidatorSchemaFragment N A))
+        → PlacesFit (flat_map (fragment_declarations N refer A refer_action) fragments)
+    fragments_fit fragments reference placed =
+        let fragment = Contains-flat_map (fragment_declarations N refer A refer_action) fragments placed.0 placed.1 in
+        let definition = Contains-flat_map (definition_declarations N refer A refer_action) fragment.0.definitions.items placed.0 fragment.2 in
+        definition_fits definition.0 placed.0 reference definition.2 placed.2

@@ -1,0 +1,99 @@
+//! Copies of actions.
+
+ghost use Rattle.std.specs.Prelude.{IfOk, Some};
+ghost use Rattle.cedar_fragments.specs.ActionDeclarations.{action_fragment_body, action_fragment_declaration, action_fragment_declarations, fragment_parent, fragment_requests};
+ghost use Rattle.cedar_fragments.specs.FragmentCopies.{DeclaresSame, LocatesSame};
+ghost use Rattle.cedar_fragments.specs.FragmentLocs.{action_def_locs, action_fragment_locs, actions_locs, parent_locs, requests_locs};
+ghost use Rattle.cedar_names.specs.Copies.{LocatesAlike, RefersAlike, ShowsSame};
+ghost use Rattle.cedar_names.specs.Reference.{Reference};
+ghost use Rattle.cedar_names.specs.TypeLocs.{Locs};
+ghost use Rattle.cedar_names.specs.declared.json_schema.reference_type.ReferenceType.{ReferenceType};
+
+use crate::namespace::action_def::ActionDef;
+use crate::namespace::actions::{ActionFragment, ActionParent, ActionRequests, ActionsDef};
+use crate::namespace::copy_types::copied_names;
+use cedar_below::M;
+use cedar_copied::copied_items;
+use cedar_names::json_schema::FragmentName;
+
+impl<N: FragmentName + Drop> ActionRequests<N> {
+    /// Equal requests with the same locations, or want of memory.
+    pub fn clone(&self) -> M<Self>
+        ensures requests { IfOk result (λ copy. ShowsSame (RefersAlike N N.is_alike) (fragment_requests N) (Some self.now) (Some copy)) }
+        ensures locs { IfOk result (λ copy. ShowsSame (LocatesAlike N N.is_alike) (requests_locs N) (Some self.now) (Some copy)) }
+    {
+        Ok(ActionRequests {
+            principals: copied_names(&self.principals)?,
+            resources: copied_names(&self.resources)?,
+            context: self.context.clone()?,
+        })
+    }
+}
+
+/// The same of an action that may be defined elsewhere.
+fn copied_requests<N: FragmentName + Drop>(
+    requests: &Option<ActionRequests<N>>,
+) -> M<Option<ActionRequests<N>>>
+    ensures requests { IfOk result (ShowsSame (RefersAlike N N.is_alike) (fragment_requests N) requests.now) }
+    ensures locs { IfOk result (ShowsSame (LocatesAlike N N.is_alike) (requests_locs N) requests.now) }
+{
+    match requests {
+        None => Ok(None),
+        Some(requests) => Ok(Some(requests.clone()?)),
+    }
+}
+
+impl<A: FragmentName + Drop> ActionParent<A> {
+    /// An equal parent with the same locations, or want of memory.
+    pub fn clone(&self) -> M<Self>
+        ensures reference { IfOk result (ShowsSame (RefersAlike A A.is_alike) (fragment_parent A) self.now) }
+        ensures locs { IfOk result (ShowsSame (LocatesAlike A A.is_alike) (parent_locs A) self.now) }
+    {
+        Ok(ActionParent {
+            id: self.id.clone()?,
+            ty: self.ty.copied()?,
+            loc: self.loc,
+        })
+    }
+}
+
+impl<N: FragmentName + Drop, A: FragmentName + Drop> ActionFragment<N, A> {
+    /// Equal declarations with the same locations, or want of memory.
+    pub fn clone(&self) -> M<Self>
+        ensures body { IfOk result (DeclaresSame N N.is_alike A A.is_alike
+            (λ (refer : ReferenceType → N → Reference). action_fragment_body N refer A) self.now) }
+        ensures locs { IfOk result (LocatesSame N N.is_alike A A.is_alike (λ (locs : N → Locs). action_fragment_locs N locs A) self.now) }
+    {
+        Ok(ActionFragment {
+            requests: copied_requests(&self.requests)?,
+            parents: copied_items(&self.parents, ActionParent::clone)?,
+            loc: self.loc,
+        })
+    }
+}
+
+impl<N: FragmentName + Drop, A: FragmentName + Drop> ActionDef<N, A> {
+    /// An equal action with the same locations, or want of memory.
+    pub fn clone(&self) -> M<Self>
+        ensures declaration { IfOk result (DeclaresSame N N.is_alike A A.is_alike
+            (λ (refer : ReferenceType → N → Reference). action_fragment_declaration N refer A) self.now) }
+        ensures locs { IfOk result (LocatesSame N N.is_alike A A.is_alike (λ (locs : N → Locs). action_def_locs N locs A) self.now) }
+    {
+        Ok(ActionDef {
+            uid: self.uid.clone()?,
+            fragment: self.fragment.clone()?,
+        })
+    }
+}
+
+impl<N: FragmentName + Drop, A: FragmentName + Drop> ActionsDef<N, A> {
+    /// Equal actions with the same locations, in their order, or want of memory.
+    pub fn clone(&self) -> M<Self>
+        ensures declarations { IfOk result (DeclaresSame N N.is_alike A A.is_alike
+            (λ (refer : ReferenceType → N → Reference). action_fragment_declarations N refer A) self.now) }
+        ensures locs { IfOk result (LocatesSame N N.is_alike A A.is_alike (λ (locs : N → Locs). actions_locs N locs A) self.now) }
+    {
+        let defs = copied_items(&self.defs, ActionDef::clone)?;
+        Ok(ActionsDef { defs })
+    }
+}
