@@ -137,11 +137,12 @@ impl Type {
     /// Whether the one type is below the other: what has it has the other.
     ///
     /// `Never` is below every type, `True` and `False` are below `Bool`, and every type is below
-    /// itself. A set is below a set of more, and below the any-set. A record is below one that asks
-    /// for no more; an open one is never below a closed one. In strict mode records have the same
-    /// names and flags, and entities the same kind. In permissive mode an open record may list
-    /// fewer names, a required attribute is below an optional one, and an entity is below every
-    /// union with its types.
+    /// itself. A set is below a set whose elements have a type that is above, and below the any-set.
+    /// Of two records each attribute of the upper is an attribute of the lower whose type is below; a
+    /// closed upper lists no fewer names than the lower, and an open record is never below a closed
+    /// one. In strict mode records have the same names and flags, and entities the same kind. In
+    /// permissive mode an open upper may list fewer names, an attribute that the upper requires is
+    /// required in the lower, and an entity is below every union with its types.
     #[cycle(subtype)]
     pub fn is_subtype(a: &Type, b: &Type, mode: ValidationMode) -> bool
         ensures { IsTrue result ↔ Below mode (ty_of a.now) (ty_of b.now) }
