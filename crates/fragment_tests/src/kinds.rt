@@ -14,16 +14,42 @@ fn none(alloc: Global) -> Result<AllDefs, Fail> {
     Ok(AllDefs::new(alloc, &fragments)?)
 }
 
-/// One name, of a common type, of an entity type, of both or of neither.
-fn defined(alloc: Global, place: &str, common: bool, entity: bool) -> Result<AllDefs, Fail> {
-    let mut all_defs = none(alloc)?;
-    if common {
+/// What is defined under a name: a common type, an entity type, both or neither.
+type Defined = (bool, bool);
+
+/// Every such mix.
+const MIXES: [Defined; 4] = [(false, false), (true, false), (false, true), (true, true)];
+
+/// Marks a name as what is defined under it.
+fn mark(alloc: Global, all_defs: &mut AllDefs, place: &str, defined: Defined) -> Result<(), Fail> {
+    if defined.0 {
         all_defs.mark_as_defined_as_common_type(full(alloc, place)?)?;
     }
-    if entity {
+    if defined.1 {
         all_defs.mark_as_defined_as_entity_type(full(alloc, place)?)?;
     }
-    Ok(all_defs)
+    Ok(())
+}
+
+/// Whether a reference of a kind may name what is so defined.
+fn is_permitted(kind: ReferenceType, defined: Defined) -> bool {
+    match kind {
+        ReferenceType::Common => defined.0,
+        ReferenceType::Entity => defined.1,
+        ReferenceType::CommonOrEntity => defined.0 || defined.1,
+    }
+}
+
+/// What such a reference to `T` in the namespace `N` is to resolve to, where the inner and the outer `T` are so
+/// defined.
+fn wanted(kind: ReferenceType, inner: Defined, outer: Defined) -> &'static str {
+    if is_permitted(kind, inner) {
+        "N::T"
+    } else if is_permitted(kind, outer) {
+        "T"
+    } else {
+        ""
+    }
 }
 
 /// What `T` resolves to that is written in the namespace `N`, or nothing.
@@ -37,31 +63,26 @@ fn resolved(alloc: Global, all_defs: &AllDefs, kind: ReferenceType) -> Result<St
     }
 }
 
-/// Whether `T` that is written in the namespace `N` resolves to the place, for each kind, where one
-/// is defined there as is said.
-fn found(alloc: Global, place: &str, common: bool, entity: bool) -> Result<[bool; 3], Fail> {
-    let all_defs = defined(alloc, place, common, entity)?;
-    let as_common = resolved(alloc, &all_defs, ReferenceType::Common)?;
-    let as_entity = resolved(alloc, &all_defs, ReferenceType::Entity)?;
-    let as_either = resolved(alloc, &all_defs, ReferenceType::CommonOrEntity)?;
-    Ok([
-        as_common.as_str() == place,
-        as_entity.as_str() == place,
-        as_either.as_str() == place,
-    ])
-}
+/// The kinds of references.
+const KINDS: [ReferenceType; 3] = [
+    ReferenceType::Common,
+    ReferenceType::Entity,
+    ReferenceType::CommonOrEntity,
+];
 
 #[test]
 fn references_find_what_their_kind_permits(rt: HostRuntime) -> Result<(), Fail> {
     let alloc = rt.alloc();
-    for (common, entity, permitted) in [
-        (false, false, [false, false, false]),
-        (true, false, [true, false, true]),
-        (false, true, [false, true, true]),
-        (true, true, [true, true, true]),
-    ] {
-        assert_eq!(rt; found(alloc, "N::T", common, entity)?, permitted);
-        assert_eq!(rt; found(alloc, "T", common, entity)?, permitted);
+    for inner in MIXES {
+        for outer in MIXES {
+            let mut all_defs = none(alloc)?;
+            mark(alloc, &mut all_defs, "N::T", inner)?;
+            mark(alloc, &mut all_defs, "T", outer)?;
+            for kind in KINDS {
+                let found = resolved(alloc, &all_defs, kind)?;
+                assert_eq!(rt; found.as_str(), wanted(kind, inner, outer));
+            }
+        }
     }
     Ok(())
 }

@@ -7,6 +7,8 @@ mod common;
 #[cfg(test)]
 mod common_types;
 #[cfg(test)]
+mod copies;
+#[cfg(test)]
 mod declarations;
 #[cfg(test)]
 mod gathered;

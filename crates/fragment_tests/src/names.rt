@@ -87,31 +87,46 @@ fn actions_are_defined_under_their_uids(rt: HostRuntime) -> Result<(), Fail> {
     Ok(())
 }
 
-/// An action of one id in each of two namespaces.
+/// The names of two fragments, with an action of one id in a namespace each.
 fn two_actions(alloc: Global, first: &str, second: &str) -> Result<AllDefs, Fail> {
-    let mut definitions = BTreeMap::new(alloc);
+    let mut fragments = Vec::new(alloc);
     for text in [first, second] {
         let mut definition = nothing(alloc);
         add_action(alloc, &mut definition, "a", false)?;
+        let mut definitions = BTreeMap::new(alloc);
         definitions.insert(namespace(alloc, text)?, definition)?;
+        let fragment = Fragment(definitions);
+        fragments.push(ValidatorSchemaFragment::from_schema_fragment(alloc, fragment)?)?;
     }
-    let fragment = ValidatorSchemaFragment::from_schema_fragment(alloc, Fragment(definitions))?;
-    Ok(AllDefs::single_fragment(alloc, &fragment)?)
+    Ok(AllDefs::new(alloc, &fragments)?)
 }
 
-/// The kind of the refusal of names that shadow others, or `Ok` where none does.
-fn shadowing(all_defs: &AllDefs) -> &'static str {
+/// The refused uids of actions, the one that shadows first, or nothing where none shadows another.
+fn shadowing(alloc: Global, all_defs: &AllDefs) -> Result<String, Fail> {
     match all_defs.rfc_70_shadowing_checks() {
-        Ok(()) => "Ok",
-        Err(error) => error.kind(),
+        Ok(()) => Ok(String::new(alloc)),
+        Err(SchemaError::ActionShadowing(plain, qualified)) => Ok(format!(in alloc;
+            "{} {} {} {}",
+            plain.entity_type(),
+            plain.eid().0,
+            qualified.entity_type(),
+            qualified.eid().0
+        )?),
+        Err(_) => Err(Fail::from("another answer")),
     }
 }
 
 #[test]
 fn actions_of_one_id_shadow_where_one_type_is_unqualified(rt: HostRuntime) -> Result<(), Fail> {
     let alloc = rt.alloc();
-    assert_eq!(rt; shadowing(&two_actions(alloc, "", "N")?), "ActionShadowing");
-    assert_eq!(rt; shadowing(&two_actions(alloc, "M", "N")?), "Ok");
+    for (first, second, shadowed) in [
+        ("", "N", "Action a N::Action a"),
+        ("N", "", "Action a N::Action a"),
+        ("M", "N", ""),
+    ] {
+        let all_defs = two_actions(alloc, first, second)?;
+        assert_eq!(rt; shadowing(alloc, &all_defs)?.as_str(), shadowed);
+    }
     Ok(())
 }
 

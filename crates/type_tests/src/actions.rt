@@ -1,4 +1,4 @@
-//! Tests of copies of actions of a schema.
+//! Tests of actions of a schema.
 
 use crate::test_values::{entity_type, name, text};
 use cedar_actions::{ValidatorActionId, ValidatorApplySpec};
@@ -82,6 +82,32 @@ fn copies_of_actions_are_equal(rt: HostRuntime) -> Result<(), Fail> {
         assert_eq!(rt; copy, action);
         assert_eq!(rt; copy.loc(), action.loc(), "at {word}");
     }
+    Ok(())
+}
+
+#[test]
+fn an_external_action_is_for_no_requests(rt: HostRuntime) -> Result<(), Fail> {
+    let alloc = rt.alloc();
+    let bar = external(alloc, "bar", &[])?;
+    assert!(rt; bar.is_external() && bar.context().is_none() && bar.context_type().is_none());
+    assert_eq!(rt; bar.principals().count(), 0);
+    assert_eq!(rt; bar.resources().count(), 0);
+    assert!(rt; !bar.is_applicable_principal_type(&entity_type(alloc, "User")?));
+    assert!(rt; !bar.is_applicable_resource_type(&entity_type(alloc, "App")?));
+    Ok(())
+}
+
+#[test]
+fn a_principal_that_is_named_twice_counts_once(rt: HostRuntime) -> Result<(), Fail> {
+    let alloc = rt.alloc();
+    let view = view(alloc, &["User", "User"], &["Photo"], Type::Long, None)?;
+    let photo = entity_type(alloc, "Photo")?;
+    assert_eq!(rt; view.principals().count(), 1);
+    assert_eq!(rt; view.applies_to_principals().count(), 1);
+    assert_eq!(rt; view.context(), Some(&Type::Long));
+    assert!(rt; view.is_applicable_principal_type(&entity_type(alloc, "User")?));
+    assert!(rt; !view.is_applicable_principal_type(&photo));
+    assert!(rt; view.is_applicable_resource_type(&photo));
     Ok(())
 }
 

@@ -1,8 +1,9 @@
 //! Tests of core types and of consistency with them.
 
 use crate::test_values::sample;
-use cedar_below::{CoreSchemaType, ValidationMode};
+use cedar_below::{CoreSchemaType, M, ValidationMode};
 use cedar_types::{CoreTypeFault, Type, core_type_of};
+use std::alloc::Global;
 use std::collections::BTreeMap;
 use std::test::Fail;
 
@@ -21,12 +22,47 @@ fn types_are_consistent_with_their_core_types(rt: HostRuntime) -> Result<(), Fai
     Ok(())
 }
 
+/// The word of a core type's kind, or the name of its entity type.
+fn core_text(alloc: Global, core: &CoreSchemaType) -> M<String> {
+    let word = match core {
+        CoreSchemaType::Bool => "Bool",
+        CoreSchemaType::Long => "Long",
+        CoreSchemaType::String => "String",
+        CoreSchemaType::Set { .. } => "Set",
+        CoreSchemaType::EmptySet => "EmptySet",
+        CoreSchemaType::Record { .. } => "Record",
+        CoreSchemaType::Entity { ty } => return Ok(ty.to_string(alloc)?),
+        CoreSchemaType::Extension { .. } => "Extension",
+    };
+    Ok(String::from_str(alloc, word)?)
+}
+
+#[test]
+fn core_types_are_of_the_same_kind(rt: HostRuntime) -> Result<(), Fail> {
+    let alloc = rt.alloc();
+    for (word, expected) in [
+        ("true", "Bool"),
+        ("bool", "Bool"),
+        ("long", "Long"),
+        ("any-set", "EmptySet"),
+        ("set-foo", "Set"),
+        ("foo", "Foo"),
+        ("mixed", "Record"),
+        ("ipaddr", "Extension"),
+    ] {
+        let core = core_type_of(alloc, sample(alloc, word)?)?;
+        assert_eq!(rt; core_text(alloc, &core)?.as_str(), expected, "at {word}");
+    }
+    Ok(())
+}
+
 #[test]
 fn what_has_no_core_type_is_named(rt: HostRuntime) -> Result<(), Fail> {
     let alloc = rt.alloc();
     for (word, fault) in [
         ("never", CoreTypeFault::NeverType),
         ("set-never", CoreTypeFault::NeverType),
+        ("a-never", CoreTypeFault::NeverType),
         ("any-entity", CoreTypeFault::AnyEntityType),
     ] {
         let refused = core_type_of(alloc, sample(alloc, word)?).err();

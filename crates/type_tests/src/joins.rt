@@ -6,6 +6,7 @@ use cedar_types::{
     AttributeType, EntityKind, EntityLUB, JoinError, JoinOrder, OpenTag, Type, reduce,
 };
 use std::alloc::Global;
+use std::cmp::Ordering;
 use std::fmt::Display;
 use std::rc::Rc;
 use std::test::Fail;
@@ -20,7 +21,7 @@ fn printed<T: Display + Drop>(alloc: Global, answer: Result<T, JoinError>) -> Re
 }
 
 /// Pairs of types, each with what they are joined to in strict mode and in permissive mode.
-const JOINS: [(&str, &str, &str, &str); 12] = [
+const JOINS: [(&str, &str, &str, &str); 13] = [
     ("true", "false", "Bool", "Bool"),
     ("long", "string", "None", "None"),
     ("set-bool", "set-long", "None", "None"),
@@ -47,6 +48,12 @@ const JOINS: [(&str, &str, &str, &str); 12] = [
         "foo-true",
         "__cedar::internal::OpenRecord{foo: Bool,}",
         "__cedar::internal::OpenRecord{foo: Bool,}",
+    ),
+    (
+        "ace",
+        "bcd",
+        "RecordWidth",
+        "__cedar::internal::OpenRecord{c: Long,}",
     ),
     ("any-entity", "any-record", "EntityRecord", "EntityRecord"),
     (
@@ -192,18 +199,21 @@ const PLACE: Loc = Loc {
     stop: 5,
 };
 
-/// The record type of one attribute `a` with the type of one truth value, declared at the place.
-fn placed(alloc: Global, value: bool) -> Result<Type, Fail> {
-    let ty = Rc::new(alloc, Type::singleton_boolean(value))?;
-    let attribute = AttributeType::new_with_loc(ty, true, Some(PLACE));
-    let items = [(text(alloc, "a")?, attribute)];
+/// The closed record type of numbers at `bar` and of another type at `foo`, both declared at the place.
+fn placed(alloc: Global, foo: &str) -> Result<Type, Fail> {
+    let mut items = Vec::new(alloc);
+    for (name, word) in [("bar", "long"), ("foo", foo)] {
+        let ty = Rc::new(alloc, sample(alloc, word)?)?;
+        let attribute = AttributeType::new_with_loc(ty, true, Some(PLACE));
+        items.push((text(alloc, name)?, attribute))?;
+    }
     Ok(Type::record_with_attributes(alloc, items, OpenTag::ClosedAttributes)?)
 }
 
-/// Where the attribute `a` of a record type was declared.
-fn place_of(ty: &Type) -> Result<Option<Loc>, Fail> {
+/// Where an attribute of a record type was declared.
+fn place_of(ty: &Type, name: &str) -> Result<Option<Loc>, Fail> {
     match ty {
-        Type::Record { attrs, .. } => Ok(attrs.get_attr("a").ok_or("not found")?.loc),
+        Type::Record { attrs, .. } => Ok(attrs.get_attr(name).ok_or("not found")?.loc),
         _ => Err("no record type")?,
     }
 }
@@ -211,15 +221,30 @@ fn place_of(ty: &Type) -> Result<Option<Loc>, Fail> {
 #[test]
 fn joined_attributes_have_no_location(rt: HostRuntime) -> Result<(), Fail> {
     let alloc = rt.alloc();
-    let first = placed(alloc, true)?;
-    let join = Type::least_upper_bound(
-        alloc,
-        &first,
-        &placed(alloc, false)?,
-        ValidationMode::Strict,
-    )?;
-    assert_eq!(rt; place_of(&join)?, None);
+    let first = placed(alloc, "true")?;
+    for (mode, other, joined) in [
+        (ValidationMode::Strict, "false", "{bar: Long,foo: Bool,}"),
+        (
+            ValidationMode::Permissive,
+            "string",
+            "__cedar::internal::OpenRecord{bar: Long,}",
+        ),
+    ] {
+        let join = Type::least_upper_bound(alloc, &first, &placed(alloc, other)?, mode)?;
+        assert_eq!(rt; place_of(&join, "bar")?, None, "at {joined}");
+        assert_eq!(rt; join.to_string(alloc)?.as_str(), joined);
+    }
     let same = Type::least_upper_bound(alloc, &first, &first, ValidationMode::Strict)?;
-    assert_eq!(rt; place_of(&same)?, Some(PLACE));
+    assert_eq!(rt; place_of(&same, "foo")?, Some(PLACE));
+    Ok(())
+}
+
+#[test]
+fn locations_within_types_are_not_compared(rt: HostRuntime) -> Result<(), Fail> {
+    let alloc = rt.alloc();
+    let (here, nowhere) = (placed(alloc, "false")?, sample(alloc, "r1")?);
+    assert_eq!(rt; place_of(&nowhere, "bar")?, None);
+    assert_eq!(rt; here, nowhere);
+    assert_eq!(rt; here.cmp(&nowhere), Ordering::Equal);
     Ok(())
 }

@@ -94,6 +94,7 @@ pub(crate) fn sample(alloc: Global, word: &str) -> Result<Type, Fail> {
         "a-long-optional" => record(alloc, closed, &[("a", false, "long")]),
         "a-true" => record(alloc, closed, &[("a", true, "true")]),
         "a-bool" => record(alloc, closed, &[("a", true, "bool")]),
+        "a-never" => record(alloc, closed, &[("a", true, "never")]),
         "r1" => record(
             alloc,
             closed,
@@ -126,6 +127,29 @@ pub(crate) fn sample(alloc: Global, word: &str) -> Result<Type, Fail> {
         "spaced" => record(alloc, closed, &[("a b", true, "long")]),
         "address" => record(alloc, closed, &[("b", true, "long"), ("a", true, "ipaddr")]),
         "mixed" => record(alloc, open, &[("b", false, "set-foo"), ("a", true, "long")]),
+        "mixed-closed" => record(
+            alloc,
+            closed,
+            &[("b", false, "set-foo"), ("a", true, "long")],
+        ),
+        "ace" => record(
+            alloc,
+            closed,
+            &[
+                ("a", true, "long"),
+                ("c", true, "long"),
+                ("e", true, "long"),
+            ],
+        ),
+        "bcd" => record(
+            alloc,
+            closed,
+            &[
+                ("b", true, "long"),
+                ("c", true, "long"),
+                ("d", true, "long"),
+            ],
+        ),
         _ => simple(alloc, word),
     }
 }

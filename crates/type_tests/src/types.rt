@@ -31,7 +31,7 @@ fn hash_of<T: Hash>(value: &T) -> u64 {
 }
 
 /// Types, each with its text.
-const TEXTS: [(&str, &str); 16] = [
+const TEXTS: [(&str, &str); 17] = [
     ("never", "__cedar::internal::Never"),
     ("true", "__cedar::internal::True"),
     ("false", "__cedar::internal::False"),
@@ -51,6 +51,7 @@ const TEXTS: [(&str, &str); 16] = [
         "mixed",
         "__cedar::internal::OpenRecord{a: Long,b?: Set<Foo>,}",
     ),
+    ("mixed-closed", "{a: Long,b?: Set<Foo>,}"),
 ];
 
 #[test]
