@@ -53,15 +53,20 @@ fn action_type(alloc: Global) -> Result<EntityType, Stop> {
     Ok(EntityType::new(Name::new(name).ok_or(Stop::Refused)?))
 }
 
+/// The uid of the action of a number.
+pub(crate) fn uid(alloc: Global, number: usize) -> Result<EntityUID, Stop> {
+    let eid = Eid(numbered(alloc, "action", number)?);
+    Ok(EntityUID::new(action_type(alloc)?, eid, None))
+}
+
 /// Actions, each for requests of the entity type of its number on itself.
 pub(crate) fn actions(alloc: Global, count: usize) -> Result<Vec<ValidatorActionId>, Stop> {
     let mut actions = Vec::new(alloc);
     for number in 0..count {
-        let eid = Eid(numbered(alloc, "action", number)?);
         let of_type = number..number.saturating_add(1);
         actions.push(ValidatorActionId::new_defined(
             alloc,
-            EntityUID::new(action_type(alloc)?, eid, None),
+            uid(alloc, number)?,
             entity_types(alloc, of_type.clone()?)?,
             entity_types(alloc, of_type)?,
             Vec::new(alloc),

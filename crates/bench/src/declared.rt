@@ -41,10 +41,14 @@ fn references(alloc: Global, numbers: Range<usize>) -> Result<Vec<RawName>, Stop
     Ok(references)
 }
 
-/// The declaration of the entity type of a number: with an attribute, and right below another of the same
-/// trees, but for the first.
-fn declaration(alloc: Global, number: usize) -> Result<EntityType<RawName>, Stop> {
-    let shape = record_of(alloc, plain(TypeVariant::Long))?;
+/// The declaration of the entity type of a number: with an attribute of a type, and right below another of the
+/// same trees, but for the first.
+fn declaration(
+    alloc: Global,
+    number: usize,
+    ty: Type<RawName>,
+) -> Result<EntityType<RawName>, Stop> {
+    let shape = record_of(alloc, ty)?;
     let above = right_above(number);
     Ok(EntityType {
         kind: EntityTypeKind::Standard(StandardEntityType {
@@ -84,7 +88,8 @@ fn definition(alloc: Global, numbers: Range<usize>) -> Result<NamespaceDefinitio
     let mut actions = BTreeMap::new(alloc);
     for number in numbers {
         let id = unreserved_id(alloc, "E", number)?;
-        entity_types.insert(id, declaration(alloc, number)?)?;
+        let of_number = declaration(alloc, number, plain(TypeVariant::Long))?;
+        entity_types.insert(id, of_number)?;
         let of_type = number..number.saturating_add(1);
         let for_type = action(alloc, of_type.clone()?, of_type)?;
         actions.insert(numbered(alloc, "action", number)?, for_type)?;
@@ -122,7 +127,8 @@ pub(crate) fn split(alloc: Global, count: usize) -> Result<Vec<Fragment<RawName>
     Ok(fragments)
 }
 
-/// As many common types, each a record of the next.
+/// As many common types, each another name for the next and the last one for numbers, and an entity type with an
+/// attribute of the first.
 pub(crate) fn chain(alloc: Global, count: usize) -> Result<Vec<Fragment<RawName>>, Stop> {
     let mut common_types = BTreeMap::new(alloc);
     for number in 0..count {
@@ -133,13 +139,18 @@ pub(crate) fn chain(alloc: Global, count: usize) -> Result<Vec<Fragment<RawName>
                 type_name: raw(alloc, "T", number.saturating_add(1))?,
             }
         };
-        let ty = plain(record_of(alloc, plain(next))?);
+        let ty = plain(next);
         let id = CommonTypeId::new(unreserved_id(alloc, "T", number)?).ok_or(Stop::Refused)?;
         common_types.insert(id, CommonType { ty, loc: None })?;
     }
+    let first = plain(TypeVariant::EntityOrCommon {
+        type_name: raw(alloc, "T", 0)?,
+    });
+    let mut entity_types = BTreeMap::new(alloc);
+    entity_types.insert(unreserved_id(alloc, "E", 0)?, declaration(alloc, 0, first)?)?;
     let definition = NamespaceDefinition {
         common_types,
-        entity_types: BTreeMap::new(alloc),
+        entity_types,
         actions: BTreeMap::new(alloc),
         loc: None,
     };

@@ -37,7 +37,7 @@ pub(crate) enum Piece {
     BuildWhole,
     /// As many entity types and actions, built from as many fragments.
     BuildSplit,
-    /// As many common types, each a record of the next.
+    /// As many common types, each another name for the next.
     BuildCommonChain,
     /// A chain of as many entity types closed.
     CloseChain,
@@ -47,6 +47,8 @@ pub(crate) enum Piece {
     CloseStar,
     /// Trees of as many entity types closed.
     CloseTrees,
+    /// An entity type and an action looked up among as many of each.
+    SchemaLookUp,
     /// The environments of requests of as many principals on as many resources, each looked at.
     Environments,
     /// What is known of the attributes of a union of as many entity types.
@@ -58,7 +60,7 @@ pub(crate) enum Piece {
 }
 
 /// All pieces, in the order in which they are measured.
-pub(crate) const PIECES: [Piece; 26] = [
+pub(crate) const PIECES: [Piece; 27] = [
     Piece::SubtypeClosedStrict,
     Piece::SubtypeClosedPermissive,
     Piece::SubtypeOpenStrict,
@@ -81,6 +83,7 @@ pub(crate) const PIECES: [Piece; 26] = [
     Piece::CloseRing,
     Piece::CloseStar,
     Piece::CloseTrees,
+    Piece::SchemaLookUp,
     Piece::Environments,
     Piece::KnownAttributes,
     Piece::Validate,
@@ -141,6 +144,7 @@ impl Piece {
             Piece::CloseRing => "close-ring",
             Piece::CloseStar => "close-star",
             Piece::CloseTrees => "close-trees",
+            Piece::SchemaLookUp => "schema-look-up",
             Piece::Environments => "environments",
             Piece::KnownAttributes => "known-attributes",
             Piece::Validate => "validate",
@@ -181,6 +185,7 @@ impl Piece {
             Piece::CloseChain => sizes([(50, 200), (150, 20), (500, 2)]),
             Piece::CloseRing => sizes([(30, 500), (100, 50), (300, 5)]),
             Piece::CloseStar | Piece::CloseTrees => sizes([(50, 1000), (500, 100), (5000, 5)]),
+            Piece::SchemaLookUp => sizes([(100, 100_000), (1000, 100_000), (5000, 100_000)]),
             Piece::Environments => sizes([(10, 10_000), (30, 1000), (100, 100)]),
             Piece::KnownAttributes => sizes([(10, 10_000), (30, 1000), (100, 1000)]),
         }

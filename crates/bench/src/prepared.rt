@@ -3,16 +3,16 @@
 ghost use Rattle.cedar_below.specs.Extensions.{extension_types};
 ghost use Rattle.cedar_below.specs.TypeNames.{TypeNamesFit};
 
-use crate::by_hand::{actions, growing_types, standard_types};
+use crate::by_hand::{actions, growing_types, standard_types, uid};
 use crate::declared::{applying_to_all, chain, split, whole};
 use crate::graphs::{Graph, Shape, graph};
-use crate::names::numbered;
+use crate::names::{entity_type, numbered};
 use crate::piece::Piece;
 use crate::stop::Stop;
 use crate::types::{
     attributes, closed_record, entities, record, record_value, record_with_text, union,
 };
-use cedar_schema::below::{Extensions, ValidationMode, Value};
+use cedar_schema::below::{EntityType, EntityUID, Extensions, ValidationMode, Value};
 use cedar_schema::json_schema::{Fragment, RawName};
 use cedar_schema::{Attributes, OpenTag, Type, ValidatorSchema};
 use std::alloc::Global;
@@ -41,6 +41,8 @@ pub(crate) enum Lent {
     Join(Type, Type, ValidationMode),
     /// A value that the first type has and the second hasn't.
     Separation(Type, Type, Extensions),
+    /// The entity type of a name and the action of a uid.
+    Declared(ValidatorSchema, EntityType, EntityUID),
     /// The environments of requests of a schema.
     Environments(ValidatorSchema),
     /// A schema written back as a fragment.
@@ -167,11 +169,22 @@ fn environments(alloc: Global, count: usize) -> Result<Prepared, Stop> {
     on_lent(Lent::Environments(schema))
 }
 
+/// A schema of as many entity types and actions.
+fn schema(alloc: Global, count: usize) -> Result<ValidatorSchema, Stop> {
+    let fragments = whole(alloc, count)?;
+    Ok(ValidatorSchema::from_raw_fragments(alloc, fragments, &no_extensions(alloc))?)
+}
+
+/// The last entity type and the last action of a schema, to be looked up.
+fn schema_look_up(alloc: Global, count: usize) -> Result<Prepared, Stop> {
+    let last = count.saturating_sub(1);
+    let (ty, action) = (entity_type(alloc, last)?, uid(alloc, last)?);
+    on_lent(Lent::Declared(schema(alloc, count)?, ty, action))
+}
+
 /// A schema of as many entity types and actions, to be written back.
 fn written_back(alloc: Global, count: usize) -> Result<Prepared, Stop> {
-    let fragments = whole(alloc, count)?;
-    let schema = ValidatorSchema::from_raw_fragments(alloc, fragments, &no_extensions(alloc))?;
-    on_lent(Lent::WrittenBack(schema))
+    on_lent(Lent::WrittenBack(schema(alloc, count)?))
 }
 
 /// A union of as many entity types, each of which has one attribute more than the one before it.
@@ -225,6 +238,7 @@ pub(crate) fn prepare(alloc: Global, piece: Piece, count: usize) -> Result<Prepa
         Piece::CloseRing => close(alloc, Shape::Ring, count),
         Piece::CloseStar => close(alloc, Shape::Star, count),
         Piece::CloseTrees => close(alloc, Shape::Trees, count),
+        Piece::SchemaLookUp => schema_look_up(alloc, count),
         Piece::Environments => environments(alloc, count),
         Piece::KnownAttributes => known_attributes(alloc, count),
         Piece::Validate => validate(alloc, count),

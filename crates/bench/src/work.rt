@@ -7,7 +7,7 @@ use cedar_schema::below::{Extensions, ValidationMode};
 use cedar_schema::json_schema::{Fragment, RawName};
 use cedar_schema::lookup::SchemaLookup;
 use cedar_schema::member::separating_value;
-use cedar_schema::{EntityLUB, Type, ValidatorSchema, compute_tc};
+use cedar_schema::{EntityLUB, Type, ValidatorSchema, compute_tc_counted};
 use std::alloc::Global;
 
 /// How many attributes or entity types a type lists.
@@ -23,22 +23,20 @@ fn members(union: &EntityLUB) -> usize {
     union.iter().count()
 }
 
-/// How many descendants the entity types of a graph have, all together.
-fn descendants(graph: &Graph) -> usize {
+/// How many attributes and descendants the entity types of a schema have, all together.
+fn entries_of(schema: &ValidatorSchema) -> usize {
     let mut count = 0usize;
-    for node in graph.values() {
-        count = count.saturating_add(node.descendants.len());
+    for ty in schema.entity_types() {
+        count = count.saturating_add(ty.attributes().keys().count());
+        count = count.saturating_add(ty.descendants.len());
     }
     count
 }
 
-/// How many descendants the entity types of a schema have, all together.
-fn descendants_of(schema: &ValidatorSchema) -> usize {
-    let mut count = 0usize;
-    for ty in schema.entity_types() {
-        count = count.saturating_add(ty.descendants.len());
-    }
-    count
+/// How often two rows of a graph are joined to close it.
+fn rows_joined(alloc: Global, mut graph: Graph) -> Result<usize, Stop> {
+    let joined = compute_tc_counted(alloc, &mut graph, false)?;
+    Ok(joined.min(usize::MAX as u128) as usize)
 }
 
 /// How many environments of requests have unlike principals and resources.
@@ -103,6 +101,9 @@ impl Lent {
                 alloc, one, other, *mode,
             )?)),
             Lent::Separation(one, other, extensions) => separated(alloc, one, other, extensions),
+            Lent::Declared(schema, ty, uid) => Ok(usize::from(
+                schema.get_entity_type(ty).is_some() && schema.get_action_id(uid).is_some(),
+            )),
             Lent::WrittenBack(schema) => Ok(declarations(&schema.to_json_schema(alloc)?)),
             Lent::Environments(schema) => Ok(environments(schema)),
             Lent::KnownAttributes(schema, ty) => Ok(
@@ -113,21 +114,19 @@ impl Lent {
 }
 
 impl Given {
-    /// Does the work, and answers how many descendants there are, all together.
+    /// Does the work, and answers how many attributes and descendants entity types have, or how often two rows were
+    /// joined.
     pub(crate) fn work(self, alloc: Global) -> Result<usize, Stop> {
         match self {
             Given::Build(fragments) => {
                 let extensions = no_extensions(alloc);
                 let schema = ValidatorSchema::from_raw_fragments(alloc, fragments, &extensions)?;
-                Ok(descendants_of(&schema))
+                Ok(entries_of(&schema))
             }
-            Given::Close(mut graph) => {
-                compute_tc(alloc, &mut graph, false)?;
-                Ok(descendants(&graph))
-            }
+            Given::Close(graph) => rows_joined(alloc, graph),
             Given::Validate(schema) => {
                 let schema = schema.try_validate(alloc, &no_extensions(alloc))?;
-                Ok(descendants_of(&schema))
+                Ok(entries_of(&schema))
             }
         }
     }

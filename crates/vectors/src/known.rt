@@ -1,8 +1,9 @@
 //! What is known of the attributes of types over a schema, and the validation of schemas.
 
 use crate::answers::{sample_extensions, schema_of};
+use crate::calls::uid;
 use crate::names::entity_type;
-use cedar_schema::below::{Eid, EntityUID, ValidationMode};
+use cedar_schema::below::{Eid, EntityUID, M, ValidationMode};
 use cedar_schema::lookup::{KnownAttrs, SchemaLookup};
 use cedar_schema::{EntityKind, Type, ValidatorSchema};
 use std::alloc::Global;
@@ -10,10 +11,10 @@ use std::test::Fail;
 
 /// Entity types of which some have attributes in common.
 const SOME: &str =
-    "entity baz {a: Long, b: String, c: e:foo}; entity buz {a: Long, b: Long, c: e:bar, d?: Long}; entity foo tags n:Long; entity bar {d: Long}; external entity out; action view";
+    "entity baz {a: Long, b: String, c: e:foo}; entity buz {a: Long, b: Long, c: e:bar, d?: Long}; entity foo tags n:Long; entity bar {d: Long}; external entity out; action view P foo R foo context {e: e:bar}";
 
 /// The type of entities of one of some types.
-fn union(alloc: Global, names: &str) -> Result<Type, Fail> {
+pub(crate) fn union(alloc: Global, names: &str) -> Result<Type, Fail> {
     let mut types = Vec::new(alloc);
     for name in names.split(' ') {
         types.push(Type::named_entity_reference(alloc, entity_type(alloc, name)?)?)?;
@@ -54,19 +55,59 @@ fn attributes_are_known_of_unions(rt: HostRuntime) -> Result<(), Fail> {
 }
 
 #[test]
+fn types_of_known_attributes_are_joined(rt: HostRuntime) -> Result<(), Fail> {
+    let alloc = rt.alloc();
+    let schema = schema_of(alloc, "entity biz {c: e:biz}; entity fiz {c: e:fiz}")?;
+    let known = known_text(alloc, &schema, "biz fiz")?;
+    assert_eq!(rt; known.as_str(), "{c: __cedar::internal::Union<biz, fiz>,}");
+    Ok(())
+}
+
+/// The type that is looked up at a name, with a question mark before it where it is optional; or nothing.
+fn looked_up(alloc: Global, schema: &ValidatorSchema, ty: &Type, name: &str) -> M<String> {
+    match Type::lookup_attribute_type(alloc, schema, ty, name)? {
+        None => Ok(String::new(alloc)),
+        Some(found) => {
+            let flag = if found.is_required() { "" } else { "?" };
+            Ok(format!(in alloc; "{flag}{}", found.attr_type)?)
+        }
+    }
+}
+
+#[test]
 fn attributes_are_looked_up(rt: HostRuntime) -> Result<(), Fail> {
     let alloc = rt.alloc();
     let schema = schema_of(alloc, SOME)?;
     for (names, name, found) in [
-        ("baz", "b", true),
-        ("baz buz", "a", true),
-        ("baz buz", "b", false),
-        ("Ghost", "a", false),
+        ("baz", "b", "String"),
+        ("baz buz", "a", "Long"),
+        ("baz buz", "b", ""),
+        ("buz bar", "d", "?Long"),
+        ("Ghost", "a", ""),
     ] {
         let ty = union(alloc, names)?;
-        let answer = Type::lookup_attribute_type(alloc, &schema, &ty, name)?;
-        assert_eq!(rt; answer.is_some(), found, "{name} of {names}");
+        let answer = looked_up(alloc, &schema, &ty, name)?;
+        assert_eq!(rt; answer.as_str(), found, "{name} of {names}");
     }
+    Ok(())
+}
+
+#[test]
+fn attributes_of_types_are_listed(rt: HostRuntime) -> Result<(), Fail> {
+    let alloc = rt.alloc();
+    let schema = schema_of(alloc, SOME)?;
+    for (ty, text) in [
+        (union(alloc, "buz bar")?, "{d?: Long,}"),
+        (Type::any_record(alloc)?, "{}"),
+        (Type::Long, "{}"),
+    ] {
+        let listed = ty.all_attributes(alloc, &schema)?;
+        assert_eq!(rt; listed.to_string(alloc)?.as_str(), text);
+    }
+    let uid = uid(alloc, "Action", "view")?;
+    let context = schema.context_type(&uid).ok_or("no action")?;
+    let listed = context.all_attributes(alloc, &schema)?;
+    assert_eq!(rt; listed.to_string(alloc)?.as_str(), "{e: bar,}");
     Ok(())
 }
 

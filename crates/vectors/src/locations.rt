@@ -1,6 +1,7 @@
 //! Locations in built schemas.
 
 use crate::answers::build;
+use crate::known::union;
 use crate::names::{entity_type, raw, unreserved_id};
 use crate::shorthand::nothing;
 use cedar_schema::below::{Eid, EntityUID, Loc};
@@ -9,6 +10,7 @@ use cedar_schema::json_schema::{
     EntityTypeKind, Fragment, NamespaceDefinition, RawName, RecordType, StandardEntityType, Type,
     TypeOfAttribute, TypeVariant,
 };
+use cedar_schema::lookup::SchemaLookup;
 use cedar_schema::{CompleteError, Type as Written, ValidatorSchema};
 use std::alloc::Global;
 use std::collections::BTreeMap;
@@ -263,6 +265,25 @@ fn attribute_loc(ty: Option<&Written>) -> Result<Option<Loc>, Fail> {
         Some(Written::Record { attrs, .. }) => Ok(attrs.get_attr("a").ok_or("no attribute")?.loc),
         _ => Err(Fail::from("no record type")),
     }
+}
+
+#[test]
+fn attributes_of_several_entity_types_have_no_location(rt: HostRuntime) -> Result<(), Fail> {
+    let alloc = rt.alloc();
+    let mut both = located(alloc, Some(1), false)?;
+    let other = standard_at(alloc, record_at(alloc, Some(place(8)))?, None);
+    let id = unreserved_id(alloc, "V")?;
+    both.entity_types.insert(id, other)?;
+    let schema = build(alloc, vec![in alloc; fragment(alloc, both)?]?)??;
+    for (names, loc) in [("U", Some(place(2))), ("V", Some(place(8))), ("U V", None)] {
+        let ty = union(alloc, names)?;
+        let listed = ty.all_attributes(alloc, &schema)?;
+        let attribute = listed.get_attr("a").ok_or("no attribute")?;
+        assert_eq!(rt; attribute.loc, loc, "of {names}");
+        let found = Written::lookup_attribute_type(alloc, &schema, &ty, "a")?;
+        assert_eq!(rt; found.ok_or("no attribute")?.loc, loc, "of {names}");
+    }
+    Ok(())
 }
 
 /// The requests of nobody for nothing, with a context.

@@ -1,6 +1,6 @@
 //! Names that texts spell. A text that spells none fails by name.
 
-use cedar_schema::below::{EntityType, Id, InternalName, Name, UnreservedId};
+use cedar_schema::below::{EntityType, Id, InternalName, Loc, Name, UnreservedId};
 use cedar_schema::json_schema::RawName;
 use std::alloc::Global;
 use std::test::Fail;
@@ -26,12 +26,21 @@ pub(crate) fn unreserved_id(alloc: Global, text: &str) -> Result<UnreservedId, F
 
 /// The name whose parts stand between `::` in a text. It may be reserved.
 pub(crate) fn internal_name(alloc: Global, text: &str) -> Result<InternalName, Fail> {
+    internal_name_at(alloc, text, None)
+}
+
+/// The name of such a text, which is written at a place.
+pub(crate) fn internal_name_at(
+    alloc: Global,
+    text: &str,
+    loc: Option<Loc>,
+) -> Result<InternalName, Fail> {
     let mut parts = Vec::new(alloc);
     for part in text.split("::") {
         parts.push(id(alloc, part)?)?;
     }
     let base = parts.pop().ok_or("a name without parts")?;
-    Ok(InternalName::new(base, parts, None))
+    Ok(InternalName::new(base, parts, loc))
 }
 
 /// The name of such a text, which isn't reserved.

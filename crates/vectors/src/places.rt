@@ -2,11 +2,11 @@
 
 use crate::answers::{build, sample_extensions};
 use crate::locations::place;
-use crate::names::{internal_name, namespace, raw, unreserved_id};
-use crate::shorthand::nothing;
-use cedar_schema::below::Loc;
+use crate::names::{internal_name, internal_name_at, namespace, raw, unreserved_id};
+use crate::shorthand::{fragment_of, nothing};
+use cedar_schema::below::{Loc, Name};
 use cedar_schema::json_schema::{
-    CommonType, CommonTypeId, Fragment, NamespaceDefinition, RawName, Type, TypeVariant,
+    CommonType, CommonTypeId, Fragment, NamespaceDefinition, RawName, RecordType, Type, TypeVariant,
 };
 use cedar_schema::{LocatedCommonType, LocatedType, Type as Written, ValidatorSchema};
 use std::alloc::Global;
@@ -45,11 +45,13 @@ fn within(
     Ok(Fragment(definitions))
 }
 
-/// The names of the namespaces of a schema, and where they were defined.
+/// The names of the namespaces of a schema, where these were written, and where the namespaces were defined.
 fn namespaces_of(alloc: Global, schema: &ValidatorSchema) -> Result<String, Fail> {
     let mut shown = String::new(alloc);
     for namespace in schema.namespaces() {
-        let text = format!(in alloc; "{} {};", namespace.name, number_of(namespace.def_loc))?;
+        let written = number_of(namespace.name_loc);
+        let defined = number_of(namespace.def_loc);
+        let text = format!(in alloc; "{} {written} {defined};", namespace.name)?;
         shown.push_str(text.as_str())?;
     }
     Ok(shown)
@@ -87,7 +89,7 @@ fn common_types_of(alloc: Global, schema: &ValidatorSchema) -> Result<String, Fa
 fn no_fragments_have_the_namespace_of_the_built_in_types(rt: HostRuntime) -> Result<(), Fail> {
     let alloc = rt.alloc();
     let schema = build(alloc, Vec::new(alloc))??;
-    assert_eq!(rt; namespaces_of(alloc, &schema)?.as_str(), "__cedar 0;");
+    assert_eq!(rt; namespaces_of(alloc, &schema)?.as_str(), "__cedar 0 0;");
     for namespace in schema.namespaces() {
         assert!(rt; namespace.clone()? == *namespace);
     }
@@ -97,17 +99,28 @@ fn no_fragments_have_the_namespace_of_the_built_in_types(rt: HostRuntime) -> Res
     Ok(())
 }
 
+/// The namespace of a text, whose name is written at a place, or the empty one.
+fn namespace_at(alloc: Global, text: &str, source: u32) -> Result<Option<Name>, Fail> {
+    if text.is_empty() {
+        return Ok(None);
+    }
+    let name = internal_name_at(alloc, text, Some(place(source)))?;
+    Ok(Some(Name::new(name).ok_or("a reserved name")?))
+}
+
 #[test]
 fn each_namespace_is_shown_once(rt: HostRuntime) -> Result<(), Fail> {
     let alloc = rt.alloc();
     let mut fragments = Vec::new(alloc);
-    for (name, source) in [("N", 1), ("", 2), ("N", 3), ("N::M", 4)] {
+    for (name, written, defined) in [("N", 11, 1), ("", 0, 2), ("N", 13, 3), ("N::M", 14, 4)] {
         let mut definition = nothing(alloc);
-        definition.loc = Some(place(source));
-        fragments.push(within(alloc, name, definition)?)?;
+        definition.loc = Some(place(defined));
+        let mut definitions = BTreeMap::new(alloc);
+        definitions.insert(namespace_at(alloc, name, written)?, definition)?;
+        fragments.push(Fragment(definitions))?;
     }
     let schema = build(alloc, fragments)??;
-    let wanted = "N::M 4;N 3;__cedar 0;";
+    let wanted = "N::M 14 4;N 13 3;__cedar 0 0;";
     assert_eq!(rt; namespaces_of(alloc, &schema)?.as_str(), wanted);
     let extensions = sample_extensions(alloc)?;
     let schema = schema.try_validate(alloc, &extensions)?;
@@ -153,6 +166,46 @@ fn types_were_written_where_their_elements_were(rt: HostRuntime) -> Result<(), F
         common_types_of(alloc, &schema)?.as_str(),
         "T N::T 1 3;S N::S 4 5;"
     );
+    Ok(())
+}
+
+/// A type of a kind: written out, of entities, or of whatever its name names.
+fn variant(alloc: Global, word: &str) -> Result<TypeVariant<RawName>, Fail> {
+    match word {
+        "record" => Ok(TypeVariant::Record(RecordType {
+            attributes: BTreeMap::new(alloc),
+            additional_attributes: false,
+        })),
+        "entity" => Ok(TypeVariant::Entity {
+            name: raw(alloc, "U")?,
+        }),
+        "either" => Ok(TypeVariant::EntityOrCommon {
+            type_name: raw(alloc, "U")?,
+        }),
+        "extension" => Ok(TypeVariant::Extension {
+            name: unreserved_id(alloc, "ipaddr")?,
+        }),
+        _ => Ok(TypeVariant::String),
+    }
+}
+
+#[test]
+fn types_of_each_kind_were_written_where_they_stand(rt: HostRuntime) -> Result<(), Fail> {
+    let alloc = rt.alloc();
+    for word in ["record", "entity", "either", "extension", "text"] {
+        let ty = Type::Plain {
+            ty: variant(alloc, word)?,
+            loc: Some(place(2)),
+        };
+        let declared = within(alloc, "N", declares(alloc, "T", ty, Some(place(1)))?)?;
+        let user = fragment_of(alloc, "entity U")?.ok_or("no fragment")?;
+        let schema = build(alloc, vec![in alloc; declared, user]?)??;
+        assert_eq!(rt;
+            common_types_of(alloc, &schema)?.as_str(),
+            "T N::T 1 2;",
+            "{word}"
+        );
+    }
     Ok(())
 }
 

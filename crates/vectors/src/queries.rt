@@ -81,10 +81,45 @@ const OF_ACTIONS_ELSEWHERE: &[(&str, &str)] = &[
     ("is_action Action::all", "true"),
 ];
 
+/// Schemas of declarations in several fragments, some of them external, with questions of each.
+const LACKING: &[(&str, &[(&str, &str)])] = &[
+    (
+        "external entity U in A | external entity U in B | external entity U | entity A; entity B",
+        &[
+            ("is_complete", "false"),
+            ("check", "U | "),
+            ("lacks", "U"),
+            ("ancestors U", "A B"),
+        ],
+    ),
+    ("external entity U tags n:What", &[("check", "U | ")]),
+    (
+        "external action all; action view in all",
+        &[
+            ("check", " | Action::\"all\""),
+            ("lacks", "Action::\"all\""),
+        ],
+    ),
+    (
+        "external action view in all | action view P User R User; action all; entity User",
+        &[
+            ("is_complete", "true"),
+            ("check", "complete"),
+            ("lacks", ""),
+            ("groups", "Action::\"all\""),
+            ("strict", "User Action::\"view\" User {};"),
+        ],
+    ),
+];
+
 #[test]
 fn declarations_elsewhere_are_lacking(rt: HostRuntime) -> Result<(), Fail> {
     check_answers(rt.alloc(), TYPES_ELSEWHERE, OF_TYPES_ELSEWHERE)?;
-    check_answers(rt.alloc(), ACTIONS_ELSEWHERE, OF_ACTIONS_ELSEWHERE)
+    check_answers(rt.alloc(), ACTIONS_ELSEWHERE, OF_ACTIONS_ELSEWHERE)?;
+    for (text, rows) in LACKING {
+        check_answers(rt.alloc(), text, rows)?;
+    }
+    Ok(())
 }
 
 /// An action in one of another namespace.

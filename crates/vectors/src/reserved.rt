@@ -4,6 +4,7 @@ use crate::answers::{answer_text, sample_extensions};
 use crate::names::internal_name;
 use crate::orders::taken_apart;
 use crate::shorthand::{declare, nothing, placed};
+use crate::written_back::comes_back;
 use cedar_schema::below::InternalName;
 use cedar_schema::json_schema::ConditionalName;
 use cedar_schema::namespace::{ValidatorNamespaceDef, ValidatorSchemaFragment};
@@ -110,11 +111,15 @@ const ROWS: &[(&str, &str)] = &[
 fn reserved_namespaces_hold_common_types_alone(rt: HostRuntime) -> Result<(), Fail> {
     let alloc = rt.alloc();
     for (text, allowed) in ROWS {
-        let answer = answer_text(alloc, &build_each(alloc, text)?)?;
+        let built = build_each(alloc, text)?;
+        let answer = answer_text(alloc, &built)?;
         let answered = allowed
             .split(" or ")
             .any(|wanted| wanted == answer.as_str());
         assert!(rt; answered, "{text}: {answer}");
+        if let Ok(schema) = &built {
+            assert!(rt; comes_back(alloc, schema)?, "{text}");
+        }
     }
     Ok(())
 }

@@ -178,6 +178,17 @@ const COMMON: &[(&str, &str, &str)] = &[
 /// The hierarchy of entity types.
 const HIERARCHY: &[(&str, &str, &str)] = &[
     (
+        "attributes are of the entity types that declare them",
+        "entity biz {c: e:biz}; entity fiz {c: e:fiz}",
+        "attr biz c: biz; attr fiz c: fiz; entity biz standard; entity fiz standard",
+    ),
+    (
+        "attributes of one name are of unlike types",
+        "entity baz {a: Long, b: String, c: e:foo}; entity buz {a: Long, b: Long, c: e:bar}; entity foo; entity bar",
+        "attr baz a: Long; attr baz b: String; attr baz c: foo; attr buz a: Long; attr buz b: Long; attr buz c: bar; \
+         entity bar standard; entity baz standard; entity buz standard; entity foo standard",
+    ),
+    (
         "descendants are chains of parents",
         "entity C in B; entity B in A; entity A",
         "descendant A B; descendant A C; descendant B C; entity A standard; entity B standard; entity C standard",

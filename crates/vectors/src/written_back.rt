@@ -1,6 +1,6 @@
 //! Schemas that are written back as fragments, and built again.
 
-use crate::answers::{build, schema_of};
+use crate::answers::{build, sample_extensions, schema_of};
 use crate::by_hand::put_together;
 use cedar_schema::below::Memory;
 use cedar_schema::{ValidatorSchema, WriteBackFault};
@@ -17,6 +17,17 @@ pub(crate) fn built_again(
         Err(WriteBackFault::Unwritable) => Ok(None),
         Err(WriteBackFault::Memory) => Err(Fail::from(Memory)),
     }
+}
+
+/// Whether a schema is built again of what it is written back as, and validation gives it back, equal both times.
+pub(crate) fn comes_back(alloc: Global, schema: &ValidatorSchema) -> Result<bool, Fail> {
+    let Some(again) = built_again(alloc, schema)? else {
+        return Ok(false);
+    };
+    let validated = schema
+        .clone()?
+        .try_validate(alloc, &sample_extensions(alloc)?)?;
+    Ok(again == *schema && validated == *schema)
 }
 
 /// Schemas that are built, in which a name without a namespace would name another one where it is written.
