@@ -1,7 +1,8 @@
 //! Common types for the tests, by words.
 
 use crate::declarations::PLACE;
-use cedar_below::{Extensions, Id, InternalName, Name, UnreservedId};
+use crate::names::{full, id, text};
+use cedar_below::InternalName;
 use cedar_names::json_schema::{RecordType, Type, TypeOfAttribute, TypeVariant};
 use std::alloc::Global;
 use std::collections::{BTreeMap, BTreeSet};
@@ -13,30 +14,13 @@ pub(crate) type Row<'a> = (&'a str, &'a str, &'a str);
 /// Common types, each with its full name.
 pub(crate) type Declared = Vec<(InternalName, Type<InternalName>)>;
 
-fn text(alloc: Global, word: &str) -> Result<String, Fail> {
-    Ok(String::from_str(alloc, word)?)
-}
-
-/// The name without a path.
-pub(crate) fn name(alloc: Global, word: &str) -> Result<InternalName, Fail> {
-    let base = Id::new(text(alloc, word)?).ok_or("an identifier")?;
-    Ok(InternalName::new(base, Vec::new(alloc), None))
-}
-
 /// The names of the entity types of all tests, of which one is reserved.
 pub(crate) fn entities(alloc: Global) -> Result<BTreeSet<InternalName>, Fail> {
     let mut names = BTreeSet::new(alloc);
     for word in ["User", "Both", "__cedar"] {
-        names.insert(name(alloc, word)?)?;
+        names.insert(full(alloc, word)?)?;
     }
     Ok(names)
-}
-
-/// The extension types of all tests.
-pub(crate) fn extensions(alloc: Global) -> Result<Extensions, Fail> {
-    let mut types = Vec::new(alloc);
-    types.push(Name::new(name(alloc, "ipaddr")?).ok_or("a reserved name")?)?;
-    Ok(Extensions::new(types, BTreeMap::new(alloc)))
 }
 
 fn plain(ty: TypeVariant<InternalName>) -> Type<InternalName> {
@@ -45,7 +29,7 @@ fn plain(ty: TypeVariant<InternalName>) -> Type<InternalName> {
 
 /// A place of a name that may be that of a common type or of an entity type.
 fn either(alloc: Global, word: &str) -> Result<Type<InternalName>, Fail> {
-    let type_name = name(alloc, word)?;
+    let type_name = full(alloc, word)?;
     Ok(plain(TypeVariant::EntityOrCommon { type_name }))
 }
 
@@ -75,11 +59,11 @@ pub(crate) fn ty(alloc: Global, form: &str, word: &str) -> Result<Type<InternalN
     match form {
         "long" => Ok(plain(TypeVariant::Long)),
         "common" => Ok(Type::CommonTypeRef {
-            type_name: name(alloc, word)?,
+            type_name: full(alloc, word)?,
             loc: None,
         }),
         "entity" => Ok(plain(TypeVariant::Entity {
-            name: name(alloc, word)?,
+            name: full(alloc, word)?,
         })),
         "either" => either(alloc, word),
         "set" => Ok(plain(TypeVariant::Set {
@@ -88,7 +72,7 @@ pub(crate) fn ty(alloc: Global, form: &str, word: &str) -> Result<Type<InternalN
         "record" => record(alloc, word, false),
         "open" => record(alloc, word, true),
         "extension" => Ok(plain(TypeVariant::Extension {
-            name: UnreservedId::new(text(alloc, word)?).ok_or("an identifier")?,
+            name: id(alloc, word)?,
         })),
         _ => Err("no type of that form")?,
     }
@@ -98,19 +82,30 @@ pub(crate) fn ty(alloc: Global, form: &str, word: &str) -> Result<Type<InternalN
 pub(crate) fn declared(alloc: Global, rows: &[Row]) -> Result<Declared, Fail> {
     let mut types = Vec::new(alloc);
     for (key, form, word) in rows {
-        types.push((name(alloc, key)?, ty(alloc, form, word)?))?;
+        types.push((full(alloc, key)?, ty(alloc, form, word)?))?;
     }
     Ok(types)
 }
 
-/// Common types of which each is a set of the next, and the last the whole numbers.
+/// The `number`th of common types of which each stands for the next, and the last for whole numbers.
+fn link(
+    alloc: Global,
+    number: usize,
+    is_last: bool,
+) -> Result<(InternalName, Type<InternalName>), Fail> {
+    let key = format!(in alloc; "T{number}")?;
+    if is_last {
+        return Ok((full(alloc, &key)?, plain(TypeVariant::Long)));
+    }
+    let next = format!(in alloc; "T{}", number.wrapping_add(1))?;
+    Ok((full(alloc, &key)?, ty(alloc, "common", &next)?))
+}
+
+/// Such common types.
 pub(crate) fn chain(alloc: Global, count: usize) -> Result<Declared, Fail> {
     let mut types = Vec::new(alloc);
     for number in 0..count {
-        let key = format!(in alloc; "T{number}")?;
-        let next = format!(in alloc; "T{}", number + 1)?;
-        let form = if number + 1 < count { "common" } else { "long" };
-        types.push((name(alloc, &key)?, ty(alloc, form, &next)?))?;
+        types.push(link(alloc, number, number + 1 == count)?)?;
     }
     Ok(types)
 }

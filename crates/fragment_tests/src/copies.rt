@@ -1,16 +1,18 @@
 //! Copies of fragments, before and after their names are settled.
 
+use crate::checked::same;
 use crate::declarations::{
-    ATTRIBUTE_PLACE, PLACE, TYPE_PLACE, add_action, add_below, add_common, add_entity, id, nothing,
-    plain_action, raw, within,
+    ATTRIBUTE_PLACE, PLACE, TYPE_PLACE, add_action, add_common, add_entity, declare, definition_of,
+    nothing, plain_action,
 };
-use cedar_below::{Eid, NonEmpty, UnreservedId};
+use crate::names::{full, id, parent, raw, text};
+use cedar_below::{Eid, EntityType, InternalName, NonEmpty};
 use cedar_fragments::defs::AllDefs;
 use cedar_fragments::namespace::{ValidatorNamespaceDef, ValidatorSchemaFragment};
 use cedar_names::json_schema::{
-    ActionEntityUID, ActionType, ApplySpec, AttributesOrContext, CommonType, CommonTypeId,
-    ConditionalName, EntityType, EntityTypeKind, NamespaceDefinition, RawName, RecordType,
-    StandardEntityType, Type, TypeOfAttribute, TypeVariant,
+    ActionType, ApplySpec, AttributesOrContext, ConditionalName, EntityTypeKind,
+    NamespaceDefinition, RawName, RecordType, StandardEntityType, Type, TypeOfAttribute,
+    TypeVariant,
 };
 use std::alloc::Global;
 use std::collections::BTreeMap;
@@ -22,36 +24,53 @@ fn plain(ty: TypeVariant<RawName>) -> Type<RawName> {
     Type::Plain { ty, loc }
 }
 
+/// The form of a word, or whole numbers.
+fn variant(alloc: Global, word: &str) -> Result<TypeVariant<RawName>, Fail> {
+    match word {
+        "string" => Ok(TypeVariant::String),
+        "boolean" => Ok(TypeVariant::Boolean),
+        "set" => Ok(TypeVariant::Set {
+            element: Box::new(alloc, plain(TypeVariant::Long))?,
+        }),
+        "T" => Ok(TypeVariant::Entity {
+            name: raw(alloc, word)?,
+        }),
+        "C" => Ok(TypeVariant::EntityOrCommon {
+            type_name: raw(alloc, word)?,
+        }),
+        "decimal" => Ok(TypeVariant::Extension {
+            name: id(alloc, word)?,
+        }),
+        _ => Ok(TypeVariant::Long),
+    }
+}
+
+/// The type of a word: a reference to the common type `C`, or one that is written out.
+fn ty(alloc: Global, word: &str) -> Result<Type<RawName>, Fail> {
+    match word {
+        "common" => Ok(Type::CommonTypeRef {
+            type_name: raw(alloc, "C")?,
+            loc: Some(PLACE),
+        }),
+        _ => Ok(plain(variant(alloc, word)?)),
+    }
+}
+
+/// The words of all types that are no records.
+const WORDS: &[&str] = &[
+    "common", "string", "boolean", "set", "T", "C", "decimal", "long",
+];
+
 /// The open record type of an attribute of each type, of which the first isn't required.
 fn record(alloc: Global) -> Result<Type<RawName>, Fail> {
-    let decimal = UnreservedId::new(String::from_str(alloc, "decimal")?).ok_or("an identifier")?;
-    let common = Type::CommonTypeRef {
-        type_name: raw(alloc, "C")?,
-        loc: Some(PLACE),
-    };
-    let number = Box::new(alloc, plain(TypeVariant::Long))?;
-    let types = [
-        common,
-        plain(TypeVariant::String),
-        plain(TypeVariant::Boolean),
-        plain(TypeVariant::Set { element: number }),
-        plain(TypeVariant::Entity {
-            name: raw(alloc, "T")?,
-        }),
-        plain(TypeVariant::EntityOrCommon {
-            type_name: raw(alloc, "C")?,
-        }),
-        plain(TypeVariant::Extension { name: decimal }),
-    ];
     let mut attributes = BTreeMap::new(alloc);
-    for ty in types {
-        let name = format!(in alloc; "a{}", attributes.len())?;
+    for &word in WORDS {
         let attribute = TypeOfAttribute {
-            ty,
-            required: !attributes.is_empty(),
+            ty: ty(alloc, word)?,
+            required: word != "common",
             loc: Some(ATTRIBUTE_PLACE),
         };
-        attributes.insert(name, attribute)?;
+        attributes.insert(text(alloc, word)?, attribute)?;
     }
     Ok(plain(TypeVariant::Record(RecordType {
         attributes,
@@ -59,104 +78,104 @@ fn record(alloc: Global) -> Result<Type<RawName>, Fail> {
     })))
 }
 
-/// An entity type with a parent, a shape and tags, and one that is enumerated.
-fn add_kinds(alloc: Global, definition: &mut NamespaceDefinition<RawName>) -> Result<(), Fail> {
-    let kinds = [
-        EntityTypeKind::Standard(StandardEntityType {
-            member_of_types: vec![in alloc; raw(alloc, "T")?]?,
-            shape: AttributesOrContext(record(alloc)?),
-            tags: Some(record(alloc)?),
-        }),
-        EntityTypeKind::Enum {
-            choices: NonEmpty {
-                head: Eid(String::from_str(alloc, "red")?),
-                tail: vec![in alloc; Eid(String::from_str(alloc, "blue")?)]?,
-            },
-        },
-    ];
-    for kind in kinds {
-        let name = format!(in alloc; "E{}", definition.entity_types.len())?;
-        let declared = EntityType {
-            kind,
-            external: false,
-            loc: Some(PLACE),
-        };
-        definition
-            .entity_types
-            .insert(id(alloc, name.as_str())?, declared)?;
-    }
-    Ok(())
+/// A standard kind with a parent, a shape and tags.
+fn standard(alloc: Global) -> Result<EntityTypeKind<RawName>, Fail> {
+    let member_of_types = vec![in alloc; raw(alloc, "T")?]?;
+    let shape = AttributesOrContext(record(alloc)?);
+    Ok(EntityTypeKind::Standard(StandardEntityType {
+        member_of_types,
+        shape,
+        tags: Some(record(alloc)?),
+    }))
+}
+
+/// The kind of two choices.
+fn choices(alloc: Global) -> Result<EntityTypeKind<RawName>, Fail> {
+    let head = Eid(text(alloc, "red")?);
+    let tail = vec![in alloc; Eid(text(alloc, "blue")?)]?;
+    Ok(EntityTypeKind::Enum {
+        choices: NonEmpty { head, tail },
+    })
+}
+
+/// Requests of entities of `T` on those of `T` and of `X`.
+fn requests(alloc: Global) -> Result<ApplySpec<RawName>, Fail> {
+    let principal_types = vec![in alloc; raw(alloc, "T")?]?;
+    let resource_types = vec![in alloc; raw(alloc, "T")?, raw(alloc, "X")?]?;
+    Ok(ApplySpec {
+        principal_types,
+        resource_types,
+        context: AttributesOrContext(record(alloc)?),
+    })
 }
 
 /// An action with a parent and requests, at places.
 fn child(alloc: Global) -> Result<ActionType<RawName>, Fail> {
-    let parent = ActionEntityUID {
-        id: String::from_str(alloc, "group")?,
-        ty: None,
-        loc: Some(PLACE),
-    };
+    let member_of = Some(vec![in alloc; parent(alloc, "group")?]?);
     Ok(ActionType {
-        applies_to: Some(ApplySpec {
-            principal_types: vec![in alloc; raw(alloc, "T")?]?,
-            resource_types: vec![in alloc; raw(alloc, "T")?, raw(alloc, "X")?]?,
-            context: AttributesOrContext(record(alloc)?),
-        }),
-        member_of: Some(vec![in alloc; parent]?),
+        applies_to: Some(requests(alloc)?),
+        member_of,
         loc: Some(TYPE_PLACE),
         defn_loc: Some(ATTRIBUTE_PLACE),
         ..plain_action()
     })
 }
 
+/// A definition that declares something of each kind.
+fn everything(alloc: Global) -> Result<NamespaceDefinition<RawName>, Fail> {
+    let mut definition = nothing(alloc);
+    for written in [
+        "common C",
+        "entity T",
+        "entity V in T",
+        "external X",
+        "choice red",
+        "action group",
+    ] {
+        declare(alloc, &mut definition, written)?;
+    }
+    add_common(alloc, &mut definition, "D", record(alloc)?)?;
+    add_entity(alloc, &mut definition, "E", standard(alloc)?, false)?;
+    add_entity(alloc, &mut definition, "F", choices(alloc)?, false)?;
+    add_action(alloc, &mut definition, "view", child(alloc)?)?;
+    let mut external = plain_action();
+    external.external = true;
+    add_action(alloc, &mut definition, "away", external)?;
+    Ok(definition)
+}
+
 /// A fragment of a namespace that declares something of each kind, and of the empty one.
-fn everything(
+fn fragment(
     alloc: Global,
 ) -> Result<ValidatorSchemaFragment<ConditionalName, ConditionalName>, Fail> {
-    let mut definition = nothing(alloc);
-    add_common(alloc, &mut definition, "C")?;
-    let nested = CommonType {
-        ty: plain(TypeVariant::Set {
-            element: Box::new(alloc, record(alloc)?)?,
-        }),
-        loc: Some(PLACE),
-    };
-    let nested_id = CommonTypeId::new(id(alloc, "D")?).ok_or("a word of Cedar's own")?;
-    definition.common_types.insert(nested_id, nested)?;
-    add_kinds(alloc, &mut definition)?;
-    add_entity(alloc, &mut definition, "T", false)?;
-    add_below(alloc, &mut definition, "V", "T")?;
-    add_entity(alloc, &mut definition, "X", true)?;
-    add_action(alloc, &mut definition, "group", false)?;
-    let external = ActionType {
-        external: true,
-        ..plain_action()
-    };
-    for (id, action) in [("view", child(alloc)?), ("away", external)] {
-        definition
-            .actions
-            .insert(String::from_str(alloc, id)?, action)?;
-    }
-    let mut definitions = Vec::new(alloc);
-    for (text, definition) in [("N::M", definition), ("", nothing(alloc))] {
-        let inside = within(alloc, text)?;
-        definitions.push(ValidatorNamespaceDef::from_namespace_definition(
-            alloc, inside, definition,
-        )?)?;
-    }
-    Ok(ValidatorSchemaFragment::from_namespaces(alloc, definitions)?)
+    let declared = everything(alloc)?;
+    let inside = Some(full(alloc, "N::M")?);
+    let inner = ValidatorNamespaceDef::from_namespace_definition(alloc, inside, declared)?;
+    let outer = definition_of(alloc, ": entity O")?;
+    Ok(ValidatorSchemaFragment::from_namespaces(alloc, [inner, outer])?)
 }
 
 #[test]
-fn copies_show_the_same_in_either_form(rt: HostRuntime) -> Result<(), Fail> {
+fn copies_of_fragments_show_the_same(rt: HostRuntime) -> Result<(), Fail> {
     let alloc = rt.alloc();
-    let fragment = everything(alloc)?;
+    let fragment = fragment(alloc)?;
     let shown = format!(in alloc; "{fragment:?}")?;
-    let copy = fragment.clone()?;
-    assert_eq!(rt; format!(in alloc; "{copy:?}")?.as_str(), shown.as_str());
-    let all_defs = AllDefs::single_fragment(alloc, &copy)?;
-    let settled = fragment.fully_qualify_type_references(&all_defs)?;
-    let shown = format!(in alloc; "{settled:?}")?;
-    let copy = settled.clone()?;
-    assert_eq!(rt; format!(in alloc; "{copy:?}")?.as_str(), shown.as_str());
-    Ok(())
+    let copied = format!(in alloc; "{:?}", fragment.clone()?)?;
+    same("a copy", copied.as_str(), shown.as_str())
+}
+
+/// That fragment, with its names settled.
+fn settled(alloc: Global) -> Result<ValidatorSchemaFragment<InternalName, EntityType>, Fail> {
+    let fragment = fragment(alloc)?;
+    let all_defs = AllDefs::single_fragment(alloc, &fragment)?;
+    Ok(fragment.fully_qualify_type_references(&all_defs)?)
+}
+
+#[test]
+fn copies_of_settled_fragments_show_the_same(rt: HostRuntime) -> Result<(), Fail> {
+    let alloc = rt.alloc();
+    let fragment = settled(alloc)?;
+    let shown = format!(in alloc; "{fragment:?}")?;
+    let copied = format!(in alloc; "{:?}", fragment.clone()?)?;
+    same("a copy", copied.as_str(), shown.as_str())
 }

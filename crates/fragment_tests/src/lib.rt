@@ -3,6 +3,8 @@
 #![tactic(auto)]
 
 #[cfg(test)]
+mod checked;
+#[cfg(test)]
 mod common;
 #[cfg(test)]
 mod common_types;
@@ -15,18 +17,12 @@ mod gathered;
 #[cfg(test)]
 mod given;
 #[cfg(test)]
-mod kinds;
-#[cfg(test)]
 mod names;
 #[cfg(test)]
-mod parents;
-#[cfg(test)]
-mod qualified;
-#[cfg(test)]
-mod refusals;
+mod qualification;
 #[cfg(test)]
 mod requests;
 #[cfg(test)]
-mod settled;
+mod resolution;
 #[cfg(test)]
-mod types;
+mod settled;

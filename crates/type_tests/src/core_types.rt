@@ -1,26 +1,12 @@
 //! Tests of core types and of consistency with them.
 
+use crate::checked::{holds, same};
 use crate::test_values::sample;
-use cedar_below::{CoreSchemaType, M, ValidationMode};
-use cedar_types::{CoreTypeFault, Type, core_type_of};
+use cedar_below::{CoreSchemaType, M};
+use cedar_types::{CoreTypeFault, core_type_of};
 use std::alloc::Global;
 use std::collections::BTreeMap;
 use std::test::Fail;
-
-/// Types that have a core type.
-const WITH_CORE: [&str; 9] = [
-    "true", "bool", "long", "string", "any-set", "set-foo", "foo", "ipaddr", "mixed",
-];
-
-#[test]
-fn types_are_consistent_with_their_core_types(rt: HostRuntime) -> Result<(), Fail> {
-    let alloc = rt.alloc();
-    for word in WITH_CORE {
-        let core = core_type_of(alloc, sample(alloc, word)?)?;
-        assert!(rt; sample(alloc, word)?.is_consistent_with(&core), "at {word}");
-    }
-    Ok(())
-}
 
 /// The word of a core type's kind, or the name of its entity type.
 fn core_text(alloc: Global, core: &CoreSchemaType) -> M<String> {
@@ -37,21 +23,30 @@ fn core_text(alloc: Global, core: &CoreSchemaType) -> M<String> {
     Ok(String::from_str(alloc, word)?)
 }
 
+/// Types, each with its core type.
+const CORES: &[(&str, &str)] = &[
+    ("true", "Bool"),
+    ("bool", "Bool"),
+    ("long", "Long"),
+    ("string", "String"),
+    ("any-set", "EmptySet"),
+    ("set-Foo", "Set"),
+    ("Foo", "Foo"),
+    ("mixed", "Record"),
+    ("ipaddr", "Extension"),
+];
+
+/// The core type of the type of a word, as a text.
+fn core_of(alloc: Global, word: &str) -> Result<String, Fail> {
+    let core = core_type_of(alloc, sample(alloc, word)?)?;
+    Ok(core_text(alloc, &core)?)
+}
+
 #[test]
 fn core_types_are_of_the_same_kind(rt: HostRuntime) -> Result<(), Fail> {
     let alloc = rt.alloc();
-    for (word, expected) in [
-        ("true", "Bool"),
-        ("bool", "Bool"),
-        ("long", "Long"),
-        ("any-set", "EmptySet"),
-        ("set-foo", "Set"),
-        ("foo", "Foo"),
-        ("mixed", "Record"),
-        ("ipaddr", "Extension"),
-    ] {
-        let core = core_type_of(alloc, sample(alloc, word)?)?;
-        assert_eq!(rt; core_text(alloc, &core)?.as_str(), expected, "at {word}");
+    for &(word, expected) in CORES {
+        same(word, core_of(alloc, word)?.as_str(), expected)?;
     }
     Ok(())
 }
@@ -64,24 +59,17 @@ fn what_has_no_core_type_is_named(rt: HostRuntime) -> Result<(), Fail> {
         ("set-never", CoreTypeFault::NeverType),
         ("a-never", CoreTypeFault::NeverType),
         ("any-entity", CoreTypeFault::AnyEntityType),
+        ("Foo|Bar", CoreTypeFault::UnionType),
     ] {
         let refused = core_type_of(alloc, sample(alloc, word)?).err();
-        assert_eq!(rt; refused, Some(fault), "at {word}");
+        holds(refused == Some(fault), word)?;
     }
-    let either = Type::least_upper_bound(
-        alloc,
-        &sample(alloc, "foo")?,
-        &sample(alloc, "bar")?,
-        ValidationMode::Permissive,
-    )?;
-    let refused = core_type_of(alloc, either).err();
-    assert_eq!(rt; refused, Some(CoreTypeFault::UnionType));
     Ok(())
 }
 
 /// Types, each with whether it is consistent with the closed core record without attributes, with the open
 /// one, and with the core type of the empty set.
-const CONSISTENT: [(&str, bool, bool, bool); 5] = [
+const CONSISTENT: &[(&str, bool, bool, bool)] = &[
     ("unit", true, true, false),
     ("a-long-optional", true, true, false),
     ("a-long", false, true, false),
@@ -89,20 +77,38 @@ const CONSISTENT: [(&str, bool, bool, bool); 5] = [
     ("any-set", false, false, true),
 ];
 
+/// The core record type without attributes, or the core type of the empty set.
+fn empty(alloc: Global, openness: Option<bool>) -> CoreSchemaType {
+    match openness {
+        Some(open_attrs) => CoreSchemaType::Record {
+            attrs: BTreeMap::new(alloc),
+            open_attrs,
+        },
+        None => CoreSchemaType::EmptySet,
+    }
+}
+
 #[test]
 fn what_a_core_record_lacks_is_optional(rt: HostRuntime) -> Result<(), Fail> {
     let alloc = rt.alloc();
-    for (word, with_closed, with_open, with_empty_set) in CONSISTENT {
+    for &(word, with_closed, with_open, with_empty_set) in CONSISTENT {
         let ty = sample(alloc, word)?;
-        for (open_attrs, expected) in [(false, with_closed), (true, with_open)] {
-            let attrs = BTreeMap::new(alloc);
-            let core = CoreSchemaType::Record { attrs, open_attrs };
-            assert_eq!(rt; ty.is_consistent_with(&core), expected, "at {word}");
+        for (core, expected) in [
+            (Some(false), with_closed),
+            (Some(true), with_open),
+            (None, with_empty_set),
+        ] {
+            let is_consistent = ty.is_consistent_with(&empty(alloc, core));
+            holds(is_consistent == expected, word)?;
         }
-        let empty = CoreSchemaType::EmptySet;
-        assert_eq!(rt; ty.is_consistent_with(&empty), with_empty_set, "at {word}");
     }
     Ok(())
+}
+
+/// Whether the type of one word is consistent with the core type of that of another.
+fn are_consistent(alloc: Global, word: &str, of: &str) -> Result<bool, Fail> {
+    let core = core_type_of(alloc, sample(alloc, of)?)?;
+    Ok(sample(alloc, word)?.is_consistent_with(&core))
 }
 
 #[test]
@@ -117,12 +123,16 @@ fn what_a_record_lacks_is_optional(rt: HostRuntime) -> Result<(), Fail> {
         ("any-record", "a-long", true),
         ("set-bool", "set-long", false),
     ] {
-        let core = core_type_of(alloc, sample(alloc, of)?)?;
-        assert_eq!(rt;
-            sample(alloc, word)?.is_consistent_with(&core),
-            expected,
-            "{word} and {of}"
-        );
+        holds(are_consistent(alloc, word, of)? == expected, word)?;
+    }
+    Ok(())
+}
+
+#[test]
+fn types_are_consistent_with_their_core_types(rt: HostRuntime) -> Result<(), Fail> {
+    let alloc = rt.alloc();
+    for &(word, _) in CORES {
+        holds(are_consistent(alloc, word, word)?, word)?;
     }
     Ok(())
 }

@@ -1,18 +1,12 @@
 //! Tests of entity types of a schema.
 
-use crate::test_values::{entity_type, sample, text};
-use cedar_below::{Eid, Loc, NonEmpty};
+use crate::checked::holds;
+use crate::test_values::{PLACE, entity_type, sample, text};
+use cedar_below::{Eid, EntityType, NonEmpty};
 use cedar_entities::ValidatorEntityType;
 use cedar_types::{Attributes, OpenTag, Type};
 use std::alloc::Global;
 use std::test::Fail;
-
-/// Where some entity types of the tests were declared.
-const PLACE: Loc = Loc {
-    source: 1,
-    start: 2,
-    stop: 5,
-};
 
 /// The attributes `a: Long` and `b?: Set<Foo>`.
 fn attributes(alloc: Global) -> Result<Attributes, Fail> {
@@ -22,12 +16,22 @@ fn attributes(alloc: Global) -> Result<Attributes, Fail> {
     }
 }
 
-/// The standard entity type `User`, with tags, above `Foo`.
-fn standard(alloc: Global) -> Result<ValidatorEntityType, Fail> {
+/// The entity types of these words.
+fn types(alloc: Global, words: &[&str]) -> Result<Vec<EntityType>, Fail> {
+    let mut types = Vec::new(alloc);
+    for word in words {
+        types.push(entity_type(alloc, word)?)?;
+    }
+    Ok(types)
+}
+
+/// The standard entity type `User`, with tags, above others.
+fn standard(alloc: Global, below: Vec<EntityType>) -> Result<ValidatorEntityType, Fail> {
+    let name = entity_type(alloc, "User")?;
     Ok(ValidatorEntityType::new_standard(
         alloc,
-        entity_type(alloc, "User")?,
-        [entity_type(alloc, "Foo")?, entity_type(alloc, "Foo")?],
+        name,
+        below,
         attributes(alloc)?,
         OpenTag::OpenAttributes,
         Some(Type::Long),
@@ -35,37 +39,28 @@ fn standard(alloc: Global) -> Result<ValidatorEntityType, Fail> {
     )?)
 }
 
-/// The enumerated entity type `Color`, above `Foo` and `Bar`.
-fn enumerated(alloc: Global) -> Result<ValidatorEntityType, Fail> {
-    let choices = NonEmpty {
-        head: Eid(text(alloc, "red")?),
-        tail: vec![in alloc; Eid(text(alloc, "blue")?)]?,
-    };
-    Ok(ValidatorEntityType::new_enum(
-        alloc,
-        entity_type(alloc, "Color")?,
-        [entity_type(alloc, "Foo")?, entity_type(alloc, "Bar")?],
-        choices,
-        None,
-    )?)
+/// Two choices.
+fn choices(alloc: Global) -> Result<NonEmpty<Eid>, Fail> {
+    let head = Eid(text(alloc, "red")?);
+    let tail = vec![in alloc; Eid(text(alloc, "blue")?)]?;
+    Ok(NonEmpty { head, tail })
 }
 
-/// The external entity type `Elsewhere`.
-fn external(alloc: Global) -> Result<ValidatorEntityType, Fail> {
-    Ok(ValidatorEntityType::new_external(
-        alloc,
-        entity_type(alloc, "Elsewhere")?,
-        Vec::new(alloc),
-        None,
-    )?)
+/// The enumerated entity type `Color`, above others.
+fn enumerated(alloc: Global, below: Vec<EntityType>) -> Result<ValidatorEntityType, Fail> {
+    let name = entity_type(alloc, "Color")?;
+    Ok(ValidatorEntityType::new_enum(alloc, name, below, choices(alloc)?, None)?)
 }
 
 /// The entity type of a word for its kind.
 fn of_kind(alloc: Global, kind: &str) -> Result<ValidatorEntityType, Fail> {
     match kind {
-        "standard" => standard(alloc),
-        "enumerated" => enumerated(alloc),
-        _ => external(alloc),
+        "standard" => standard(alloc, types(alloc, &["Foo", "Foo"])?),
+        "enumerated" => enumerated(alloc, types(alloc, &["Foo", "Bar"])?),
+        _ => {
+            let name = entity_type(alloc, "Elsewhere")?;
+            Ok(ValidatorEntityType::new_external(alloc, name, Vec::new(alloc), None)?)
+        }
     }
 }
 
@@ -74,10 +69,9 @@ fn copies_of_entity_types_are_equal(rt: HostRuntime) -> Result<(), Fail> {
     for kind in ["standard", "enumerated", "external"] {
         let ty = of_kind(rt.alloc(), kind)?;
         let mut copy = ty.clone()?;
-        assert_eq!(rt; copy, ty);
-        assert_eq!(rt; copy.loc, ty.loc);
+        holds(copy == ty && copy.loc == ty.loc, kind)?;
         copy.loc = None;
-        assert_eq!(rt; copy, ty);
+        holds(copy == ty, kind)?;
     }
     Ok(())
 }

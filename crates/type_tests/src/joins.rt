@@ -1,10 +1,9 @@
 //! Tests of joins and of reductions.
 
-use crate::test_values::{entity_type, sample, text};
+use crate::checked::{holds, same};
+use crate::test_values::{PLACE, kind, sample, text, union};
 use cedar_below::{Loc, Memory, ValidationMode};
-use cedar_types::{
-    AttributeType, EntityKind, EntityLUB, JoinError, JoinOrder, OpenTag, Type, reduce,
-};
+use cedar_types::{AttributeType, JoinError, JoinOrder, OpenTag, Type, reduce};
 use std::alloc::Global;
 use std::cmp::Ordering;
 use std::fmt::Display;
@@ -21,7 +20,7 @@ fn printed<T: Display + Drop>(alloc: Global, answer: Result<T, JoinError>) -> Re
 }
 
 /// Pairs of types, each with what they are joined to in strict mode and in permissive mode.
-const JOINS: [(&str, &str, &str, &str); 13] = [
+const JOINS: &[(&str, &str, &str, &str)] = &[
     ("true", "false", "Bool", "Bool"),
     ("long", "string", "None", "None"),
     ("set-bool", "set-long", "None", "None"),
@@ -57,13 +56,13 @@ const JOINS: [(&str, &str, &str, &str); 13] = [
     ),
     ("any-entity", "any-record", "EntityRecord", "EntityRecord"),
     (
-        "foo",
-        "bar",
+        "Foo",
+        "Bar",
         "EntityType",
         "__cedar::internal::Union<Bar, Foo>",
     ),
     (
-        "foo",
+        "Foo",
         "any-entity",
         "EntityType",
         "__cedar::internal::AnyEntity",
@@ -82,29 +81,26 @@ const JOINS: [(&str, &str, &str, &str); 13] = [
     ),
 ];
 
+/// What the types of two words are joined to.
+fn joined(alloc: Global, first: &str, second: &str, mode: ValidationMode) -> Result<String, Fail> {
+    let (a, b) = (sample(alloc, first)?, sample(alloc, second)?);
+    printed(alloc, Type::least_upper_bound(alloc, &a, &b, mode))
+}
+
 #[test]
 fn types_are_joined_by_their_rules(rt: HostRuntime) -> Result<(), Fail> {
     let alloc = rt.alloc();
-    for (first, second, strict, permissive) in JOINS {
-        let a = sample(alloc, first)?;
-        let b = sample(alloc, second)?;
-        for (mode, expected) in [
-            (ValidationMode::Strict, strict),
-            (ValidationMode::Permissive, permissive),
-        ] {
-            let join = Type::least_upper_bound(alloc, &a, &b, mode);
-            assert_eq!(rt;
-                printed(alloc, join)?.as_str(),
-                expected,
-                "{first} and {second}"
-            );
-        }
+    for &(first, second, strict, permissive) in JOINS {
+        let join = joined(alloc, first, second, ValidationMode::Strict)?;
+        same(second, join.as_str(), strict)?;
+        let join = joined(alloc, first, second, ValidationMode::Permissive)?;
+        same(second, join.as_str(), permissive)?;
     }
     Ok(())
 }
 
 /// Lists of types, each with what it is reduced to in permissive mode.
-const REDUCTIONS: [(&[&str], &str); 13] = [
+const REDUCTIONS: &[(&[&str], &str)] = &[
     (&[], "__cedar::internal::Never"),
     (
         &["set-bool", "any-set", "set-long"],
@@ -132,53 +128,52 @@ const REDUCTIONS: [(&[&str], &str); 13] = [
     (&["set-bool", "set-false", "set-true"], "Set<Bool>"),
 ];
 
+/// What the types of some words are reduced to in permissive mode.
+fn reduced(alloc: Global, words: &[&str]) -> Result<String, Fail> {
+    let mut types = Vec::new(alloc);
+    for word in words {
+        types.push(sample(alloc, word)?)?;
+    }
+    let mode = ValidationMode::Permissive;
+    printed(
+        alloc,
+        Type::reduce_to_least_upper_bound(alloc, &types, mode),
+    )
+}
+
 #[test]
 fn types_are_reduced_in_turn(rt: HostRuntime) -> Result<(), Fail> {
     let alloc = rt.alloc();
-    for (words, expected) in REDUCTIONS {
-        let mut types = Vec::new(alloc);
-        for word in words {
-            types.push(sample(alloc, word)?)?;
-        }
-        let join = Type::reduce_to_least_upper_bound(alloc, &types, ValidationMode::Permissive);
-        assert_eq!(rt; printed(alloc, join)?.as_str(), expected);
+    for &(words, expected) in REDUCTIONS {
+        same("a reduction", reduced(alloc, words)?.as_str(), expected)?;
     }
     Ok(())
 }
 
-/// The union of one entity type.
-fn single(alloc: Global, base: &str) -> Result<EntityLUB, Fail> {
-    Ok(EntityLUB::single_entity(alloc, entity_type(alloc, base)?)?)
+/// What `Foo` is reduced to with `Bar`, as unions.
+fn reduced_unions(alloc: Global, mode: ValidationMode) -> Result<String, Fail> {
+    let others = [union(alloc, "Bar")?];
+    printed(alloc, reduce(alloc, union(alloc, "Foo")?, &others, mode))
 }
 
-/// Modes, each with what the entities of two types are joined to.
-const MODES: [(ValidationMode, &str); 2] = [
-    (ValidationMode::Strict, "EntityType"),
-    (
-        ValidationMode::Permissive,
-        "__cedar::internal::Union<Bar, Foo>",
-    ),
-];
-
-#[test]
-fn unions_are_joined_through_the_trait(rt: HostRuntime) -> Result<(), Fail> {
-    let alloc = rt.alloc();
-    for (mode, expected) in MODES {
-        let others = [single(alloc, "Bar")?];
-        let join = reduce(alloc, single(alloc, "Foo")?, &others, mode);
-        assert_eq!(rt; printed(alloc, join)?.as_str(), expected);
-    }
-    Ok(())
+/// What `Foo` is reduced to with `Bar`, as kinds.
+fn reduced_kinds(alloc: Global, mode: ValidationMode) -> Result<String, Fail> {
+    let others = [kind(alloc, "Bar")?];
+    printed(alloc, reduce(alloc, kind(alloc, "Foo")?, &others, mode))
 }
 
 #[test]
-fn kinds_are_joined_through_the_trait(rt: HostRuntime) -> Result<(), Fail> {
+fn unions_and_kinds_are_joined_through_the_trait(rt: HostRuntime) -> Result<(), Fail> {
     let alloc = rt.alloc();
-    for (mode, expected) in MODES {
-        let others = [EntityKind::Entity(single(alloc, "Bar")?)];
-        let kind = EntityKind::Entity(single(alloc, "Foo")?);
-        let join = reduce(alloc, kind, &others, mode);
-        assert_eq!(rt; printed(alloc, join)?.as_str(), expected);
+    for (mode, expected) in [
+        (ValidationMode::Strict, "EntityType"),
+        (
+            ValidationMode::Permissive,
+            "__cedar::internal::Union<Bar, Foo>",
+        ),
+    ] {
+        same("unions", reduced_unions(alloc, mode)?.as_str(), expected)?;
+        same("kinds", reduced_kinds(alloc, mode)?.as_str(), expected)?;
     }
     Ok(())
 }
@@ -187,17 +182,10 @@ fn kinds_are_joined_through_the_trait(rt: HostRuntime) -> Result<(), Fail> {
 fn a_type_with_the_any_set_is_not_clean(rt: HostRuntime) -> Result<(), Fail> {
     let alloc = rt.alloc();
     for (word, is_clean) in [("set-long", true), ("mixed", true), ("any-set", false)] {
-        assert_eq!(rt; sample(alloc, word)?.is_clean(), is_clean, "at {word}");
+        holds(sample(alloc, word)?.is_clean() == is_clean, word)?;
     }
     Ok(())
 }
-
-/// Where the attributes of these tests were declared.
-const PLACE: Loc = Loc {
-    source: 1,
-    start: 2,
-    stop: 5,
-};
 
 /// The closed record type of numbers at `bar` and of another type at `foo`, both declared at the place.
 fn placed(alloc: Global, foo: &str) -> Result<Type, Fail> {
@@ -210,18 +198,28 @@ fn placed(alloc: Global, foo: &str) -> Result<Type, Fail> {
     Ok(Type::record_with_attributes(alloc, items, OpenTag::ClosedAttributes)?)
 }
 
-/// Where an attribute of a record type was declared.
-fn place_of(ty: &Type, name: &str) -> Result<Option<Loc>, Fail> {
+/// Where an attribute of a record type was declared, if it is there and was declared anywhere.
+fn place_of(ty: &Type, name: &str) -> Option<Loc> {
     match ty {
-        Type::Record { attrs, .. } => Ok(attrs.get_attr(name).ok_or("not found")?.loc),
-        _ => Err("no record type")?,
+        Type::Record { attrs, .. } => attrs.get_attr(name)?.loc,
+        _ => None,
     }
+}
+
+/// What such types of two words at `foo` are joined to.
+fn joined_at_places(
+    alloc: Global,
+    first: &str,
+    second: &str,
+    mode: ValidationMode,
+) -> Result<Type, Fail> {
+    let (a, b) = (placed(alloc, first)?, placed(alloc, second)?);
+    Ok(Type::least_upper_bound(alloc, &a, &b, mode)?)
 }
 
 #[test]
 fn joined_attributes_have_no_location(rt: HostRuntime) -> Result<(), Fail> {
     let alloc = rt.alloc();
-    let first = placed(alloc, "true")?;
     for (mode, other, joined) in [
         (ValidationMode::Strict, "false", "{bar: Long,foo: Bool,}"),
         (
@@ -230,21 +228,27 @@ fn joined_attributes_have_no_location(rt: HostRuntime) -> Result<(), Fail> {
             "__cedar::internal::OpenRecord{bar: Long,}",
         ),
     ] {
-        let join = Type::least_upper_bound(alloc, &first, &placed(alloc, other)?, mode)?;
-        assert_eq!(rt; place_of(&join, "bar")?, None, "at {joined}");
-        assert_eq!(rt; join.to_string(alloc)?.as_str(), joined);
+        let join = joined_at_places(alloc, "true", other, mode)?;
+        same(other, join.to_string(alloc)?.as_str(), joined)?;
+        holds(place_of(&join, "bar").is_none(), other)?;
     }
-    let same = Type::least_upper_bound(alloc, &first, &first, ValidationMode::Strict)?;
-    assert_eq!(rt; place_of(&same, "foo")?, Some(PLACE));
     Ok(())
+}
+
+#[test]
+fn what_is_joined_with_itself_keeps_its_locations(rt: HostRuntime) -> Result<(), Fail> {
+    let join = joined_at_places(rt.alloc(), "true", "true", ValidationMode::Strict)?;
+    holds(place_of(&join, "foo") == Some(PLACE), "foo")
 }
 
 #[test]
 fn locations_within_types_are_not_compared(rt: HostRuntime) -> Result<(), Fail> {
     let alloc = rt.alloc();
     let (here, nowhere) = (placed(alloc, "false")?, sample(alloc, "r1")?);
-    assert_eq!(rt; place_of(&nowhere, "bar")?, None);
-    assert_eq!(rt; here, nowhere);
-    assert_eq!(rt; here.cmp(&nowhere), Ordering::Equal);
-    Ok(())
+    holds(place_of(&here, "bar") == Some(PLACE), "here")?;
+    holds(place_of(&nowhere, "bar").is_none(), "nowhere")?;
+    holds(
+        here == nowhere && here.cmp(&nowhere) == Ordering::Equal,
+        "both",
+    )
 }

@@ -1,6 +1,7 @@
 //! Tests of values that separate two types, and of types that are stated.
 
-use crate::subtyping::{extensions, kind_of_two};
+use crate::checked::holds;
+use crate::subtyping::extensions;
 use crate::test_values::{sample, text, value};
 use cedar_below::{Extensions, ValidationMode, Value};
 use cedar_separated::separating_value;
@@ -24,43 +25,43 @@ fn deep(alloc: Global, word: &str) -> Result<Type, Fail> {
 
 /// The type of a word.
 fn made(alloc: Global, word: &str) -> Result<Type, Fail> {
-    match word {
-        "ip" => one(alloc, "ip", sample(alloc, "ipaddr")?),
-        "ip-long" => one(alloc, "ip", Type::Long),
-        "deep-bool" => deep(alloc, "bool"),
-        "deep-true" => deep(alloc, "true"),
-        "deep-open" => deep(alloc, "any-record"),
-        "deep-closed" => deep(alloc, "unit"),
-        "foo-or-bar" => Ok(Type::Entity(kind_of_two(alloc, "Foo", "Bar")?)),
-        _ => sample(alloc, word),
+    match word.strip_prefix("deep-") {
+        Some(inner) => deep(alloc, inner),
+        None => sample(alloc, word),
     }
 }
 
-/// Whether a value that the one type has and the other hasn't is found; that it is such a one is told by
-/// membership.
+/// Whether membership tells that a value is of the one type and not of the other.
+fn separates(a: &Type, b: &Type, value: &Value, extensions: &Extensions) -> bool {
+    let has = a.typecheck_value(value, extensions).ok();
+    let lacks = b.typecheck_value(value, extensions).ok();
+    has == Some(true) && lacks == Some(false)
+}
+
+/// Whether a value that the type of one word has and that of another hasn't is found. A value that is found and
+/// doesn't separate them fails.
 fn is_separated(
     alloc: Global,
-    a: &Type,
-    b: &Type,
+    first: &str,
+    second: &str,
     extensions: &Extensions,
     samples: &[Value],
 ) -> Result<bool, Fail> {
+    let (a, b) = (made(alloc, first)?, made(alloc, second)?);
     if !a.is_stated(extensions, samples) || !b.is_stated(extensions, samples) {
-        return Err(Fail::from("a type that isn't stated"));
+        return Err(Fail::new(format_args!("{first} or {second} isn't stated")));
     }
-    let Some(value) = separating_value(alloc, a, b, extensions, samples)? else {
-        return Ok(false);
-    };
-    let has = a.typecheck_value(&value, extensions).ok();
-    let lacks = b.typecheck_value(&value, extensions).ok();
-    if has != Some(true) || lacks != Some(false) {
-        return Err(Fail::from("a value that doesn't separate the types"));
+    match separating_value(alloc, &a, &b, extensions, samples)? {
+        Some(value) => {
+            holds(separates(&a, &b, &value, extensions), second)?;
+            Ok(true)
+        }
+        None => Ok(false),
     }
-    Ok(true)
 }
 
 /// Types without a `Never`, an optional attribute or an extension type.
-const STATED: [&str; 16] = [
+const STATED: &[&str] = &[
     "true",
     "false",
     "bool",
@@ -70,8 +71,8 @@ const STATED: [&str; 16] = [
     "set-bool",
     "set-long",
     "any-entity",
-    "foo",
-    "bar",
+    "Foo",
+    "Bar",
     "any-record",
     "unit",
     "r1",
@@ -79,23 +80,27 @@ const STATED: [&str; 16] = [
     "r3",
 ];
 
+/// Whether the type of one word is below that of another in permissive mode.
+fn is_below(alloc: Global, first: &str, second: &str) -> Result<bool, Fail> {
+    let (a, b) = (sample(alloc, first)?, sample(alloc, second)?);
+    Ok(Type::is_subtype(&a, &b, ValidationMode::Permissive))
+}
+
 #[test]
 fn values_separate_what_is_not_below(rt: HostRuntime) -> Result<(), Fail> {
     let alloc = rt.alloc();
     let extensions = extensions(alloc)?;
-    for first in STATED {
-        for second in STATED {
-            let (a, b) = (sample(alloc, first)?, sample(alloc, second)?);
-            let below = Type::is_subtype(&a, &b, ValidationMode::Permissive);
-            let separated = is_separated(alloc, &a, &b, &extensions, &[])?;
-            assert!(rt; separated != below, "{first} and {second}");
+    for &first in STATED {
+        for &second in STATED {
+            let separated = is_separated(alloc, first, second, &extensions, &[])?;
+            holds(separated != is_below(alloc, first, second)?, first)?;
         }
     }
     Ok(())
 }
 
 /// Types, and whether a value separates the first from the second.
-const PAIRS: [(&str, &str, bool); 17] = [
+const PAIRS: &[(&str, &str, bool)] = &[
     ("ip", "ip-long", true),
     ("ip-long", "ip", true),
     ("ip", "ip", false),
@@ -106,48 +111,53 @@ const PAIRS: [(&str, &str, bool); 17] = [
     ("a-long", "a-long-open", false),
     ("a-long", "unit", true),
     ("unit", "a-long", true),
-    ("foo-or-bar", "foo", true),
-    ("foo", "foo-or-bar", false),
-    ("any-entity", "foo-or-bar", true),
+    ("Foo|Bar", "Foo", true),
+    ("Foo", "Foo|Bar", false),
+    ("any-entity", "Foo|Bar", true),
     ("deep-bool", "deep-true", true),
     ("deep-true", "deep-bool", false),
-    ("deep-open", "deep-closed", true),
-    ("deep-closed", "deep-open", false),
+    ("deep-any-record", "deep-unit", true),
+    ("deep-unit", "deep-any-record", false),
 ];
+
+/// The one value of an extension type that is handed in.
+fn samples(alloc: Global) -> Result<Vec<Value>, Fail> {
+    let address = Value::new(value(alloc, "ip(x)")?);
+    Ok(vec![in alloc; address]?)
+}
 
 #[test]
 fn values_separate_types_where_they_differ(rt: HostRuntime) -> Result<(), Fail> {
     let alloc = rt.alloc();
     let extensions = extensions(alloc)?;
-    let samples = vec![in alloc; Value::new(value(alloc, "ip(x)")?)]?;
-    for (first, second, expected) in PAIRS {
-        let (a, b) = (made(alloc, first)?, made(alloc, second)?);
-        let separated = is_separated(alloc, &a, &b, &extensions, &samples)?;
-        assert_eq!(rt; separated, expected, "{first} and {second}");
+    let samples = samples(alloc)?;
+    for &(first, second, expected) in PAIRS {
+        let separated = is_separated(alloc, first, second, &extensions, &samples)?;
+        holds(separated == expected, first)?;
     }
     Ok(())
+}
+
+/// Whether the type of a word is stated with these samples.
+fn is_stated(alloc: Global, word: &str, samples: &[Value]) -> Result<bool, Fail> {
+    let extensions = extensions(alloc)?;
+    Ok(made(alloc, word)?.is_stated(&extensions, samples))
 }
 
 #[test]
 fn types_are_stated_with_samples(rt: HostRuntime) -> Result<(), Fail> {
     let alloc = rt.alloc();
-    let extensions = extensions(alloc)?;
-    let samples = vec![in alloc; Value::new(value(alloc, "ip(x)")?)]?;
+    let samples = samples(alloc)?;
     for (word, with, without) in [
         ("set-ipaddr", true, false),
         ("ip", true, false),
-        ("foo-or-bar", true, true),
+        ("Foo|Bar", true, true),
         ("never", false, false),
         ("set-never", false, false),
         ("a-long-optional", false, false),
     ] {
-        let ty = made(alloc, word)?;
-        assert_eq!(rt; ty.is_stated(&extensions, &samples), with, "at {word}");
-        assert_eq!(rt;
-            ty.is_stated(&extensions, &[]),
-            without,
-            "at {word}, without samples"
-        );
+        holds(is_stated(alloc, word, &samples)? == with, word)?;
+        holds(is_stated(alloc, word, &[])? == without, word)?;
     }
     Ok(())
 }

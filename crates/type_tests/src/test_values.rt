@@ -1,11 +1,18 @@
 //! Types and values that the tests share, by their words.
 
-use cedar_below::{Eid, EntityType, EntityUID, Id, InternalName, Name, RestrictedExpr};
-use cedar_types::{AttributeType, OpenTag, Type};
+use cedar_below::{Eid, EntityType, EntityUID, Id, InternalName, Loc, Name, RestrictedExpr};
+use cedar_types::{AttributeType, EntityKind, EntityLUB, OpenTag, Type};
 use std::alloc::Global;
 use std::collections::BTreeMap;
 use std::rc::Rc;
 use std::test::Fail;
+
+/// Where something of the tests was declared.
+pub(crate) const PLACE: Loc = Loc {
+    source: 1,
+    start: 2,
+    stop: 5,
+};
 
 pub(crate) fn text(alloc: Global, text: &str) -> Result<String, Fail> {
     Ok(String::from_str(alloc, text)?)
@@ -15,33 +22,62 @@ fn id(alloc: Global, word: &str) -> Result<Id, Fail> {
     Ok(Id::new(text(alloc, word)?).ok_or("no identifier")?)
 }
 
-/// A name with a path.
-pub(crate) fn name_in(alloc: Global, path: &[&str], base: &str) -> Result<Name, Fail> {
+/// The name whose parts stand between `::` in a word.
+pub(crate) fn name(alloc: Global, word: &str) -> Result<Name, Fail> {
     let mut parts = Vec::new(alloc);
-    for part in path {
+    for part in word.split("::") {
         parts.push(id(alloc, part)?)?;
     }
-    let internal = InternalName::new(id(alloc, base)?, parts, None);
-    Ok(Name::new(internal).ok_or("a reserved name")?)
+    let base = parts.pop().ok_or("no name")?;
+    Ok(Name::new(InternalName::new(base, parts, None)).ok_or("a reserved name")?)
 }
 
-/// A name without a path.
-pub(crate) fn name(alloc: Global, base: &str) -> Result<Name, Fail> {
-    name_in(alloc, &[], base)
+pub(crate) fn entity_type(alloc: Global, word: &str) -> Result<EntityType, Fail> {
+    Ok(EntityType::new(name(alloc, word)?))
 }
 
-pub(crate) fn entity_type(alloc: Global, base: &str) -> Result<EntityType, Fail> {
-    Ok(EntityType::new(name(alloc, base)?))
+/// The union of one entity type.
+fn single(alloc: Global, word: &str) -> Result<EntityLUB, Fail> {
+    Ok(EntityLUB::single_entity(alloc, entity_type(alloc, word)?)?)
 }
 
-/// The type of the sets of a type's values.
-fn set(alloc: Global, element: Type) -> Result<Type, Fail> {
-    Ok(Type::set(Rc::new(alloc, element)?))
+/// The union of the entity types whose names stand between `|` in a word.
+pub(crate) fn union(alloc: Global, word: &str) -> Result<EntityLUB, Fail> {
+    match word.split_once("|") {
+        Some((first, second)) => Ok(single(alloc, first)?.least_upper_bound(&single(
+            alloc, second,
+        )?)?),
+        None => single(alloc, word),
+    }
 }
 
-/// The type of the entities of one type.
-fn entity(alloc: Global, base: &str) -> Result<Type, Fail> {
-    Ok(Type::named_entity_reference(alloc, entity_type(alloc, base)?)?)
+/// The kind of the entities of the types whose names stand between `|` in a word.
+pub(crate) fn kind(alloc: Global, word: &str) -> Result<EntityKind, Fail> {
+    Ok(EntityKind::Entity(union(alloc, word)?))
+}
+
+/// The type of a word, of those that are neither sets nor records.
+fn leaf(alloc: Global, word: &str) -> Result<Type, Fail> {
+    match word {
+        "never" => Ok(Type::Never),
+        "true" => Ok(Type::singleton_boolean(true)),
+        "false" => Ok(Type::singleton_boolean(false)),
+        "bool" => Ok(Type::primitive_boolean()),
+        "long" => Ok(Type::primitive_long()),
+        "string" => Ok(Type::primitive_string()),
+        "any-set" => Ok(Type::any_set()),
+        "any-entity" => Ok(Type::any_entity_reference()),
+        "ipaddr" => Ok(Type::extension(name(alloc, word)?)),
+        _ => Ok(Type::Entity(kind(alloc, word)?)),
+    }
+}
+
+/// The type of a word, of those that are no records.
+fn simple(alloc: Global, word: &str) -> Result<Type, Fail> {
+    match word.strip_prefix("set-") {
+        Some(element) => Ok(Type::set(Rc::new(alloc, leaf(alloc, element)?)?)),
+        None => leaf(alloc, word),
+    }
 }
 
 /// The record type of some attributes: of each its name, whether it is required, and its type's word.
@@ -58,169 +94,175 @@ fn record(
     Ok(Type::record_with_attributes(alloc, items, openness)?)
 }
 
-/// The type of a word, of those that are no records.
-fn simple(alloc: Global, word: &str) -> Result<Type, Fail> {
-    match word {
-        "never" => Ok(Type::Never),
-        "true" => Ok(Type::singleton_boolean(true)),
-        "false" => Ok(Type::singleton_boolean(false)),
-        "bool" => Ok(Type::primitive_boolean()),
-        "long" => Ok(Type::primitive_long()),
-        "string" => Ok(Type::primitive_string()),
-        "any-set" => Ok(Type::any_set()),
-        "any-entity" => Ok(Type::any_entity_reference()),
-        "ipaddr" => Ok(Type::extension(name(alloc, "ipaddr")?)),
-        "foo" => entity(alloc, "Foo"),
-        "bar" => entity(alloc, "Bar"),
-        "set-never" => set(alloc, Type::Never),
-        "set-bool" => set(alloc, Type::primitive_boolean()),
-        "set-long" => set(alloc, Type::Long),
-        "set-true" => set(alloc, Type::singleton_boolean(true)),
-        "set-false" => set(alloc, Type::singleton_boolean(false)),
-        "set-foo" => set(alloc, entity(alloc, "Foo")?),
-        "set-ipaddr" => set(alloc, Type::extension(name(alloc, "ipaddr")?)),
-        _ => Err("no type of that word")?,
-    }
-}
+const OPEN: OpenTag = OpenTag::OpenAttributes;
+
+const CLOSED: OpenTag = OpenTag::ClosedAttributes;
+
+/// A record type: its word, whether it is open, and of each attribute its name, whether it is required, and
+/// its type's word.
+type Record = (
+    &'static str,
+    OpenTag,
+    &'static [(&'static str, bool, &'static str)],
+);
+
+/// The record types of all tests.
+const RECORDS: &[Record] = &[
+    ("unit", CLOSED, &[]),
+    ("any-record", OPEN, &[]),
+    ("a-long", CLOSED, &[("a", true, "long")]),
+    ("a-long-open", OPEN, &[("a", true, "long")]),
+    ("a-long-optional", CLOSED, &[("a", false, "long")]),
+    ("a-true", CLOSED, &[("a", true, "true")]),
+    ("a-bool", CLOSED, &[("a", true, "bool")]),
+    ("a-never", CLOSED, &[("a", true, "never")]),
+    ("ip", CLOSED, &[("ip", true, "ipaddr")]),
+    ("ip-long", CLOSED, &[("ip", true, "long")]),
+    (
+        "r1",
+        CLOSED,
+        &[("bar", true, "long"), ("foo", true, "false")],
+    ),
+    (
+        "r2",
+        CLOSED,
+        &[("bar", true, "long"), ("foo", true, "string")],
+    ),
+    ("r3", CLOSED, &[("bar", true, "long")]),
+    (
+        "both-optional",
+        CLOSED,
+        &[("bar", false, "long"), ("foo", false, "long")],
+    ),
+    (
+        "one-optional",
+        CLOSED,
+        &[("bar", false, "long"), ("foo", true, "long")],
+    ),
+    ("foo-false-open", OPEN, &[("foo", true, "false")]),
+    ("foo-true", CLOSED, &[("foo", true, "true")]),
+    (
+        "any-set-and-long",
+        CLOSED,
+        &[("s", true, "any-set"), ("t", true, "long")],
+    ),
+    (
+        "two-longs",
+        CLOSED,
+        &[("s", true, "long"), ("t", true, "long")],
+    ),
+    ("spaced", CLOSED, &[("a b", true, "long")]),
+    (
+        "address",
+        CLOSED,
+        &[("b", true, "long"), ("a", true, "ipaddr")],
+    ),
+    (
+        "mixed",
+        OPEN,
+        &[("b", false, "set-Foo"), ("a", true, "long")],
+    ),
+    (
+        "mixed-closed",
+        CLOSED,
+        &[("b", false, "set-Foo"), ("a", true, "long")],
+    ),
+    (
+        "ace",
+        CLOSED,
+        &[
+            ("a", true, "long"),
+            ("c", true, "long"),
+            ("e", true, "long"),
+        ],
+    ),
+    (
+        "bcd",
+        CLOSED,
+        &[
+            ("b", true, "long"),
+            ("c", true, "long"),
+            ("d", true, "long"),
+        ],
+    ),
+];
 
 /// The type of a word.
 pub(crate) fn sample(alloc: Global, word: &str) -> Result<Type, Fail> {
-    let (open, closed) = (OpenTag::OpenAttributes, OpenTag::ClosedAttributes);
-    match word {
-        "unit" => record(alloc, closed, &[]),
-        "any-record" => record(alloc, open, &[]),
-        "a-long" => record(alloc, closed, &[("a", true, "long")]),
-        "a-long-open" => record(alloc, open, &[("a", true, "long")]),
-        "a-long-optional" => record(alloc, closed, &[("a", false, "long")]),
-        "a-true" => record(alloc, closed, &[("a", true, "true")]),
-        "a-bool" => record(alloc, closed, &[("a", true, "bool")]),
-        "a-never" => record(alloc, closed, &[("a", true, "never")]),
-        "r1" => record(
-            alloc,
-            closed,
-            &[("bar", true, "long"), ("foo", true, "false")],
-        ),
-        "r2" => record(
-            alloc,
-            closed,
-            &[("bar", true, "long"), ("foo", true, "string")],
-        ),
-        "r3" => record(alloc, closed, &[("bar", true, "long")]),
-        "both-optional" => record(
-            alloc,
-            closed,
-            &[("bar", false, "long"), ("foo", false, "long")],
-        ),
-        "one-optional" => record(
-            alloc,
-            closed,
-            &[("bar", false, "long"), ("foo", true, "long")],
-        ),
-        "foo-false-open" => record(alloc, open, &[("foo", true, "false")]),
-        "foo-true" => record(alloc, closed, &[("foo", true, "true")]),
-        "any-set-and-long" => record(
-            alloc,
-            closed,
-            &[("s", true, "any-set"), ("t", true, "long")],
-        ),
-        "two-longs" => record(alloc, closed, &[("s", true, "long"), ("t", true, "long")]),
-        "spaced" => record(alloc, closed, &[("a b", true, "long")]),
-        "address" => record(alloc, closed, &[("b", true, "long"), ("a", true, "ipaddr")]),
-        "mixed" => record(alloc, open, &[("b", false, "set-foo"), ("a", true, "long")]),
-        "mixed-closed" => record(
-            alloc,
-            closed,
-            &[("b", false, "set-foo"), ("a", true, "long")],
-        ),
-        "ace" => record(
-            alloc,
-            closed,
-            &[
-                ("a", true, "long"),
-                ("c", true, "long"),
-                ("e", true, "long"),
-            ],
-        ),
-        "bcd" => record(
-            alloc,
-            closed,
-            &[
-                ("b", true, "long"),
-                ("c", true, "long"),
-                ("d", true, "long"),
-            ],
-        ),
-        _ => simple(alloc, word),
+    for &(named, openness, attributes) in RECORDS {
+        if named == word {
+            return record(alloc, openness, attributes);
+        }
     }
+    simple(alloc, word)
 }
 
-/// A call of a function with these arguments.
-fn call(alloc: Global, function: &str, args: &[&str]) -> Result<RestrictedExpr, Fail> {
-    let mut values = Vec::new(alloc);
-    for word in args {
-        values.push(leaf(alloc, word)?)?;
-    }
-    Ok(RestrictedExpr::ExtensionCall {
-        function: name(alloc, function)?,
-        args: values,
-    })
+/// The entity `Foo::"blue"`.
+fn blue(alloc: Global) -> Result<RestrictedExpr, Fail> {
+    let eid = Eid(text(alloc, "blue")?);
+    let blue = EntityUID::new(entity_type(alloc, "Foo")?, eid, None);
+    Ok(RestrictedExpr::EntityUid(blue))
 }
 
-/// The value of a word, of those without arguments and parts.
-fn leaf(alloc: Global, word: &str) -> Result<RestrictedExpr, Fail> {
+/// The value of a word, of those without arguments and parts: a number, an entity, a call such as `ip()`, or
+/// else a text.
+fn leaf_value(alloc: Global, word: &str) -> Result<RestrictedExpr, Fail> {
     match word {
         "1" => Ok(RestrictedExpr::Long(1)),
-        "x" => Ok(RestrictedExpr::String(text(alloc, "x")?)),
-        "nosuch()" => Ok(RestrictedExpr::ExtensionCall {
-            function: name(alloc, "nosuch")?,
-            args: Vec::new(alloc),
-        }),
-        "blue" => {
-            let eid = Eid(text(alloc, "blue")?);
-            let blue = EntityUID::new(entity_type(alloc, "Foo")?, eid, None);
-            Ok(RestrictedExpr::EntityUid(blue))
-        }
-        _ => Err("no value of that word")?,
+        "blue" => blue(alloc),
+        _ => match word.strip_suffix("()") {
+            Some(function) => Ok(RestrictedExpr::ExtensionCall {
+                function: name(alloc, function)?,
+                args: Vec::new(alloc),
+            }),
+            None => Ok(RestrictedExpr::String(text(alloc, word)?)),
+        },
     }
 }
 
-/// The record of some values, each under its name.
-fn values(alloc: Global, entries: &[(&str, &str)]) -> Result<RestrictedExpr, Fail> {
+/// The values of words that stand between commas, or none for no text.
+fn listed(alloc: Global, words: &str) -> Result<Vec<RestrictedExpr>, Fail> {
+    let mut values = Vec::new(alloc);
+    for word in words.split(", ").filter(|word| !word.is_empty()) {
+        values.push(leaf_value(alloc, word)?)?;
+    }
+    Ok(values)
+}
+
+/// The record of entries `name: word` that stand between commas, or of none for no text.
+fn values(alloc: Global, entries: &str) -> Result<RestrictedExpr, Fail> {
     let mut values = BTreeMap::new(alloc);
-    for (name, word) in entries {
-        values.insert(text(alloc, name)?, leaf(alloc, word)?)?;
+    for entry in entries.split(", ") {
+        if let Some((name, word)) = entry.split_once(": ") {
+            values.insert(text(alloc, name)?, leaf_value(alloc, word)?)?;
+        }
     }
     Ok(RestrictedExpr::Record(values))
 }
 
-/// The set of the values `ip("x")` and `nosuch()`.
-fn addresses(alloc: Global) -> Result<RestrictedExpr, Fail> {
-    let mut elements = Vec::new(alloc);
-    elements.push(call(alloc, "ip", &["x"])?)?;
-    elements.push(leaf(alloc, "nosuch()")?)?;
-    Ok(RestrictedExpr::Set(elements))
+/// The call of `ip` with the arguments of words that stand between commas.
+fn call(alloc: Global, words: &str) -> Result<RestrictedExpr, Fail> {
+    Ok(RestrictedExpr::ExtensionCall {
+        function: name(alloc, "ip")?,
+        args: listed(alloc, words)?,
+    })
 }
 
-/// The value of a word.
+/// What stands between two texts, if they begin and end a word.
+fn between<'w>(word: &'w str, begin: &str, end: &str) -> Option<&'w str> {
+    word.strip_prefix(begin)?.strip_suffix(end)
+}
+
+/// The value of a word: a record `{a: 1}`, a set `[1, x]`, a call `ip(x)`, or one without parts.
 pub(crate) fn value(alloc: Global, word: &str) -> Result<RestrictedExpr, Fail> {
-    match word {
-        "{}" => values(alloc, &[]),
-        "{a: 1}" => values(alloc, &[("a", "1")]),
-        "{a: x}" => values(alloc, &[("a", "x")]),
-        "{0: x, a: 1, z: nosuch()}" => values(alloc, &[("0", "x"), ("a", "1"), ("z", "nosuch()")]),
-        "{a: 1, z: nosuch()}" => values(alloc, &[("a", "1"), ("z", "nosuch()")]),
-        "{bar: 1}" => values(alloc, &[("bar", "1")]),
-        "{foo: 1}" => values(alloc, &[("foo", "1")]),
-        "{bar: 1, foo: 1}" => values(alloc, &[("bar", "1"), ("foo", "1")]),
-        "{bar: 1, foo: x}" => values(alloc, &[("bar", "1"), ("foo", "x")]),
-        "{a: nosuch(), b: x}" => values(alloc, &[("a", "nosuch()"), ("b", "x")]),
-        "ip()" => call(alloc, "ip", &[]),
-        "ip(x)" => call(alloc, "ip", &["x"]),
-        "ip(1)" => call(alloc, "ip", &["1"]),
-        "ip(x, 1)" => call(alloc, "ip", &["x", "1"]),
-        "ip(nosuch())" => call(alloc, "ip", &["nosuch()"]),
-        "ip(x, nosuch())" => call(alloc, "ip", &["x", "nosuch()"]),
-        "[ip(x), nosuch()]" => addresses(alloc),
-        _ => leaf(alloc, word),
+    if let Some(elements) = between(word, "[", "]") {
+        return Ok(RestrictedExpr::Set(listed(alloc, elements)?));
     }
+    if let Some(entries) = between(word, "{", "}") {
+        return values(alloc, entries);
+    }
+    if let Some(arguments) = between(word, "ip(", ")") {
+        return call(alloc, arguments);
+    }
+    leaf_value(alloc, word)
 }

@@ -1,37 +1,17 @@
 //! Tests of types and of their parts.
 
-use crate::test_values::{entity_type, name_in, sample, text};
-use cedar_below::{EntityType, Loc, Memory};
-use cedar_types::{AttributeType, Attributes, EntityKind, EntityLUB, JoinError, LubHelp, Type};
+use crate::checked::{holds, same};
+use crate::test_values::{PLACE, entity_type, kind, sample, text, union};
+use cedar_below::{Loc, Memory};
+use cedar_types::{AttributeType, Attributes, EntityLUB, JoinError, LubHelp, OpenTag, Type};
 use std::alloc::Global;
 use std::cmp::Ordering;
 use std::hash::{DefaultHasher, Hash, Hasher};
 use std::rc::Rc;
 use std::test::Fail;
 
-/// Where some attributes of the tests were declared.
-const PLACE: Loc = Loc {
-    source: 1,
-    start: 2,
-    stop: 5,
-};
-
-fn single(alloc: Global, base: &str) -> Result<EntityLUB, Fail> {
-    Ok(EntityLUB::single_entity(alloc, entity_type(alloc, base)?)?)
-}
-
-fn union(alloc: Global, first: &str, second: &str) -> Result<EntityLUB, Fail> {
-    Ok(single(alloc, first)?.least_upper_bound(&single(alloc, second)?)?)
-}
-
-fn hash_of<T: Hash>(value: &T) -> u64 {
-    let mut state = DefaultHasher::new();
-    value.hash(&mut state);
-    state.finish()
-}
-
 /// Types, each with its text.
-const TEXTS: [(&str, &str); 17] = [
+const TEXTS: &[(&str, &str)] = &[
     ("never", "__cedar::internal::Never"),
     ("true", "__cedar::internal::True"),
     ("false", "__cedar::internal::False"),
@@ -41,7 +21,8 @@ const TEXTS: [(&str, &str); 17] = [
     ("any-set", "Set<__cedar::internal::Any>"),
     ("set-long", "Set<Long>"),
     ("any-entity", "__cedar::internal::AnyEntity"),
-    ("foo", "Foo"),
+    ("Foo", "Foo"),
+    ("N::Foo", "N::Foo"),
     ("ipaddr", "ipaddr"),
     ("unit", "{}"),
     ("any-record", "__cedar::internal::OpenRecord{}"),
@@ -52,193 +33,231 @@ const TEXTS: [(&str, &str); 17] = [
         "__cedar::internal::OpenRecord{a: Long,b?: Set<Foo>,}",
     ),
     ("mixed-closed", "{a: Long,b?: Set<Foo>,}"),
+    ("Foo|Bar", "__cedar::internal::Union<Bar, Foo>"),
 ];
+
+/// The text of the type of a word.
+fn printed(alloc: Global, word: &str) -> Result<String, Fail> {
+    Ok(sample(alloc, word)?.to_string(alloc)?)
+}
 
 #[test]
 fn types_print_their_words(rt: HostRuntime) -> Result<(), Fail> {
     let alloc = rt.alloc();
-    for (word, printed) in TEXTS {
-        assert_eq!(rt; sample(alloc, word)?.to_string(alloc)?.as_str(), printed);
+    for &(word, expected) in TEXTS {
+        same(word, printed(alloc, word)?.as_str(), expected)?;
     }
     Ok(())
+}
+
+/// Whether a copy of the type of a word is equal to it.
+fn copy_is_equal(alloc: Global, word: &str) -> Result<bool, Fail> {
+    let ty = sample(alloc, word)?;
+    Ok(ty.clone()? == ty)
 }
 
 #[test]
 fn copies_are_equal(rt: HostRuntime) -> Result<(), Fail> {
     let alloc = rt.alloc();
-    for (word, _) in TEXTS {
-        let ty = sample(alloc, word)?;
-        assert_eq!(rt; ty.clone()?, ty, "at {word}");
+    for &(word, _) in TEXTS {
+        holds(copy_is_equal(alloc, word)?, word)?;
     }
     Ok(())
 }
 
 #[test]
-fn qualified_entity_types_print_their_path(rt: HostRuntime) -> Result<(), Fail> {
+fn kinds_print_their_entity_types_in_order(rt: HostRuntime) -> Result<(), Fail> {
     let alloc = rt.alloc();
-    let qualified = EntityType::new(name_in(alloc, &["N"], "Foo")?);
-    let qualified = Type::named_entity_reference(alloc, qualified)?;
-    assert_eq!(rt; qualified.to_string(alloc)?.as_str(), "N::Foo");
-    Ok(())
+    let either = kind(alloc, "Foo|Bar")?;
+    holds(either.clone()? == either, "copied")?;
+    let expected = "__cedar::internal::Union<Bar, Foo>";
+    same("printed", either.to_string(alloc)?.as_str(), expected)
 }
 
 #[test]
-fn unions_print_their_entity_types_in_order(rt: HostRuntime) -> Result<(), Fail> {
-    let alloc = rt.alloc();
-    let either = EntityKind::Entity(union(alloc, "Foo", "Bar")?);
-    assert_eq!(rt;
-        either.to_string(alloc)?.as_str(),
-        "__cedar::internal::Union<Bar, Foo>"
-    );
-    assert_eq!(rt; either.clone()?, either);
-    Ok(())
-}
-
-#[test]
-fn primitive_types_are_told_by_name(rt: HostRuntime) {
+fn primitive_types_are_told_by_name(rt: HostRuntime) -> Result<(), Fail> {
     for (word, primitive) in [
         ("Bool", true),
         ("Long", true),
         ("String", true),
         ("Set", false),
     ] {
-        assert_eq!(rt; Type::is_primitive(word), primitive, "at {word}");
+        holds(Type::is_primitive(word) == primitive, word)?;
     }
+    Ok(())
 }
 
 #[test]
 fn errors_print_their_cause(rt: HostRuntime) -> Result<(), Fail> {
     let alloc = rt.alloc();
-    let refused = JoinError::Help(LubHelp::RecordWidth);
-    assert_eq!(rt;
-        refused.to_string(alloc)?.as_str(),
-        "the types have no least upper bound (help: RecordWidth)"
-    );
-    assert_eq!(rt;
-        JoinError::from(Memory).to_string(alloc)?.as_str(),
-        "out of memory"
-    );
+    for (refused, expected) in [
+        (
+            JoinError::Help(LubHelp::RecordWidth),
+            "the types have no least upper bound (help: RecordWidth)",
+        ),
+        (JoinError::from(Memory), "out of memory"),
+    ] {
+        same("refused", refused.to_string(alloc)?.as_str(), expected)?;
+    }
     Ok(())
 }
 
-/// The attributes of these names, each with a type of its own.
-fn attributes(alloc: Global, items: &[(&str, Type)]) -> Result<Attributes, Fail> {
+/// The closed record type of attributes that are required, of each its name and the word of its type.
+fn of_attributes(alloc: Global, items: &[(&str, &str)]) -> Result<Type, Fail> {
     let mut pairs = Vec::new(alloc);
-    for (name, ty) in items {
-        pairs.push((text(alloc, name)?, Rc::new(alloc, ty.clone()?)?))?;
+    for (name, word) in items {
+        let ty = Rc::new(alloc, sample(alloc, word)?)?;
+        pairs.push((text(alloc, name)?, ty))?;
     }
-    Ok(Attributes::with_required_attributes(alloc, pairs)?)
+    Ok(Type::Record {
+        attrs: Attributes::with_required_attributes(alloc, pairs)?,
+        open_attributes: OpenTag::ClosedAttributes,
+    })
 }
 
 #[test]
 fn the_last_of_repeated_names_wins(rt: HostRuntime) -> Result<(), Fail> {
     let alloc = rt.alloc();
-    let items = [("b", Type::Long), ("a", Type::Long), ("b", Type::String)];
-    let attributes = attributes(alloc, &items)?;
-    let mut names = String::new(alloc);
-    for name in attributes.keys() {
-        names.push_str(name.as_str())?;
+    let items = [("b", "long"), ("a", "long"), ("b", "string")];
+    let ty = of_attributes(alloc, &items)?;
+    same(
+        "b, a and b",
+        ty.to_string(alloc)?.as_str(),
+        "{a: Long,b: String,}",
+    )
+}
+
+/// The attribute of numbers that is required, at a place or nowhere.
+fn number(alloc: Global, is_required: bool, loc: Option<Loc>) -> Result<AttributeType, Fail> {
+    let long = Rc::new(alloc, Type::Long)?;
+    Ok(AttributeType::new_with_loc(long, is_required, loc))
+}
+
+fn hash_of<T: Hash>(value: &T) -> u64 {
+    let mut state = DefaultHasher::new();
+    value.hash(&mut state);
+    state.finish()
+}
+
+/// Whether two attributes are equal, and hash alike, exactly where that is said; and how they compare.
+fn compared(one: &AttributeType, other: &AttributeType, is_equal: bool) -> Option<Ordering> {
+    let is_alike = hash_of(one) == hash_of(other);
+    if (one == other) == is_equal && is_alike == is_equal {
+        Some(one.cmp(other))
+    } else {
+        None
     }
-    assert_eq!(rt; names.as_str(), "ab");
-    let last = attributes.get_attr("b").ok_or("not found")?;
-    assert_eq!(rt; *last.attr_type, Type::String);
-    assert!(rt; attributes.get_attr("c").is_none());
-    Ok(())
 }
 
 #[test]
 fn locations_of_attributes_are_not_compared(rt: HostRuntime) -> Result<(), Fail> {
     let alloc = rt.alloc();
-    let long = Rc::new(alloc, Type::Long)?;
-    let here = AttributeType::new_with_loc(long.clone()?, true, Some(PLACE));
+    let here = number(alloc, true, Some(PLACE))?;
     for (is_required, order) in [(true, Ordering::Equal), (false, Ordering::Greater)] {
-        let other = AttributeType::new(long.clone()?, is_required);
-        assert_eq!(rt; here == other, is_required);
-        assert_eq!(rt; here.cmp(&other), order);
-        assert_eq!(rt; hash_of(&here) == hash_of(&other), is_required);
+        let nowhere = number(alloc, is_required, None)?;
+        let compared = compared(&here, &nowhere, is_required);
+        holds(compared == Some(order), "an attribute")?;
     }
     Ok(())
+}
+
+/// Where the attribute `a` was declared.
+fn place_of(attributes: &Attributes) -> Option<Loc> {
+    attributes.get_attr("a")?.loc
 }
 
 #[test]
 fn attributes_keep_their_locations(rt: HostRuntime) -> Result<(), Fail> {
     let alloc = rt.alloc();
-    let declared = AttributeType::new_with_loc(Rc::new(alloc, Type::Long)?, true, Some(PLACE));
-    let some = Attributes::with_attributes(alloc, [(text(alloc, "a")?, declared)])?;
-    let copy = some.clone()?;
-    for attributes in [&some, &copy] {
-        let attribute = attributes.get_attr("a").ok_or("not found")?;
-        assert_eq!(rt; attribute.loc, Some(PLACE));
-        assert_eq!(rt; attribute.clone()?.loc, Some(PLACE));
-    }
-    Ok(())
+    let here = number(alloc, true, Some(PLACE))?;
+    holds(here.clone()?.loc == Some(PLACE), "a copy of an attribute")?;
+    let some = Attributes::with_attributes(alloc, [(text(alloc, "a")?, here)])?;
+    holds(place_of(&some) == Some(PLACE), "attributes")?;
+    holds(place_of(&some.clone()?) == Some(PLACE), "copies")
 }
 
 #[test]
 fn unions_hold_each_entity_type_once(rt: HostRuntime) -> Result<(), Fail> {
     let alloc = rt.alloc();
-    let either = union(alloc, "Foo", "Bar")?;
-    assert_eq!(rt; either, union(alloc, "Bar", "Foo")?);
-    assert_eq!(rt; either.iter().count(), 2);
-    assert_eq!(rt; union(alloc, "Foo", "Foo")?, single(alloc, "Foo")?);
+    for (word, other, count) in [("Foo|Bar", "Bar|Foo", 2), ("Foo|Foo", "Foo", 1)] {
+        let either = union(alloc, word)?;
+        holds(either == union(alloc, other)?, word)?;
+        holds(either.iter().count() == count, word)?;
+    }
     Ok(())
+}
+
+/// Whether a union has the entity type of a word, and whether it has none of the union of that alone.
+fn has(alloc: Global, either: &EntityLUB, word: &str) -> Result<(bool, bool), Fail> {
+    let ty = entity_type(alloc, word)?;
+    Ok((
+        either.contains(&ty),
+        either.is_disjoint(&union(alloc, word)?),
+    ))
 }
 
 #[test]
 fn unions_know_their_entity_types(rt: HostRuntime) -> Result<(), Fail> {
     let alloc = rt.alloc();
-    let either = union(alloc, "Foo", "Bar")?;
+    let either = union(alloc, "Foo|Bar")?;
+    holds(either.get_single_entity().is_none(), "two")?;
     for (word, among) in [("Foo", true), ("Bar", true), ("Baz", false)] {
-        let one = single(alloc, word)?;
-        assert_eq!(rt; either.is_disjoint(&one), !among, "at {word}");
-        let ty = one.into_single_entity().ok_or("one entity type")?;
-        assert_eq!(rt; either.contains(&ty), among, "at {word}");
+        let (contains, is_disjoint) = has(alloc, &either, word)?;
+        holds(contains == among && is_disjoint != among, word)?;
     }
-    assert!(rt; either.get_single_entity().is_none());
     Ok(())
+}
+
+#[test]
+fn a_single_entity_type_is_given_back(rt: HostRuntime) -> Result<(), Fail> {
+    let alloc = rt.alloc();
+    let ty = union(alloc, "Foo")?.into_single_entity();
+    holds(ty.ok_or("none")? == entity_type(alloc, "Foo")?, "Foo")
+}
+
+/// Whether the types of two words are disjoint.
+fn are_disjoint(alloc: Global, first: &str, second: &str) -> Result<bool, Fail> {
+    let (a, b) = (sample(alloc, first)?, sample(alloc, second)?);
+    Ok(Type::are_types_disjoint(&a, &b))
 }
 
 #[test]
 fn only_unions_without_a_common_member_are_disjoint(rt: HostRuntime) -> Result<(), Fail> {
     let alloc = rt.alloc();
     for (first, second, disjoint) in [
-        ("foo", "bar", true),
-        ("foo", "foo", false),
-        ("foo", "any-entity", false),
+        ("Foo", "Bar", true),
+        ("Foo", "Foo", false),
+        ("Foo", "any-entity", false),
         ("long", "string", false),
     ] {
-        let (a, b) = (sample(alloc, first)?, sample(alloc, second)?);
-        assert_eq!(rt;
-            Type::are_types_disjoint(&a, &b),
-            disjoint,
-            "{first} and {second}"
-        );
+        holds(are_disjoint(alloc, first, second)? == disjoint, second)?;
     }
     Ok(())
 }
 
 /// Types, each with whether it is one of entities, and how many entity types its union has, and
 /// that of it or of its elements.
-const UNIONS: [(&str, bool, usize, usize); 5] = [
-    ("foo", true, 1, 1),
+const UNIONS: &[(&str, bool, usize, usize)] = &[
+    ("Foo", true, 1, 1),
     ("any-entity", true, 0, 0),
-    ("set-foo", false, 0, 1),
+    ("set-Foo", false, 0, 1),
     ("any-set", false, 0, 0),
     ("long", false, 0, 0),
 ];
 
+/// How many entity types a union has, or none.
+fn count(union: Option<&EntityLUB>) -> usize {
+    union.map_or(0, |union| union.iter().count())
+}
+
 #[test]
 fn types_of_entities_give_back_their_union(rt: HostRuntime) -> Result<(), Fail> {
     let alloc = rt.alloc();
-    for (word, is_entity, own, of_elements) in UNIONS {
+    for &(word, is_entity, own, of_elements) in UNIONS {
         let ty = sample(alloc, word)?;
-        assert_eq!(rt; ty.is_entity_type(), is_entity, "at {word}");
-        let count = ty.as_entity_lub().map_or(0, |lub| lub.iter().count());
-        assert_eq!(rt; count, own, "at {word}");
-        let count = ty
-            .as_set_or_entity_lub()
-            .map_or(0, |lub| lub.iter().count());
-        assert_eq!(rt; count, of_elements, "at {word}");
+        holds(ty.is_entity_type() == is_entity, word)?;
+        holds(count(ty.as_entity_lub()) == own, word)?;
+        holds(count(ty.as_set_or_entity_lub()) == of_elements, word)?;
     }
     Ok(())
 }
