@@ -1,5 +1,6 @@
 //! Tests of names, values, extensions and entities.
 
+use crate::checked::{holds, same};
 use cedar_below::{
     CoreAttributeType, CoreSchemaType, Eid, Entities, Entity, EntityType, EntityUID,
     ExtensionFunction, ExtensionFunctionLookupError, Extensions, Id, InternalName, Loc, Name,
@@ -16,222 +17,242 @@ const PLACE: Loc = Loc {
     stop: 5,
 };
 
-fn text(alloc: Global, text: &str) -> Result<String, Fail> {
+pub(crate) fn text(alloc: Global, text: &str) -> Result<String, Fail> {
     Ok(String::from_str(alloc, text)?)
 }
 
-fn id(alloc: Global, word: &str) -> Result<Id, Fail> {
+pub(crate) fn id(alloc: Global, word: &str) -> Result<Id, Fail> {
     Ok(Id::new(text(alloc, word)?).ok_or("no identifier")?)
 }
 
-fn internal(
-    alloc: Global,
-    path: &[&str],
-    base: &str,
-    loc: Option<Loc>,
-) -> Result<InternalName, Fail> {
+/// The name whose parts stand between `::` in a word.
+pub(crate) fn internal(alloc: Global, word: &str, loc: Option<Loc>) -> Result<InternalName, Fail> {
     let mut parts = Vec::new(alloc);
-    for part in path {
+    for part in word.split("::") {
         parts.push(id(alloc, part)?)?;
     }
-    Ok(InternalName::new(id(alloc, base)?, parts, loc))
+    let base = parts.pop().ok_or("no name")?;
+    Ok(InternalName::new(base, parts, loc))
 }
 
-fn name(alloc: Global, path: &[&str], base: &str) -> Result<Name, Fail> {
-    Ok(Name::new(internal(alloc, path, base, None)?).ok_or("a reserved name")?)
+fn name(alloc: Global, word: &str) -> Result<Name, Fail> {
+    Ok(Name::new(internal(alloc, word, None)?).ok_or("a reserved name")?)
 }
 
-fn uid(alloc: Global, base: &str, eid: &str, loc: Option<Loc>) -> Result<EntityUID, Fail> {
-    let ty = EntityType::new(name(alloc, &[], base)?);
+fn uid(alloc: Global, ty: &str, eid: &str, loc: Option<Loc>) -> Result<EntityUID, Fail> {
+    let ty = EntityType::new(name(alloc, ty)?);
     Ok(EntityUID::new(ty, Eid(text(alloc, eid)?), loc))
 }
 
-fn entity(alloc: Global, eid: &str, loc: Option<Loc>) -> Result<Entity, Fail> {
-    let mut ancestors = BTreeSet::new(alloc);
-    ancestors.insert(uid(alloc, "Group", "b", None)?)?;
-    ancestors.insert(uid(alloc, "Group", "a", None)?)?;
-    Ok(Entity::new(
-        uid(alloc, "User", eid, loc)?,
-        BTreeMap::new(alloc),
-        BTreeMap::new(alloc),
-        ancestors,
-    ))
-}
+/// Texts, each with whether it spells an identifier, and one that isn't the reserved word.
+const WORDS: &[(&str, bool, bool)] = &[
+    ("", false, false),
+    ("a", true, true),
+    ("_", true, true),
+    ("9a", false, false),
+    ("a9_", true, true),
+    ("a-b", false, false),
+    ("__cedar", true, false),
+    ("__cedar1", true, true),
+    ("é", false, false),
+];
 
 #[test]
 fn identifiers_are_told_from_other_texts(rt: HostRuntime) -> Result<(), Fail> {
-    let cases = [
-        ("", false, false),
-        ("a", true, true),
-        ("_", true, true),
-        ("9a", false, false),
-        ("a9_", true, true),
-        ("a-b", false, false),
-        ("__cedar", true, false),
-        ("__cedar1", true, true),
-        ("é", false, false),
-    ];
-    for (word, identifier, unreserved) in cases {
-        assert_eq!(rt;
-            Id::new(text(rt.alloc(), word)?).is_some(),
-            identifier,
-            "at {word}"
-        );
-        assert_eq!(rt;
-            UnreservedId::new(text(rt.alloc(), word)?).is_some(),
-            unreserved,
-            "at {word}"
-        );
+    let alloc = rt.alloc();
+    for &(word, identifier, unreserved) in WORDS {
+        holds(Id::new(text(alloc, word)?).is_some() == identifier, word)?;
+        let id = UnreservedId::new(text(alloc, word)?);
+        holds(id.is_some() == unreserved, word)?;
     }
     Ok(())
 }
 
 #[test]
 fn reserved_names_are_refused(rt: HostRuntime) -> Result<(), Fail> {
-    let cases = [
-        ("A", "B", true),
-        ("A", "__cedar", false),
-        ("__cedar", "B", false),
-        ("__cedar_", "_", true),
-    ];
-    for (part, base, unreserved) in cases {
-        let internal = internal(rt.alloc(), &[part], base, None)?;
-        assert_eq!(rt;
-            Name::new(internal).is_some(),
-            unreserved,
-            "at {part}::{base}"
-        );
+    let alloc = rt.alloc();
+    for (word, unreserved) in [
+        ("A::B", true),
+        ("A::__cedar", false),
+        ("__cedar::B", false),
+        ("__cedar_::_", true),
+    ] {
+        let name = Name::new(internal(alloc, word, None)?);
+        holds(name.is_some() == unreserved, word)?;
     }
     Ok(())
+}
+
+/// The texts of the name of a word, of its entity type, and of the error that no function has the name.
+fn printed(alloc: Global, word: &str) -> Result<String, Fail> {
+    let name = name(alloc, word)?;
+    let error = ExtensionFunctionLookupError { name: &name };
+    let mut text = format!(in alloc; "{name}, {error}, ")?;
+    let ty = EntityType::new(name);
+    text.push_str(ty.to_string(alloc)?.as_str())?;
+    Ok(text)
 }
 
 #[test]
 fn names_print_joined_by_colons(rt: HostRuntime) -> Result<(), Fail> {
     let alloc = rt.alloc();
-    let long = name(alloc, &["A", "B"], "C")?;
-    let short = name(alloc, &[], "C")?;
-    assert_eq!(rt; format!(in alloc; "{long}")?.as_str(), "A::B::C");
-    assert_eq!(rt; format!(in alloc; "{short}")?.as_str(), "C");
-    let error = ExtensionFunctionLookupError { name: &long };
-    assert_eq!(rt;
-        format!(in alloc; "{error}")?.as_str(),
-        "no extension function is named A::B::C"
-    );
-    let ty = EntityType::new(long);
-    assert_eq!(rt; format!(in alloc; "{ty}")?.as_str(), "A::B::C");
+    for (word, expected) in [
+        (
+            "A::B::C",
+            "A::B::C, no extension function is named A::B::C, A::B::C",
+        ),
+        ("C", "C, no extension function is named C, C"),
+    ] {
+        same(word, printed(alloc, word)?.as_str(), expected)?;
+    }
     Ok(())
+}
+
+/// Names in their order: by base name, and then by path.
+const ASCENDING: &[&str] = &["A", "A::A", "A::B::A", "Z::A", "AA", "B", "a"];
+
+/// Whether the name of one word is below that of another.
+fn is_less(alloc: Global, word: &str, other: &str) -> Result<bool, Fail> {
+    Ok(name(alloc, word)? < name(alloc, other)?)
 }
 
 #[test]
 fn names_order_by_base_name_and_then_path(rt: HostRuntime) -> Result<(), Fail> {
     let alloc = rt.alloc();
-    let ascending = [
-        name(alloc, &[], "A")?,
-        name(alloc, &["A"], "A")?,
-        name(alloc, &["A", "B"], "A")?,
-        name(alloc, &["Z"], "A")?,
-        name(alloc, &[], "AA")?,
-        name(alloc, &[], "B")?,
-        name(alloc, &[], "a")?,
-    ];
-    for pair in ascending.windows(2) {
-        assert!(rt; pair.first() < pair.last());
+    for pair in ASCENDING.windows(2) {
+        if let [word, other] = pair {
+            holds(
+                is_less(alloc, word, other)? && !is_less(alloc, other, word)?,
+                word,
+            )?;
+        }
     }
     Ok(())
+}
+
+/// Whether a name that is written at a place and nowhere is one and the same, in equality and order.
+fn are_same_names(alloc: Global, word: &str) -> Result<bool, Fail> {
+    let here = internal(alloc, word, Some(PLACE))?;
+    let nowhere = internal(alloc, word, None)?;
+    Ok(here == nowhere && !(here < nowhere) && !(nowhere < here))
+}
+
+/// Whether that holds of the uid of a type and an id.
+fn are_same_uids(alloc: Global, ty: &str, eid: &str) -> Result<bool, Fail> {
+    let here = uid(alloc, ty, eid, Some(PLACE))?;
+    let nowhere = uid(alloc, ty, eid, None)?;
+    Ok(here == nowhere && !(here < nowhere) && !(nowhere < here))
 }
 
 #[test]
 fn locations_are_not_compared(rt: HostRuntime) -> Result<(), Fail> {
     let alloc = rt.alloc();
-    let here = internal(alloc, &["A"], "B", Some(PLACE))?;
-    let nowhere = internal(alloc, &["A"], "B", None)?;
-    assert_eq!(rt; here, nowhere);
-    assert!(rt; !(here < nowhere));
-    assert!(rt; !(nowhere < here));
-    let seen = uid(alloc, "A", "b", Some(PLACE))?;
-    let unseen = uid(alloc, "A", "b", None)?;
-    assert_eq!(rt; seen, unseen);
-    assert!(rt; !(seen < unseen));
-    assert!(rt; !(unseen < seen));
-    Ok(())
+    holds(are_same_names(alloc, "A::B")?, "A::B")?;
+    holds(are_same_uids(alloc, "A", "b")?, "a uid")
+}
+
+/// Whether copies of the identifiers of a word are equal to them.
+fn are_copied_ids(alloc: Global, word: &str) -> Result<bool, Fail> {
+    let id = id(alloc, word)?;
+    let is_equal = id.clone()? == id;
+    let unreserved = UnreservedId::new(text(alloc, word)?).ok_or("reserved")?;
+    Ok(is_equal && unreserved.clone()? == unreserved)
+}
+
+/// Two ids.
+fn ids(alloc: Global) -> Result<NonEmpty<Eid>, Fail> {
+    let head = Eid(text(alloc, "x")?);
+    let tail = vec![in alloc; Eid(text(alloc, "y")?)]?;
+    Ok(NonEmpty { head, tail })
 }
 
 #[test]
 fn copies_of_ids_are_equal(rt: HostRuntime) -> Result<(), Fail> {
     let alloc = rt.alloc();
-    let word = id(alloc, "a")?;
-    assert_eq!(rt; word.clone()?, word);
-    let unreserved = UnreservedId::new(text(alloc, "a")?).ok_or("reserved")?;
-    assert_eq!(rt; unreserved.clone()?, unreserved);
-    let ids = NonEmpty {
-        head: Eid(text(alloc, "x")?),
-        tail: vec![in alloc; Eid(text(alloc, "y")?)]?,
-    };
-    assert_eq!(rt; ids.clone()?, ids);
-    Ok(())
+    holds(are_copied_ids(alloc, "a")?, "a")?;
+    let ids = ids(alloc)?;
+    holds(ids.clone()? == ids, "x and y")
+}
+
+/// Whether a copy of the name of a word, which may be reserved, is equal to it and at its place.
+fn is_copied_name(alloc: Global, word: &str) -> Result<bool, Fail> {
+    let name = internal(alloc, word, Some(PLACE))?;
+    let copy = name.clone()?;
+    Ok(copy == name && copy.loc() == Some(PLACE))
+}
+
+/// Whether copies of the entity type of a word, and of its name, are equal to them.
+fn is_copied_type(alloc: Global, word: &str) -> Result<bool, Fail> {
+    let ty = EntityType::new(name(alloc, word)?);
+    let is_equal = ty.clone()? == ty;
+    let name = ty.into_name();
+    Ok(is_equal && name.clone()? == name)
 }
 
 #[test]
 fn copies_of_names_are_equal(rt: HostRuntime) -> Result<(), Fail> {
     let alloc = rt.alloc();
-    let ty = EntityType::new(name(alloc, &["A"], "B")?);
-    assert_eq!(rt; ty.clone()?, ty);
-    let name = ty.into_name();
-    assert_eq!(rt; name.clone()?, name);
-    let internal = internal(alloc, &["A", "__cedar"], "B", Some(PLACE))?;
-    let copy = internal.clone()?;
-    assert_eq!(rt; copy.loc(), Some(PLACE));
-    assert_eq!(rt; copy, internal);
-    Ok(())
+    holds(is_copied_name(alloc, "A::__cedar::B")?, "A::__cedar::B")?;
+    holds(is_copied_type(alloc, "A::B")?, "A::B")?;
+    let uid = uid(alloc, "A", "b c", Some(PLACE))?;
+    holds(uid.clone()? == uid, "a uid")
 }
 
-#[test]
-fn copies_of_uids_are_equal(rt: HostRuntime) -> Result<(), Fail> {
-    let uid = uid(rt.alloc(), "A", "b c", Some(PLACE))?;
-    assert_eq!(rt; uid.clone()?, uid);
-    Ok(())
+/// Extension types of the names of words, without functions.
+fn types(alloc: Global, words: &[&str]) -> Result<Extensions, Fail> {
+    let mut types = Vec::new(alloc);
+    for word in words {
+        types.push(name(alloc, word)?)?;
+    }
+    Ok(Extensions::new(types, BTreeMap::new(alloc)))
 }
 
 #[test]
 fn names_of_extension_types_fit(rt: HostRuntime) -> Result<(), Fail> {
     let alloc = rt.alloc();
-    let none = Extensions::new(Vec::new(alloc), BTreeMap::new(alloc));
-    assert!(rt; none.type_names_fit());
-    let cases = [
-        ("ipaddr", "decimal", true),
-        ("ipaddr", "ipaddr", false),
-        ("Long", "ipaddr", false),
-        ("ipaddr", "Bool", false),
-        ("String", "decimal", false),
-        ("string", "long", true),
+    let cases: [(&[&str], bool); 8] = [
+        (&[], true),
+        (&["ipaddr", "decimal"], true),
+        (&["ipaddr", "ipaddr"], false),
+        (&["Long", "ipaddr"], false),
+        (&["ipaddr", "Bool"], false),
+        (&["String", "decimal"], false),
+        (&["string", "long"], true),
+        (&["N::ipaddr"], false),
     ];
-    for (first, second, fit) in cases {
-        let types = vec![in alloc; name(alloc, &[], first)?, name(alloc, &[], second)?]?;
-        let extensions = Extensions::new(types, BTreeMap::new(alloc));
-        assert_eq!(rt; extensions.type_names_fit(), fit, "at {first} and {second}");
+    for (words, fit) in cases {
+        holds(
+            types(alloc, words)?.type_names_fit() == fit,
+            "extension types",
+        )?;
     }
-    let qualified = vec![in alloc; name(alloc, &["N"], "ipaddr")?]?;
-    assert!(rt; !Extensions::new(qualified, BTreeMap::new(alloc)).type_names_fit());
     Ok(())
+}
+
+/// The function `ip`, and the type `ipaddr`.
+fn extensions(alloc: Global) -> Result<Extensions, Fail> {
+    let function = ExtensionFunction {
+        arg_types: Vec::new(alloc),
+        return_type: None,
+    };
+    let mut functions = BTreeMap::new(alloc);
+    functions.insert(name(alloc, "ip")?, function)?;
+    let types = vec![in alloc; name(alloc, "ipaddr")?]?;
+    Ok(Extensions::new(types, functions))
 }
 
 #[test]
 fn extension_functions_are_found_by_name(rt: HostRuntime) -> Result<(), Fail> {
     let alloc = rt.alloc();
-    let mut functions = BTreeMap::new(alloc);
-    let function = ExtensionFunction {
-        arg_types: Vec::new(alloc),
-        return_type: None,
-    };
-    functions.insert(name(alloc, &[], "ip")?, function)?;
-    let types = vec![in alloc; name(alloc, &[], "ipaddr")?]?;
-    let extensions = Extensions::new(types, functions);
-    let ip = Name::new(internal(alloc, &[], "ip", Some(PLACE))?).ok_or("reserved")?;
-    let ipaddr = name(alloc, &[], "ipaddr")?;
-    assert!(rt; extensions.func(&ip).is_ok());
-    assert!(rt; extensions.func(&ipaddr).is_err());
-    assert!(rt; extensions.has_type(&ipaddr));
-    assert!(rt; !extensions.has_type(&ip));
+    let extensions = extensions(alloc)?;
+    for (word, is_function) in [("ip", true), ("ipaddr", false)] {
+        let name = Name::new(internal(alloc, word, Some(PLACE))?).ok_or("reserved")?;
+        let is_type = extensions.has_type(&name);
+        holds(
+            extensions.func(&name).is_ok() == is_function && is_type != is_function,
+            word,
+        )?;
+    }
     Ok(())
 }
 
@@ -264,15 +285,14 @@ fn fits(alloc: Global, value: RestrictedExpr, core: CoreSchemaType) -> bool {
 #[test]
 fn records_fit_by_their_listed_attributes(rt: HostRuntime) -> Result<(), Fail> {
     let alloc = rt.alloc();
-    let cases = [
+    for (names, open_attrs, fit) in [
         ("a", false, true),
         ("", true, false),
         ("a b", false, false),
         ("a b", true, true),
-    ];
-    for (names, open_attrs, fit) in cases {
+    ] {
         let core = core_record(alloc, open_attrs)?;
-        assert_eq!(rt; fits(alloc, ones(alloc, names)?, core), fit, "at {names}");
+        holds(fits(alloc, ones(alloc, names)?, core) == fit, names)?;
     }
     Ok(())
 }
@@ -289,43 +309,63 @@ fn core_set(alloc: Global, of_numbers: bool) -> Result<CoreSchemaType, Fail> {
     })
 }
 
+/// The set of so many ones.
+fn set_of(alloc: Global, length: usize) -> Result<RestrictedExpr, Fail> {
+    let mut elements = Vec::new(alloc);
+    for _ in 0..length {
+        elements.push(RestrictedExpr::Long(1))?;
+    }
+    Ok(RestrictedExpr::Set(elements))
+}
+
 #[test]
 fn sets_fit_by_their_elements(rt: HostRuntime) -> Result<(), Fail> {
     let alloc = rt.alloc();
     for (length, of_numbers, fit) in [(1, true, true), (1, false, false), (0, false, true)] {
-        let mut elements = Vec::new(alloc);
-        for _ in 0..length {
-            elements.push(RestrictedExpr::Long(1))?;
-        }
-        let set = RestrictedExpr::Set(elements);
-        assert_eq!(rt; fits(alloc, set, core_set(alloc, of_numbers)?), fit);
+        let core = core_set(alloc, of_numbers)?;
+        holds(fits(alloc, set_of(alloc, length)?, core) == fit, "a set")?;
     }
-    let empty = RestrictedExpr::Set(Vec::new(alloc));
-    assert!(rt; fits(alloc, empty, CoreSchemaType::EmptySet));
-    Ok(())
+    let empty = set_of(alloc, 0)?;
+    holds(
+        fits(alloc, empty, CoreSchemaType::EmptySet),
+        "the empty set",
+    )
 }
 
 #[test]
 fn entities_fit_their_core_type(rt: HostRuntime) -> Result<(), Fail> {
     let alloc = rt.alloc();
-    for (base, fit) in [("User", true), ("Group", false)] {
-        let user = RestrictedExpr::EntityUid(uid(alloc, "User", "a", Some(PLACE))?);
+    for (word, fit) in [("User", true), ("Group", false)] {
         let core = CoreSchemaType::Entity {
-            ty: EntityType::new(name(alloc, &[], base)?),
+            ty: EntityType::new(name(alloc, word)?),
         };
-        assert_eq!(rt; fits(alloc, user, core), fit, "at {base}");
+        let user = RestrictedExpr::EntityUid(uid(alloc, "User", "a", Some(PLACE))?);
+        holds(fits(alloc, user, core) == fit, word)?;
     }
     Ok(())
+}
+
+/// The entity of type `User` and an id, below two groups.
+fn entity(alloc: Global, eid: &str, loc: Option<Loc>) -> Result<Entity, Fail> {
+    let mut ancestors = BTreeSet::new(alloc);
+    for group in ["b", "a"] {
+        ancestors.insert(uid(alloc, "Group", group, None)?)?;
+    }
+    let uid = uid(alloc, "User", eid, loc)?;
+    Ok(Entity::new(uid, BTreeMap::new(alloc), BTreeMap::new(alloc), ancestors))
 }
 
 /// The entities `User::"b"`, put in twice, and `User::"a"`, each below two groups.
 fn users(alloc: Global) -> Result<Entities, Fail> {
     let mut entities = Entities::new(alloc);
-    entities.insert(entity(alloc, "b", None)?)?;
-    entities.insert(entity(alloc, "a", None)?)?;
-    entities
-        .insert(entity(alloc, "b", Some(PLACE))?)?
-        .ok_or("the one that was there")?;
+    for (eid, loc, is_new) in [
+        ("b", None, true),
+        ("a", None, true),
+        ("b", Some(PLACE), false),
+    ] {
+        let old = entities.insert(entity(alloc, eid, loc)?)?;
+        holds(old.is_none() == is_new, eid)?;
+    }
     Ok(entities)
 }
 
@@ -339,17 +379,17 @@ fn entities_are_listed_by_uid(rt: HostRuntime) -> Result<(), Fail> {
             uids.push_str(ancestor.eid().as_str())?;
         }
     }
-    assert_eq!(rt; uids.as_str(), "aabbab");
-    Ok(())
+    same("users", uids.as_str(), "aabbab")
 }
 
 #[test]
 fn entities_are_found_by_uid(rt: HostRuntime) -> Result<(), Fail> {
     let alloc = rt.alloc();
     let entities = users(alloc)?;
-    assert_eq!(rt; entities.len(), 2);
-    let found = entities.get(&uid(alloc, "User", "b", None)?);
-    assert_eq!(rt; found.ok_or("not found")?.uid().loc(), Some(PLACE));
-    assert!(rt; entities.get(&uid(alloc, "Group", "b", None)?).is_none());
+    for (ty, loc) in [("User", Some(Some(PLACE))), ("Group", None)] {
+        let uid = uid(alloc, ty, "b", None)?;
+        let found = entities.get(&uid).map(|entity| entity.uid().loc());
+        holds(found == loc && entities.len() == 2, ty)?;
+    }
     Ok(())
 }

@@ -4,4 +4,6 @@
 #[cfg(test)]
 mod below;
 #[cfg(test)]
+mod checked;
+#[cfg(test)]
 mod names;

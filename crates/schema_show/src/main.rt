@@ -1,16 +1,12 @@
 //! Shows the schemas of some built-in cases as sorted lines, and joins of some types.
 #![tactic(auto)]
 
+use schema_commands::{run, unread};
 use std::alloc::AllocGlobal;
 use std::env::Env;
 use std::process::ExitCode;
 use std::{env, io};
 
-mod cases;
-mod command;
-mod declaring;
-mod joined;
-mod run;
 #[cfg(test)]
 mod tests;
 
@@ -26,7 +22,7 @@ fn words<R: Env + AllocGlobal>(rt: &R) -> io::Result<Vec<String>> {
 fn main(rt: HostRuntime) -> ExitCode {
     let mut err = rt.stderr();
     ExitCode::from(match words(&rt) {
-        Ok(words) => run::run(rt.alloc(), &words, &mut io::writer(&rt), &mut err),
-        Err(error) => run::unread(&error, &mut err),
+        Ok(words) => run(rt.alloc(), &words, &mut io::writer(&rt), &mut err),
+        Err(error) => unread(&error, &mut err),
     })
 }

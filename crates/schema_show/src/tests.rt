@@ -1,9 +1,9 @@
 //! Tests of the program.
 
-use crate::run::{finish, lines_or_refusal, run, unread};
 use cedar_schema::SchemaError;
 use cedar_schema::below::Memory;
-use std::alloc::{AllocGlobal, Global};
+use schema_commands::{finish, lines_or_refusal, run, unread};
+use std::alloc::Global;
 use std::io;
 use std::io::Write;
 use std::test::Fail;
@@ -87,7 +87,7 @@ entity User standard
 ";
 
 /// Joins: the mode, two types by name, the status and what is printed.
-const JOINS: [(&str, &str, &str, u8, &str); 18] = [
+const JOINS: &[(&str, &str, &str, u8, &str)] = &[
     ("strict", "true", "false", 0, "Bool\n"),
     ("permissive", "set-bool", "set-long", 1, "refused: None\n"),
     (
@@ -164,119 +164,136 @@ fn words_of(alloc: Global, texts: &[&str]) -> Result<Vec<String>, Fail> {
     Ok(words)
 }
 
-/// Runs the program on some words, and compares its status and what it prints.
-fn check_run<R: AllocGlobal>(rt: &R, texts: &[&str], status: u8, want: &str) -> Result<(), Fail> {
-    let alloc = rt.alloc();
+/// Runs the program on some words, and compares its status and what it prints and says.
+fn check_run(
+    alloc: Global,
+    texts: &[&str],
+    status: u8,
+    printed: &str,
+    said: &str,
+) -> Result<(), Fail> {
+    let words = words_of(alloc, texts)?;
     let (mut out, mut err) = (Vec::new(alloc), Vec::new(alloc));
-    let answered = run(alloc, &words_of(alloc, texts)?, &mut out, &mut err);
-    if answered != status || out.as_slice() != want.as_bytes() || !err.is_empty() {
-        return Err(Fail::from(want));
+    let answered = run(alloc, &words, &mut out, &mut err);
+    if answered == status
+        && out.as_slice() == printed.as_bytes()
+        && err.as_slice() == said.as_bytes()
+    {
+        return Ok(());
     }
-    Ok(())
+    Err(Fail::new(format_args!("at {texts:?}: status {answered}")))
 }
+
+/// Cases, each with the status and what is printed.
+const SHOWN: &[(&str, u8, &str)] = &[
+    ("alias", 0, ALIAS_LINES),
+    ("both", 0, BOTH_LINES),
+    ("cycle", 1, "refused: CycleInCommonTypeReferences\n"),
+    ("empty", 0, ""),
+    ("linked", 0, LINKED_LINES),
+    ("photos", 0, PHOTOS_LINES),
+    ("ring", 0, RING_LINES),
+    ("shadow", 1, "refused: TypeShadowing\n"),
+    ("shapes", 0, SHAPES_LINES),
+    ("split", 0, PHOTOS_LINES),
+    ("tint", 1, "refused: ExternalWithEnumAncestor\n"),
+];
 
 #[test]
 fn commands_print_what_they_name(rt: HostRuntime) -> Result<(), Fail> {
-    check_run(&rt, &["list"], 0, CASES)?;
-    for (case, status, want) in [
-        ("alias", 0, ALIAS_LINES),
-        ("both", 0, BOTH_LINES),
-        ("cycle", 1, "refused: CycleInCommonTypeReferences\n"),
-        ("empty", 0, ""),
-        ("linked", 0, LINKED_LINES),
-        ("photos", 0, PHOTOS_LINES),
-        ("ring", 0, RING_LINES),
-        ("shadow", 1, "refused: TypeShadowing\n"),
-        ("shapes", 0, SHAPES_LINES),
-        ("split", 0, PHOTOS_LINES),
-        ("tint", 1, "refused: ExternalWithEnumAncestor\n"),
-    ] {
-        check_run(&rt, &["show", case], status, want)?;
+    let alloc = rt.alloc();
+    check_run(alloc, &["list"], 0, CASES, "")?;
+    for &(case, status, printed) in SHOWN {
+        check_run(alloc, &["show", case], status, printed, "")?;
     }
     Ok(())
 }
 
 #[test]
 fn joins_print_their_text(rt: HostRuntime) -> Result<(), Fail> {
-    for (mode, first, second, status, want) in JOINS {
-        check_run(&rt, &["join", mode, first, second], status, want)?;
+    let alloc = rt.alloc();
+    for &(mode, first, second, status, printed) in JOINS {
+        check_run(alloc, &["join", mode, first, second], status, printed, "")?;
     }
     Ok(())
 }
 
+/// Pairs of types, each with what is printed.
+const SEPARATED: &[(&str, &str, &str)] = &[
+    ("true", "bool", "none\n"),
+    ("foo", "any-entity", "none\n"),
+    ("r3", "any-record", "none\n"),
+    ("set-bool", "any-set", "none\n"),
+    ("unit", "unit", "none\n"),
+    ("bool", "true", "separated\n"),
+    ("foo", "bar", "separated\n"),
+    ("any-entity", "foo", "separated\n"),
+    ("any-record", "r3", "separated\n"),
+    ("unit", "r3", "separated\n"),
+    ("r1", "r2", "separated\n"),
+    ("set-bool", "set-long", "separated\n"),
+    ("any-set", "set-bool", "separated\n"),
+    ("long", "string", "separated\n"),
+];
+
 #[test]
 fn separations_are_told(rt: HostRuntime) -> Result<(), Fail> {
-    for (first, second, want) in [
-        ("true", "bool", "none\n"),
-        ("foo", "any-entity", "none\n"),
-        ("r3", "any-record", "none\n"),
-        ("set-bool", "any-set", "none\n"),
-        ("unit", "unit", "none\n"),
-        ("bool", "true", "separated\n"),
-        ("foo", "bar", "separated\n"),
-        ("any-entity", "foo", "separated\n"),
-        ("any-record", "r3", "separated\n"),
-        ("unit", "r3", "separated\n"),
-        ("r1", "r2", "separated\n"),
-        ("set-bool", "set-long", "separated\n"),
-        ("any-set", "set-bool", "separated\n"),
-        ("long", "string", "separated\n"),
-    ] {
-        check_run(&rt, &["separate", first, second], 0, want)?;
+    let alloc = rt.alloc();
+    for &(first, second, printed) in SEPARATED {
+        check_run(alloc, &["separate", first, second], 0, printed, "")?;
     }
     Ok(())
 }
+
+/// Words that give no command: none, unknown ones, too few or too many, in another case or order, and types that
+/// aren't separated.
+const OTHERS: &[&[&str]] = &[
+    &[],
+    &[""],
+    &["draw"],
+    &["List"],
+    &["list "],
+    &["list", "shapes"],
+    &["show"],
+    &["show", "users"],
+    &["show", "Shapes"],
+    &["show", "shapes", "shapes"],
+    &["shapes", "show"],
+    &["join", "Strict", "true", "false"],
+    &["join", "strict", "true", "text"],
+    &["join", "strict", "true"],
+    &["join", "strict", "true", "false", "bool"],
+    &["separate", "never", "bool"],
+    &["separate", "opt", "opt"],
+    &["separate", "bool", "never"],
+    &["separate", "bool"],
+    &["separate", "bool", "true", "false"],
+];
 
 #[test]
 fn other_words_are_answered_by_the_usage(rt: HostRuntime) -> Result<(), Fail> {
     let alloc = rt.alloc();
-    let cases: [(&str, &[&str]); 20] = [
-        ("no words", &[]),
-        ("an empty word", &[""]),
-        ("an unknown command", &["draw"]),
-        ("a command in another case", &["List"]),
-        ("a command with a blank", &["list "]),
-        ("a further word of list", &["list", "shapes"]),
-        ("no case", &["show"]),
-        ("an unknown case", &["show", "users"]),
-        ("a case in another case", &["show", "Shapes"]),
-        ("a further word of show", &["show", "shapes", "shapes"]),
-        ("words in another order", &["shapes", "show"]),
-        ("an unknown mode", &["join", "Strict", "true", "false"]),
-        ("an unknown type", &["join", "strict", "true", "text"]),
-        ("a missing type", &["join", "strict", "true"]),
-        (
-            "a further word of join",
-            &["join", "strict", "true", "false", "bool"],
-        ),
-        ("a type without values", &["separate", "never", "bool"]),
-        ("an optional attribute", &["separate", "opt", "opt"]),
-        ("a second without values", &["separate", "bool", "never"]),
-        ("a missing second type", &["separate", "bool"]),
-        (
-            "a further word of separate",
-            &["separate", "bool", "true", "false"],
-        ),
-    ];
-    for (place, texts) in cases {
-        let (mut out, mut err) = (Vec::new(alloc), Vec::new(alloc));
-        let status = run(alloc, &words_of(alloc, texts)?, &mut out, &mut err);
-        assert_eq!(rt; status, 2, "at {place}");
-        assert_eq!(rt; err.as_slice(), USAGE_LINE.as_bytes(), "at {place}");
-        assert!(rt; out.is_empty(), "at {place}");
+    for &texts in OTHERS {
+        check_run(alloc, texts, 2, "", USAGE_LINE)?;
     }
     Ok(())
+}
+
+/// The status of the program on some words where nothing can be printed, and whether nothing is said.
+fn unprinted(alloc: Global, texts: &[&str]) -> Result<(u8, bool), Fail> {
+    let words = words_of(alloc, texts)?;
+    let mut err = Vec::new(alloc);
+    let status = run(alloc, &words, &mut Broken, &mut err);
+    Ok((status, err.is_empty()))
 }
 
 #[test]
 fn failed_output_is_answered_by_its_status(rt: HostRuntime) -> Result<(), Fail> {
     let alloc = rt.alloc();
-    let cases: [(&str, &[&str]); 2] = [("list", &["list"]), ("show", &["show", "shapes"])];
-    for (place, texts) in cases {
-        let mut err = Vec::new(alloc);
-        let status = run(alloc, &words_of(alloc, texts)?, &mut Broken, &mut err);
-        assert_eq!(rt; status, 4, "at {place}");
-        assert!(rt; err.is_empty(), "at {place}");
+    let texts: [&[&str]; 2] = [&["list"], &["show", "shapes"]];
+    for words in texts {
+        let (status, is_silent) = unprinted(alloc, words)?;
+        assert!(rt; status == 4 && is_silent);
     }
     Ok(())
 }
@@ -284,50 +301,38 @@ fn failed_output_is_answered_by_its_status(rt: HostRuntime) -> Result<(), Fail> 
 #[test]
 fn failed_usage_line_is_ignored(rt: HostRuntime) -> Result<(), Fail> {
     let alloc = rt.alloc();
+    let words = words_of(alloc, &["draw"])?;
     let mut out = Vec::new(alloc);
-    let status = run(alloc, &words_of(alloc, &["draw"])?, &mut out, &mut Broken);
-    assert_eq!(rt; status, 2);
-    assert!(rt; out.is_empty());
+    let status = run(alloc, &words, &mut out, &mut Broken);
+    assert!(rt; status == 2 && out.is_empty());
     Ok(())
 }
 
-#[test]
-fn refused_schemas_are_answered_by_their_kind(rt: HostRuntime) -> Result<(), Fail> {
-    let alloc = rt.alloc();
+/// Whether a refused schema is answered by a status, a printed line and one that is said.
+fn is_answered(alloc: Global, error: SchemaError, status: u8, printed: &str, said: &str) -> bool {
     let (mut out, mut err) = (Vec::new(alloc), Vec::new(alloc));
-    let refused = Err(SchemaError::ActionInvariantViolation);
-    let status = finish(lines_or_refusal(alloc, refused), &mut out, &mut err);
-    assert_eq!(rt; status, 1);
-    assert_eq!(rt;
-        out.as_slice(),
-        b"refused: ActionInvariantViolation\n".as_slice()
-    );
-    assert!(rt; err.is_empty());
-    Ok(())
+    let answered = finish(lines_or_refusal(alloc, Err(error)), &mut out, &mut err);
+    answered == status && out.as_slice() == printed.as_bytes() && err.as_slice() == said.as_bytes()
 }
 
 #[test]
-fn want_of_memory_is_answered_by_its_status(rt: HostRuntime) -> Result<(), Fail> {
+fn refused_schemas_are_answered_by_their_kind(rt: HostRuntime) {
     let alloc = rt.alloc();
-    let (mut out, mut err) = (Vec::new(alloc), Vec::new(alloc));
-    let refused = Err(SchemaError::Memory(Memory));
-    let status = finish(lines_or_refusal(alloc, refused), &mut out, &mut err);
-    assert_eq!(rt; status, 3);
-    assert_eq!(rt; err.as_slice(), b"memory\n".as_slice());
-    assert!(rt; out.is_empty());
-    Ok(())
+    let refused = SchemaError::ActionInvariantViolation;
+    let line = "refused: ActionInvariantViolation\n";
+    assert!(rt; is_answered(alloc, refused, 1, line, ""));
+    let refused = SchemaError::Memory(Memory);
+    assert!(rt; is_answered(alloc, refused, 3, "", "memory\n"));
 }
 
 #[test]
-fn unread_words_are_answered_by_their_status(rt: HostRuntime) -> Result<(), Fail> {
-    let cases = [
+fn unread_words_are_answered_by_their_status(rt: HostRuntime) {
+    for (kind, status, line) in [
         (io::ErrorKind::OutOfMemory, 3, "memory\n"),
         (io::ErrorKind::InvalidData, 2, USAGE_LINE),
-    ];
-    for (kind, want, line) in cases {
+    ] {
         let mut err = Vec::new(rt.alloc());
-        assert_eq!(rt; unread(&io::Error::from(kind), &mut err), want);
-        assert_eq!(rt; err.as_slice(), line.as_bytes());
+        let answered = unread(&io::Error::from(kind), &mut err);
+        assert!(rt; answered == status && err.as_slice() == line.as_bytes());
     }
-    Ok(())
 }

@@ -3,7 +3,7 @@
 ghost use Rattle.std.specs.Prelude.{IfOk};
 ghost use Rattle.std.specs.List.{AllByRecursion};
 ghost use Rattle.cedar_types.specs.Meaning.{ty_of};
-ghost use Rattle.schema_show.specs.Samples.{IsStatedAlone};
+ghost use Rattle.schema_commands.specs.Samples.{IsStatedAlone};
 
 use crate::command::{SampleType, StatedType};
 use crate::declaring::name;

@@ -1,7 +1,7 @@
 -- The names that the program knows: of cases, of types and of modes.
 use Rattle.std.proofs.Common.{◌≡◌, ◌⊎◌, Contains, codes, inl, inr, lit<, sym}
 use Rattle.cedar_below.specs.Text.{Text}
-use Rattle.schema_show.specs.Words.{case_names, mode_names, stated_names}
+use Rattle.schema_commands.specs.Words.{case_names, mode_names, stated_names}
 
 -- a text that is one of the eleven names of cases is one of the list
 pub case_from_names : (text : Text) →

@@ -1,7 +1,7 @@
 //! What the program does, over any two writers.
 
 ghost use Rattle.std.specs.Prelude.{◌≡◌, ◌<◌, ◌↔◌, ◌⊎◌, IfOk, OnErr, map, string_bytes};
-ghost use Rattle.schema_show.specs.Words.{IsCommand};
+ghost use Rattle.schema_commands.specs.Words.{IsCommand};
 
 use crate::cases::{fragments_of, sample_extensions};
 use crate::command::{Case, Command, command_of};
@@ -21,9 +21,11 @@ const LIST: &str = "alias\nboth\ncycle\nempty\nlinked\nphotos\nring\nshadow\nsha
 
 /// What is printed, and the status that goes with it.
 #[derive(Drop)]
-pub(crate) struct Outcome {
-    text: String,
-    status: u8,
+pub struct Outcome {
+    /// What is printed on the first writer.
+    pub text: String,
+    /// The status that the program ends with where that could be written.
+    pub status: u8,
 }
 
 /// The schema of a case.
@@ -34,10 +36,7 @@ fn schema_of(alloc: Global, case: Case) -> Result<ValidatorSchema, SchemaError> 
 }
 
 /// The lines of a schema, or the line that says how it was refused.
-pub(crate) fn lines_or_refusal(
-    alloc: Global,
-    built: Result<ValidatorSchema, SchemaError>,
-) -> M<Outcome>
+pub fn lines_or_refusal(alloc: Global, built: Result<ValidatorSchema, SchemaError>) -> M<Outcome>
     ensures { IfOk result (λ outcome. outcome.status < 2) }
 {
     match built {
@@ -102,7 +101,7 @@ fn outcome_of(alloc: Global, command: Command) -> M<Outcome>
 
 /// Writes what a command gave, and answers the status: its own, 3 for want of memory, or 4 where `out`
 /// couldn't be written. A failed write to `err` is ignored.
-pub(crate) fn finish<O: Write, E: Write>(outcome: M<Outcome>, out: &mut O, err: &mut E) -> u8
+pub fn finish<O: Write, E: Write>(outcome: M<Outcome>, out: &mut O, err: &mut E) -> u8
     ensures given { IfOk outcome (λ given. (result ≡ given.status) ⊎ (result ≡ 4)) }
     ensures refused { OnErr outcome (result ≡ 3) }
 {

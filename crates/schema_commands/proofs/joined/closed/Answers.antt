@@ -8,9 +8,9 @@ use Rattle.cedar_rules.specs.declared.open_tag.OpenTag.TheVariants.{ClosedAttrib
 use Rattle.cedar_types.specs.Attributes.{plain_required}
 use Rattle.cedar_types.specs.Meaning.{ty_of}
 use Rattle.cedar_types.specs.declared.types.Type.{«Type»}
-use Rattle.schema_show.proofs.StatedRecords.{stated_record}
-use Rattle.schema_show.specs.Samples.{IsStatedAlone}
-use Rattle.schema_show.proofs.joined.closed.Goals as goal
+use Rattle.schema_commands.proofs.StatedRecords.{stated_record}
+use Rattle.schema_commands.specs.Samples.{IsStatedAlone}
+use Rattle.schema_commands.proofs.joined.closed.Goals as goal
 
 pub returns : goal.returns
 returns c =

@@ -17,7 +17,7 @@ use Rattle.cedar_rules.specs.declared.open_tag.OpenTag.{OpenTag}
 use Rattle.cedar_types.specs.Attributes.{plain_required}
 use Rattle.cedar_types.specs.Meaning.{ty_of}
 use Rattle.cedar_types.specs.declared.types.Type.{«Type»}
-use Rattle.schema_show.specs.Samples.{IsStatedAlone}
+use Rattle.schema_commands.specs.Samples.{IsStatedAlone}
 
 -- what holds of the first and of what is found later holds of what is found
 chosen_holds : {A : Type 0} (P : A → Type 0) (later : Option A) (b : Bool) (first found : A) → P first

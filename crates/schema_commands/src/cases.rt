@@ -2,7 +2,7 @@
 
 ghost use Rattle.std.specs.Prelude.{◌≡◌, [], ◌∷◌, IfOk};
 ghost use Rattle.cedar_below.specs.Extensions.{extension_types};
-ghost use Rattle.schema_show.specs.Samples.{sample_type};
+ghost use Rattle.schema_commands.specs.Samples.{sample_type};
 
 use crate::command::Case;
 use crate::declaring::{

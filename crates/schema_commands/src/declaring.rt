@@ -5,7 +5,7 @@ ghost use Rattle.cedar_below.specs.Identifier.{IsIdentifier, reserved_word};
 ghost use Rattle.cedar_below.specs.Name.{plain_name};
 ghost use Rattle.cedar_below.specs.UnreservedId.{unreserved_id_text};
 ghost use Rattle.cedar_names.specs.ReservedTypeWord.{IsReservedTypeWord};
-ghost use Rattle.schema_show.specs.Samples.{bare_name};
+ghost use Rattle.schema_commands.specs.Samples.{bare_name};
 
 use cedar_schema::below::{Eid, Id, InternalName, M, Name, NonEmpty, UnreservedId};
 use cedar_schema::json_schema::{

@@ -1,7 +1,7 @@
 use Rattle.std.proofs.Common.{codes, inr, refl, ◌∷◌}
 use Rattle.cedar_below.proofs.Lists.{Contains-cons}
-use Rattle.schema_show.specs.Words.{stated_names}
-use Rattle.schema_show.proofs.command.type_named.Goals as goal
+use Rattle.schema_commands.specs.Words.{stated_names}
+use Rattle.schema_commands.proofs.command.type_named.Goals as goal
 
 pub returns-in_ok-stated_named-in_default : goal.returns-in_ok-stated_named-in_default
 returns-in_ok-stated_named-in_default c =

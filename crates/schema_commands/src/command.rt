@@ -1,7 +1,7 @@
 //! What the words of the program ask for.
 
 ghost use Rattle.std.specs.Prelude.{◌≡◌, ◌↔◌, codes, Contains, IsSome, map, string_bytes};
-ghost use Rattle.schema_show.specs.Words.{IsCommand, case_names, mode_names, stated_names, type_names};
+ghost use Rattle.schema_commands.specs.Words.{IsCommand, case_names, mode_names, stated_names, type_names};
 
 use cedar_schema::below::ValidationMode;
 
