@@ -10,6 +10,8 @@ mod by_hand;
 #[cfg(test)]
 mod calls;
 #[cfg(test)]
+mod checked;
+#[cfg(test)]
 mod copies;
 #[cfg(test)]
 mod entries;

@@ -1,6 +1,7 @@
 //! Locations in built schemas.
 
 use crate::answers::build;
+use crate::checked::holds;
 use crate::known::union;
 use crate::names::{entity_type, raw, unreserved_id};
 use crate::shorthand::nothing;
@@ -121,59 +122,9 @@ fn view_uid(alloc: Global) -> Result<EntityUID, Fail> {
     Ok(EntityUID::new(entity_type(alloc, "Action")?, id, None))
 }
 
-#[test]
-fn locations_are_those_of_the_plain_data(rt: HostRuntime) -> Result<(), Fail> {
-    let alloc = rt.alloc();
-    let only = fragment(alloc, located(alloc, Some(1), false)?)?;
-    let schema = build(alloc, vec![in alloc; only]?)??;
-    let user = entity_type(alloc, "U")?;
-    let ty = schema.get_entity_type(&user).ok_or("no entity type")?;
-    assert_eq!(rt; ty.loc, Some(place(1)));
-    let attribute = ty.attr("a").ok_or("no attribute")?;
-    assert_eq!(rt; attribute.loc, Some(place(2)));
-    let view = view_uid(alloc)?;
-    let action = schema.get_action_id(&view).ok_or("no action")?;
-    assert_eq!(rt; action.loc(), Some(place(3)));
-    assert_eq!(rt; action.name().loc(), Some(place(4)));
-    Ok(())
-}
-
-#[test]
-fn attributes_of_common_types_keep_their_locations(rt: HostRuntime) -> Result<(), Fail> {
-    let alloc = rt.alloc();
-    let shape = Type::CommonTypeRef {
-        type_name: raw(alloc, "S")?,
-        loc: Some(place(9)),
-    };
-    let user = standard_at(alloc, shape, None);
-    let mut both = definition(alloc, user, action_at(None, None), false)?;
-    let id = CommonTypeId::new(unreserved_id(alloc, "S")?).ok_or("a word of Cedar's own")?;
-    let declared = CommonType {
-        ty: record_at(alloc, Some(place(8)))?,
-        loc: Some(place(7)),
-    };
-    both.common_types.insert(id, declared)?;
-    let schema = build(alloc, vec![in alloc; fragment(alloc, both)?]?)??;
-    let user = entity_type(alloc, "U")?;
-    let ty = schema.get_entity_type(&user).ok_or("no entity type")?;
-    assert_eq!(rt; ty.loc, None);
-    let attribute = ty.attr("a").ok_or("no attribute")?;
-    assert_eq!(rt; attribute.loc, Some(place(8)));
-    Ok(())
-}
-
-/// The schema of two fragments, in this order or in the other.
-fn of_two(
-    alloc: Global,
-    first: Fragment<RawName>,
-    second: Fragment<RawName>,
-    swapped: bool,
-) -> Result<ValidatorSchema, Fail> {
-    let fragments = if swapped {
-        vec![in alloc; second, first]?
-    } else {
-        vec![in alloc; first, second]?
-    };
+/// The schema of one definition in the empty namespace.
+fn built(alloc: Global, definition: NamespaceDefinition<RawName>) -> Result<ValidatorSchema, Fail> {
+    let fragments = vec![in alloc; fragment(alloc, definition)?]?;
     Ok(build(alloc, fragments)??)
 }
 
@@ -189,24 +140,92 @@ fn locations(
     Ok((ty.loc, action.loc(), action.name().loc()))
 }
 
+/// The location of the attribute `a` of the entity type `U`.
+fn location_of_a(alloc: Global, schema: &ValidatorSchema) -> Result<Option<Loc>, Fail> {
+    let user = entity_type(alloc, "U")?;
+    let ty = schema.get_entity_type(&user).ok_or("no entity type")?;
+    Ok(ty.attr("a").ok_or("no attribute")?.loc)
+}
+
+#[test]
+fn locations_are_those_of_the_plain_data(rt: HostRuntime) -> Result<(), Fail> {
+    let alloc = rt.alloc();
+    let schema = built(alloc, located(alloc, Some(1), false)?)?;
+    let wanted = (Some(place(1)), Some(place(3)), Some(place(4)));
+    let are_kept = locations(alloc, &schema)? == wanted;
+    holds(
+        are_kept && location_of_a(alloc, &schema)? == Some(place(2)),
+        "a definition",
+    )
+}
+
+/// A definition of the common type `S`, and of the entity type `U` of that shape.
+fn of_common_type(alloc: Global) -> Result<NamespaceDefinition<RawName>, Fail> {
+    let shape = Type::CommonTypeRef {
+        type_name: raw(alloc, "S")?,
+        loc: Some(place(9)),
+    };
+    let user = standard_at(alloc, shape, None);
+    let mut both = definition(alloc, user, action_at(None, None), false)?;
+    let id = CommonTypeId::new(unreserved_id(alloc, "S")?).ok_or("a word of Cedar's own")?;
+    let declared = CommonType {
+        ty: record_at(alloc, Some(place(8)))?,
+        loc: Some(place(7)),
+    };
+    both.common_types.insert(id, declared)?;
+    Ok(both)
+}
+
+#[test]
+fn attributes_of_common_types_keep_their_locations(rt: HostRuntime) -> Result<(), Fail> {
+    let alloc = rt.alloc();
+    let schema = built(alloc, of_common_type(alloc)?)?;
+    let is_nowhere = locations(alloc, &schema)? == (None, None, None);
+    holds(
+        is_nowhere && location_of_a(alloc, &schema)? == Some(place(8)),
+        "a shape",
+    )
+}
+
+/// The schema of two fragments with locations in the texts from two numbers on, in this order or in the other, and each
+/// with external declarations or with definitions.
+fn of_two(
+    alloc: Global,
+    first: (Option<u32>, bool),
+    second: (Option<u32>, bool),
+    swapped: bool,
+) -> Result<ValidatorSchema, Fail> {
+    let (first, second) = if swapped {
+        (second, first)
+    } else {
+        (first, second)
+    };
+    let mut fragments = Vec::new(alloc);
+    for (number, external) in [first, second] {
+        fragments.push(fragment(alloc, located(alloc, number, external)?)?)?;
+    }
+    Ok(build(alloc, fragments)??)
+}
+
+/// Where an external declaration and the definition are, and in which order they come.
+const LINKED: &[(Option<u32>, Option<u32>, bool)] = &[
+    (Some(1), Some(11), false),
+    (Some(1), Some(11), true),
+    (Some(11), Some(1), false),
+    (Some(11), Some(1), true),
+    (Some(1), None, false),
+    (Some(1), None, true),
+    (None, Some(11), false),
+    (None, Some(11), true),
+];
+
 #[test]
 fn locations_are_those_of_the_definition(rt: HostRuntime) -> Result<(), Fail> {
     let alloc = rt.alloc();
-    for (outside, inside, swapped) in [
-        (Some(1), Some(11), false),
-        (Some(1), Some(11), true),
-        (Some(11), Some(1), false),
-        (Some(11), Some(1), true),
-        (Some(1), None, false),
-        (Some(1), None, true),
-        (None, Some(11), false),
-        (None, Some(11), true),
-    ] {
-        let external = fragment(alloc, located(alloc, outside, true)?)?;
-        let defined = fragment(alloc, located(alloc, inside, false)?)?;
-        let schema = of_two(alloc, external, defined, swapped)?;
+    for &(outside, inside, swapped) in LINKED {
+        let schema = of_two(alloc, (outside, true), (inside, false), swapped)?;
         let wanted = (after(inside, 0), after(inside, 2), after(inside, 3));
-        assert!(rt; locations(alloc, &schema)? == wanted);
+        holds(locations(alloc, &schema)? == wanted, "a definition")?;
     }
     Ok(())
 }
@@ -215,13 +234,15 @@ fn locations_are_those_of_the_definition(rt: HostRuntime) -> Result<(), Fail> {
 fn locations_of_external_declarations_are_those_of_one(rt: HostRuntime) -> Result<(), Fail> {
     let alloc = rt.alloc();
     for swapped in [false, true] {
-        let one = fragment(alloc, located(alloc, Some(1), true)?)?;
-        let other = fragment(alloc, located(alloc, Some(11), true)?)?;
-        let schema = of_two(alloc, one, other, swapped)?;
+        let schema = of_two(alloc, (Some(1), true), (Some(11), true), swapped)?;
         let (ty, action, uid) = locations(alloc, &schema)?;
-        assert!(rt; ty == Some(place(1)) || ty == Some(place(11)));
-        assert!(rt; action == Some(place(3)) || action == Some(place(13)));
-        assert!(rt; uid == Some(place(4)) || uid == Some(place(14)));
+        let is_of_one = ty == Some(place(1)) || ty == Some(place(11));
+        holds(is_of_one, "an entity type")?;
+        let is_of_one = action == Some(place(3)) || action == Some(place(13));
+        holds(
+            is_of_one && (uid == Some(place(4)) || uid == Some(place(14))),
+            "an action",
+        )?;
     }
     Ok(())
 }
@@ -229,12 +250,10 @@ fn locations_of_external_declarations_are_those_of_one(rt: HostRuntime) -> Resul
 #[test]
 fn locations_of_an_external_declaration_are_its_own(rt: HostRuntime) -> Result<(), Fail> {
     let alloc = rt.alloc();
-    let only = fragment(alloc, located(alloc, Some(1), true)?)?;
-    let schema = build(alloc, vec![in alloc; only]?)??;
+    let schema = built(alloc, located(alloc, Some(1), true)?)?;
     let wanted = (Some(place(1)), Some(place(3)), Some(place(4)));
-    assert!(rt; locations(alloc, &schema)? == wanted);
-    assert!(rt; locations(alloc, &schema.clone()?)? == wanted);
-    Ok(())
+    holds(locations(alloc, &schema)? == wanted, "a schema")?;
+    holds(locations(alloc, &schema.clone()?)? == wanted, "a copy")
 }
 
 /// The location that the error of an incomplete schema carries.
@@ -253,8 +272,11 @@ fn what_is_lacking_has_its_location(rt: HostRuntime) -> Result<(), Fail> {
         if !with_types {
             external.entity_types.clear();
         }
-        let schema = build(alloc, vec![in alloc; fragment(alloc, external)?]?)??;
-        assert_eq!(rt; lacking_loc(alloc, &schema)?, Some(wanted));
+        let schema = built(alloc, external)?;
+        holds(
+            lacking_loc(alloc, &schema)? == Some(wanted),
+            "what is lacking",
+        )?;
     }
     Ok(())
 }
@@ -267,21 +289,34 @@ fn attribute_loc(ty: Option<&Written>) -> Result<Option<Loc>, Fail> {
     }
 }
 
-#[test]
-fn attributes_of_several_entity_types_have_no_location(rt: HostRuntime) -> Result<(), Fail> {
-    let alloc = rt.alloc();
+/// The schema of the entity types `U` and `V`, each with the attribute `a` at a place of its own.
+fn of_two_types(alloc: Global) -> Result<ValidatorSchema, Fail> {
     let mut both = located(alloc, Some(1), false)?;
     let other = standard_at(alloc, record_at(alloc, Some(place(8)))?, None);
     let id = unreserved_id(alloc, "V")?;
     both.entity_types.insert(id, other)?;
-    let schema = build(alloc, vec![in alloc; fragment(alloc, both)?]?)??;
+    built(alloc, both)
+}
+
+/// Where the attribute `a` is that is listed for entities of some types, and where the one is that is looked up.
+fn places_of_a(
+    alloc: Global,
+    schema: &ValidatorSchema,
+    names: &str,
+) -> Result<(Option<Loc>, Option<Loc>), Fail> {
+    let ty = union(alloc, names)?;
+    let found = Written::lookup_attribute_type(alloc, schema, &ty, "a")?;
+    let found = found.ok_or("no attribute")?.loc;
+    let listed = ty.all_attributes(alloc, schema)?;
+    Ok((listed.get_attr("a").ok_or("no attribute")?.loc, found))
+}
+
+#[test]
+fn attributes_of_several_entity_types_have_no_location(rt: HostRuntime) -> Result<(), Fail> {
+    let alloc = rt.alloc();
+    let schema = of_two_types(alloc)?;
     for (names, loc) in [("U", Some(place(2))), ("V", Some(place(8))), ("U V", None)] {
-        let ty = union(alloc, names)?;
-        let listed = ty.all_attributes(alloc, &schema)?;
-        let attribute = listed.get_attr("a").ok_or("no attribute")?;
-        assert_eq!(rt; attribute.loc, loc, "of {names}");
-        let found = Written::lookup_attribute_type(alloc, &schema, &ty, "a")?;
-        assert_eq!(rt; found.ok_or("no attribute")?.loc, loc, "of {names}");
+        holds(places_of_a(alloc, &schema, names)? == (loc, loc), names)?;
     }
     Ok(())
 }
@@ -295,43 +330,57 @@ fn with_context(alloc: Global, context: Type<RawName>) -> ApplySpec<RawName> {
     }
 }
 
+/// The entity type `U` with tags of records with an attribute at a place.
+fn tagged(alloc: Global, loc: Loc) -> Result<EntityType<RawName>, Fail> {
+    let shape = AttributesOrContext(record_at(alloc, None)?);
+    let kind = EntityTypeKind::Standard(StandardEntityType {
+        member_of_types: Vec::new(alloc),
+        shape,
+        tags: Some(record_at(alloc, Some(loc))?),
+    });
+    Ok(EntityType {
+        kind,
+        external: false,
+        loc: None,
+    })
+}
+
+/// The schema of such an entity type, and of an action whose context has an attribute at another place.
+fn with_tags_and_context(alloc: Global) -> Result<ValidatorSchema, Fail> {
+    let mut view = action_at(None, None);
+    view.applies_to = Some(with_context(alloc, record_at(alloc, Some(place(3)))?));
+    built(
+        alloc,
+        definition(alloc, tagged(alloc, place(2))?, view, false)?,
+    )
+}
+
 #[test]
 fn attributes_of_tags_and_contexts_keep_their_locations(rt: HostRuntime) -> Result<(), Fail> {
     let alloc = rt.alloc();
-    let tagged = StandardEntityType {
-        member_of_types: Vec::new(alloc),
-        shape: AttributesOrContext(record_at(alloc, None)?),
-        tags: Some(record_at(alloc, Some(place(2)))?),
-    };
-    let user = EntityType {
-        kind: EntityTypeKind::Standard(tagged),
-        external: false,
-        loc: None,
-    };
-    let mut view = action_at(None, None);
-    view.applies_to = Some(with_context(alloc, record_at(alloc, Some(place(3)))?));
-    let only = fragment(alloc, definition(alloc, user, view, false)?)?;
-    let schema = build(alloc, vec![in alloc; only]?)??;
+    let schema = with_tags_and_context(alloc)?;
     let user = entity_type(alloc, "U")?;
-    let ty = schema.get_entity_type(&user).ok_or("no entity type")?;
-    assert_eq!(rt; attribute_loc(ty.tag_type())?, Some(place(2)));
+    let tags = schema
+        .get_entity_type(&user)
+        .ok_or("no entity type")?
+        .tag_type();
+    holds(attribute_loc(tags)? == Some(place(2)), "tags")?;
     let view = view_uid(alloc)?;
-    let action = schema.get_action_id(&view).ok_or("no action")?;
-    assert_eq!(rt; attribute_loc(action.context())?, Some(place(3)));
-    Ok(())
+    let context = schema.get_action_id(&view).ok_or("no action")?.context();
+    holds(attribute_loc(context)? == Some(place(3)), "the context")
+}
+
+/// The schema of one definition with locations in the texts from a number on, or with none.
+fn located_schema(alloc: Global, first: Option<u32>) -> Result<ValidatorSchema, Fail> {
+    built(alloc, located(alloc, first, false)?)
 }
 
 #[test]
 fn equality_of_schemas_ignores_locations(rt: HostRuntime) -> Result<(), Fail> {
     let alloc = rt.alloc();
-    let here = fragment(alloc, located(alloc, Some(1), false)?)?;
-    let there = fragment(alloc, located(alloc, Some(7), false)?)?;
-    let nowhere = fragment(alloc, located(alloc, None, false)?)?;
-    let here = build(alloc, vec![in alloc; here]?)??;
-    let there = build(alloc, vec![in alloc; there]?)??;
-    let nowhere = build(alloc, vec![in alloc; nowhere]?)??;
-    assert!(rt; here == there);
-    assert!(rt; here == nowhere);
-    assert!(rt; here != ValidatorSchema::empty(alloc));
-    Ok(())
+    let here = located_schema(alloc, Some(1))?;
+    for other in [Some(7), None] {
+        holds(here == located_schema(alloc, other)?, "elsewhere")?;
+    }
+    holds(here != ValidatorSchema::empty(alloc), "the empty schema")
 }

@@ -1,6 +1,7 @@
 //! Common types and namespaces that schemas show, with where they were written.
 
 use crate::answers::{build, sample_extensions};
+use crate::checked::{holds, same};
 use crate::locations::place;
 use crate::names::{internal_name, internal_name_at, namespace, raw, unreserved_id};
 use crate::shorthand::{fragment_of, nothing};
@@ -89,14 +90,22 @@ fn common_types_of(alloc: Global, schema: &ValidatorSchema) -> Result<String, Fa
 fn no_fragments_have_the_namespace_of_the_built_in_types(rt: HostRuntime) -> Result<(), Fail> {
     let alloc = rt.alloc();
     let schema = build(alloc, Vec::new(alloc))??;
-    assert_eq!(rt; namespaces_of(alloc, &schema)?.as_str(), "__cedar 0 0;");
+    same(
+        "built",
+        namespaces_of(alloc, &schema)?.as_str(),
+        "__cedar 0 0;",
+    )?;
     for namespace in schema.namespaces() {
-        assert!(rt; namespace.clone()? == *namespace);
+        holds(namespace.clone()? == *namespace, "a copy")?;
     }
+    holds(schema == ValidatorSchema::empty(alloc), "the empty schema")
+}
+
+#[test]
+fn the_empty_schema_shows_no_namespaces(rt: HostRuntime) -> Result<(), Fail> {
+    let alloc = rt.alloc();
     let empty = ValidatorSchema::empty(alloc);
-    assert_eq!(rt; namespaces_of(alloc, &empty)?.as_str(), "");
-    assert!(rt; schema == empty);
-    Ok(())
+    same("empty", namespaces_of(alloc, &empty)?.as_str(), "")
 }
 
 /// The namespace of a text, whose name is written at a place, or the empty one.
@@ -108,65 +117,97 @@ fn namespace_at(alloc: Global, text: &str, source: u32) -> Result<Option<Name>, 
     Ok(Some(Name::new(name).ok_or("a reserved name")?))
 }
 
+/// The fragment of a namespace whose name is written at a place, and which is defined at another.
+fn defined_at(
+    alloc: Global,
+    name: &str,
+    written: u32,
+    defined: u32,
+) -> Result<Fragment<RawName>, Fail> {
+    let mut definition = nothing(alloc);
+    definition.loc = Some(place(defined));
+    let mut definitions = BTreeMap::new(alloc);
+    definitions.insert(namespace_at(alloc, name, written)?, definition)?;
+    Ok(Fragment(definitions))
+}
+
+/// The schema of fragments of the empty namespace and of two others, one of them twice.
+fn of_namespaces(alloc: Global) -> Result<ValidatorSchema, Fail> {
+    let mut fragments = Vec::new(alloc);
+    for (name, written, defined) in [("N", 11, 1), ("", 0, 2), ("N", 13, 3), ("N::M", 14, 4)] {
+        fragments.push(defined_at(alloc, name, written, defined)?)?;
+    }
+    Ok(build(alloc, fragments)??)
+}
+
 #[test]
 fn each_namespace_is_shown_once(rt: HostRuntime) -> Result<(), Fail> {
     let alloc = rt.alloc();
-    let mut fragments = Vec::new(alloc);
-    for (name, written, defined) in [("N", 11, 1), ("", 0, 2), ("N", 13, 3), ("N::M", 14, 4)] {
-        let mut definition = nothing(alloc);
-        definition.loc = Some(place(defined));
-        let mut definitions = BTreeMap::new(alloc);
-        definitions.insert(namespace_at(alloc, name, written)?, definition)?;
-        fragments.push(Fragment(definitions))?;
-    }
-    let schema = build(alloc, fragments)??;
+    let schema = of_namespaces(alloc)?;
     let wanted = "N::M 14 4;N 13 3;__cedar 0 0;";
-    assert_eq!(rt; namespaces_of(alloc, &schema)?.as_str(), wanted);
+    same("built", namespaces_of(alloc, &schema)?.as_str(), wanted)?;
     let extensions = sample_extensions(alloc)?;
     let schema = schema.try_validate(alloc, &extensions)?;
-    assert_eq!(rt; namespaces_of(alloc, &schema)?.as_str(), wanted);
-    assert_eq!(rt; namespaces_of(alloc, &schema.clone()?)?.as_str(), wanted);
-    Ok(())
+    same("validated", namespaces_of(alloc, &schema)?.as_str(), wanted)?;
+    same(
+        "copied",
+        namespaces_of(alloc, &schema.clone()?)?.as_str(),
+        wanted,
+    )
+}
+
+/// The schema of the common type `T` of two namespaces, each declared at a place or nowhere.
+fn of_two(alloc: Global, loc: Option<Loc>) -> Result<ValidatorSchema, Fail> {
+    let mut fragments = Vec::new(alloc);
+    for name in ["N", "M"] {
+        let definition = declares(alloc, "T", number_at(Some(place(2))), loc)?;
+        fragments.push(within(alloc, name, definition)?)?;
+    }
+    Ok(build(alloc, fragments)??)
 }
 
 #[test]
 fn common_types_are_shown_where_they_were_declared(rt: HostRuntime) -> Result<(), Fail> {
     let alloc = rt.alloc();
     for (loc, wanted) in [(Some(place(1)), "T N::T 1 2;T M::T 1 2;"), (None, "")] {
-        let mut fragments = Vec::new(alloc);
-        for name in ["N", "M"] {
-            let definition = declares(alloc, "T", number_at(Some(place(2))), loc)?;
-            fragments.push(within(alloc, name, definition)?)?;
-        }
-        let schema = build(alloc, fragments)??;
-        assert_eq!(rt; common_types_of(alloc, &schema)?.as_str(), wanted);
-        assert_eq!(rt; common_types_of(alloc, &schema.clone()?)?.as_str(), wanted);
+        let schema = of_two(alloc, loc)?;
+        same("built", common_types_of(alloc, &schema)?.as_str(), wanted)?;
+        same(
+            "copied",
+            common_types_of(alloc, &schema.clone()?)?.as_str(),
+            wanted,
+        )?;
     }
     Ok(())
+}
+
+/// The set of numbers at a place, itself at another, or a reference to `T`.
+fn set_or_reference(alloc: Global, is_set: bool) -> Result<Type<RawName>, Fail> {
+    if is_set {
+        let element = Box::new(alloc, number_at(Some(place(3))))?;
+        return Ok(Type::Plain {
+            ty: TypeVariant::Set { element },
+            loc: Some(place(2)),
+        });
+    }
+    Ok(Type::CommonTypeRef {
+        type_name: raw(alloc, "T")?,
+        loc: Some(place(5)),
+    })
 }
 
 #[test]
 fn types_were_written_where_their_elements_were(rt: HostRuntime) -> Result<(), Fail> {
     let alloc = rt.alloc();
-    let numbers = TypeVariant::Set {
-        element: Box::new(alloc, number_at(Some(place(3))))?,
-    };
-    let numbers = Type::Plain {
-        ty: numbers,
-        loc: Some(place(2)),
-    };
-    let referring = Type::CommonTypeRef {
-        type_name: raw(alloc, "T")?,
-        loc: Some(place(5)),
-    };
-    let first = within(alloc, "N", declares(alloc, "T", numbers, Some(place(1)))?)?;
-    let second = within(alloc, "N", declares(alloc, "S", referring, Some(place(4)))?)?;
-    let schema = build(alloc, vec![in alloc; first, second]?)??;
-    assert_eq!(rt;
-        common_types_of(alloc, &schema)?.as_str(),
-        "T N::T 1 3;S N::S 4 5;"
-    );
-    Ok(())
+    let mut fragments = Vec::new(alloc);
+    for (id, is_set, source) in [("T", true, 1), ("S", false, 4)] {
+        let ty = set_or_reference(alloc, is_set)?;
+        let definition = declares(alloc, id, ty, Some(place(source)))?;
+        fragments.push(within(alloc, "N", definition)?)?;
+    }
+    let schema = build(alloc, fragments)??;
+    let wanted = "T N::T 1 3;S N::S 4 5;";
+    same("built", common_types_of(alloc, &schema)?.as_str(), wanted)
 }
 
 /// A type of a kind: written out, of entities, or of whatever its name names.
@@ -189,36 +230,40 @@ fn variant(alloc: Global, word: &str) -> Result<TypeVariant<RawName>, Fail> {
     }
 }
 
+/// The common types of a schema with the common type `N::T` of a kind.
+fn shown_of_kind(alloc: Global, word: &str) -> Result<String, Fail> {
+    let ty = Type::Plain {
+        ty: variant(alloc, word)?,
+        loc: Some(place(2)),
+    };
+    let declared = within(alloc, "N", declares(alloc, "T", ty, Some(place(1)))?)?;
+    let user = fragment_of(alloc, "entity U")?.ok_or("no fragment")?;
+    let schema = build(alloc, vec![in alloc; declared, user]?)??;
+    common_types_of(alloc, &schema)
+}
+
 #[test]
 fn types_of_each_kind_were_written_where_they_stand(rt: HostRuntime) -> Result<(), Fail> {
     let alloc = rt.alloc();
     for word in ["record", "entity", "either", "extension", "text"] {
-        let ty = Type::Plain {
-            ty: variant(alloc, word)?,
-            loc: Some(place(2)),
-        };
-        let declared = within(alloc, "N", declares(alloc, "T", ty, Some(place(1)))?)?;
-        let user = fragment_of(alloc, "entity U")?.ok_or("no fragment")?;
-        let schema = build(alloc, vec![in alloc; declared, user]?)??;
-        assert_eq!(rt;
-            common_types_of(alloc, &schema)?.as_str(),
-            "T N::T 1 2;",
-            "{word}"
-        );
+        same(word, shown_of_kind(alloc, word)?.as_str(), "T N::T 1 2;")?;
     }
     Ok(())
 }
 
 #[test]
 fn located_types_compare_their_locations(rt: HostRuntime) -> Result<(), Fail> {
-    let alloc = rt.alloc();
     let here = LocatedType::new_with_loc(Written::Long, Some(place(1)));
     let there = LocatedType::new(Written::Long).with_loc(Some(place(2)));
-    assert!(rt; here != there);
-    assert!(rt; here.clone()? == here);
-    assert!(rt; there.with_loc(Some(place(1))) == here);
+    holds(here != there && here.clone()? == here, "a copy")?;
+    holds(there.with_loc(Some(place(1))) == here, "the same place")
+}
+
+#[test]
+fn located_common_types_have_their_base_name(rt: HostRuntime) -> Result<(), Fail> {
+    let alloc = rt.alloc();
+    let here = LocatedType::new_with_loc(Written::Long, Some(place(1)));
     let common = LocatedCommonType::new(alloc, &internal_name(alloc, "N::T")?, here)?;
-    assert_eq!(rt; text_of(alloc, &common)?.as_str(), "T N::T 0 1;");
-    assert!(rt; common.clone()? == common);
-    Ok(())
+    same("N::T", text_of(alloc, &common)?.as_str(), "T N::T 0 1;")?;
+    holds(common.clone()? == common, "a copy")
 }

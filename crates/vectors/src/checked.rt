@@ -1,0 +1,19 @@
+//! What the tests say of an answer that isn't the one that was expected.
+
+use std::test::Fail;
+
+/// Fails, with the row, where an answer isn't the text that was expected.
+pub(crate) fn same(row: &str, answer: &str, expected: &str) -> Result<(), Fail> {
+    if answer == expected {
+        return Ok(());
+    }
+    Err(Fail::new(format_args!("at {row}: {answer}, and not {expected}")))
+}
+
+/// Fails, with the row, where something isn't so.
+pub(crate) fn holds(is_so: bool, row: &str) -> Result<(), Fail> {
+    if is_so {
+        return Ok(());
+    }
+    Err(Fail::new(format_args!("at {row}")))
+}
