@@ -2,8 +2,8 @@
 
 ghost use Rattle.std.specs.Prelude.{◌≡◌, ◌↔◌, IsTrue, IfOk};
 ghost use Rattle.cedar_below.specs.Eid.{eid_text};
-ghost use Rattle.cedar_below.specs.EntityType.{type_name};
-ghost use Rattle.cedar_below.specs.EntityUID.{uid_of, uid_loc};
+ghost use Rattle.cedar_below.specs.EntityType.{type_loc, type_name};
+ghost use Rattle.cedar_below.specs.EntityUID.{uid_of, uid_loc, uid_type_loc};
 ghost use Rattle.cedar_below.specs.PlainName.{IsActionType};
 
 use crate::eid::Eid;
@@ -29,13 +29,15 @@ impl EntityUID {
         ensures ty { (uid_of result).ty ≡ type_name ty }
         ensures eid { (uid_of result).eid ≡ eid_text eid }
         ensures loc { uid_loc result ≡ loc }
+        ensures type_loc { uid_type_loc result ≡ type_loc ty }
     {
         EntityUID { ty, eid, loc }
     }
 
     /// The type of the entity.
     pub fn entity_type(&self) -> &EntityType
-        ensures { type_name result.now ≡ (uid_of self.now).ty }
+        ensures name { type_name result.now ≡ (uid_of self.now).ty }
+        ensures loc { type_loc result.now ≡ uid_type_loc self.now }
     {
         &self.ty
     }
@@ -61,10 +63,11 @@ impl EntityUID {
         self.ty.is_action()
     }
 
-    /// An equal uid with the same location, or want of memory.
+    /// An equal uid with the same locations, its own and its type's, or want of memory.
     pub fn clone(&self) -> M<Self>
         ensures uid { IfOk result (λ copy. uid_of copy ≡ uid_of self.now) }
         ensures loc { IfOk result (λ copy. uid_loc copy ≡ uid_loc self.now) }
+        ensures type_loc { IfOk result (λ copy. uid_type_loc copy ≡ uid_type_loc self.now) }
     {
         Ok(EntityUID {
             ty: self.ty.clone()?,

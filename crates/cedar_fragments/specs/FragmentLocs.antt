@@ -1,7 +1,7 @@
 use Rattle.std.specs.Prelude.{[], ◌∷◌, ◌++◌, Option, None, Some}
 use Rattle.std.specs.List.{flat_map}
 use Rattle.cedar_below.specs.EntityType.{type_loc}
-use Rattle.cedar_below.specs.EntityUID.{uid_loc}
+use Rattle.cedar_below.specs.EntityUID.{uid_loc, uid_type_loc}
 use Rattle.cedar_below.specs.InternalName.{name_loc}
 use Rattle.cedar_fragments.specs.declared.namespace.action_def.ActionDef.{ActionDef}
 use Rattle.cedar_fragments.specs.declared.namespace.actions.ActionFragment.{ActionFragment}
@@ -64,9 +64,9 @@ module _ (N : Type 0) (locs : N → Locs) (A : Type 0) (action_locs : A → Locs
   abbrev pub action_fragment_locs : ActionFragment N A → Locs
   action_fragment_locs it = it.loc ∷ requests_locs N locs it.requests ++ flat_map (parent_locs A action_locs) it.parents.items
 
-  -- the locations in an action: that of the declaration, then those in what is declared
+  -- the locations in an action: that of the declaration, that of the type in its uid, then those in what is declared
   abbrev pub action_def_locs : ActionDef N A → Locs
-  action_def_locs def = uid_loc def.uid ∷ action_fragment_locs def.fragment
+  action_def_locs def = uid_loc def.uid ∷ uid_type_loc def.uid ∷ action_fragment_locs def.fragment
 
   -- the locations in the actions, in turn
   abbrev pub actions_locs : ActionsDef N A → Locs

@@ -3,7 +3,7 @@ use Rattle.std.specs.Prelude.{◌≡◌}
 use Rattle.cedar_actions.specs.ValidatorActionId.{action_loc, plain_action_entry}
 use Rattle.cedar_actions.specs.declared.action_id.ValidatorActionId.{ValidatorActionId}
 use Rattle.cedar_below.specs.EntityType.{type_loc}
-use Rattle.cedar_below.specs.EntityUID.{uid_loc}
+use Rattle.cedar_below.specs.EntityUID.{uid_loc, uid_type_loc}
 use Rattle.cedar_below.specs.declared.entity_type.EntityType.{EntityType}
 use Rattle.cedar_below.specs.declared.entity_uid.EntityUID.{EntityUID}
 use Rattle.cedar_declared.specs.SameSchema.{SameAction, SameEntityType}
@@ -20,4 +20,5 @@ pub record IsTypeCopied (it copy : EntityType × ValidatorEntityType) : Type 0 w
 pub record IsActionCopied (it copy : EntityUID × ValidatorActionId) : Type 0 where
   pub same : SameAction (plain_action_entry copy) (plain_action_entry it)
   pub key_loc : uid_loc copy.0 ≡ uid_loc it.0
+  pub key_type_loc : uid_type_loc copy.0 ≡ uid_type_loc it.0
   pub loc : action_loc copy.1 ≡ action_loc it.1

@@ -17,7 +17,7 @@ returns-then-has_descendant_of c =
     let P : List (PlainUid × SchemaAction) → Type 0 = λ left.
     HasActionBelow (map plain_action_entry c.args.actions.now.entries) upper lower ↔ HasActionBelow left upper lower in
     let so_far = subst P (ap (map plain_action_entry) c.in-Some.ensures.steps) c.loop-uid.invariant in
-    let same = sym c.entity_type.ensures
+    let same = sym c.entity_type.ensures.name
     ∙ (entity_type_eq-same c.entity_type.result.now c.args.upper.now).0 (sym c.eq.ensures ∙ c.if-eq.true) in
     let below = c.has_descendant_of.ensures.0 c.if-has_descendant_of.true in (
       λ _. any_finds (HasBelow upper lower) (plain_action_entry (c.in-Some.uid.now, c.in-Some.action.now))
@@ -38,5 +38,5 @@ loop-uid-preserved c =
       | else-eq-via-then-eq+else-has_descendant_of w ↦
           false≢true (sym w.if-has_descendant_of.false ∙ w.has_descendant_of.ensures.1 both.1)
       | else-eq-via-else-eq w ↦ false≢true (sym w.if-eq.false ∙ (c.eq.ensures
-          ∙ (entity_type_eq-same c.entity_type.result.now c.args.upper.now).1 (c.entity_type.ensures ∙ both.0)))
+          ∙ (entity_type_eq-same c.entity_type.result.now c.args.upper.now).1 (c.entity_type.ensures.name ∙ both.0)))
     ])

@@ -14,7 +14,7 @@ returns-then-eq c =
     let all = (action_of c.args.action.now).descendants in
     let P : List PlainUid → Type 0 = λ left. Any (λ below. below.ty ≡ ty) all ↔ Any (λ below. below.ty ≡ ty) left in
     let so_far = subst P (ap (map uid_of) c.in-Some.ensures.steps) c.loop-below.invariant in
-    let same = sym c.entity_type.ensures ∙ (entity_type_eq-same c.entity_type.result.now c.args.ty.now).0 (sym c.eq.ensures ∙ c.if-eq.true) in (
+    let same = sym c.entity_type.ensures.name ∙ (entity_type_eq-same c.entity_type.result.now c.args.ty.now).0 (sym c.eq.ensures ∙ c.if-eq.true) in (
       λ _. any_finds (λ below. below.ty ≡ ty) (uid_of c.in-Some.below.now) (map uid_of c.next.new.self) so_far same,
       λ _. refl,
     )
@@ -27,4 +27,4 @@ loop-below-preserved c =
     let so_far = subst P (ap (map uid_of) c.in-Some.ensures.steps) c.loop-below.invariant in
     any_skips (λ below. below.ty ≡ ty) (uid_of c.in-Some.below.now) (map uid_of c.next.new.self) so_far
     (λ same. false≢true (sym c.if-eq.false ∙ (c.eq.ensures
-    ∙ (entity_type_eq-same c.entity_type.result.now c.args.ty.now).1 (c.entity_type.ensures ∙ same))))
+    ∙ (entity_type_eq-same c.entity_type.result.now c.args.ty.now).1 (c.entity_type.ensures.name ∙ same))))

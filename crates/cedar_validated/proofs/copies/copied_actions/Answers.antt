@@ -3,7 +3,7 @@ use Rattle.std.proofs.lemmas.Result.{IfOk-weaker}
 use Rattle.cedar_actions.specs.ValidatorActionId.{action_loc, action_of}
 use Rattle.cedar_actions.specs.declared.action_id.ValidatorActionId.{ValidatorActionId}
 use Rattle.cedar_below.proofs.Uids.{entity_uid_ord-Equal}
-use Rattle.cedar_below.specs.EntityUID.{uid_loc, uid_of}
+use Rattle.cedar_below.specs.EntityUID.{uid_loc, uid_of, uid_type_loc}
 use Rattle.cedar_below.specs.Lists.{SameItems}
 use Rattle.cedar_below.specs.contracts.entity_uid.EntityUIDOrd.TheImpl as entity_uid_ord
 use Rattle.cedar_copied.proofs.ShownLemmas.{copy_ties}
@@ -31,7 +31,8 @@ returns c =
         kind = subst Kind ran.1.shows ran.1.says.met.1.0;
         descendants = subst Below ran.1.shows ran.1.says.met.1.1.0;
       };
-      key_loc = ran.0.says.met.1 ∙ ap uid_loc ran.0.shows;
+      key_loc = ran.0.says.met.1.0 ∙ ap uid_loc ran.0.shows;
+      key_type_loc = ran.0.says.met.1.1 ∙ ap uid_type_loc ran.0.shows;
       loc = ran.1.says.met.1.1.1 ∙ ap action_loc ran.1.shows;
     })
     c.args.actions.now.entries copies.entries turn)

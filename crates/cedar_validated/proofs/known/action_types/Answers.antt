@@ -32,7 +32,7 @@ loop-uid-preserved c =
     checking_here (λ each. Contains names (uid_of each).ty) (keys_of actions) _ _ uid c.in-Some.ensures.steps
     c.loop-uid.invariant.gathered in
     types_more (HasAction (plain_parts c.args.parts.now)) (keys_of actions) _ _ c.loop-uid.types.keys c.insert.new.self.keys
-    c.in_ok-clone.field-0 uid c.in-Some.ensures.steps (c.in_ok-clone.ensures.name ∙ c.entity_type.ensures)
+    c.in_ok-clone.field-0 uid c.in-Some.ensures.steps (c.in_ok-clone.ensures.name ∙ c.entity_type.ensures.name)
     (key_with_uid actions uid among) c.in_ok-insert.ensures.updates.0 c.loop-uid.invariant
 
 pub returns : goal.returns

@@ -29,7 +29,7 @@ loop-uid-preserved c =
     checking_more (ShadowsNoAction parts) (keys_of actions) _ _ key c.in-Some.ensures.steps c.loop-uid.invariant
     (no_action_shadows parts key (uid_of plain) (key_with_uid actions key among)
     (ap (λ (it : PlainName). it.base) c.new-plain.ensures.ty ∙ (c.in_ok-ty.ensures.base
-    ∙ ap (λ (it : PlainName). it.base) c.entity_type-in-loop-uid.ensures))
+    ∙ ap (λ (it : PlainName). it.base) c.entity_type-in-loop-uid.ensures.name))
     (ap (λ (it : PlainName). it.path) c.new-plain.ensures.ty ∙ c.in_ok-ty.ensures.path)
     (c.new-plain.ensures.eid ∙ (c.in_ok-clone.ensures ∙ c.eid.ensures)) absent)
 
@@ -38,7 +38,7 @@ loop-uid-preserved-then-is_unqualified c =
     let parts = c.args.parts.now in
     checking_more (ShadowsNoAction parts) (keys_of parts.actions.entries) _ _ c.in-Some.uid.now c.in-Some.ensures.steps
     c.loop-uid.invariant
-    (λ are plain among shadows. shadows.1 (ap (λ (it : PlainName). it.path) (sym (c.name.ensures.name ∙ c.entity_type.ensures))
+    (λ are plain among shadows. shadows.1 (ap (λ (it : PlainName). it.path) (sym (c.name.ensures.name ∙ c.entity_type.ensures.name))
     ∙ c.is_unqualified.ensures.0 c.if-is_unqualified.true))
 
 pub returns-clause-sound : goal.returns-clause-sound
@@ -59,7 +59,7 @@ returns-then-contains_key-clause-fault c =
     let among = checking_here (ShadowsNoAction parts) (keys_of actions) _ _ key c.in-Some.ensures.steps c.loop-uid.invariant in
     let there = (action_stands actions plain).0 (sym c.contains_key.ensures ∙ c.if-contains_key.true) in
     let qualified = λ (is : IsUnqualified (uid_of key).ty). false≢true (sym c.if-is_unqualified.false
-    ∙ c.is_unqualified.ensures.1 (ap (λ (it : PlainName). it.path) (c.name.ensures.name ∙ c.entity_type.ensures) ∙ is)) in
+    ∙ c.is_unqualified.ensures.1 (ap (λ (it : PlainName). it.path) (c.name.ensures.name ∙ c.entity_type.ensures.name) ∙ is)) in
     let shadows : ShadowsAction (uid_of plain) (uid_of key) = (
       ap (λ (it : PlainName). it.path) c.new-plain.ensures.ty ∙ c.in_ok-ty.ensures.path,
       qualified,

@@ -54,7 +54,7 @@ returns-in_err-declared-clause-refusal c =
     let namespace = plain_namespace c.in_ok-namespace.namespace in
     let P : List Text → Type 0 = IsPathOf namespace in
     let path : IsPathOf namespace it.0.ty.path =
-    subst P (ap (λ (name : PlainName). name.path) (c.name.ensures.name ∙ c.entity_type.ensures)) c.in_ok-namespace.ensures in
+    subst P (ap (λ (name : PlainName). name.path) (c.name.ensures.name ∙ c.entity_type.ensures.name)) c.in_ok-namespace.ensures in
     let p = err_from_is_err_and c.from_residual-in_err-declared.result c.from_residual-in_err-declared.ensures.1 in
     rw (p.1, p.2)
     (refuses_weaker (¬ IsSoundAction (known_names known) namespace it.1.kind)
@@ -78,7 +78,7 @@ loop-uid-preserved c =
     let body = action_body RawName (raw_reference namespace) namespace c.in_ok-declared.declared in
     let P : List Text → Type 0 = IsPathOf namespace in
     let path : IsPathOf namespace it.0.ty.path =
-    subst P (ap (λ (name : PlainName). name.path) (c.name.ensures.name ∙ c.entity_type.ensures)) c.in_ok-namespace.ensures in
+    subst P (ap (λ (name : PlainName). name.path) (c.name.ensures.name ∙ c.entity_type.ensures.name)) c.in_ok-namespace.ensures in
     let action_type = c.is_action.ensures.0 c.if-not-is_action.false in
     let eid : id ≡ it.0.eid = c.in_ok-id.ensures ∙ c.eid.ensures in
     let base = sym action_type in

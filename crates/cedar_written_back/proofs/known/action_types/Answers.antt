@@ -32,7 +32,7 @@ loop-uid-preserved c =
     subst P (sym more)
     (AnswersAlike-insert (map (λ (uid : EntityUID). uid.ty) (map deref c.loop-uid.yielded)) c.loop-uid.types.keys
     c.insert.new.self.keys c.in-Some.uid.now.ty c.in_ok-clone.field-0 c.loop-uid.invariant
-    (c.in_ok-clone.ensures.name ∙ c.entity_type.ensures) c.in_ok-insert.ensures.updates.0)
+    (c.in_ok-clone.ensures.name ∙ c.entity_type.ensures.name) c.in_ok-insert.ensures.updates.0)
 
 pub returns : goal.returns
 returns c =

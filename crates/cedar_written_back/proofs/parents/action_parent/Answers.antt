@@ -22,7 +22,7 @@ returns-clause-sound c =
     let upper = uid_of c.args.upper.now in
     let P : List Text → Type 0 = IsPathOf namespace in
     let path : IsPathOf namespace lower.ty.path = subst P (ap (λ (it : PlainName). it.path) (c.name.ensures.name
-    ∙ c.entity_type.ensures)) c.in_ok-namespace.ensures in
+    ∙ c.entity_type.ensures.name)) c.in_ok-namespace.ensures in
     on_to (NamesNoOtherAction names namespace upper) _
     (λ no_other. record {
       there = c.has_action.ensures.0 c.if-not-has_action.false;
@@ -40,6 +40,6 @@ returns-clause-refusal c =
     let upper = uid_of c.args.upper.now in
     let P : List Text → Type 0 = IsPathOf namespace in
     let path : IsPathOf namespace lower.ty.path = subst P (ap (λ (it : PlainName). it.path) (c.name.ensures.name
-    ∙ c.entity_type.ensures)) c.in_ok-namespace.ensures in
+    ∙ c.entity_type.ensures.name)) c.in_ok-namespace.ensures in
     refusal_weaker (¬ NamesNoOtherAction names namespace upper) (¬ IsKnownActionEdge c.args.known.now (lower, upper))
     (λ other sound. other (sound.no_other namespace path)) c.write_uid.result c.write_uid.ensures.refusal

@@ -15,7 +15,7 @@ returns-in_ok-clone-in-Some c =
     let names = known_names c.args.self.now in
     let uid = uid_of c.args.uid.now in
     let namespace = plain_name c.in-Some.namespace in
-    let named : plain_name c.name-name.result.now ≡ uid.ty = c.name-name.ensures.name ∙ c.entity_type.ensures in
+    let named : plain_name c.name-name.result.now ≡ uid.ty = c.name-name.ensures.name ∙ c.entity_type.ensures.name in
     let ty = c.new-other.ensures.ty ∙ (c.in_ok-ty-in-Some.ensures ∙ ap (λ (it : PlainName). name_within (Some namespace) it.base) named) in
     let eid = c.new-other.ensures.eid ∙ (c.in_ok-clone-in-Some.ensures ∙ c.eid.ensures) in
     let other : PlainUid = record { ty = name_within (Some namespace) uid.ty.base; eid = uid.eid } in

@@ -12,7 +12,7 @@ use Rattle.cedar_fragments.proofs.defs.all_defs.AllDefs.check_actions.Goals as g
 
 pub loop-uid-preserved-then-is_unqualified : goal.loop-uid-preserved-then-is_unqualified
 loop-uid-preserved-then-is_unqualified c =
-    let plain : IsUnqualified (uid_of c.in-Some.uid.now).ty = subst IsUnqualified (c.name.ensures.name ∙ c.entity_type.ensures)
+    let plain : IsUnqualified (uid_of c.in-Some.uid.now).ty = subst IsUnqualified (c.name.ensures.name ∙ c.entity_type.ensures.name)
     (c.is_unqualified.ensures.0 c.if-is_unqualified.true) in
     PassedSoFar-more _ _ _ _ c.next.new.self c.in-Some.uid.now c.in-Some.ensures.steps
     (unqualified_is_not_shadowed (held_names c.args.self.now).actions (uid_of c.in-Some.uid.now) plain) c.loop-uid.invariant
@@ -27,7 +27,7 @@ returns-in-Some-get-clause-fault c =
     looked_up actions c.in_ok-plain.plain.entries c.as_str.result.now c.in-Some-get.other.now c.in_ok-plain.ensures.each
     (sym c.in-Some-get.ensures.value) in
     let qualified : ¬ IsUnqualified uid.ty = λ unqualified. false≢true (sym c.if-is_unqualified.false
-    ∙ c.is_unqualified.ensures.1 (subst IsUnqualified (sym (c.name.ensures.name ∙ c.entity_type.ensures)) unqualified)) in
+    ∙ c.is_unqualified.ensures.1 (subst IsUnqualified (sym (c.name.ensures.name ∙ c.entity_type.ensures.name)) unqualified)) in
     let among : Contains actions uid = passed_next _ _ c.args.self.now.actions.keys c.loop-uid.uid-iterator c.next.new.self c.in-Some.uid.now
     c.in-Some.ensures.steps c.loop-uid.invariant in
     let pair : P other uid = (found.0, among, (found.1, qualified, found.2 ∙ (c.as_str.ensures ∙ c.eid.ensures))) in

@@ -13,7 +13,7 @@ loop-uid-init c = added_none _ _ _ _ (sym c.into_iter-uid-iterator.ensures.into_
 pub loop-uid-preserved : goal.loop-uid-preserved
 loop-uid-preserved c =
     added_more _ _ _ _ c.next.new.self _ _ c.in-Some.uid.now _ c.in-Some.ensures.steps
-    (c.into_internal-name.ensures.name ∙ (c.into_name.ensures.name ∙ (c.in_ok-clone.ensures.name ∙ c.entity_type.ensures)))
+    (c.into_internal-name.ensures.name ∙ (c.into_name.ensures.name ∙ (c.in_ok-clone.ensures.name ∙ c.entity_type.ensures.name)))
     c.in_ok-add_name.ensures.added c.loop-uid.invariant
 
 pub returns-clause-entities : goal.returns-clause-entities
