@@ -1,6 +1,9 @@
--- The keys of entries whose values pass a test, one entry after another.
+-- The keys of entries whose values pass a test, one entry after another, and their order.
 use Rattle.std.proofs.Common.{◌≡◌, ◌≤◌, Bool, true, false, cond, List, [], ◌∷◌, length, map, ap, refl, arith, ⊎_elim, inl, inr, sym, subst, ◌∙◌, Contains}
-use Rattle.std.specs.List.{filter}
+use Rattle.std.specs.List.{AllByRecursion, filter}
+use Rattle.std.specs.List.Sorted.{IsStrictlySortedBy}
+use Rattle.std.specs.declared.cmp.Ordering.{Ordering}
+use Rattle.std.specs.declared.cmp.Ordering.TheVariants.{Less}
 use Rattle.cedar_below.proofs.Lists.{Contains-cons, Contains-cons_cases}
 use Rattle.cedar_queries.specs.Selected.{keys_where}
 
@@ -15,6 +18,28 @@ keys_where-map {K} {V} {L} {W} f g test (entry ∷ rest) =
     elim (test (g entry.1)) as
     (λ b. map f (map (λ it. it.0) (cond b (entry ∷ first) first)) ≡ map (λ it. it.0) (cond b ((f entry.0, g entry.1) ∷ last) last))
     [ true ↦ ap (λ keys. f entry.0 ∷ keys) others | false ↦ others ]
+
+module _ {K V : Type 0} (cmp : K → K → Ordering) (test : V → Bool) where
+  -- what is below the keys of all entries is below those of entries that pass a test
+  below_kept : (key : K) (entries : List (K × V)) → AllByRecursion (λ other. cmp key other ≡ Less) (map (λ it. it.0) entries)
+      → AllByRecursion (λ other. cmp key other ≡ Less) (keys_where test entries)
+  below_kept key [] below = tt
+  below_kept key (entry ∷ rest) below =
+      let others = below_kept key rest below.1 in
+      let kept : List (K × V) = filter (λ it. test it.1) rest in
+      elim (test entry.1) as (λ b. AllByRecursion (λ other. cmp key other ≡ Less) (map (λ it. it.0) (cond b (entry ∷ kept) kept)))
+      [ true ↦ (below.0, others) | false ↦ others ]
+
+  -- the keys of entries that pass a test ascend where those of all entries do
+  pub keys_where-ascend : (entries : List (K × V)) → IsStrictlySortedBy cmp (map (λ it. it.0) entries)
+      → IsStrictlySortedBy cmp (keys_where test entries)
+  unfolding IsStrictlySortedBy
+  keys_where-ascend [] ascend = tt
+  keys_where-ascend (entry ∷ rest) ascend =
+      let others = keys_where-ascend rest ascend.1 in
+      let kept : List (K × V) = filter (λ it. test it.1) rest in
+      elim (test entry.1) as (λ b. IsStrictlySortedBy cmp (map (λ it. it.0) (cond b (entry ∷ kept) kept)))
+      [ true ↦ (below_kept entry.0 rest ascend.0, others) | false ↦ others ]
 
 -- there are no more keys than entries
 pub few_keys : {K V : Type 0} (test : V → Bool) (entries : List (K × V)) → length (keys_where test entries) ≤ length entries

@@ -1,6 +1,6 @@
 //! What stands above and below entity types and actions in the hierarchy.
 
-ghost use Rattle.std.specs.Prelude.{◌≡◌, ◌↔◌, ◌++◌, ◌∷◌, [], Contains, IfOk, IfSome, IsSome, IsTrue, All, Any, OnOk, map};
+ghost use Rattle.std.specs.Prelude.{◌≡◌, ◌≢◌, ◌↔◌, ◌++◌, ◌∷◌, [], Contains, IfOk, IfSome, IsSome, IsTrue, All, AllPairs, Any, OnOk, map};
 ghost use Rattle.std.specs.List.{flat_map};
 ghost use Rattle.cedar_actions.specs.ValidatorActionId.{action_of, plain_action_entry};
 ghost use Rattle.cedar_below.specs.EntityType.{type_name};
@@ -54,13 +54,14 @@ pub fn action_groups(actions: &Actions) -> ActionGroups<'_>
     Selected::new(actions, IsGroup)
 }
 
-/// Adds the names of the descendants of an entity type.
+/// Adds the names of the descendants of an entity type, each once.
 fn add_descendants<'a>(
     names: &mut Vec<&'a EntityType>,
     entity_type: &'a ValidatorEntityType,
 ) -> M<()>
-    ensures { OnOk result (map (λ name. type_name name.now) names.new.items
+    ensures names { OnOk result (map (λ name. type_name name.now) names.new.items
         ≡ map (λ name. type_name name.now) names.old.items ++ descendant_names entity_type.now) }
+    ensures once { OnOk result (AllPairs (λ a b. a ≢ b) (descendant_names entity_type.now)) }
 {
     for descendant in &entity_type.descendants {
         names.push(descendant)?;
@@ -68,16 +69,17 @@ fn add_descendants<'a>(
     Ok(())
 }
 
-/// The names of the descendants of an entity type, in some order, and then its own, which stands there
-/// twice where it is a descendant of itself. Of an entity type that isn't there just its own name. Or
-/// want of memory.
+/// The names of the descendants of an entity type, in some order, each once, and then its own, which
+/// stands there twice where it is a descendant of itself. Of an entity type that isn't there just its own
+/// name. Or want of memory.
 pub fn entity_types_in<'a>(
     alloc: Global,
     types: &'a EntityTypes,
     ty: &'a EntityType,
 ) -> M<Vec<&'a EntityType>>
-    ensures { IfOk result (λ names. map (λ name. type_name name.now) names.items
+    ensures names { IfOk result (λ names. map (λ name. type_name name.now) names.items
         ≡ descendants_of (type_name ty.now) (map plain_entry types.now.entries) ++ type_name ty.now ∷ []) }
+    ensures once { IfOk result (λ _. AllPairs (λ a b. a ≢ b) (descendants_of (type_name ty.now) (map plain_entry types.now.entries))) }
 {
     let mut names = Vec::new(alloc);
     if let Some(entity_type) = types.get(ty) {

@@ -1,12 +1,12 @@
 -- What is known of the names of every schema: they ascend, entity types and actions stand under their own, and none is reserved.
-use Rattle.std.proofs.Common.{◌≡◌, ◌∙◌, Contains, List, inr, map, refl, subst, sym}
+use Rattle.std.proofs.Common.{◌≡◌, ◌∙◌, ◌∷◌, [], Contains, List, inl, inr, map, refl, subst, sym}
 use Rattle.std.proofs.Math.Logic.{∥∥₁_elim}
 use Rattle.std.proofs.Props.{props}
 use Rattle.std.specs.List.Sorted.{IsStrictlySortedBy}
 use Rattle.std.specs.Map.{keys_of}
 use Rattle.cedar_actions.specs.ValidatorActionId.{action_of, plain_action_entry}
 use Rattle.cedar_actions.specs.declared.action_id.ValidatorActionId.{ValidatorActionId}
-use Rattle.cedar_below.proofs.Lists.{Contains-preimage}
+use Rattle.cedar_below.proofs.Lists.{Contains-cons, Contains-image, Contains-preimage}
 use Rattle.cedar_below.proofs.Names.{entity_type_ord-name_cmp}
 use Rattle.cedar_below.proofs.Ordered.{IsStrictlySortedBy-map}
 use Rattle.cedar_below.proofs.PlainNames.{name_cmp-Equal, uid_cmp-Equal}
@@ -113,6 +113,48 @@ known_names schema = record {
       (uid_cmp-Equal it.1.uid it.0).0 (∥∥₁_elim schema.under_names (Prim.hlevel props)
       (λ stands. (uid_cmp-Equal it.1.uid it.0).1 (stands.actions it among)));
 }
+
+module _ {K V P : Type 0} (key : K → P) (own : V → P) where
+  -- values that stand under their names have just the names that they stand under
+  own_names : (entries : List (K × V)) → ((it : K × V) → Contains entries it → own it.1 ≡ key it.0)
+      → map own (map (λ it. it.1) entries) ≡ map key (keys_of entries)
+  own_names [] named = refl
+  own_names (entry ∷ rest) named =
+      let first = named entry (Contains-cons entry rest entry (inl refl)) in
+      let others = own_names rest (λ it among. named it (Contains-cons entry rest it (inr among))) in
+      λ i. first i ∷ others i
+
+-- the names that the entity types of a schema stand under ascend
+pub type_keys_ascend : (schema : ValidatorSchema) → IsStrictlySortedBy name_cmp (map type_name (keys_of schema.entity_types.entries))
+type_keys_ascend schema =
+    subst (IsStrictlySortedBy name_cmp) (names_of_keys type_name plain_entry (λ e. refl) schema.entity_types.entries)
+    (known_order schema).entity_types
+
+-- the uids that the actions of a schema stand under ascend
+pub action_keys_ascend : (schema : ValidatorSchema) → IsStrictlySortedBy uid_cmp (map uid_of (keys_of schema.actions.entries))
+action_keys_ascend schema =
+    subst (IsStrictlySortedBy uid_cmp) (names_of_keys uid_of plain_action_entry (λ e. refl) schema.actions.entries)
+    (known_order schema).actions
+
+-- the names of the entity types of a schema ascend
+pub type_names_ascend : (schema : ValidatorSchema)
+    → IsStrictlySortedBy name_cmp (map (λ it. (entity_type_of it).name) (map (λ it. it.1) schema.entity_types.entries))
+type_names_ascend schema =
+    let entries = schema.entity_types.entries in
+    subst (IsStrictlySortedBy name_cmp)
+    (sym (own_names type_name (λ it. (entity_type_of it).name) entries
+    (λ it among. (known_names schema).entity_types (plain_entry it) (Contains-image plain_entry entries it among))))
+    (type_keys_ascend schema)
+
+-- the uids of the actions of a schema ascend
+pub action_uids_ascend : (schema : ValidatorSchema)
+    → IsStrictlySortedBy uid_cmp (map (λ it. (action_of it).uid) (map (λ it. it.1) schema.actions.entries))
+action_uids_ascend schema =
+    let entries = schema.actions.entries in
+    subst (IsStrictlySortedBy uid_cmp)
+    (sym (own_names uid_of (λ it. (action_of it).uid) entries
+    (λ it among. (known_names schema).actions (plain_action_entry it) (Contains-image plain_action_entry entries it among))))
+    (action_keys_ascend schema)
 
 -- no name of a schema is reserved
 pub no_reserved_name : (schema : ValidatorSchema) → HasNoReservedName (schema_of schema)

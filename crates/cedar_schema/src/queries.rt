@@ -17,16 +17,20 @@ use std::collections::{btree_map, hash_set};
 impl ValidatorSchema {
     ghost use Rattle.std.specs.Prelude.{◌≡◌, ◌≢◌, ◌↔◌, ◌++◌, ◌∷◌, [], All, AllPairs, Any, Contains, IfErr, IfOk, IfSome, IsSome, IsTrue, OnOk, map};
     ghost use Rattle.std.specs.List.{flat_map};
-    ghost use Rattle.std.specs.List.Sorted.{IsPermutation};
+    ghost use Rattle.std.specs.List.Sorted.{IsPermutation, IsStrictlySortedBy};
     ghost use Rattle.std.specs.Option.{option_copied, option_map};
     ghost use Rattle.cedar_actions.specs.ActionKind.{kind_principals, kind_resources};
+    ghost use Rattle.cedar_actions.specs.ValidatorActionId.{action_of};
     ghost use Rattle.cedar_below.specs.Entities.{entities_of};
     ghost use Rattle.cedar_below.specs.EntityType.{type_name};
     ghost use Rattle.cedar_below.specs.EntityUID.{uid_of};
+    ghost use Rattle.cedar_below.specs.PlainName.{name_cmp};
+    ghost use Rattle.cedar_below.specs.PlainUid.{uid_cmp};
     ghost use Rattle.cedar_declared.specs.ActionEntities.{AreActionEntities};
     ghost use Rattle.cedar_declared.specs.Environments.{AreEnvironmentsOf};
     ghost use Rattle.cedar_derived.specs.ActionEntities.{schema_with};
     ghost use Rattle.cedar_entities.specs.RequestEnv.{owned_environment};
+    ghost use Rattle.cedar_entities.specs.ValidatorEntityType.{entity_type_of};
     ghost use Rattle.cedar_leaves.specs.GivesLeaf.{pending_types};
     ghost use Rattle.cedar_leaves.specs.Leaves.{leaves_of, schema_leaves};
     ghost use Rattle.cedar_queries.specs.Hierarchy.{IsKnownType, MayBeIn, action_descendants, descendants_of, groups, types_above};
@@ -44,16 +48,18 @@ impl ValidatorSchema {
         self.entity_types.get(name)
     }
 
-    /// The entity types, in the order of their names.
+    /// The entity types, in the order of their names, one for each.
     pub fn entity_types(&self) -> btree_map::Values<'_, EntityType, ValidatorEntityType>
-        ensures { result ≡ map (λ entry. entry.1) (schema_entries self.now) }
+        ensures types { result ≡ map (λ entry. entry.1) (schema_entries self.now) }
+        ensures in_order { IsStrictlySortedBy name_cmp (map (λ it. (entity_type_of it).name) result) }
     {
         self.entity_types.values()
     }
 
-    /// The names of the entity types, in order.
+    /// The names of the entity types, in order, each once.
     pub fn entity_type_names(&self) -> btree_map::Keys<'_, EntityType, ValidatorEntityType>
-        ensures { result ≡ map (λ entry. entry.0) (schema_entries self.now) }
+        ensures names { result ≡ map (λ entry. entry.0) (schema_entries self.now) }
+        ensures in_order { IsStrictlySortedBy name_cmp (map type_name result) }
     {
         self.entity_types.keys()
     }
@@ -65,16 +71,18 @@ impl ValidatorSchema {
         self.actions.get(uid)
     }
 
-    /// The actions, external ones too, in the order of their uids.
+    /// The actions, external ones too, in the order of their uids, one for each.
     pub fn action_ids(&self) -> btree_map::Values<'_, EntityUID, ValidatorActionId>
-        ensures { result ≡ map (λ entry. entry.1) (action_entries self.now) }
+        ensures actions { result ≡ map (λ entry. entry.1) (action_entries self.now) }
+        ensures in_order { IsStrictlySortedBy uid_cmp (map (λ it. (action_of it).uid) result) }
     {
         self.actions.values()
     }
 
-    /// The uids of the actions, external ones too, in order.
+    /// The uids of the actions, external ones too, in order, each once.
     pub fn actions(&self) -> btree_map::Keys<'_, EntityUID, ValidatorActionId>
-        ensures { result ≡ map (λ entry. entry.0) (action_entries self.now) }
+        ensures uids { result ≡ map (λ entry. entry.0) (action_entries self.now) }
+        ensures in_order { IsStrictlySortedBy uid_cmp (map uid_of result) }
     {
         self.actions.keys()
     }
@@ -131,21 +139,24 @@ impl ValidatorSchema {
         cedar_queries::resources_for_action(&self.actions, uid)
     }
 
-    /// The uids of the actions that are for requests of this principal with this resource, in order.
+    /// The uids of the actions that are for requests of this principal with this resource, in order, each
+    /// once.
     pub fn actions_for_principal_and_resource<'a>(
         &'a self,
         principal: &'a EntityType,
         resource: &'a EntityType,
     ) -> ActionsFor<'a>
-        ensures { map uid_of result
+        ensures uids { map uid_of result
             ≡ actions_for (type_name principal.now) (type_name resource.now) (schema_of self.now).actions }
+        ensures in_order { IsStrictlySortedBy uid_cmp (map uid_of result) }
     {
         cedar_queries::actions_for_principal_and_resource(&self.actions, principal, resource)
     }
 
-    /// The uids of the actions that have descendants, in order.
+    /// The uids of the actions that have descendants, in order, each once.
     pub fn action_groups(&self) -> ActionGroups<'_>
-        ensures { map uid_of result ≡ groups (schema_of self.now).actions }
+        ensures uids { map uid_of result ≡ groups (schema_of self.now).actions }
+        ensures in_order { IsStrictlySortedBy uid_cmp (map uid_of result) }
     {
         cedar_queries::action_groups(&self.actions)
     }
@@ -177,6 +188,7 @@ impl ValidatorSchema {
     pub fn ancestors<'a>(&'a self, ty: &'a EntityType) -> Option<Ancestors<'a>>
         ensures known { IsSome result ↔ Contains (map (λ it. it.0) (schema_of self.now).entity_types) (type_name ty.now) }
         ensures names { IfSome result (λ above. map type_name above ≡ types_above (type_name ty.now) (schema_of self.now).entity_types) }
+        ensures in_order { IfSome result (λ above. IsStrictlySortedBy name_cmp (map type_name above)) }
     {
         cedar_queries::ancestors(&self.entity_types, ty)
     }
@@ -189,8 +201,9 @@ impl ValidatorSchema {
         alloc: Global,
         ty: &'a EntityType,
     ) -> M<Vec<&'a EntityType>>
-        ensures { IfOk result (λ names. map (λ name. type_name name.now) names.items
+        ensures names { IfOk result (λ names. map (λ name. type_name name.now) names.items
             ≡ descendants_of (type_name ty.now) (schema_of self.now).entity_types ++ type_name ty.now ∷ []) }
+        ensures once { IfOk result (λ _. AllPairs (λ a b. a ≢ b) (descendants_of (type_name ty.now) (schema_of self.now).entity_types)) }
     {
         cedar_queries::entity_types_in(alloc, &self.entity_types, ty)
     }

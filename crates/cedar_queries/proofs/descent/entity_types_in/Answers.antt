@@ -1,4 +1,4 @@
-use Rattle.std.proofs.Common.{◌≡◌, ◌++◌, ◌∷◌, [], Bor, List, map, ap, sym, ◌∙◌}
+use Rattle.std.proofs.Common.{◌≡◌, ◌≢◌, ◌++◌, ◌∷◌, [], AllPairs, Bor, List, map, ap, arith, subst, sym, ◌∙◌}
 use Rattle.std.proofs.lemmas.List.{map-append}
 use Rattle.cedar_below.specs.EntityType.{type_name}
 use Rattle.cedar_below.specs.PlainName.{PlainName}
@@ -11,14 +11,14 @@ use Rattle.cedar_queries.specs.Hierarchy.{descendants_of}
 use Rattle.cedar_queries.proofs.descent.entity_types_in.Goals as goal
 use Rattle.cedar_queries.proofs.descent.entity_types_in.Goals.{in-Some+in_ok-add_descendants, in_default}
 
-pub returns : goal.returns
-returns c =
+pub returns-clause-names : goal.returns-clause-names
+returns-clause-names c =
     let name = type_name c.args.ty.now in
     let below : List PlainName = descendants_of name (map plain_entry c.args.types.now.entries) in
     let before : map (lent type_name) c.match-get.names.items ≡ below = elim c.match-get.branch [
       | in-Some+in_ok-add_descendants w ↦
           ap (λ (names : Vec (Bor EntityType)). map (lent type_name) names.items) w.names-is
-          ∙ (w.in_ok-add_descendants.ensures
+          ∙ (w.in_ok-add_descendants.ensures.names
           ∙ (ap (λ items. map (lent type_name) items ++ descendant_names w.in-Some.entity_type.now) c.new-names.ensures.items
           ∙ sym (descendants_found c.args.types.now c.args.ty.now w.in-Some.entity_type.now (sym w.in-Some.ensures.value))))
       | in_default w ↦
@@ -28,3 +28,15 @@ returns c =
     ] in
     ap (map (lent type_name)) c.in_ok-push.ensures.items
     ∙ (map-append (lent type_name) c.match-get.names.items (c.args.ty ∷ []) ∙ ap (λ names. names ++ name ∷ []) before)
+
+pub returns-clause-once : goal.returns-clause-once
+returns-clause-once c =
+    let IsOnce : List PlainName → Type 0 = AllPairs (λ a b. a ≢ b) in
+    elim c.match-get.branch [
+      | in-Some+in_ok-add_descendants w ↦
+          subst IsOnce (sym (descendants_found c.args.types.now c.args.ty.now w.in-Some.entity_type.now (sym w.in-Some.ensures.value)))
+          w.in_ok-add_descendants.ensures.once
+      | in_default w ↦
+          subst IsOnce (sym (descendants_none c.args.types.now c.args.ty.now (sym w.in_default.ensures.value)))
+          (λ i j d before below. absurd (omega arith))
+    ]
