@@ -27,11 +27,12 @@ type_piece_from_names text (inr (inr (inr (inr (inr (inr (inr (inr (inr (inr (in
 type_piece_from_names text (inr (inr (inr (inr (inr (inr (inr (inr (inr (inr (inr (inr (inr (inl e)))))))))))))) = (13, lit< tt, sym e)
 type_piece_from_names text (inr (inr (inr (inr (inr (inr (inr (inr (inr (inr (inr (inr (inr (inr e)))))))))))))) = (14, lit< tt, sym e)
 
--- a text that is one of the eleven names is one of the list
+-- a text that is one of the twelve names is one of the list
 pub schema_piece_from_names : (text : Text) →
     (text ≡ codes "build-whole") ⊎ ((text ≡ codes "build-split") ⊎ ((text ≡ codes "build-common-chain")
     ⊎ ((text ≡ codes "close-chain") ⊎ ((text ≡ codes "close-ring") ⊎ ((text ≡ codes "close-star") ⊎ ((text ≡ codes "close-trees")
-    ⊎ ((text ≡ codes "environments") ⊎ ((text ≡ codes "known-attributes") ⊎ ((text ≡ codes "validate") ⊎ (text ≡ codes "write-back"))))))))))
+    ⊎ ((text ≡ codes "schema-look-up") ⊎ ((text ≡ codes "environments") ⊎ ((text ≡ codes "known-attributes")
+    ⊎ ((text ≡ codes "validate") ⊎ (text ≡ codes "write-back")))))))))))
     → Contains schema_piece_names text
 schema_piece_from_names text (inl e) = (0, lit< tt, sym e)
 schema_piece_from_names text (inr (inl e)) = (1, lit< tt, sym e)
@@ -43,4 +44,5 @@ schema_piece_from_names text (inr (inr (inr (inr (inr (inr (inl e))))))) = (6, l
 schema_piece_from_names text (inr (inr (inr (inr (inr (inr (inr (inl e)))))))) = (7, lit< tt, sym e)
 schema_piece_from_names text (inr (inr (inr (inr (inr (inr (inr (inr (inl e))))))))) = (8, lit< tt, sym e)
 schema_piece_from_names text (inr (inr (inr (inr (inr (inr (inr (inr (inr (inl e)))))))))) = (9, lit< tt, sym e)
-schema_piece_from_names text (inr (inr (inr (inr (inr (inr (inr (inr (inr (inr e)))))))))) = (10, lit< tt, sym e)
+schema_piece_from_names text (inr (inr (inr (inr (inr (inr (inr (inr (inr (inr (inl e))))))))))) = (10, lit< tt, sym e)
+schema_piece_from_names text (inr (inr (inr (inr (inr (inr (inr (inr (inr (inr (inr e))))))))))) = (11, lit< tt, sym e)

@@ -13,8 +13,8 @@ type_piece_names =
 abbrev pub schema_piece_names : List Text
 schema_piece_names =
     codes "build-whole" ∷ codes "build-split" ∷ codes "build-common-chain" ∷ codes "close-chain"
-    ∷ codes "close-ring" ∷ codes "close-star" ∷ codes "close-trees" ∷ codes "environments" ∷ codes "known-attributes"
-    ∷ codes "validate" ∷ codes "write-back" ∷ []
+    ∷ codes "close-ring" ∷ codes "close-star" ∷ codes "close-trees" ∷ codes "schema-look-up" ∷ codes "environments"
+    ∷ codes "known-attributes" ∷ codes "validate" ∷ codes "write-back" ∷ []
 
 -- the text is the name of a piece of work
 abbrev pub IsPieceName : Text → Type 0

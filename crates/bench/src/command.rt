@@ -43,6 +43,7 @@ fn schema_piece_named(name: &str) -> Option<Piece>
         "close-ring" => Some(Piece::CloseRing),
         "close-star" => Some(Piece::CloseStar),
         "close-trees" => Some(Piece::CloseTrees),
+        "schema-look-up" => Some(Piece::SchemaLookUp),
         "environments" => Some(Piece::Environments),
         "known-attributes" => Some(Piece::KnownAttributes),
         "validate" => Some(Piece::Validate),
