@@ -1,9 +1,10 @@
 //! What is found in schemas by name, and the other calls that build them.
 
 use crate::answers::{sample_extensions, schema_of, shown};
+use crate::checked::{holds, same};
 use crate::names::entity_type;
 use crate::shorthand::fragment_of;
-use cedar_schema::below::{Eid, EntityUID};
+use cedar_schema::below::{Eid, EntityUID, M};
 use cedar_schema::{Type, ValidatorSchema};
 use std::alloc::Global;
 use std::test::Fail;
@@ -17,25 +18,26 @@ pub(crate) fn uid(alloc: Global, ty: &str, id: &str) -> Result<EntityUID, Fail> 
     Ok(EntityUID::new(entity_type(alloc, ty)?, id, None))
 }
 
+/// Names, each with whether an entity type is found under it.
+const TYPES: &[(&str, bool)] = &[
+    ("N::U", true),
+    ("V", true),
+    ("U", false),
+    ("N::V", false),
+    ("N::Action", false),
+    ("Action", false),
+    ("W", false),
+];
+
 #[test]
 fn entity_types_are_found_by_name(rt: HostRuntime) -> Result<(), Fail> {
     let alloc = rt.alloc();
     let schema = schema_of(alloc, SOME)?;
-    for (name, found) in [
-        ("N::U", true),
-        ("V", true),
-        ("U", false),
-        ("N::V", false),
-        ("N::Action", false),
-        ("Action", false),
-        ("W", false),
-    ] {
-        let name = entity_type(alloc, name)?;
+    for &(word, found) in TYPES {
+        let name = entity_type(alloc, word)?;
         let answer = schema.get_entity_type(&name);
-        assert_eq!(rt; answer.is_some(), found, "at {name}");
-        if let Some(ty) = answer {
-            assert!(rt; *ty.name() == name, "at {name}");
-        }
+        let is_found = answer.is_some_and(|ty| *ty.name() == name);
+        holds(answer.is_some() == found && is_found == found, word)?;
     }
     Ok(())
 }
@@ -49,27 +51,27 @@ fn attributes_have_the_entity_type_itself(rt: HostRuntime) -> Result<(), Fail> {
         .get_entity_type(&entity_type(alloc, "U")?)
         .ok_or("no entity type")?;
     let attribute = ty.attr("u").ok_or("no attribute")?;
-    assert!(rt; *attribute.attr_type == wanted);
-    Ok(())
+    holds(*attribute.attr_type == wanted, "U")
 }
+
+/// Types and ids, each with whether an action is found under the uid.
+const ACTIONS: &[(&str, &str, bool)] = &[
+    ("N::Action", "view", true),
+    ("Action", "all", true),
+    ("Action", "view", false),
+    ("N::Action", "all", false),
+    ("N::U", "view", false),
+];
 
 #[test]
 fn actions_are_found_by_uid(rt: HostRuntime) -> Result<(), Fail> {
     let alloc = rt.alloc();
     let schema = schema_of(alloc, SOME)?;
-    for (ty, id, found) in [
-        ("N::Action", "view", true),
-        ("Action", "all", true),
-        ("Action", "view", false),
-        ("N::Action", "all", false),
-        ("N::U", "view", false),
-    ] {
+    for &(ty, id, found) in ACTIONS {
         let uid = uid(alloc, ty, id)?;
         let answer = schema.get_action_id(&uid);
-        assert_eq!(rt; answer.is_some(), found, "at {ty} {id}");
-        if let Some(action) = answer {
-            assert!(rt; *action.name() == uid, "at {ty} {id}");
-        }
+        let is_found = answer.is_some_and(|action| *action.name() == uid);
+        holds(answer.is_some() == found && is_found == found, ty)?;
     }
     Ok(())
 }
@@ -82,8 +84,7 @@ fn names_come_in_order(rt: HostRuntime) -> Result<(), Fail> {
     for name in schema.entity_type_names() {
         names.push_str(format!(in alloc; "{name} ")?.as_str())?;
     }
-    assert_eq!(rt; names.as_str(), "A N::T U V ");
-    Ok(())
+    same("names", names.as_str(), "A N::T U V ")
 }
 
 #[test]
@@ -95,8 +96,19 @@ fn uids_come_in_order(rt: HostRuntime) -> Result<(), Fail> {
         let (ty, id) = (uid.entity_type(), uid.eid().as_str());
         uids.push_str(format!(in alloc; "{ty} {id} ")?.as_str())?;
     }
-    assert_eq!(rt; uids.as_str(), "Action a Action b N::Action c ");
-    Ok(())
+    same("uids", uids.as_str(), "Action a Action b N::Action c ")
+}
+
+/// The types of the environments of requests of a schema.
+fn environments(alloc: Global, schema: &ValidatorSchema) -> M<String> {
+    let mut shown = String::new(alloc);
+    for it in schema.unlinked_envs_owned() {
+        let (principal, resource, context) = (&it.principal, &it.resource, &it.context);
+        let id = it.action.eid().as_str();
+        let line = format!(in alloc; "{principal} {id} {resource} {context} ")?;
+        shown.push_str(line.as_str())?;
+    }
+    Ok(shown)
 }
 
 #[test]
@@ -104,15 +116,8 @@ fn environments_have_the_declared_types(rt: HostRuntime) -> Result<(), Fail> {
     let alloc = rt.alloc();
     let text = "type C = {a?: n:Long}; N: entity U; entity V; action view P N::U R V context c:C";
     let schema = schema_of(alloc, text)?;
-    let mut shown = String::new(alloc);
-    for it in schema.unlinked_envs_owned() {
-        let (principal, resource, context) = (&it.principal, &it.resource, &it.context);
-        let line = format!(in alloc; "{principal} {resource} {context} ")?;
-        shown.push_str(line.as_str())?;
-        assert!(rt; it.action == uid(alloc, "Action", "view")?);
-    }
-    assert_eq!(rt; shown.as_str(), "N::U V {a?: Long,} ");
-    Ok(())
+    let shown = environments(alloc, &schema)?;
+    same("view", shown.as_str(), "N::U view V {a?: Long,} ")
 }
 
 #[test]
@@ -120,19 +125,24 @@ fn nothing_declared_gives_the_empty_schema(rt: HostRuntime) -> Result<(), Fail> 
     let alloc = rt.alloc();
     let empty = ValidatorSchema::empty(alloc);
     for text in ["", "N:", "type T = Long", "N: | M: type T = n:ipaddr"] {
-        let equal = schema_of(alloc, text)? == empty;
-        assert!(rt; equal, "at {text}");
+        holds(schema_of(alloc, text)? == empty, text)?;
     }
-    assert_eq!(rt; shown(alloc, &empty)?.as_str(), "");
-    assert_eq!(rt; empty.entity_types().count(), 0);
-    assert_eq!(rt; empty.action_ids().count(), 0);
-    assert_eq!(rt; empty.unlinked_envs_owned().len(), 0);
-    Ok(())
+    same("the empty schema", shown(alloc, &empty)?.as_str(), "")?;
+    let has_no_actions = empty.action_ids().count() == 0 && empty.unlinked_envs_owned().is_empty();
+    holds(
+        has_no_actions && empty.entity_types().count() == 0,
+        "the empty schema",
+    )
 }
 
 /// Declarations in the empty namespace, for each call that builds.
 const ALONE: &str =
     "entity U in V {a: Long}; external entity V; action view P U R V; type T = Set<e:U>";
+
+/// Whether a schema is the one of those declarations, and not the empty one.
+fn is_built(alloc: Global, schema: &ValidatorSchema) -> Result<bool, Fail> {
+    Ok(*schema == schema_of(alloc, ALONE)? && *schema != ValidatorSchema::empty(alloc))
+}
 
 #[test]
 fn one_fragment_is_built_alone(rt: HostRuntime) -> Result<(), Fail> {
@@ -141,9 +151,7 @@ fn one_fragment_is_built_alone(rt: HostRuntime) -> Result<(), Fail> {
     assert!(rt; extensions.type_names_fit());
     let only = fragment_of(alloc, ALONE)?.ok_or("an id twice in a definition")?;
     let schema = ValidatorSchema::from_schema_frag(alloc, only, &extensions)?;
-    assert!(rt; schema == schema_of(alloc, ALONE)?);
-    assert!(rt; schema != ValidatorSchema::empty(alloc));
-    Ok(())
+    holds(is_built(alloc, &schema)?, "one fragment")
 }
 
 #[test]
@@ -154,7 +162,5 @@ fn one_definition_is_built_alone(rt: HostRuntime) -> Result<(), Fail> {
     let mut only = fragment_of(alloc, ALONE)?.ok_or("an id twice in a definition")?;
     let definition = only.0.remove(&None).ok_or("no definition")?;
     let schema = ValidatorSchema::from_namespace_def(alloc, definition, &extensions)?;
-    assert!(rt; schema == schema_of(alloc, ALONE)?);
-    assert!(rt; schema != ValidatorSchema::empty(alloc));
-    Ok(())
+    holds(is_built(alloc, &schema)?, "one definition")
 }
