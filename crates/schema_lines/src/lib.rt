@@ -1,6 +1,6 @@
 //! Schemas as sorted lines of text.
 #![tactic(auto)]
 
-pub use lines::lines_of;
+pub use lines::{lines_of, uid_text};
 
 mod lines;

@@ -17,7 +17,7 @@ fn kind_word(kind: &ValidatorEntityTypeKind) -> &'static str {
 }
 
 /// An action's uid: its type, and its id as it is, between quotes.
-fn uid_text(alloc: Global, uid: &EntityUID) -> M<String> {
+pub fn uid_text(alloc: Global, uid: &EntityUID) -> M<String> {
     let ty = uid.entity_type();
     let id = uid.eid().as_str();
     Ok(format!(in alloc; "{ty}::\"{id}\"")?)

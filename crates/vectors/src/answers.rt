@@ -1,10 +1,11 @@
 //! What the builder answers of fragments, as text.
 
+use crate::checked::{holds, one_of};
 use crate::names::name;
 use crate::orders::{as_written, in_order, order_count, taken_apart};
 use crate::refusals::refusal_text;
 use crate::shorthand::{fragment_of, fragments_of};
-use crate::written_back::built_again;
+use crate::written_back::comes_back;
 use cedar_schema::below::{CoreSchemaType, ExtensionFunction, Extensions, M};
 use cedar_schema::json_schema::{Fragment, RawName};
 use cedar_schema::{SchemaError, ValidatorSchema};
@@ -78,34 +79,15 @@ struct Row<'t> {
     first: Option<ValidatorSchema>,
 }
 
-/// Compares a schema with the one of the declarations as they are written.
-fn check_equal(row: &Row, schema: &ValidatorSchema) -> Result<(), Fail> {
-    match &row.first {
-        Some(first) if schema == first => Ok(()),
-        _ => Err(Fail::new(format_args!("{}: an unequal schema", row.name))),
-    }
-}
-
-/// Compares the text of what was built with the answers that are allowed.
-fn check_text(row: &Row, answer: &str) -> Result<(), Fail> {
-    for text in row.allowed.split(" or ") {
-        if text == answer {
-            return Ok(());
-        }
-    }
-    Err(Fail::new(format_args!("{}: {answer}", row.name)))
-}
-
 /// Compares what was built with what the row wants.
 fn check_built(
     alloc: Global,
     row: &Row,
     built: &Result<ValidatorSchema, SchemaError>,
 ) -> Result<(), Fail> {
-    let answer = answer_text(alloc, built)?;
-    check_text(row, answer.as_str())?;
+    one_of(row.name, answer_text(alloc, built)?.as_str(), row.allowed)?;
     match built {
-        Ok(schema) => check_equal(row, schema),
+        Ok(schema) => holds(row.first.as_ref() == Some(schema), row.name),
         Err(_) => Ok(()),
     }
 }
@@ -138,30 +120,14 @@ fn check_together(alloc: Global, row: &Row, text: &str) -> Result<(), Fail> {
 /// The schema of fragments in the order in which they are written, if they aren't refused.
 fn first_schema(alloc: Global, texts: &[&str]) -> Result<Option<ValidatorSchema>, Fail> {
     let fragments = fragments_of(alloc, texts)?;
-    match build(alloc, fragments)? {
-        Ok(schema) => Ok(Some(schema)),
-        Err(_) => Ok(None),
-    }
+    Ok(build(alloc, fragments)?.ok())
 }
 
-/// Compares what validation gives of the schema of some fragments with the schema itself.
-fn check_validated(alloc: Global, row: &Row, texts: &[&str]) -> Result<(), Fail> {
-    match first_schema(alloc, texts)? {
-        Some(schema) => {
-            let validated = schema.try_validate(alloc, &sample_extensions(alloc)?)?;
-            check_equal(row, &validated)
-        }
-        None => Ok(()),
-    }
-}
-
-/// Compares what is built again of the schema of a row, once it is written back, with the schema itself.
-fn check_written_back(alloc: Global, row: &Row) -> Result<(), Fail> {
+/// Compares what validation gives of the schema of a row, and what is built again of it once it is written back, with
+/// the schema itself.
+fn check_comes_back(alloc: Global, row: &Row) -> Result<(), Fail> {
     match &row.first {
-        Some(schema) => match built_again(alloc, schema)? {
-            Some(again) => check_equal(row, &again),
-            None => Err(Fail::new(format_args!("{}: isn't written back", row.name))),
-        },
+        Some(schema) => holds(comes_back(alloc, schema)?, row.name),
         None => Ok(()),
     }
 }
@@ -171,19 +137,16 @@ fn check_written_back(alloc: Global, row: &Row) -> Result<(), Fail> {
 /// validation gives an equal one back, as does building what it is written back as.
 pub(crate) fn check_row(alloc: Global, name: &str, text: &str, allowed: &str) -> Result<(), Fail> {
     let written = as_written(alloc, text)?;
-    let first = first_schema(alloc, &written)?;
     let row = Row {
         name,
         allowed,
-        first,
+        first: first_schema(alloc, &written)?,
     };
-    check_validated(alloc, &row, &written)?;
-    check_written_back(alloc, &row)?;
+    check_comes_back(alloc, &row)?;
     check_orders(alloc, &row, &written)?;
     if written.is_empty() {
         return Ok(());
     }
-    let apart = taken_apart(alloc, &written)?;
-    check_orders(alloc, &row, &apart)?;
+    check_orders(alloc, &row, &taken_apart(alloc, &written)?)?;
     check_together(alloc, &row, text)
 }

@@ -6,10 +6,12 @@
 //! - then ` > A,B` for descendants, and then ` : TYPE` for an attribute `a` or for the context of an action,
 //!   ` tags TYPE` for tags, or ` for A` for an action's principals, where `TYPE` is `Long`, `True`, `ext NAME` or the name of an entity type
 
-use crate::answers::{answer_text, sample_extensions};
-use crate::calls::uid;
-use crate::names::{entity_type, name};
-use cedar_schema::below::{Eid, EntityType, EntityUID, NonEmpty};
+use crate::answers::{answer_text, sample_extensions, shown};
+use crate::checked::{holds, one_of, same};
+use crate::entries::parts;
+use crate::names::{NONE, entity_type, entity_types, name, uid, uids};
+use crate::questions::{answer, two_parts};
+use cedar_schema::below::{Eid, EntityType, NonEmpty};
 use cedar_schema::{
     AttributeType, Attributes, OpenTag, SchemaError, Type, ValidatorActionId, ValidatorEntityType,
     ValidatorSchema,
@@ -17,14 +19,6 @@ use cedar_schema::{
 use std::alloc::Global;
 use std::rc::Rc;
 use std::test::Fail;
-
-/// The part of a text before a word, and the part behind it, if the word is there.
-fn around<'t>(text: &'t str, word: &str) -> (&'t str, Option<&'t str>) {
-    match text.split_once(word) {
-        Some((before, behind)) => (before, Some(behind)),
-        None => (text, None),
-    }
-}
 
 /// The type that a text names.
 fn type_of(alloc: Global, text: &str) -> Result<Type, Fail> {
@@ -38,119 +32,128 @@ fn type_of(alloc: Global, text: &str) -> Result<Type, Fail> {
     }
 }
 
-/// The entity types between the commas of a text.
-fn types_in(alloc: Global, text: Option<&str>) -> Result<Vec<EntityType>, Fail> {
-    let mut types = Vec::new(alloc);
-    if let Some(text) = text {
-        for part in text.split(',') {
-            types.push(entity_type(alloc, part)?)?;
-        }
+/// The type that a text names, if it is there.
+fn optional_type(alloc: Global, text: Option<&str>) -> Result<Option<Type>, Fail> {
+    match text {
+        Some(text) => Ok(Some(type_of(alloc, text)?)),
+        None => Ok(None),
     }
-    Ok(types)
 }
 
-/// The uid of a text with the id behind the last `::`.
-fn uid_in(alloc: Global, text: &str) -> Result<EntityUID, Fail> {
-    let (ty, id) = text.rsplit_once("::").ok_or("no uid")?;
-    uid(alloc, ty, id)
+/// The attribute `a` of a type.
+fn attribute(alloc: Global, text: &str) -> Result<(String, AttributeType), Fail> {
+    let ty = Rc::new(alloc, type_of(alloc, text)?)?;
+    let name = String::from_str(alloc, "a")?;
+    Ok((name, AttributeType::required_attribute(ty)))
 }
 
-/// The uids between the commas of a text.
-fn uids_in(alloc: Global, text: Option<&str>) -> Result<Vec<EntityUID>, Fail> {
-    let mut uids = Vec::new(alloc);
-    if let Some(text) = text {
-        for part in text.split(',') {
-            uids.push(uid_in(alloc, part)?)?;
-        }
-    }
-    Ok(uids)
-}
-
-/// The attribute `a` of a type, if there is one.
+/// The attribute `a` of a type, if that is there, and no others.
 fn attributes(alloc: Global, text: Option<&str>) -> Result<Attributes, Fail> {
     let mut items = Vec::new(alloc);
     if let Some(text) = text {
-        let ty = Rc::new(alloc, type_of(alloc, text)?)?;
-        items.push((
-            String::from_str(alloc, "a")?,
-            AttributeType::required_attribute(ty),
-        ))?;
+        items.push(attribute(alloc, text)?)?;
     }
     Ok(Attributes::with_attributes(alloc, items)?)
 }
 
+/// An entity type, and those that are listed as its descendants behind a ` > `.
+fn with_descendants(alloc: Global, text: &str) -> Result<(EntityType, Vec<EntityType>), Fail> {
+    let (name, below) = parts(text, " > ");
+    let below = entity_types(alloc, below.unwrap_or(NONE))?;
+    Ok((entity_type(alloc, name)?, below))
+}
+
 /// The standard entity type of a text, behind its first word.
 fn standard(alloc: Global, text: &str) -> Result<ValidatorEntityType, Fail> {
-    let (text, tags) = around(text, " tags ");
-    let (text, attribute) = around(text, " : ");
-    let (name, below) = around(text, " > ");
-    let tags = match tags {
-        Some(tags) => Some(type_of(alloc, tags)?),
-        None => None,
-    };
+    let (text, tags) = parts(text, " tags ");
+    let (text, attribute) = parts(text, " : ");
+    let tags = optional_type(alloc, tags)?;
     let attributes = attributes(alloc, attribute)?;
-    let (name, below) = (entity_type(alloc, name)?, types_in(alloc, below)?);
+    let (name, below) = with_descendants(alloc, text)?;
     let closed = OpenTag::ClosedAttributes;
     Ok(ValidatorEntityType::new_standard(alloc, name, below, attributes, closed, tags, None)?)
 }
 
-/// The entity type of a text, if it is one.
-fn type_item(alloc: Global, text: &str) -> Result<Option<ValidatorEntityType>, Fail> {
-    let (word, rest) = text.split_once(' ').ok_or("no words")?;
-    if word == "entity" {
-        return Ok(Some(standard(alloc, rest)?));
-    }
-    let (name, below) = around(rest, " > ");
+/// The enumerated entity type of a text, behind its first word, with one choice.
+fn enumerated(alloc: Global, text: &str) -> Result<ValidatorEntityType, Fail> {
+    let choices = NonEmpty {
+        head: Eid(String::from_str(alloc, "red")?),
+        tail: Vec::new(alloc),
+    };
+    let (name, below) = with_descendants(alloc, text)?;
+    Ok(ValidatorEntityType::new_enum(alloc, name, below, choices, None)?)
+}
+
+/// The external entity type of a text, behind its first word.
+fn external(alloc: Global, text: &str) -> Result<ValidatorEntityType, Fail> {
+    let (name, below) = with_descendants(alloc, text)?;
+    Ok(ValidatorEntityType::new_external(alloc, name, below, None)?)
+}
+
+/// The entity type of a text.
+fn type_item(alloc: Global, text: &str) -> Result<ValidatorEntityType, Fail> {
+    let (word, rest) = two_parts(text)?;
     match word {
-        "enum" => {
-            let choices = NonEmpty {
-                head: Eid(String::from_str(alloc, "red")?),
-                tail: Vec::new(alloc),
-            };
-            let (name, below) = (entity_type(alloc, name)?, types_in(alloc, below)?);
-            Ok(Some(ValidatorEntityType::new_enum(alloc, name, below, choices, None)?))
-        }
-        "external" => {
-            let (name, below) = (entity_type(alloc, name)?, types_in(alloc, below)?);
-            Ok(Some(ValidatorEntityType::new_external(alloc, name, below, None)?))
-        }
-        _ => Ok(None),
+        "entity" => standard(alloc, rest),
+        "enum" => enumerated(alloc, rest),
+        "external" => external(alloc, rest),
+        _ => Err(Fail::new(format_args!("no item: {text}"))),
+    }
+}
+
+/// The context that a text names, or the one without attributes.
+fn context(alloc: Global, text: Option<&str>) -> Result<Type, Fail> {
+    match text {
+        Some(text) => type_of(alloc, text),
+        None => Ok(Type::record_with_attributes(
+            alloc,
+            Vec::new(alloc),
+            OpenTag::ClosedAttributes,
+        )?),
     }
 }
 
 /// The action of a text, behind its first word: for requests of one type of principals, or for none, with a
 /// context.
-fn action_item(alloc: Global, text: &str) -> Result<ValidatorActionId, Fail> {
-    let (text, principal) = around(text, " for ");
-    let (text, context) = around(text, " : ");
-    let (name, below) = around(text, " > ");
-    let context = match context {
-        Some(context) => type_of(alloc, context)?,
-        None => Type::record_with_attributes(alloc, Vec::new(alloc), OpenTag::ClosedAttributes)?,
-    };
-    let (name, below) = (uid_in(alloc, name)?, uids_in(alloc, below)?);
-    let (principals, resources) = (types_in(alloc, principal)?, Vec::new(alloc));
-    Ok(ValidatorActionId::new_defined(alloc, name, principals, resources, below, context, None)?)
+fn defined(alloc: Global, text: &str) -> Result<ValidatorActionId, Fail> {
+    let (text, principal) = parts(text, " for ");
+    let (text, written) = parts(text, " : ");
+    let (name, below) = parts(text, " > ");
+    let context = context(alloc, written)?;
+    let below = uids(alloc, below.unwrap_or(NONE))?;
+    let (principals, resources) = (
+        entity_types(alloc, principal.unwrap_or(NONE))?,
+        Vec::new(alloc),
+    );
+    let uid = uid(alloc, name)?;
+    Ok(ValidatorActionId::new_defined(alloc, uid, principals, resources, below, context, None)?)
+}
+
+/// The action of a text, behind its first word, which may be declared elsewhere.
+fn action_item(alloc: Global, text: &str, external: bool) -> Result<ValidatorActionId, Fail> {
+    if external {
+        let uid = uid(alloc, text)?;
+        return Ok(ValidatorActionId::new_external(alloc, uid, Vec::new(alloc), None)?);
+    }
+    defined(alloc, text)
 }
 
 /// The schema of a text.
 pub(crate) fn put_together(alloc: Global, text: &str) -> Result<ValidatorSchema, Fail> {
     let (mut types, mut actions) = (Vec::new(alloc), Vec::new(alloc));
     for item in text.split("; ") {
-        if let Some(action) = item.strip_prefix("action ") {
-            actions.push(action_item(alloc, action)?)?;
-        } else if let Some(action) = item.strip_prefix("external action ") {
-            let uid = uid_in(alloc, action)?;
-            actions.push(ValidatorActionId::new_external(alloc, uid, Vec::new(alloc), None)?)?;
-        } else {
-            types.push(type_item(alloc, item)?.ok_or("no item")?)?;
+        match item.split_once("action ") {
+            Some((before, action)) => {
+                actions.push(action_item(alloc, action, before == "external ")?)?;
+            }
+            None => types.push(type_item(alloc, item)?)?,
         }
     }
     Ok(ValidatorSchema::new(alloc, types, actions)?)
 }
 
 /// Schemas, and their lines once they are validated.
-const VALID: [(&str, &str); 3] = [
+const VALID: &[(&str, &str)] = &[
     (
         "entity Group > Mid; entity Mid > Leaf; entity Leaf",
         "descendant Group Leaf; descendant Group Mid; descendant Mid Leaf; entity Group standard; entity Leaf standard; entity Mid standard",
@@ -167,7 +170,7 @@ const VALID: [(&str, &str); 3] = [
 
 /// Schemas, how they are refused, with ` or ` between answers that are allowed, and the nearest schema that
 /// is valid.
-const REFUSED: [(&str, &str, &str); 16] = [
+const REFUSED: &[(&str, &str, &str)] = &[
     (
         "entity Group > Mid; entity Mid > Leaf; enum Leaf",
         "refused: EnumEntityInHierarchy Leaf Mid or refused: EnumEntityInHierarchy Leaf Group",
@@ -256,11 +259,16 @@ fn validated(alloc: Global, text: &str) -> Result<Result<ValidatorSchema, Schema
     Ok(put_together(alloc, text)?.try_validate(alloc, &extensions))
 }
 
+/// Compares what validation answers of the schema of a text with the answers that are allowed.
+fn check_validated(alloc: Global, text: &str, allowed: &str) -> Result<(), Fail> {
+    let answer = answer_text(alloc, &validated(alloc, text)?)?;
+    one_of(text, answer.as_str(), allowed)
+}
+
 #[test]
 fn valid_schemas_are_closed(rt: HostRuntime) -> Result<(), Fail> {
     for (text, lines) in VALID {
-        let answer = answer_text(rt.alloc(), &validated(rt.alloc(), text)?)?;
-        assert!(rt; answer.as_str() == lines, "{text}: {answer}");
+        check_validated(rt.alloc(), text, lines)?;
     }
     Ok(())
 }
@@ -268,23 +276,42 @@ fn valid_schemas_are_closed(rt: HostRuntime) -> Result<(), Fail> {
 #[test]
 fn schemas_are_refused_and_the_nearest_are_valid(rt: HostRuntime) -> Result<(), Fail> {
     for (text, allowed, nearest) in REFUSED {
-        let answer = answer_text(rt.alloc(), &validated(rt.alloc(), text)?)?;
-        let found = allowed.split(" or ").any(|one| one == answer.as_str());
-        assert!(rt; found, "{text}: {answer}");
-        assert!(rt; validated(rt.alloc(), nearest)?.is_ok(), "{nearest}");
+        check_validated(rt.alloc(), text, allowed)?;
+        holds(validated(rt.alloc(), nearest)?.is_ok(), nearest)?;
     }
     Ok(())
 }
 
+/// Whether what validation gives of the schema of a text is validated again, and comes back equal.
+fn is_settled(alloc: Global, text: &str) -> Result<bool, Fail> {
+    let extensions = sample_extensions(alloc)?;
+    let first = validated(alloc, text)??;
+    let again = first.clone()?.try_validate(alloc, &extensions)?;
+    Ok(again == first)
+}
+
 #[test]
 fn validation_again_changes_nothing(rt: HostRuntime) -> Result<(), Fail> {
-    let extensions = sample_extensions(rt.alloc())?;
     for (text, _) in VALID {
-        let (first, again) = (validated(rt.alloc(), text)??, validated(rt.alloc(), text)??);
-        assert!(rt;
-            again.try_validate(rt.alloc(), &extensions)? == first,
-            "{text}"
-        );
+        holds(is_settled(rt.alloc(), text)?, text)?;
+    }
+    Ok(())
+}
+
+/// Compares the lines of a copy of the schema of a text with its own.
+fn check_copied(alloc: Global, text: &str) -> Result<(), Fail> {
+    let schema = put_together(alloc, text)?;
+    let copied = answer(alloc, &schema, "copy")?;
+    same(text, copied.as_str(), shown(alloc, &schema)?.as_str())
+}
+
+#[test]
+fn copies_are_equal(rt: HostRuntime) -> Result<(), Fail> {
+    for text in [
+        "entity Group > Mid; entity Mid > Leaf; entity Leaf",
+        "enum Color; action Action::v > Action::w : Long for Color; external action Action::w",
+    ] {
+        check_copied(rt.alloc(), text)?;
     }
     Ok(())
 }

@@ -17,3 +17,13 @@ pub(crate) fn holds(is_so: bool, row: &str) -> Result<(), Fail> {
     }
     Err(Fail::new(format_args!("at {row}")))
 }
+
+/// Fails, with the row, where an answer is none of the texts that are allowed, between which stands ` or `.
+pub(crate) fn one_of(row: &str, answer: &str, allowed: &str) -> Result<(), Fail> {
+    for text in allowed.split(" or ") {
+        if text == answer {
+            return Ok(());
+        }
+    }
+    same(row, answer, allowed)
+}

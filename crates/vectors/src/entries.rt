@@ -1,6 +1,6 @@
 //! Declarations of entity types and of actions that texts spell, as plain data.
 
-use crate::names::{raw, raws};
+use crate::names::{placed_at, raw, raws};
 use crate::types::{empty_record, written_type};
 use cedar_schema::below::{Eid, NonEmpty};
 use cedar_schema::json_schema::{
@@ -12,7 +12,7 @@ use std::collections::BTreeMap;
 use std::test::Fail;
 
 /// What stands before a word of a text, and what stands after it, if it is there.
-fn parts<'t>(text: &'t str, word: &str) -> (&'t str, Option<&'t str>) {
+pub(crate) fn parts<'t>(text: &'t str, word: &str) -> (&'t str, Option<&'t str>) {
     match text.split_once(word) {
         Some((before, after)) => (before, Some(after)),
         None => (text, None),
@@ -95,7 +95,7 @@ fn standard(alloc: Global, text: &str) -> Result<(&str, EntityTypeKind<RawName>)
     Ok((name, EntityTypeKind::Standard(standard)))
 }
 
-/// The name and the declaration of an entity type, a standard one or `U enum red,green`.
+/// The name and the declaration of an entity type, a standard one or `U enum red,green`, with a place behind its name.
 pub(crate) fn entity_type(
     alloc: Global,
     text: &str,
@@ -108,10 +108,11 @@ pub(crate) fn entity_type(
         }
         None => standard(alloc, text)?,
     };
+    let (name, loc) = placed_at(name);
     let declared = EntityType {
         kind,
         external,
-        loc: None,
+        loc,
     };
     Ok((name, declared))
 }
@@ -176,7 +177,8 @@ fn without_attributes(text: &str) -> (&str, bool) {
 }
 
 /// The text of the id and the declaration of an action,
-/// `view in all,N::Action::read P A,B R C context {} attributes`.
+/// `view in all,N::Action::read P A,B R C context {} attributes`, with the places of the declaration and of the id behind
+/// the id.
 pub(crate) fn action(
     alloc: Global,
     text: &str,
@@ -185,6 +187,8 @@ pub(crate) fn action(
     let (text, with_attributes) = without_attributes(text);
     let (text, applies) = parts(text, " P ");
     let (id, above) = parts(text, " in ");
+    let (id, defn_loc) = placed_at(id);
+    let (id, loc) = placed_at(id);
     let declared = ActionType {
         attributes: if with_attributes {
             Some(BTreeMap::new(alloc))
@@ -194,8 +198,8 @@ pub(crate) fn action(
         applies_to: optional_requests(alloc, applies)?,
         member_of: groups(alloc, above)?,
         external,
-        loc: None,
-        defn_loc: None,
+        loc,
+        defn_loc,
     };
     Ok((id, declared))
 }

@@ -8,11 +8,7 @@ mod answers;
 #[cfg(test)]
 mod by_hand;
 #[cfg(test)]
-mod calls;
-#[cfg(test)]
 mod checked;
-#[cfg(test)]
-mod copies;
 #[cfg(test)]
 mod entries;
 #[cfg(test)]
@@ -21,8 +17,6 @@ mod kinds;
 mod known;
 #[cfg(test)]
 mod large;
-#[cfg(test)]
-mod locations;
 #[cfg(test)]
 mod names;
 #[cfg(test)]

@@ -1,12 +1,32 @@
-//! Names that texts spell. A text that spells none fails by name.
+//! Names that texts spell, and places. A text that spells no name fails by name.
 
-use cedar_schema::below::{EntityType, Id, InternalName, Loc, Name, UnreservedId};
+use cedar_schema::below::{Eid, EntityType, EntityUID, Id, InternalName, Loc, Name, UnreservedId};
 use cedar_schema::json_schema::RawName;
 use std::alloc::Global;
 use std::test::Fail;
 
 /// The text of no names in a list.
-const NONE: &str = "-";
+pub(crate) const NONE: &str = "-";
+
+/// What stands before an `@` and a number at the end of a text, and the place in the text of that number; or the
+/// whole text, and no place.
+pub(crate) fn placed_at(text: &str) -> (&str, Option<Loc>) {
+    let Some((before, number)) = text.rsplit_once('@') else {
+        return (text, None);
+    };
+    match number.parse::<u32>() {
+        Ok(source) => {
+            let (start, stop) = (2, 5);
+            let loc = Loc {
+                source,
+                start,
+                stop,
+            };
+            (before, Some(loc))
+        }
+        Err(_) => (text, None),
+    }
+}
 
 /// The identifier that a text spells.
 fn id(alloc: Global, text: &str) -> Result<Id, Fail> {
@@ -30,11 +50,7 @@ pub(crate) fn internal_name(alloc: Global, text: &str) -> Result<InternalName, F
 }
 
 /// The name of such a text, which is written at a place.
-pub(crate) fn internal_name_at(
-    alloc: Global,
-    text: &str,
-    loc: Option<Loc>,
-) -> Result<InternalName, Fail> {
+fn internal_name_at(alloc: Global, text: &str, loc: Option<Loc>) -> Result<InternalName, Fail> {
     let mut parts = Vec::new(alloc);
     for part in text.split("::") {
         parts.push(id(alloc, part)?)?;
@@ -51,17 +67,54 @@ pub(crate) fn name(alloc: Global, text: &str) -> Result<Name, Fail> {
     }
 }
 
-/// The name of such a text, or None for no text.
+/// The name of such a text with its place, which isn't reserved, or None for no text.
 pub(crate) fn namespace(alloc: Global, text: &str) -> Result<Option<Name>, Fail> {
     if text.is_empty() {
         return Ok(None);
     }
-    Ok(Some(name(alloc, text)?))
+    let (text, loc) = placed_at(text);
+    match Name::new(internal_name_at(alloc, text, loc)?) {
+        Some(name) => Ok(Some(name)),
+        None => Err(Fail::new(format_args!("a reserved name: {text}"))),
+    }
 }
 
 /// The entity type of such a text.
 pub(crate) fn entity_type(alloc: Global, text: &str) -> Result<EntityType, Fail> {
     Ok(EntityType::new(name(alloc, text)?))
+}
+
+/// The entity types that stand between commas, or none for `-`.
+pub(crate) fn entity_types(alloc: Global, text: &str) -> Result<Vec<EntityType>, Fail> {
+    let mut types = Vec::new(alloc);
+    if text == NONE {
+        return Ok(types);
+    }
+    for part in text.split(',') {
+        types.push(entity_type(alloc, part)?)?;
+    }
+    Ok(types)
+}
+
+/// The uid whose type stands before the last `::` of a text, and its id behind it.
+pub(crate) fn uid(alloc: Global, text: &str) -> Result<EntityUID, Fail> {
+    let Some((ty, id)) = text.rsplit_once("::") else {
+        return Err(Fail::new(format_args!("no uid: {text}")));
+    };
+    let ty = entity_type(alloc, ty)?;
+    Ok(EntityUID::new(ty, Eid(String::from_str(alloc, id)?), None))
+}
+
+/// The uids that stand between commas, or none for `-`.
+pub(crate) fn uids(alloc: Global, text: &str) -> Result<Vec<EntityUID>, Fail> {
+    let mut uids = Vec::new(alloc);
+    if text == NONE {
+        return Ok(uids);
+    }
+    for part in text.split(',') {
+        uids.push(uid(alloc, part)?)?;
+    }
+    Ok(uids)
 }
 
 /// The reference that is written as such a text.

@@ -1,12 +1,13 @@
 //! Questions that texts put to a schema, and their answers as texts.
 //!
-//! - of an entity type: `ancestors U`, `types_in U`, `is_type U`
-//! - of an action: `principals_for Action::view`, `resources_for Action::view`, `context Action::view`,
-//!   `is_action Action::view`
+//! - of an entity type: `find U`, `ancestors U`, `types_in U`, `is_type U`
+//! - of an action: `find_action Action::view`, `principals_for Action::view`, `resources_for Action::view`,
+//!   `context Action::view`, `is_action Action::view`
 //! - of lists: `any_below A,B C,D` of entity types below others, `actions_in Action::view,Action::edit`
 //! - of a principal and a resource: `actions_for U Photo`
-//! - of the whole: `principals`, `resources`, `groups`, `entities`, `leaves` of all types, `lacks`,
-//!   `is_complete`, `check`, and for the environments of requests in either mode `strict` and `permissive`
+//! - of the whole: `names`, `uids`, `principals`, `resources`, `groups`, `entities`, `leaves` of all types, `lacks`,
+//!   `is_complete`, `check`, `copy`, and for the environments of requests in either mode `strict` and `permissive`
+//! - of what is known of types, and of where things were written: as `known` and `places` say
 //!
 //! A list stands between commas, with `-` for an empty one. An answer's items stand between blanks, and
 //! `None` stands for no answer. Principals, resources, leaves, environments, and the types in an entity type but for
@@ -14,62 +15,28 @@
 
 ghost use Rattle.std.specs.Iterator.{IsFinite};
 
-use crate::answers::sample_extensions;
-use crate::calls::uid;
-use crate::names::entity_type;
-use crate::refusals::uid_text;
+use crate::answers::{sample_extensions, shown};
+use crate::known::{of_literal, of_types};
+use crate::names::{entity_type, entity_types, uid, uids};
+use crate::places::{common_types, lacking_at, namespaces, place};
 use cedar_schema::below::{Entity, EntityType, EntityUID, M, ValidationMode};
 use cedar_schema::{CompleteError, IncompleteSchemaError, UnresolvedDeclaration, ValidatorSchema};
+use schema_lines::uid_text;
 use std::alloc::Global;
 use std::collections::hash_set;
 use std::test::Fail;
 
-/// The text of no items in a list.
-const NONE: &str = "-";
-
 /// The failure of a text that asks nothing.
-fn unknown(question: &str) -> Fail {
+pub(crate) fn unknown(question: &str) -> Fail {
     Fail::new(format_args!("no question: {question}"))
 }
 
 /// The two parts of a text, which stand around a blank.
-fn two_parts(text: &str) -> Result<(&str, &str), Fail> {
+pub(crate) fn two_parts(text: &str) -> Result<(&str, &str), Fail> {
     match text.split_once(' ') {
         Some(parts) => Ok(parts),
         None => Err(unknown(text)),
     }
-}
-
-/// The entity types that stand between commas.
-fn entity_types(alloc: Global, text: &str) -> Result<Vec<EntityType>, Fail> {
-    let mut types = Vec::new(alloc);
-    if text == NONE {
-        return Ok(types);
-    }
-    for part in text.split(',') {
-        types.push(entity_type(alloc, part)?)?;
-    }
-    Ok(types)
-}
-
-/// The uid whose type stands before its last `::`, and its id after it.
-fn action(alloc: Global, text: &str) -> Result<EntityUID, Fail> {
-    match text.rsplit_once("::") {
-        Some((ty, id)) => uid(alloc, ty, id),
-        None => Err(unknown(text)),
-    }
-}
-
-/// The uids that stand between commas.
-fn actions(alloc: Global, text: &str) -> Result<Vec<EntityUID>, Fail> {
-    let mut uids = Vec::new(alloc);
-    if text == NONE {
-        return Ok(uids);
-    }
-    for part in text.split(',') {
-        uids.push(action(alloc, part)?)?;
-    }
-    Ok(uids)
 }
 
 /// The texts, with blanks between them.
@@ -84,7 +51,7 @@ fn joined(alloc: Global, texts: &[String]) -> M<String> {
     Ok(joined)
 }
 
-/// The names of some entity types.
+/// The names of some entity types, one after another.
 fn names<'a, I: Iterator<Item = &'a EntityType> + Drop>(alloc: Global, types: I) -> M<Vec<String>>
     requires can { I.can_next types }
     requires ends { IsFinite (I.remaining types) }
@@ -107,7 +74,7 @@ fn sorted<'a, I: Iterator<Item = &'a EntityType> + Drop>(alloc: Global, types: I
 }
 
 /// The texts of some uids.
-fn uids<'a, I: Iterator<Item = &'a EntityUID> + Drop>(alloc: Global, uids: I) -> M<String>
+fn uid_texts<'a, I: Iterator<Item = &'a EntityUID> + Drop>(alloc: Global, uids: I) -> M<String>
     requires can { I.can_next uids }
     requires ends { IsFinite (I.remaining uids) }
 {
@@ -151,6 +118,14 @@ fn types_in(alloc: Global, schema: &ValidatorSchema, ty: &EntityType) -> M<Strin
     joined(alloc, &names)
 }
 
+/// The name of the entity type that is found under a name.
+fn find(alloc: Global, schema: &ValidatorSchema, ty: &EntityType) -> M<String> {
+    match schema.get_entity_type(ty) {
+        Some(found) => Ok(found.name().to_string(alloc)?),
+        None => missing(alloc),
+    }
+}
+
 /// The answer to a question of an entity type.
 fn of_type(
     alloc: Global,
@@ -160,6 +135,7 @@ fn of_type(
 ) -> Result<String, Fail> {
     let ty = entity_type(alloc, text)?;
     match word {
+        "find" => Ok(find(alloc, schema, &ty)?),
         "ancestors" => Ok(ancestors(alloc, schema, &ty)?),
         "types_in" => Ok(types_in(alloc, schema, &ty)?),
         "is_type" => Ok(schema.is_known_entity_type(&ty).to_string(alloc)?),
@@ -175,6 +151,14 @@ fn context(alloc: Global, schema: &ValidatorSchema, uid: &EntityUID) -> M<String
     }
 }
 
+/// The uid of the action that is found under a uid.
+fn find_action(alloc: Global, schema: &ValidatorSchema, uid: &EntityUID) -> M<String> {
+    match schema.get_action_id(uid) {
+        Some(found) => uid_text(alloc, found.name()),
+        None => missing(alloc),
+    }
+}
+
 /// The answer to a question of an action.
 fn of_action(
     alloc: Global,
@@ -182,8 +166,9 @@ fn of_action(
     word: &str,
     text: &str,
 ) -> Result<String, Fail> {
-    let uid = action(alloc, text)?;
+    let uid = uid(alloc, text)?;
     match word {
+        "find_action" => Ok(find_action(alloc, schema, &uid)?),
         "principals_for" => Ok(found(alloc, schema.principals_for_action(&uid))?),
         "resources_for" => Ok(found(alloc, schema.resources_for_action(&uid))?),
         "context" => Ok(context(alloc, schema, &uid)?),
@@ -206,14 +191,14 @@ fn actions_for(alloc: Global, schema: &ValidatorSchema, text: &str) -> Result<St
     let principal = entity_type(alloc, principal)?;
     let resource = entity_type(alloc, resource)?;
     let actions = schema.actions_for_principal_and_resource(&principal, &resource);
-    Ok(uids(alloc, actions)?)
+    Ok(uid_texts(alloc, actions)?)
 }
 
 /// The actions in those of a list.
 fn actions_in(alloc: Global, schema: &ValidatorSchema, text: &str) -> Result<String, Fail> {
-    let listed = actions(alloc, text)?;
+    let listed = uids(alloc, text)?;
     match schema.get_actions_in_set(alloc, &listed)? {
-        Some(all) => Ok(uids(alloc, all.into_iter())?),
+        Some(all) => Ok(uid_texts(alloc, all.into_iter())?),
         None => Ok(missing(alloc)?),
     }
 }
@@ -233,7 +218,7 @@ fn lacks(alloc: Global, schema: &ValidatorSchema) -> M<String> {
 /// What an incomplete schema lacks: the entity types, and then the actions after a bar.
 fn lacking(alloc: Global, error: &IncompleteSchemaError) -> M<String> {
     let types = joined(alloc, &names(alloc, error.entity_types.iter())?)?;
-    let actions = uids(alloc, error.actions.iter())?;
+    let actions = uid_texts(alloc, error.actions.iter())?;
     Ok(format!(in alloc; "{types} | {actions}")?)
 }
 
@@ -249,7 +234,7 @@ fn check(alloc: Global, schema: &ValidatorSchema) -> Result<String, Fail> {
 /// The uid of an entity, and those of its ancestors.
 fn entity_text(alloc: Global, entity: &Entity) -> M<String> {
     let uid = uid_text(alloc, entity.uid())?;
-    let above = uids(alloc, entity.ancestors())?;
+    let above = uid_texts(alloc, entity.ancestors())?;
     Ok(format!(in alloc; "{uid} in {above};")?)
 }
 
@@ -286,12 +271,28 @@ fn leaves(alloc: Global, schema: &ValidatorSchema) -> M<String> {
     joined(alloc, &texts)
 }
 
+/// The lines of a copy of a schema, which is equal to it and has as many environments.
+fn copy(alloc: Global, schema: &ValidatorSchema) -> Result<String, Fail> {
+    let copy = schema.clone()?;
+    let count = schema.unlinked_envs_owned().len();
+    if copy == *schema && copy.unlinked_envs_owned().len() == count {
+        return Ok(shown(alloc, &copy)?);
+    }
+    Err(Fail::from("a copy that isn't equal"))
+}
+
 /// The answer to a question of the whole.
 fn of_all(alloc: Global, schema: &ValidatorSchema, question: &str) -> Result<String, Fail> {
     match question {
+        "names" => Ok(joined(alloc, &names(alloc, schema.entity_type_names())?)?),
+        "uids" => Ok(uid_texts(alloc, schema.actions())?),
+        "copy" => copy(alloc, schema),
+        "common_types" => Ok(common_types(alloc, schema)?),
+        "namespaces" => Ok(namespaces(alloc, schema)?),
+        "lacking_at" => lacking_at(alloc, schema),
         "principals" => Ok(sorted(alloc, schema.principals())?),
         "resources" => Ok(sorted(alloc, schema.resources())?),
-        "groups" => Ok(uids(alloc, schema.action_groups())?),
+        "groups" => Ok(uid_texts(alloc, schema.action_groups())?),
         "entities" => entities(alloc, schema),
         "leaves" => Ok(leaves(alloc, schema)?),
         "lacks" => Ok(lacks(alloc, schema)?),
@@ -316,7 +317,14 @@ pub(crate) fn answer(
         "any_below" => any_below(alloc, schema, of),
         "actions_for" => actions_for(alloc, schema, of),
         "actions_in" => actions_in(alloc, schema, of),
-        "ancestors" | "types_in" | "is_type" => of_type(alloc, schema, word, of),
-        _ => of_action(alloc, schema, word, of),
+        "literal" => of_literal(alloc, schema, of),
+        "find" | "ancestors" | "types_in" | "is_type" => of_type(alloc, schema, word, of),
+        "known" | "listed" | "look_up" | "may_have" | "may_have_tags" | "are_declared" => {
+            of_types(alloc, schema, word, of)
+        }
+        _ => match word.strip_suffix("_at") {
+            Some(thing) => place(alloc, schema, thing, of),
+            None => of_action(alloc, schema, word, of),
+        },
     }
 }

@@ -3,21 +3,14 @@
 use cedar_schema::below::{EntityUID, M, NonEmpty};
 use cedar_schema::json_schema::{ActionEntityUID, ConditionalName};
 use cedar_schema::{ContextOrShape, SchemaError, UnsupportedFeature};
+use schema_lines::uid_text;
 use std::alloc::Global;
 use std::fmt::Display;
 
-/// An action's uid: its type, and its id as it is, between quotes.
-pub(crate) fn uid_text(alloc: Global, uid: &EntityUID) -> M<String> {
-    let (ty, id) = (uid.entity_type(), uid.eid().as_str());
-    Ok(format!(in alloc; "{ty}::\"{id}\"")?)
-}
-
 /// The texts of two uids.
 fn uid_texts(alloc: Global, first: &EntityUID, second: &EntityUID) -> M<String> {
-    let mut text = uid_text(alloc, first)?;
-    text.push_str(" ")?;
-    text.push_str(uid_text(alloc, second)?.as_str())?;
-    Ok(text)
+    let (first, second) = (uid_text(alloc, first)?, uid_text(alloc, second)?);
+    pair_text(alloc, &first, &second)
 }
 
 /// The texts of two items.

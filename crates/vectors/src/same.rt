@@ -1,6 +1,8 @@
 //! Declarations whose schemas are equal, and such whose schemas aren't, though their lines may be.
 
 use crate::answers::schema_of;
+use crate::checked::holds;
+use std::alloc::Global;
 use std::test::Fail;
 
 /// Declarations of equal schemas.
@@ -54,6 +56,16 @@ const EQUAL: &[(&str, &str, &str)] = &[
         "an external entity type has no choices and no parents by them",
         "external entity U enum red",
         "external entity U",
+    ),
+    (
+        "places",
+        "N@1@2: entity U@3 {a@4: Long@5} tags {b@6: Long}; N: action view@7@8 P - R - context {c@9: Long}",
+        "N: entity U {a: Long} tags {b: Long}; N: action view P - R - context {c: Long}",
+    ),
+    (
+        "nothing that is in a schema",
+        "N: | M: type T = n:ipaddr",
+        "",
     ),
     (
         "descendants are all that counts of parents",
@@ -120,11 +132,16 @@ const UNEQUAL: &[(&str, &str, &str)] = &[
     ),
 ];
 
+/// Whether the schemas of two texts are equal.
+fn are_equal(alloc: Global, first: &str, second: &str) -> Result<bool, Fail> {
+    let first = schema_of(alloc, first)?;
+    Ok(first == schema_of(alloc, second)?)
+}
+
 #[test]
 fn some_declarations_give_equal_schemas(rt: HostRuntime) -> Result<(), Fail> {
     for (row, first, second) in EQUAL {
-        let equal = schema_of(rt.alloc(), first)? == schema_of(rt.alloc(), second)?;
-        assert!(rt; equal, "at {row}");
+        holds(are_equal(rt.alloc(), first, second)?, row)?;
     }
     Ok(())
 }
@@ -132,8 +149,7 @@ fn some_declarations_give_equal_schemas(rt: HostRuntime) -> Result<(), Fail> {
 #[test]
 fn other_declarations_give_unequal_schemas(rt: HostRuntime) -> Result<(), Fail> {
     for (row, first, second) in UNEQUAL {
-        let equal = schema_of(rt.alloc(), first)? == schema_of(rt.alloc(), second)?;
-        assert!(rt; !equal, "at {row}");
+        holds(!are_equal(rt.alloc(), first, second)?, row)?;
     }
     Ok(())
 }

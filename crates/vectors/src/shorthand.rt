@@ -8,11 +8,13 @@
 //! - `action view in all,N::Action::read P A,B R C context {a: Long} attributes`, with `-` for no types
 //! - `external` before `entity` or `action`
 //! - `N::M: entity U`, or `N::M:` for a namespace that declares nothing
+//! - places: `entity U@1`, `type T@1 = Long@2`, `action view@1@2` for the action and its id, `N@1@2: entity U` for the name of
+//!   the namespace and its definition, and as `types` says of types and attributes
 //!
 //! A text that spells none of these fails by name.
 
 use crate::entries::{action, entity_type, id_text};
-use crate::names::{namespace, unreserved_id};
+use crate::names::{namespace, placed_at, unreserved_id};
 use crate::types::written_type;
 use cedar_schema::json_schema::{CommonType, CommonTypeId, Fragment, NamespaceDefinition, RawName};
 use std::alloc::Global;
@@ -38,11 +40,10 @@ fn add_common_type(
     let Some((name, body)) = text.split_once(" = ") else {
         return Err(Fail::new(format_args!("no body: {text}")));
     };
+    let (name, loc) = placed_at(name);
     let id = CommonTypeId::new(unreserved_id(alloc, name)?).ok_or("a word of Cedar's own")?;
-    let declared = CommonType {
-        ty: written_type(alloc, body)?,
-        loc: None,
-    };
+    let ty = written_type(alloc, body)?;
+    let declared = CommonType { ty, loc };
     let old = definition.common_types.insert(id, declared)?;
     Ok(old.is_none())
 }
@@ -116,8 +117,10 @@ fn add_declaration(
     text: &str,
 ) -> Result<bool, Fail> {
     let (within, declaration) = placed(text);
+    let (within, loc) = placed_at(within);
     let within = namespace(alloc, within)?;
     let definition = fragment.0.entry(within)?.or_insert_with(|| nothing(alloc));
+    definition.loc = loc.or(definition.loc);
     match declaration {
         Some(declaration) => declare(alloc, definition, declaration),
         None => Ok(true),

@@ -1,22 +1,25 @@
 //! That rows are tried as they are said to be: in each order, and in one fragment only where it declares
 //! no id twice.
 
+use crate::checked::holds;
 use crate::orders::{in_order, order_count};
 use crate::shorthand::fragment_of;
 use std::alloc::Global;
 use std::collections::BTreeSet;
 use std::test::Fail;
 
+/// Declarations of which one definition would declare an id twice.
+const TWICE: &[&str] = &[
+    "entity U; entity U",
+    "N: type T = Long | entity V; N: type T = Bool",
+    "action a; external action a",
+    "external entity U; entity U enum red",
+];
+
 #[test]
 fn a_definition_with_an_id_twice_is_no_fragment(rt: HostRuntime) -> Result<(), Fail> {
-    for text in [
-        "entity U; entity U",
-        "N: type T = Long | entity V; N: type T = Bool",
-        "action a; external action a",
-        "external entity U; entity U enum red",
-    ] {
-        let fragment = fragment_of(rt.alloc(), text)?;
-        assert!(rt; fragment.is_none(), "at {text}");
+    for &text in TWICE {
+        holds(fragment_of(rt.alloc(), text)?.is_none(), text)?;
     }
     Ok(())
 }
@@ -31,18 +34,21 @@ fn distinct_orders(alloc: Global, texts: &[&str]) -> Result<usize, Fail> {
     Ok(orders.len())
 }
 
+/// Texts, and how many orders they have.
+const ORDERS: &[(&[&str], usize)] = &[
+    (&[], 1),
+    (&["a"], 1),
+    (&["a", "b"], 2),
+    (&["a", "b", "c"], 6),
+    (&["a", "b", "c", "d"], 24),
+    (&["a", "b", "c", "d", "e"], 120),
+];
+
 #[test]
 fn each_order_of_up_to_five_texts_is_tried(rt: HostRuntime) -> Result<(), Fail> {
-    let all = ["a", "b", "c", "d", "e"];
-    for (texts, count) in [
-        (&all[..0], 1),
-        (&all[..1], 1),
-        (&all[..2], 2),
-        (&all[..3], 6),
-        (&all[..4], 24),
-        (&all[..5], 120),
-    ] {
-        assert_eq!(rt; distinct_orders(rt.alloc(), texts)?, count);
+    for &(texts, count) in ORDERS {
+        let distinct = distinct_orders(rt.alloc(), texts)?;
+        holds(distinct == count && order_count(texts) == count, "orders")?;
     }
     Ok(())
 }

@@ -3,17 +3,19 @@
 //! A leaf is `Long`, `String`, `Bool`, `n:X` (whatever `X` names), `e:X` (the entity type), `c:X` (the
 //! common type) or `x:X` (the extension type). A type is a leaf, a set `Set<leaf>`, or a record
 //! `{a: type, b?: type}`, with `*` at its end where it is open: `{a: type *}`, `{*}`. A record inside a
-//! record has leaves and sets alone, and one attribute at most.
+//! record has leaves and sets alone, and one attribute at most. A type and the name of an attribute may have a place
+//! behind them, `{a@1: Set<Long@2>@3}`.
 
-use crate::names::{raw, unreserved_id};
+use crate::names::{placed_at, raw, unreserved_id};
+use cedar_schema::below::Loc;
 use cedar_schema::json_schema::{RawName, RecordType, Type, TypeOfAttribute, TypeVariant};
 use std::alloc::Global;
 use std::collections::BTreeMap;
 use std::test::Fail;
 
 /// A type that is written out.
-fn plain(ty: TypeVariant<RawName>) -> Type<RawName> {
-    Type::Plain { ty, loc: None }
+fn plain(ty: TypeVariant<RawName>, loc: Option<Loc>) -> Type<RawName> {
+    Type::Plain { ty, loc }
 }
 
 /// The closed record type without attributes.
@@ -26,40 +28,47 @@ fn no_attributes(alloc: Global) -> RecordType<RawName> {
 
 /// The type that is the closed record without attributes.
 pub(crate) fn empty_record(alloc: Global) -> Type<RawName> {
-    plain(TypeVariant::Record(no_attributes(alloc)))
+    plain(TypeVariant::Record(no_attributes(alloc)), None)
 }
 
-/// A reference to a name, in the way that the letter before it says.
-fn reference(alloc: Global, letter: &str, text: &str) -> Result<Type<RawName>, Fail> {
+/// What a type is that refers to a name, in the way that the letter before it says, but for common types.
+fn reference(alloc: Global, letter: &str, text: &str) -> Result<TypeVariant<RawName>, Fail> {
     match letter {
-        "n" => Ok(plain(TypeVariant::EntityOrCommon {
+        "n" => Ok(TypeVariant::EntityOrCommon {
             type_name: raw(alloc, text)?,
-        })),
-        "e" => Ok(plain(TypeVariant::Entity {
-            name: raw(alloc, text)?,
-        })),
-        "c" => Ok(Type::CommonTypeRef {
-            type_name: raw(alloc, text)?,
-            loc: None,
         }),
-        "x" => Ok(plain(TypeVariant::Extension {
+        "e" => Ok(TypeVariant::Entity {
+            name: raw(alloc, text)?,
+        }),
+        "x" => Ok(TypeVariant::Extension {
             name: unreserved_id(alloc, text)?,
-        })),
+        }),
         _ => Err(Fail::new(format_args!("no way to refer: {letter}"))),
+    }
+}
+
+/// What the leaf is that a text spells, if it refers to no common type.
+fn variant(alloc: Global, text: &str) -> Result<TypeVariant<RawName>, Fail> {
+    match text {
+        "Long" => Ok(TypeVariant::Long),
+        "String" => Ok(TypeVariant::String),
+        "Bool" => Ok(TypeVariant::Boolean),
+        _ => match text.split_once(':') {
+            Some((letter, name)) => reference(alloc, letter, name),
+            None => Err(Fail::new(format_args!("no type: {text}"))),
+        },
     }
 }
 
 /// The leaf that a text spells.
 fn leaf(alloc: Global, text: &str) -> Result<Type<RawName>, Fail> {
-    match text {
-        "Long" => return Ok(plain(TypeVariant::Long)),
-        "String" => return Ok(plain(TypeVariant::String)),
-        "Bool" => return Ok(plain(TypeVariant::Boolean)),
-        _ => {}
-    }
-    match text.split_once(':') {
-        Some((letter, name)) => reference(alloc, letter, name),
-        None => Err(Fail::new(format_args!("no type: {text}"))),
+    let (text, loc) = placed_at(text);
+    match text.strip_prefix("c:") {
+        Some(name) => Ok(Type::CommonTypeRef {
+            type_name: raw(alloc, name)?,
+            loc,
+        }),
+        None => Ok(plain(variant(alloc, text)?, loc)),
     }
 }
 
@@ -70,13 +79,14 @@ fn between<'t>(text: &'t str, begin: &str, end: &str) -> Option<&'t str> {
 
 /// The leaf, or the set of leaves, that a text spells.
 fn leaf_or_set(alloc: Global, text: &str) -> Result<Type<RawName>, Fail> {
-    let Some(inner) = between(text, "Set<", ">") else {
-        return leaf(alloc, text);
-    };
-    let element = leaf(alloc, inner)?;
-    Ok(plain(TypeVariant::Set {
-        element: Box::new(alloc, element)?,
-    }))
+    let (set, loc) = placed_at(text);
+    match between(set, "Set<", ">") {
+        Some(inner) => {
+            let element = Box::new(alloc, leaf(alloc, inner)?)?;
+            Ok(plain(TypeVariant::Set { element }, loc))
+        }
+        None => leaf(alloc, text),
+    }
 }
 
 /// Adds an attribute, whose name ends with `?` where it may be absent.
@@ -86,15 +96,12 @@ fn add_attribute(
     written: &str,
     ty: Type<RawName>,
 ) -> Result<(), Fail> {
-    let (name, required) = match written.strip_suffix('?') {
+    let (name, loc) = placed_at(written);
+    let (name, required) = match name.strip_suffix('?') {
         Some(name) => (name, false),
-        None => (written, true),
+        None => (name, true),
     };
-    let attribute = TypeOfAttribute {
-        ty,
-        required,
-        loc: None,
-    };
+    let attribute = TypeOfAttribute { ty, required, loc };
     let name = String::from_str(alloc, name)?;
     match record.attributes.insert(name, attribute)? {
         Some(_) => Err(Fail::new(format_args!("an attribute twice: {written}"))),
@@ -119,7 +126,7 @@ fn listed(text: &str) -> (&str, bool) {
 }
 
 /// The record type with one attribute at most, of a leaf or a set, that is listed in a text.
-fn small_record(alloc: Global, text: &str) -> Result<Type<RawName>, Fail> {
+fn small_record(alloc: Global, text: &str) -> Result<RecordType<RawName>, Fail> {
     let (attribute, open) = listed(text);
     let mut record = no_attributes(alloc);
     record.additional_attributes = open;
@@ -128,13 +135,14 @@ fn small_record(alloc: Global, text: &str) -> Result<Type<RawName>, Fail> {
         let ty = leaf_or_set(alloc, ty)?;
         add_attribute(alloc, &mut record, name, ty)?;
     }
-    Ok(plain(TypeVariant::Record(record)))
+    Ok(record)
 }
 
 /// The type of an attribute that a text spells.
 fn attribute_type(alloc: Global, text: &str) -> Result<Type<RawName>, Fail> {
-    match between(text, "{", "}") {
-        Some(inner) => small_record(alloc, inner),
+    let (record, loc) = placed_at(text);
+    match between(record, "{", "}") {
+        Some(inner) => Ok(plain(TypeVariant::Record(small_record(alloc, inner)?), loc)),
         None => leaf_or_set(alloc, text),
     }
 }
@@ -150,20 +158,21 @@ fn add_attributes(alloc: Global, record: &mut RecordType<RawName>, text: &str) -
 }
 
 /// The record type whose attributes are listed in a text.
-fn record(alloc: Global, text: &str) -> Result<Type<RawName>, Fail> {
+fn record(alloc: Global, text: &str) -> Result<RecordType<RawName>, Fail> {
     let (attributes, open) = listed(text);
     let mut record = no_attributes(alloc);
     record.additional_attributes = open;
     if !attributes.is_empty() {
         add_attributes(alloc, &mut record, attributes)?;
     }
-    Ok(plain(TypeVariant::Record(record)))
+    Ok(record)
 }
 
 /// The type that a text spells.
 pub(crate) fn written_type(alloc: Global, text: &str) -> Result<Type<RawName>, Fail> {
-    match between(text, "{", "}") {
-        Some(inner) => record(alloc, inner),
+    let (listed, loc) = placed_at(text);
+    match between(listed, "{", "}") {
+        Some(inner) => Ok(plain(TypeVariant::Record(record(alloc, inner)?), loc)),
         None => leaf_or_set(alloc, text),
     }
 }

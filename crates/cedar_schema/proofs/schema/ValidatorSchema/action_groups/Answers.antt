@@ -1,0 +1,14 @@
+use Rattle.std.proofs.Common.{subst, sym}
+use Rattle.std.specs.List.Sorted.{IsStrictlySortedBy}
+use Rattle.cedar_below.specs.PlainUid.{uid_cmp}
+use Rattle.cedar_queries.proofs.SelectedLemmas.{keys_where-ascend}
+use Rattle.cedar_queries.specs.Hierarchy.{is_nonempty}
+use Rattle.cedar_schema.proofs.SchemaNames.{known_order}
+use Rattle.cedar_schema.specs.ValidatorSchema.{schema_of}
+use Rattle.cedar_schema.proofs.schema.ValidatorSchema.action_groups.Goals as goal
+
+pub returns-clause-in_order : goal.returns-clause-in_order
+returns-clause-in_order c =
+    let schema = c.args.self.now in
+    subst (IsStrictlySortedBy uid_cmp) (sym c.action_groups.ensures)
+    (keys_where-ascend uid_cmp (λ it. is_nonempty it.descendants) (schema_of schema).actions (known_order schema).actions)

@@ -1,0 +1,12 @@
+use Rattle.std.proofs.Common.{List, map, subst, sym}
+use Rattle.std.specs.List.Sorted.{IsStrictlySortedBy}
+use Rattle.cedar_actions.specs.ValidatorActionId.{action_of}
+use Rattle.cedar_actions.specs.declared.action_id.ValidatorActionId.{ValidatorActionId}
+use Rattle.cedar_below.specs.PlainUid.{uid_cmp}
+use Rattle.cedar_schema.proofs.SchemaNames.{action_uids_ascend}
+use Rattle.cedar_schema.proofs.schema.ValidatorSchema.action_ids.Goals as goal
+
+pub returns-clause-in_order : goal.returns-clause-in_order
+returns-clause-in_order c =
+    let P : List ValidatorActionId → Type 0 = λ actions. IsStrictlySortedBy uid_cmp (map (λ it. (action_of it).uid) actions) in
+    subst P (sym c.values.ensures.rest) (action_uids_ascend c.args.self.now)

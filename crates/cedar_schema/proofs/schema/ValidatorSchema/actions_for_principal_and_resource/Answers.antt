@@ -1,0 +1,19 @@
+use Rattle.std.proofs.Common.{◌&&◌, subst, sym}
+use Rattle.std.specs.List.Sorted.{IsStrictlySortedBy}
+use Rattle.cedar_actions.specs.ActionKind.{kind_principals, kind_resources}
+use Rattle.cedar_below.specs.EntityType.{type_name}
+use Rattle.cedar_below.specs.PlainUid.{uid_cmp}
+use Rattle.cedar_queries.proofs.SelectedLemmas.{keys_where-ascend}
+use Rattle.cedar_queries.specs.Hierarchy.{has_name}
+use Rattle.cedar_schema.proofs.SchemaNames.{known_order}
+use Rattle.cedar_schema.specs.ValidatorSchema.{schema_of}
+use Rattle.cedar_schema.proofs.schema.ValidatorSchema.actions_for_principal_and_resource.Goals as goal
+
+pub returns-clause-in_order : goal.returns-clause-in_order
+returns-clause-in_order c =
+    let schema = c.args.self.now in
+    let principal = type_name c.args.principal.now in
+    let resource = type_name c.args.resource.now in
+    subst (IsStrictlySortedBy uid_cmp) (sym c.actions_for_principal_and_resource.ensures)
+    (keys_where-ascend uid_cmp (λ it. has_name (kind_principals it.kind) principal && has_name (kind_resources it.kind) resource)
+    (schema_of schema).actions (known_order schema).actions)

@@ -1,0 +1,18 @@
+use Rattle.std.proofs.Common.{subst, sym}
+use Rattle.std.proofs.lemmas.Option.{IfSome_then}
+use Rattle.std.specs.List.Sorted.{IsStrictlySortedBy}
+use Rattle.cedar_below.specs.EntityType.{type_name}
+use Rattle.cedar_below.specs.PlainName.{name_cmp}
+use Rattle.cedar_queries.proofs.SelectedLemmas.{keys_where-ascend}
+use Rattle.cedar_queries.specs.Hierarchy.{has_name}
+use Rattle.cedar_schema.proofs.SchemaNames.{known_order}
+use Rattle.cedar_schema.specs.ValidatorSchema.{schema_of}
+use Rattle.cedar_schema.proofs.schema.ValidatorSchema.ancestors.Goals as goal
+
+pub returns-clause-in_order : goal.returns-clause-in_order
+returns-clause-in_order c =
+    let schema = c.args.self.now in
+    let name = type_name c.args.ty.now in
+    IfSome_then c.ancestors.result c.ancestors.ensures.names
+    (λ above names. subst (IsStrictlySortedBy name_cmp) (sym names)
+    (keys_where-ascend name_cmp (λ it. has_name it.descendants name) (schema_of schema).entity_types (known_order schema).entity_types))

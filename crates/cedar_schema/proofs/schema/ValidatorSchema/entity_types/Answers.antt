@@ -1,0 +1,12 @@
+use Rattle.std.proofs.Common.{List, map, subst, sym}
+use Rattle.std.specs.List.Sorted.{IsStrictlySortedBy}
+use Rattle.cedar_below.specs.PlainName.{name_cmp}
+use Rattle.cedar_entities.specs.ValidatorEntityType.{entity_type_of}
+use Rattle.cedar_entities.specs.declared.entity_type.ValidatorEntityType.{ValidatorEntityType}
+use Rattle.cedar_schema.proofs.SchemaNames.{type_names_ascend}
+use Rattle.cedar_schema.proofs.schema.ValidatorSchema.entity_types.Goals as goal
+
+pub returns-clause-in_order : goal.returns-clause-in_order
+returns-clause-in_order c =
+    let P : List ValidatorEntityType → Type 0 = λ types. IsStrictlySortedBy name_cmp (map (λ it. (entity_type_of it).name) types) in
+    subst P (sym c.values.ensures.rest) (type_names_ascend c.args.self.now)
