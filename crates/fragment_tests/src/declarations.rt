@@ -1,20 +1,21 @@
-//! Declarations for the tests, as plain data that short texts spell.
+//! Fragments for the tests, as short texts spell them.
 //!
-//! A definition is `N::M: declaration; declaration`, with nothing before the colon for the empty namespace. Its
-//! declarations are at `PLACE`, and are written:
+//! A fragment is its definitions, with ` | ` between them. A definition is `N::M: declaration; declaration`,
+//! with nothing before the colon for the empty namespace. Its declarations are at `PLACE`, and are written:
 //!
 //! - `common C`, which stands for whole numbers
-//! - `entity T`, `entity T in P`, `external T`, `choice red`
+//! - `alias C`: a common type `D` that refers to the common type `C`, at a place of its own
+//! - `entity T`, `external T`
 //! - `user T`: an entity type `U` with an attribute `a` of the entity type `T`, both at places of their own
-//! - `action a`, `attributes a`, `action a in b`, `action a in M::Action::b`, `action a by T`
+//! - `action a`, `action a in b`, `action a in M::Action::b`, `action a by T`
 
-use crate::names::{full, id, parent, raw, text, within};
-use cedar_below::{Eid, Loc, NonEmpty};
+use crate::names::{id, parent, raw, text, within};
+use cedar_below::Loc;
 use cedar_fragments::namespace::{ValidatorNamespaceDef, ValidatorSchemaFragment};
 use cedar_names::json_schema::{
-    ActionType, ApplySpec, AttributesOrContext, CommonType, CommonTypeId, ConditionalName,
-    EntityType, EntityTypeKind, NamespaceDefinition, RawName, RecordType, StandardEntityType, Type,
-    TypeOfAttribute, TypeVariant,
+    ActionEntityUID, ActionType, ApplySpec, AttributesOrContext, CommonType, CommonTypeId,
+    ConditionalName, EntityType, EntityTypeKind, NamespaceDefinition, RawName, RecordType,
+    StandardEntityType, Type, TypeOfAttribute, TypeVariant,
 };
 use std::alloc::Global;
 use std::collections::BTreeMap;
@@ -28,70 +29,21 @@ pub(crate) const PLACE: Loc = Loc {
 };
 
 /// Where a type was written.
-pub(crate) const TYPE_PLACE: Loc = Loc {
+const TYPE_PLACE: Loc = Loc {
     source: 1,
     start: 6,
     stop: 7,
 };
 
 /// Where an attribute was written.
-pub(crate) const ATTRIBUTE_PLACE: Loc = Loc {
+const ATTRIBUTE_PLACE: Loc = Loc {
     source: 1,
     start: 8,
     stop: 9,
 };
 
-/// A definition that declares nothing.
-pub(crate) fn nothing(alloc: Global) -> NamespaceDefinition<RawName> {
-    NamespaceDefinition {
-        common_types: BTreeMap::new(alloc),
-        entity_types: BTreeMap::new(alloc),
-        actions: BTreeMap::new(alloc),
-        loc: Some(PLACE),
-    }
-}
-
-/// Declares a common type.
-pub(crate) fn add_common(
-    alloc: Global,
-    definition: &mut NamespaceDefinition<RawName>,
-    word: &str,
-    ty: Type<RawName>,
-) -> Result<(), Fail> {
-    let id = CommonTypeId::new(id(alloc, word)?).ok_or("a word of Cedar's own")?;
-    let declared = CommonType { ty, loc: None };
-    definition.common_types.insert(id, declared)?;
-    Ok(())
-}
-
-/// Declares an entity type.
-pub(crate) fn add_entity(
-    alloc: Global,
-    definition: &mut NamespaceDefinition<RawName>,
-    word: &str,
-    kind: EntityTypeKind<RawName>,
-    external: bool,
-) -> Result<(), Fail> {
-    let id = id(alloc, word)?;
-    let declared = EntityType {
-        kind,
-        external,
-        loc: Some(PLACE),
-    };
-    definition.entity_types.insert(id, declared)?;
-    Ok(())
-}
-
-/// Declares an action.
-pub(crate) fn add_action(
-    alloc: Global,
-    definition: &mut NamespaceDefinition<RawName>,
-    word: &str,
-    declared: ActionType<RawName>,
-) -> Result<(), Fail> {
-    definition.actions.insert(text(alloc, word)?, declared)?;
-    Ok(())
-}
+/// A fragment whose names say what they may stand for.
+pub(crate) type Conditional = ValidatorSchemaFragment<ConditionalName, ConditionalName>;
 
 /// The closed record type of some attributes.
 fn record(attributes: BTreeMap<String, TypeOfAttribute<RawName>>) -> AttributesOrContext<RawName> {
@@ -104,17 +56,13 @@ fn record(attributes: BTreeMap<String, TypeOfAttribute<RawName>>) -> AttributesO
     })
 }
 
-/// The kind of entities below the entity types of a list, without attributes and tags.
-fn below(alloc: Global, member_of_types: Vec<RawName>) -> EntityTypeKind<RawName> {
-    EntityTypeKind::Standard(StandardEntityType {
-        member_of_types,
-        shape: record(BTreeMap::new(alloc)),
-        tags: None,
-    })
-}
-
-/// The kind of entities with the attribute `a` of the entity type of a name.
-fn with_attribute(alloc: Global, name: RawName) -> Result<EntityTypeKind<RawName>, Fail> {
+/// The attribute `a` of the entity type that a text names.
+fn attribute(
+    alloc: Global,
+    written: &str,
+) -> Result<BTreeMap<String, TypeOfAttribute<RawName>>, Fail> {
+    let key = text(alloc, "a")?;
+    let name = raw(alloc, written)?;
     let attribute = TypeOfAttribute {
         ty: Type::Plain {
             ty: TypeVariant::Entity { name },
@@ -124,136 +72,149 @@ fn with_attribute(alloc: Global, name: RawName) -> Result<EntityTypeKind<RawName
         loc: Some(ATTRIBUTE_PLACE),
     };
     let mut attributes = BTreeMap::new(alloc);
-    attributes.insert(text(alloc, "a")?, attribute)?;
-    Ok(EntityTypeKind::Standard(StandardEntityType {
-        member_of_types: Vec::new(alloc),
-        shape: record(attributes),
-        tags: None,
-    }))
+    attributes.insert(key, attribute)?;
+    Ok(attributes)
 }
 
-/// The kind of the one entity of an id.
-fn choice(alloc: Global, word: &str) -> Result<EntityTypeKind<RawName>, Fail> {
-    let choices = NonEmpty {
-        head: Eid(text(alloc, word)?),
-        tail: Vec::new(alloc),
-    };
-    Ok(EntityTypeKind::Enum { choices })
-}
-
-/// An action without attributes, groups and requests.
-pub(crate) fn plain_action() -> ActionType<RawName> {
-    ActionType {
-        attributes: None,
-        applies_to: None,
-        member_of: None,
-        external: false,
-        loc: None,
-        defn_loc: None,
-    }
-}
-
-/// An action that is a member of the group of a text.
-fn in_group(alloc: Global, group: &str) -> Result<ActionType<RawName>, Fail> {
-    let parents = vec![in alloc; parent(alloc, group)?]?;
-    let mut action = plain_action();
-    action.member_of = Some(parents);
-    Ok(action)
-}
-
-/// An action for requests of principals of the entity type of a text.
-fn by(alloc: Global, written: &str) -> Result<ActionType<RawName>, Fail> {
-    let principal_types = vec![in alloc; raw(alloc, written)?]?;
-    let mut action = plain_action();
-    action.applies_to = Some(ApplySpec {
-        principal_types,
-        resource_types: Vec::new(alloc),
-        context: record(BTreeMap::new(alloc)),
-    });
-    Ok(action)
-}
-
-/// The id and the declaration of an action.
-fn action<'t>(alloc: Global, written: &'t str) -> Result<(&'t str, ActionType<RawName>), Fail> {
-    if let Some((id, group)) = written.split_once(" in ") {
-        return Ok((id, in_group(alloc, group)?));
-    }
-    match written.split_once(" by ") {
-        Some((id, principal)) => Ok((id, by(alloc, principal)?)),
-        None => Ok((written, plain_action())),
-    }
-}
-
-/// The name and the kind of an entity type that is written with or without a parent.
-fn standard<'t>(
+/// The declaration of an entity type with some attributes, without parents and tags.
+fn entity_type(
     alloc: Global,
-    written: &'t str,
-) -> Result<(&'t str, EntityTypeKind<RawName>), Fail> {
-    match written.split_once(" in ") {
-        Some((name, parent)) => {
-            let parents = vec![in alloc; raw(alloc, parent)?]?;
-            Ok((name, below(alloc, parents)))
-        }
-        None => Ok((written, below(alloc, Vec::new(alloc)))),
+    attributes: BTreeMap<String, TypeOfAttribute<RawName>>,
+    external: bool,
+) -> EntityType<RawName> {
+    EntityType {
+        kind: EntityTypeKind::Standard(StandardEntityType {
+            member_of_types: Vec::new(alloc),
+            shape: record(attributes),
+            tags: None,
+        }),
+        external,
+        loc: Some(PLACE),
     }
 }
 
 /// Adds a declaration of an entity type: its word, and what stands after it.
-fn declare_entity(
+fn add_entity(
     alloc: Global,
     definition: &mut NamespaceDefinition<RawName>,
     word: &str,
     written: &str,
 ) -> Result<(), Fail> {
-    match word {
-        "user" => {
-            let kind = with_attribute(alloc, raw(alloc, written)?)?;
-            add_entity(alloc, definition, "U", kind, false)
-        }
-        "choice" => add_entity(alloc, definition, "Colour", choice(alloc, written)?, true),
-        _ => {
-            let (name, kind) = standard(alloc, written)?;
-            add_entity(alloc, definition, name, kind, word == "external")
-        }
+    let id = id(alloc, if word == "user" { "U" } else { written })?;
+    let attributes = match word {
+        "user" => attribute(alloc, written)?,
+        _ => BTreeMap::new(alloc),
+    };
+    let declared = entity_type(alloc, attributes, word == "external");
+    definition.entity_types.insert(id, declared)?;
+    Ok(())
+}
+
+/// What a common type stands for: another one that it refers to, or whole numbers.
+fn meaning(alloc: Global, word: &str, written: &str) -> Result<Type<RawName>, Fail> {
+    if word == "alias" {
+        return Ok(Type::CommonTypeRef {
+            type_name: raw(alloc, written)?,
+            loc: Some(TYPE_PLACE),
+        });
+    }
+    Ok(Type::Plain {
+        ty: TypeVariant::Long,
+        loc: None,
+    })
+}
+
+/// Adds a declaration of a common type: its word, and what stands after it.
+fn add_common(
+    alloc: Global,
+    definition: &mut NamespaceDefinition<RawName>,
+    word: &str,
+    written: &str,
+) -> Result<(), Fail> {
+    let name = if word == "alias" { "D" } else { written };
+    let id = CommonTypeId::new(id(alloc, name)?).ok_or("a word of Cedar's own")?;
+    let ty = meaning(alloc, word, written)?;
+    definition
+        .common_types
+        .insert(id, CommonType { ty, loc: None })?;
+    Ok(())
+}
+
+/// The group that an action is written to be in, if there is one.
+fn groups(alloc: Global, written: &str) -> Result<Option<Vec<ActionEntityUID<RawName>>>, Fail> {
+    match written.split_once(" in ") {
+        Some((_, group)) => Ok(Some(vec![in alloc; parent(alloc, group)?]?)),
+        None => Ok(None),
     }
 }
 
+/// The requests that an action is written to be for, if there are any: those by one entity type.
+fn requests(alloc: Global, written: &str) -> Result<Option<ApplySpec<RawName>>, Fail> {
+    match written.split_once(" by ") {
+        Some((_, principal)) => Ok(Some(ApplySpec {
+            principal_types: vec![in alloc; raw(alloc, principal)?]?,
+            resource_types: Vec::new(alloc),
+            context: record(BTreeMap::new(alloc)),
+        })),
+        None => Ok(None),
+    }
+}
+
+/// The declaration of an action.
+fn action(alloc: Global, written: &str) -> Result<ActionType<RawName>, Fail> {
+    let member_of = groups(alloc, written)?;
+    let applies_to = requests(alloc, written)?;
+    Ok(ActionType {
+        attributes: None,
+        applies_to,
+        member_of,
+        external: false,
+        loc: None,
+        defn_loc: None,
+    })
+}
+
+/// Adds a declaration of an action, whose id is the first word.
+fn add_action(
+    alloc: Global,
+    definition: &mut NamespaceDefinition<RawName>,
+    written: &str,
+) -> Result<(), Fail> {
+    let id = match written.split_once(" ") {
+        Some((id, _)) => id,
+        None => written,
+    };
+    let id = text(alloc, id)?;
+    definition.actions.insert(id, action(alloc, written)?)?;
+    Ok(())
+}
+
 /// Adds a declaration to a definition.
-pub(crate) fn declare(
+fn declare(
     alloc: Global,
     definition: &mut NamespaceDefinition<RawName>,
     written: &str,
 ) -> Result<(), Fail> {
     let (word, rest) = written.split_once(" ").ok_or("no declaration")?;
     match word {
-        "common" => {
-            let ty = TypeVariant::Long;
-            add_common(alloc, definition, rest, Type::Plain { ty, loc: None })
-        }
-        "attributes" => {
-            let mut declared = plain_action();
-            declared.attributes = Some(BTreeMap::new(alloc));
-            add_action(alloc, definition, rest, declared)
-        }
-        "action" => {
-            let (id, declared) = action(alloc, rest)?;
-            add_action(alloc, definition, id, declared)
-        }
-        _ => declare_entity(alloc, definition, word, rest),
+        "common" | "alias" => add_common(alloc, definition, word, rest),
+        "action" => add_action(alloc, definition, rest),
+        _ => add_entity(alloc, definition, word, rest),
     }
 }
 
-/// The namespace of a definition, and what it declares.
-pub(crate) fn written<'t>(
-    alloc: Global,
-    text: &'t str,
-) -> Result<(&'t str, NamespaceDefinition<RawName>), Fail> {
-    let (namespace, declarations) = text.split_once(": ").ok_or("no namespace")?;
-    let mut definition = nothing(alloc);
+/// A definition of some declarations.
+fn declared(alloc: Global, declarations: &str) -> Result<NamespaceDefinition<RawName>, Fail> {
+    let mut definition = NamespaceDefinition {
+        common_types: BTreeMap::new(alloc),
+        entity_types: BTreeMap::new(alloc),
+        actions: BTreeMap::new(alloc),
+        loc: Some(PLACE),
+    };
     for written in declarations.split("; ") {
         declare(alloc, &mut definition, written)?;
     }
-    Ok((namespace, definition))
+    Ok(definition)
 }
 
 /// The definition of a namespace that a text spells.
@@ -261,24 +222,23 @@ pub(crate) fn definition_of(
     alloc: Global,
     text: &str,
 ) -> Result<ValidatorNamespaceDef<ConditionalName, ConditionalName>, Fail> {
-    let (namespace, declared) = written(alloc, text)?;
+    let (namespace, declarations) = text.split_once(": ").ok_or("no namespace")?;
     let inside = within(alloc, namespace)?;
+    let declared = declared(alloc, declarations)?;
     Ok(ValidatorNamespaceDef::from_namespace_definition(alloc, inside, declared)?)
 }
 
-/// The fragment of the one definition that a text spells.
-pub(crate) fn fragment_of(
-    alloc: Global,
-    text: &str,
-) -> Result<ValidatorSchemaFragment<ConditionalName, ConditionalName>, Fail> {
-    Ok(ValidatorSchemaFragment::from_namespaces(alloc, [definition_of(alloc, text)?])?)
+/// The fragment that a text spells.
+pub(crate) fn fragment_of(alloc: Global, text: &str) -> Result<Conditional, Fail> {
+    let mut definitions = Vec::new(alloc);
+    for written in text.split(" | ") {
+        definitions.push(definition_of(alloc, written)?)?;
+    }
+    Ok(ValidatorSchemaFragment::from_namespaces(alloc, definitions)?)
 }
 
 /// A fragment for each text.
-pub(crate) fn fragments_of(
-    alloc: Global,
-    texts: &[&str],
-) -> Result<Vec<ValidatorSchemaFragment<ConditionalName, ConditionalName>>, Fail> {
+pub(crate) fn fragments_of(alloc: Global, texts: &[&str]) -> Result<Vec<Conditional>, Fail> {
     let mut fragments = Vec::new(alloc);
     for text in texts {
         fragments.push(fragment_of(alloc, text)?)?;

@@ -7,13 +7,9 @@ mod checked;
 #[cfg(test)]
 mod common;
 #[cfg(test)]
-mod common_types;
-#[cfg(test)]
 mod copies;
 #[cfg(test)]
 mod declarations;
-#[cfg(test)]
-mod gathered;
 #[cfg(test)]
 mod given;
 #[cfg(test)]
@@ -21,8 +17,4 @@ mod names;
 #[cfg(test)]
 mod qualification;
 #[cfg(test)]
-mod requests;
-#[cfg(test)]
 mod resolution;
-#[cfg(test)]
-mod settled;

@@ -1,9 +1,10 @@
 //! Names that texts spell, their parts between `::`.
 
 use crate::declarations::PLACE;
-use cedar_below::{Eid, EntityType, EntityUID, Id, InternalName, Name, UnreservedId};
+use cedar_below::{Extensions, Id, InternalName, Name, UnreservedId};
 use cedar_names::json_schema::{ActionEntityUID, RawName};
 use std::alloc::Global;
+use std::collections::BTreeMap;
 use std::test::Fail;
 
 pub(crate) fn text(alloc: Global, text: &str) -> Result<String, Fail> {
@@ -15,19 +16,25 @@ pub(crate) fn id(alloc: Global, word: &str) -> Result<UnreservedId, Fail> {
     Ok(UnreservedId::new(text(alloc, word)?).ok_or("an identifier")?)
 }
 
-/// The name that a text spells, at `PLACE`.
-pub(crate) fn full(alloc: Global, written: &str) -> Result<InternalName, Fail> {
-    let mut parts = Vec::new(alloc);
-    for part in written.split("::") {
-        parts.push(Id::new(text(alloc, part)?).ok_or("an identifier")?)?;
-    }
-    let base = parts.pop().ok_or("a name")?;
-    Ok(InternalName::new(base, parts, Some(PLACE)))
+/// The part of a name that a text spells.
+fn part(alloc: Global, word: &str) -> Result<Id, Fail> {
+    Ok(Id::new(text(alloc, word)?).ok_or("an identifier")?)
 }
 
-/// The name of such a text, which isn't reserved.
-pub(crate) fn name(alloc: Global, written: &str) -> Result<Name, Fail> {
-    Ok(Name::new(full(alloc, written)?).ok_or("a reserved name")?)
+/// The parts of a name that a text spells.
+fn parts(alloc: Global, written: &str) -> Result<Vec<Id>, Fail> {
+    let mut parts = Vec::new(alloc);
+    for word in written.split("::") {
+        parts.push(part(alloc, word)?)?;
+    }
+    Ok(parts)
+}
+
+/// The name that a text spells, at `PLACE`.
+pub(crate) fn full(alloc: Global, written: &str) -> Result<InternalName, Fail> {
+    let mut parts = parts(alloc, written)?;
+    let base = parts.pop().ok_or("a name")?;
+    Ok(InternalName::new(base, parts, Some(PLACE)))
 }
 
 /// The namespace of such a text, or the empty one for no text.
@@ -38,24 +45,9 @@ pub(crate) fn within(alloc: Global, written: &str) -> Result<Option<InternalName
     Ok(Some(full(alloc, written)?))
 }
 
-/// The namespace of such a text, which isn't reserved, or the empty one for no text.
-pub(crate) fn namespace(alloc: Global, written: &str) -> Result<Option<Name>, Fail> {
-    if written.is_empty() {
-        return Ok(None);
-    }
-    Ok(Some(name(alloc, written)?))
-}
-
 /// A reference that is written as such a text.
 pub(crate) fn raw(alloc: Global, written: &str) -> Result<RawName, Fail> {
     Ok(RawName::new(full(alloc, written)?))
-}
-
-/// The uid of the type and the id of a text, `N::Action::a`.
-pub(crate) fn uid(alloc: Global, written: &str) -> Result<EntityUID, Fail> {
-    let (ty, eid) = written.rsplit_once("::").ok_or("no uid")?;
-    let ty = EntityType::new(name(alloc, ty)?);
-    Ok(EntityUID::new(ty, Eid(text(alloc, eid)?), None))
 }
 
 /// A reference to an action that is written as its id, with or without its type before it.
@@ -69,4 +61,11 @@ pub(crate) fn parent(alloc: Global, written: &str) -> Result<ActionEntityUID<Raw
         ty,
         loc: Some(PLACE),
     })
+}
+
+/// The extension type `ipaddr`, without functions.
+pub(crate) fn addresses(alloc: Global) -> Result<Extensions, Fail> {
+    let name = Name::new(full(alloc, "ipaddr")?).ok_or("a reserved name")?;
+    let types = vec![in alloc; name]?;
+    Ok(Extensions::new(types, BTreeMap::new(alloc)))
 }

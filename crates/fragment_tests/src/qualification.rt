@@ -1,270 +1,165 @@
-//! What fragments become that are qualified together, and what they are refused for.
+//! What fragments become that are settled together, and what they are refused for.
 
 use crate::checked::{holds, same};
-use crate::declarations::{definition_of, fragments_of, written};
-use crate::names::{full, within};
-use cedar_below::{EntityType, InternalName};
-use cedar_declared::{SchemaError, UnsupportedFeature};
-use cedar_fragments::defs::AllDefs;
-use cedar_fragments::namespace::{ValidatorNamespaceDef, ValidatorSchemaFragment};
-use cedar_names::json_schema::{ActionEntityUID, ConditionalName};
+use crate::copies::settled_fragment;
+use crate::declarations::fragments_of;
+use crate::names::{addresses, full};
+use cedar_declared::SchemaError;
+use cedar_gathered::gather;
+use cedar_resolved::{Settled, settle};
 use std::alloc::Global;
 use std::test::Fail;
 
-/// The names of some fragments, with entity types besides that are marked as defined.
-pub(crate) fn names_of(
-    alloc: Global,
-    fragments: &[ValidatorSchemaFragment<ConditionalName, ConditionalName>],
-    marked: &[&str],
-) -> Result<AllDefs, Fail> {
-    let mut all_defs = AllDefs::new(alloc, fragments)?;
-    for name in marked {
-        all_defs.mark_as_defined_as_entity_type(full(alloc, name)?)?;
+/// What settled fragments are shown as, or why they are refused.
+fn shown(alloc: Global, settled: Result<Settled, SchemaError>) -> Result<String, Fail> {
+    match settled {
+        Ok(settled) => Ok(format!(in alloc; "{:?}", settled.fragments)?),
+        Err(error) => Ok(error.to_string(alloc)?),
     }
-    Ok(all_defs)
 }
 
-/// The fragments, qualified together.
-fn all_qualified(
-    alloc: Global,
-    fragments: Vec<ValidatorSchemaFragment<ConditionalName, ConditionalName>>,
-    all_defs: &AllDefs,
-) -> Result<Vec<ValidatorSchemaFragment<InternalName, EntityType>>, SchemaError> {
-    let mut qualified = Vec::new(alloc);
-    for fragment in fragments {
-        qualified.push(fragment.fully_qualify_type_references(all_defs)?)?;
-    }
-    Ok(qualified)
-}
-
-/// The fragments of some texts, qualified together, or the refusal.
-pub(crate) fn qualified(
-    alloc: Global,
-    texts: &[&str],
-    marked: &[&str],
-) -> Result<Result<Vec<ValidatorSchemaFragment<InternalName, EntityType>>, SchemaError>, Fail> {
+/// The same of the fragments of some texts.
+fn outcome(alloc: Global, texts: &[&str]) -> Result<String, Fail> {
+    let extensions = addresses(alloc)?;
     let fragments = fragments_of(alloc, texts)?;
-    let all_defs = names_of(alloc, &fragments, marked)?;
-    Ok(all_qualified(alloc, fragments, &all_defs))
+    shown(alloc, settle(alloc, fragments, &extensions))
 }
 
-/// The text in which each name between `<` and `>` is the name at its place, as it is shown.
-fn with_names(alloc: Global, pattern: &str) -> Result<String, Fail> {
-    let mut shown = String::new(alloc);
-    for piece in pattern.split('<') {
-        match piece.split_once('>') {
-            Some((name, rest)) => {
-                shown.push_str(format!(in alloc; "{:?}", full(alloc, name)?)?.as_str())?;
-                shown.push_str(rest)?;
-            }
-            None => shown.push_str(piece)?,
-        }
-    }
-    Ok(shown)
-}
+/// What stands before and after the name of an entity type that an attribute is of.
+const ATTRIBUTE: (&str, &str) = (
+    "\"a\": TypeOfAttribute { ty: Plain { ty: Entity { name: ",
+    " }, loc: Some(Loc { source: 1, start: 6, stop: 7 }) }, required: true, \
+     loc: Some(Loc { source: 1, start: 8, stop: 9 }) }",
+);
 
-/// Whether what becomes of the fragments of some texts shows a pattern.
-fn shows(alloc: Global, texts: &[&str], marked: &[&str], pattern: &str) -> Result<bool, Fail> {
-    let fragments = qualified(alloc, texts, marked)??;
-    let shown = format!(in alloc; "{fragments:?}")?;
-    Ok(shown.contains(with_names(alloc, pattern)?.as_str()))
-}
+/// The same of the type of the one parent of an action.
+const PARENT: (&str, &str) = (
+    "parents: [ActionParent { id: \"b\", ty: EntityType(Name { name: ",
+    " }), loc: Some(Loc { source: 1, start: 2, stop: 5 }) }]",
+);
 
-/// Definitions, each with the entity type that the attribute of `U` is of.
-const ATTRIBUTES: &[(&[&str], &str)] = &[
-    (&[": entity T", "N: user T"], "T"),
-    (&["N: entity T", "N: user T"], "N::T"),
-    (&["N: entity T", "M: user N::T"], "N::T"),
-    (&["N::M: entity T", "N: user N::M::T"], "N::M::T"),
-    (&["N: common T; user T", ": entity T"], "T"),
-];
+/// The same of the one principal of requests.
+const PRINCIPAL: (&str, &str) = ("principals: [", "], resources: []");
 
-#[test]
-fn attributes_are_of_the_entity_type_that_is_declared(rt: HostRuntime) -> Result<(), Fail> {
-    let alloc = rt.alloc();
-    for &(texts, found) in ATTRIBUTES {
-        let pattern = format!(in alloc;
-            "\"a\": TypeOfAttribute {{ ty: Plain {{ ty: Entity {{ name: <{found}> }}, \
-            loc: Some(Loc {{ source: 1, start: 6, stop: 7 }}) }}, required: true, \
-            loc: Some(Loc {{ source: 1, start: 8, stop: 9 }}) }}"
-        )?;
-        holds(shows(alloc, texts, &[], pattern.as_str())?, found)?;
-    }
-    Ok(())
-}
+/// The same of the common type that another one refers to.
+const REFERENCE: (&str, &str) = (
+    "CommonTypeRef { type_name: ",
+    ", loc: Some(Loc { source: 1, start: 6, stop: 7 }) }",
+);
 
-/// Definitions, each with the type of the one parent of an action.
-const PARENTS: &[(&[&str], &str)] = &[
-    (&[": action b", ": action a in b"], "Action"),
-    (&["N: action b", "N: action a in b"], "N::Action"),
-    (&[": action b", "N: action a in b"], "Action"),
-    (&["N: action b", "N: action a in Action::b"], "N::Action"),
-    (&["M: action b", "N: action a in M::Action::b"], "M::Action"),
-    (&["M: action b", ": action a in M::Action::b"], "M::Action"),
-];
+/// The same of an external entity type, which is declared without parents.
+const EXTERNAL: (&str, &str) = (
+    "EntityTypeDef { name: EntityType(Name { name: ",
+    " }), fragment: External { parents: [] } }",
+);
 
-#[test]
-fn parents_are_the_actions_that_are_declared(rt: HostRuntime) -> Result<(), Fail> {
-    let alloc = rt.alloc();
-    for &(texts, found) in PARENTS {
-        let pattern = format!(in alloc;
-            "parents: [ActionParent {{ id: \"b\", ty: EntityType(Name {{ name: <{found}> }}), \
-            loc: Some(Loc {{ source: 1, start: 2, stop: 5 }}) }}]"
-        )?;
-        holds(shows(alloc, texts, &[], pattern.as_str())?, found)?;
-    }
-    Ok(())
-}
-
-/// Definitions, each with what is shown of them besides.
-const SHOWN: &[(&[&str], &str)] = &[
+/// Fragments, each with a place of a name in what they become, and the name that is there.
+const SETTLED: &[(&[&str], (&str, &str), &str)] = &[
+    (&[": entity T", "N: user T"], ATTRIBUTE, "T"),
+    (&["N: entity T", "N: user T"], ATTRIBUTE, "N::T"),
+    (&["N: entity T", "M: user N::T"], ATTRIBUTE, "N::T"),
+    (&["N::M: entity T", "N: user N::M::T"], ATTRIBUTE, "N::M::T"),
+    (&["N: action x; user Action"], ATTRIBUTE, "N::Action"),
+    (&[": action b", ": action a in b"], PARENT, "Action"),
+    (&["N: action b", "N: action a in b"], PARENT, "N::Action"),
+    (&[": action b", "N: action a in b"], PARENT, "Action"),
     (
-        &["N: entity T; user T"],
-        "EntityTypeDef { name: EntityType(Name { name: <N::U> })",
+        &["N: action b", "N: action a in Action::b"],
+        PARENT,
+        "N::Action",
     ),
-    (&["N: choice red"], "fragment: External { parents: [] }"),
-    (&["N: action a by X"], "principals: [<N::X>], resources: []"),
+    (
+        &["M: action b", "N: action a in M::Action::b"],
+        PARENT,
+        "M::Action",
+    ),
+    (
+        &["M: action b", ": action a in M::Action::b"],
+        PARENT,
+        "M::Action",
+    ),
+    (&["N: entity X; action a by X"], PRINCIPAL, "N::X"),
+    (&["N: common C; alias C"], REFERENCE, "N::C"),
+    (&["N: common C", "M: alias N::C"], REFERENCE, "N::C"),
+    (&["N: external T"], EXTERNAL, "N::T"),
 ];
 
+/// Whether what becomes of the fragments of some texts shows a name at its place.
+fn shows(alloc: Global, texts: &[&str], place: (&str, &str), name: &str) -> Result<bool, Fail> {
+    let shown = format!(in alloc; "{}{:?}{}", place.0, full(alloc, name)?, place.1)?;
+    Ok(outcome(alloc, texts)?.contains(shown.as_str()))
+}
+
 #[test]
-fn declarations_keep_what_was_written(rt: HostRuntime) -> Result<(), Fail> {
+fn names_are_those_of_what_is_declared(rt: HostRuntime) -> Result<(), Fail> {
     let alloc = rt.alloc();
-    for &(texts, pattern) in SHOWN {
-        holds(shows(alloc, texts, &["N::X"], pattern)?, pattern)?;
+    for &(texts, place, name) in SETTLED {
+        holds(shows(alloc, texts, place, name)?, name)?;
     }
-    holds(!shows(alloc, &["N: choice red"], &[], "red")?, "red")
+    Ok(())
 }
 
-/// The names that a reference may stand for, one after another.
-fn possibilities(alloc: Global, reference: &ConditionalName) -> Result<String, Fail> {
-    let names = reference.possibilities();
-    let mut text = format!(in alloc; "undefined {}", names.head)?;
-    for name in &names.tail {
-        text.push_str(format!(in alloc; " {name}")?.as_str())?;
-    }
-    Ok(text)
-}
-
-/// The type of a reference to an action as it was written, and its id.
-fn action(alloc: Global, undefined: &ActionEntityUID<ConditionalName>) -> Result<String, Fail> {
-    match &undefined.ty {
-        Some(ty) => Ok(format!(in alloc; "no action {ty} {}", undefined.id)?),
-        None => Ok(format!(in alloc; "no action {}", undefined.id)?),
-    }
-}
-
-/// The texts of a list, joined by blanks.
-fn joined(alloc: Global, texts: &[String]) -> Result<String, Fail> {
-    let mut joined = String::from_str(alloc, "attributes of")?;
-    for text in texts {
-        joined.push_str(" ")?;
-        joined.push_str(text.as_str())?;
-    }
-    Ok(joined)
-}
-
-/// A refusal with the names that it holds, or its kind.
-pub(crate) fn refusal(alloc: Global, error: &SchemaError) -> Result<String, Fail> {
-    match error {
-        SchemaError::TypeNotDefined(error) if error.undefined_types.tail.is_empty() => {
-            possibilities(alloc, &error.undefined_types.head)
-        }
-        SchemaError::ActionNotDefined(undefined) if undefined.tail.is_empty() => {
-            action(alloc, &undefined.head)
-        }
-        SchemaError::UnsupportedFeature(UnsupportedFeature::ActionAttributes(ids)) => {
-            joined(alloc, ids)
-        }
-        SchemaError::ReservedName(name) => Ok(format!(in alloc; "reserved {name}")?),
-        SchemaError::TypeShadowing(plain, qualified) => {
-            Ok(format!(in alloc; "shadowed {plain} {qualified}")?)
-        }
-        _ => Ok(String::from_str(alloc, error.kind())?),
-    }
-}
-
-/// Definitions, each with the refusal of qualifying them.
+/// Fragments, each with the refusal of settling them.
 const REFUSED: &[(&[&str], &str)] = &[
-    (&["N: entity T", "N::M: user T"], "undefined N::M::T T"),
-    (&["N::M: entity T", "N: user M::T"], "undefined M::T"),
-    (&["N: entity T", ": user T"], "undefined T"),
-    (&["M: action b", "N: action a in b"], "no action Action b"),
-    (&["N: action b", "N: action a in c"], "no action Action c"),
+    (
+        &["N: entity T", "N::M: user T"],
+        "the type `T` is not declared",
+    ),
+    (
+        &["N::M: entity T", "N: user M::T"],
+        "the type `M::T` is not declared",
+    ),
+    (&["N: entity T", ": user T"], "the type `T` is not declared"),
+    (&["N: action a by Y"], "the type `Y` is not declared"),
+    (
+        &["M: action b", "N: action a in b"],
+        "an action is not declared: b",
+    ),
+    (
+        &["N: action b", "N: action a in c"],
+        "an action is not declared: c",
+    ),
     (
         &["M: action b", "N: action a in M::Action::c"],
-        "no action M::Action c",
+        "an action is not declared: c",
     ),
     (
         &["N: action b", ": action a in Action::b"],
-        "no action Action b",
+        "an action is not declared: b",
     ),
-    (&["N: action a by __cedar::X"], "reserved __cedar::X"),
-    (&["N: action a by Y"], "undefined N::Y Y"),
+    (
+        &["N: common T; entity U", ": entity T"],
+        "the type N::T would shadow T",
+    ),
+    (
+        &["N: action a", ": action a"],
+        "an action would shadow another of the id a",
+    ),
 ];
 
-/// The refusal of what the definitions of some texts become, or `none`.
-fn refused(alloc: Global, texts: &[&str]) -> Result<String, Fail> {
-    match qualified(alloc, texts, &["__cedar::X"])?.err() {
-        Some(error) => refusal(alloc, &error),
-        None => Ok(String::from_str(alloc, "none")?),
-    }
-}
-
 #[test]
-fn what_names_nothing_is_refused(rt: HostRuntime) -> Result<(), Fail> {
+fn what_names_nothing_or_shadows_is_refused(rt: HostRuntime) -> Result<(), Fail> {
     let alloc = rt.alloc();
     for &(texts, expected) in REFUSED {
-        same(expected, refused(alloc, texts)?.as_str(), expected)?;
+        same(expected, outcome(alloc, texts)?.as_str(), expected)?;
     }
     Ok(())
 }
 
-/// Definitions of a namespace, each with its refusal.
-const REFUSED_ALONE: &[(&str, &str)] = &[
-    (
-        ": attributes b; action c; attributes a",
-        "attributes of a b",
-    ),
-    (": external Action", "ActionEntityTypeDeclared"),
-    ("N::__cedar: action a", "reserved N::__cedar::Action"),
-    ("__cedar: entity X", "reserved __cedar::X"),
-    ("__cedar: common Foo", "none"),
-];
-
-/// The refusal of the definition of a text, or `none`.
-fn refused_alone(alloc: Global, text: &str) -> Result<String, Fail> {
-    let (namespace, declared) = written(alloc, text)?;
-    let inside = within(alloc, namespace)?;
-    match ValidatorNamespaceDef::from_namespace_definition(alloc, inside, declared) {
-        Ok(_) => Ok(String::from_str(alloc, "none")?),
-        Err(error) => refusal(alloc, &error),
-    }
+/// How many common types, entity types and actions are gathered from the fragment of a text.
+fn gathered(alloc: Global, text: &str) -> Result<(usize, usize, usize), Fail> {
+    let fragment = settled_fragment(alloc, text)?;
+    let declared = gather(alloc, vec![in alloc; fragment]?)?;
+    Ok((
+        declared.common_types.len(),
+        declared.entity_types.len(),
+        declared.actions.len(),
+    ))
 }
 
 #[test]
-fn definitions_are_refused_by_name(rt: HostRuntime) -> Result<(), Fail> {
-    let alloc = rt.alloc();
-    for &(text, expected) in REFUSED_ALONE {
-        same(text, refused_alone(alloc, text)?.as_str(), expected)?;
-    }
-    Ok(())
-}
-
-/// How often the entity type `T` is declared in what becomes of one fragment with two definitions of it.
-fn repeated(alloc: Global) -> Result<usize, Fail> {
-    let definitions = [
-        definition_of(alloc, "N: entity T")?,
-        definition_of(alloc, "N: entity T")?,
-    ];
-    let fragment = ValidatorSchemaFragment::from_namespaces(alloc, definitions)?;
-    let all_defs = AllDefs::single_fragment(alloc, &fragment)?;
-    let fragment = fragment.fully_qualify_type_references(&all_defs)?;
-    let shown = format!(in alloc; "{fragment:?}")?;
-    let around = shown.split("EntityTypeDef {");
-    Ok(around.count() - 1)
-}
-
-#[test]
-fn repeated_ids_are_kept(rt: HostRuntime) -> Result<(), Fail> {
-    holds(repeated(rt.alloc())? == 2, "T")
+fn declarations_are_gathered(rt: HostRuntime) -> Result<(), Fail> {
+    let text = "N: common C; entity U; external T; action view";
+    let counts = gathered(rt.alloc(), text)?;
+    holds(counts == (1, 2, 1), text)
 }

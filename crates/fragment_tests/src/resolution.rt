@@ -1,27 +1,16 @@
 //! What references resolve to, by what is defined under their names.
 
-use crate::checked::{holds, same};
-use crate::declarations::{PLACE, fragments_of};
-use crate::names::{full, raw, uid};
-use crate::qualification::{names_of, refusal};
+use crate::checked::same;
+use crate::declarations::fragments_of;
+use crate::names::{full, raw};
+use cedar_actions::ValidatorApplySpec;
+use cedar_below::{EntityType, InternalName};
 use cedar_declared::SchemaError;
 use cedar_fragments::defs::{AllDefs, ResolveName};
-use cedar_names::json_schema::{ConditionalName, QualifyError, ReferenceType, Type, TypeVariant};
+use cedar_names::json_schema::{ConditionalName, QualifyError, ReferenceType};
 use std::alloc::Global;
+use std::collections::HashSet;
 use std::test::Fail;
-
-/// The names that the fragments of some texts define.
-fn defined(alloc: Global, texts: &[&str]) -> Result<AllDefs, Fail> {
-    let fragments = fragments_of(alloc, texts)?;
-    names_of(alloc, &fragments, &[])
-}
-
-/// In the namespace `N` the common type `T`, the entity type `Both`, the common type `Both` and the
-/// action `a`; in the empty namespace the entity types `T` and `Only`.
-const DEFINED: [&str; 2] = [
-    "N: common T; common Both; entity Both; action a",
-    ": entity T; external Only",
-];
 
 /// A reference of a kind that is written in the namespace `N`.
 fn reference(alloc: Global, written: &str, kind: ReferenceType) -> Result<ConditionalName, Fail> {
@@ -29,16 +18,19 @@ fn reference(alloc: Global, written: &str, kind: ReferenceType) -> Result<Condit
     Ok(raw(alloc, written)?.conditionally_qualify_with(alloc, Some(&inside), kind)?)
 }
 
-/// What a reference resolves to, or what is said to be undefined.
-fn resolved(alloc: Global, all_defs: &AllDefs, reference: ConditionalName) -> Result<String, Fail> {
-    match reference.resolve(all_defs) {
+/// In the namespace `N` the common type `T`, the entity type `Both` and the common type `Both`; in the
+/// empty namespace the entity types `T` and `Only`; and in a reserved one a common type.
+const DEFINED: &[&str] = &[
+    "N: common T; common Both; entity Both; action a",
+    ": entity T; external Only",
+    "__cedar: common Foo",
+];
+
+/// The name that a reference resolved to, or why it was refused.
+fn shown(alloc: Global, resolved: Result<InternalName, QualifyError>) -> Result<String, Fail> {
+    match resolved {
         Ok(full) => Ok(full.to_string(alloc)?),
-        Err(QualifyError::TypeNotDefined(error)) => Ok(format!(in alloc;
-            "no {} of {}",
-            error.undefined_types.head,
-            error.undefined_types.tail.len() + 1
-        )?),
-        Err(QualifyError::Memory(memory)) => Err(memory)?,
+        Err(error) => Ok(error.to_string(alloc)?),
     }
 }
 
@@ -49,219 +41,112 @@ const REFERENCES: &[(&str, ReferenceType, &str)] = &[
     ("T", ReferenceType::CommonOrEntity, "N::T"),
     ("Both", ReferenceType::Entity, "N::Both"),
     ("Only", ReferenceType::CommonOrEntity, "Only"),
-    ("Only", ReferenceType::Common, "no Only of 1"),
-    ("Action", ReferenceType::Entity, "no Action of 1"),
+    (
+        "Only",
+        ReferenceType::Common,
+        "the type `Only` is not declared",
+    ),
+    (
+        "Action",
+        ReferenceType::Entity,
+        "the type `Action` is not declared",
+    ),
+    (
+        "__cedar::Foo",
+        ReferenceType::CommonOrEntity,
+        "__cedar::Foo",
+    ),
+    (
+        "M::Gone",
+        ReferenceType::CommonOrEntity,
+        "the type `M::Gone` is not declared",
+    ),
 ];
 
 #[test]
 fn references_resolve_to_the_first_that_is_permitted(rt: HostRuntime) -> Result<(), Fail> {
     let alloc = rt.alloc();
-    let all_defs = defined(alloc, &DEFINED)?;
+    let all_defs = AllDefs::new(alloc, &fragments_of(alloc, DEFINED)?)?;
     for &(written, kind, expected) in REFERENCES {
-        let found = resolved(alloc, &all_defs, reference(alloc, written, kind)?)?;
-        same(written, found.as_str(), expected)?;
+        let found = reference(alloc, written, kind)?.resolve(&all_defs);
+        same(written, shown(alloc, found)?.as_str(), expected)?;
     }
     Ok(())
-}
-
-#[test]
-fn names_in_full_resolve_to_themselves_or_are_refused(rt: HostRuntime) -> Result<(), Fail> {
-    let alloc = rt.alloc();
-    let mut all_defs = defined(alloc, &[])?;
-    all_defs.mark_as_defined_as_common_type(full(alloc, "__cedar::Foo")?)?;
-    for (written, expected) in [
-        ("__cedar::Foo", "__cedar::Foo"),
-        ("M::Gone", "no M::Gone of 1"),
-    ] {
-        let kind = ReferenceType::CommonOrEntity;
-        let reference = ConditionalName::unconditional(alloc, full(alloc, written)?, kind);
-        same(
-            written,
-            resolved(alloc, &all_defs, reference)?.as_str(),
-            expected,
-        )?;
-    }
-    Ok(())
-}
-
-/// What is defined under a name: a common type, an entity type, both or neither.
-type Defined = (bool, bool);
-
-/// Every such mix.
-const MIXES: [Defined; 4] = [(false, false), (true, false), (false, true), (true, true)];
-
-/// Marks a name as what is defined under it.
-fn mark(alloc: Global, all_defs: &mut AllDefs, place: &str, defined: Defined) -> Result<(), Fail> {
-    if defined.0 {
-        all_defs.mark_as_defined_as_common_type(full(alloc, place)?)?;
-    }
-    if defined.1 {
-        all_defs.mark_as_defined_as_entity_type(full(alloc, place)?)?;
-    }
-    Ok(())
-}
-
-/// The names where an inner and an outer `T` are so defined.
-fn mixed(alloc: Global, inner: Defined, outer: Defined) -> Result<AllDefs, Fail> {
-    let mut all_defs = defined(alloc, &[])?;
-    mark(alloc, &mut all_defs, "N::T", inner)?;
-    mark(alloc, &mut all_defs, "T", outer)?;
-    Ok(all_defs)
-}
-
-/// Whether a reference of a kind may name what is so defined.
-fn is_permitted(kind: ReferenceType, defined: Defined) -> bool {
-    match kind {
-        ReferenceType::Common => defined.0,
-        ReferenceType::Entity => defined.1,
-        ReferenceType::CommonOrEntity => defined.0 || defined.1,
-    }
-}
-
-/// What such a reference to `T` in the namespace `N` is to resolve to.
-fn wanted(kind: ReferenceType, inner: Defined, outer: Defined) -> &'static str {
-    if is_permitted(kind, inner) {
-        "N::T"
-    } else if is_permitted(kind, outer) {
-        "T"
-    } else {
-        "no T of 1"
-    }
-}
-
-/// The kinds of references.
-const KINDS: [ReferenceType; 3] = [
-    ReferenceType::Common,
-    ReferenceType::Entity,
-    ReferenceType::CommonOrEntity,
-];
-
-#[test]
-fn references_find_what_their_kind_permits(rt: HostRuntime) -> Result<(), Fail> {
-    let alloc = rt.alloc();
-    for inner in MIXES {
-        for outer in MIXES {
-            let all_defs = mixed(alloc, inner, outer)?;
-            for kind in KINDS {
-                let found = resolved(alloc, &all_defs, reference(alloc, "T", kind)?)?;
-                same("T", found.as_str(), wanted(kind, inner, outer))?;
-            }
-        }
-    }
-    Ok(())
-}
-
-#[test]
-fn marked_names_are_defined(rt: HostRuntime) -> Result<(), Fail> {
-    let alloc = rt.alloc();
-    let all_defs = mixed(alloc, (false, true), (true, false))?;
-    for (name, is_entity, is_common) in [
-        ("N::T", true, false),
-        ("T", false, true),
-        ("M::T", false, false),
-    ] {
-        let full = full(alloc, name)?;
-        holds(all_defs.is_defined_as_entity(&full) == is_entity, name)?;
-        holds(all_defs.is_defined_as_common(&full) == is_common, name)?;
-    }
-    Ok(())
-}
-
-#[test]
-fn actions_are_defined_under_their_uids(rt: HostRuntime) -> Result<(), Fail> {
-    let alloc = rt.alloc();
-    let all_defs = defined(alloc, &DEFINED)?;
-    for (written, found) in [("N::Action::a", true), ("M::Action::a", false)] {
-        let uid = uid(alloc, written)?;
-        holds(all_defs.is_defined_as_action(&uid) == found, written)?;
-    }
-    Ok(())
-}
-
-/// The refusal of names that shadow others, or `none`.
-fn shadowing(alloc: Global, texts: &[&str]) -> Result<String, Fail> {
-    match defined(alloc, texts)?.rfc_70_shadowing_checks() {
-        Ok(()) => Ok(String::from_str(alloc, "none")?),
-        Err(SchemaError::ActionShadowing(plain, qualified)) => Ok(format!(in alloc;
-            "{}::{} {}::{}",
-            plain.entity_type(),
-            plain.eid().as_str(),
-            qualified.entity_type(),
-            qualified.eid().as_str()
-        )?),
-        Err(error) => refusal(alloc, &error),
-    }
-}
-
-/// Definitions, each with what shadows what.
-const SHADOWING: &[(&[&str], &str)] = &[
-    (&[": action a", "N: action a"], "Action::a N::Action::a"),
-    (&["N: action a", ": action a"], "Action::a N::Action::a"),
-    (&["M: action a", "N: action a"], "none"),
-    (&DEFINED, "shadowed T N::T"),
-];
-
-#[test]
-fn names_shadow_where_one_is_without_a_namespace(rt: HostRuntime) -> Result<(), Fail> {
-    let alloc = rt.alloc();
-    for &(texts, expected) in SHADOWING {
-        same(expected, shadowing(alloc, texts)?.as_str(), expected)?;
-    }
-    Ok(())
-}
-
-/// The first name that a reference to a common type may stand for, where that and the reference are at the place.
-fn first_of(alloc: Global, ty: &Type<ConditionalName>) -> Result<String, Fail> {
-    match ty {
-        Type::CommonTypeRef { type_name, loc } => {
-            let first = &type_name.possibilities().head;
-            holds(*loc == Some(PLACE) && first.loc() == Some(PLACE), "a place")?;
-            Ok(first.to_string(alloc)?)
-        }
-        _ => Err("no reference")?,
-    }
-}
-
-#[test]
-fn qualified_types_keep_their_places(rt: HostRuntime) -> Result<(), Fail> {
-    let alloc = rt.alloc();
-    let inside = full(alloc, "N")?;
-    let written = Type::CommonTypeRef {
-        type_name: raw(alloc, "T")?,
-        loc: Some(PLACE),
-    };
-    let ty = written.conditionally_qualify_type_references(alloc, Some(&inside))?;
-    holds(ty.references_fit(), "T")?;
-    same("T", first_of(alloc, &ty)?.as_str(), "N::T")
 }
 
 #[test]
 fn names_in_full_are_those_of_declarations(rt: HostRuntime) -> Result<(), Fail> {
     let alloc = rt.alloc();
     let inside = full(alloc, "A::N")?;
-    for (namespace, expected) in [(Some(&inside), "A::N::T"), (None, "T")] {
-        let full = raw(alloc, "T")?.qualify_with(alloc, namespace)?;
-        same(expected, full.to_string(alloc)?.as_str(), expected)?;
-    }
-    Ok(())
+    let full = raw(alloc, "T")?.qualify_with(alloc, Some(&inside))?;
+    same("T", full.to_string(alloc)?.as_str(), "A::N::T")
 }
 
-/// Whether a reference of the kind fits the place of an entity type.
-fn fits_entity(alloc: Global, kind: ReferenceType) -> Result<bool, Fail> {
-    let name = ConditionalName::unconditional(alloc, full(alloc, "T")?, kind);
-    let ty = Type::Plain {
-        ty: TypeVariant::Entity { name },
-        loc: None,
-    };
-    Ok(ty.references_fit())
+/// Just the reference to an entity type that is written in the namespace `N`.
+fn entity(alloc: Global, written: &str) -> Result<HashSet<ConditionalName>, Fail> {
+    let mut references = HashSet::new(alloc);
+    references.insert(reference(alloc, written, ReferenceType::Entity)?)?;
+    Ok(references)
 }
+
+/// The names of some entity types, and no others.
+fn entity_types(alloc: Global, names: &[&str]) -> Result<AllDefs, Fail> {
+    let mut all_defs = AllDefs::new(alloc, &fragments_of(alloc, &[])?)?;
+    for name in names {
+        all_defs.mark_as_defined_as_entity_type(full(alloc, name)?)?;
+    }
+    Ok(all_defs)
+}
+
+/// The entity types of the principal and of the resource of requests by one on one other.
+fn of_one(alloc: Global, spec: &ValidatorApplySpec<EntityType>) -> Result<String, Fail> {
+    let mut principals = spec.applicable_principal_types();
+    let mut resources = spec.applicable_resource_types();
+    let principal = principals.next().ok_or("no principal")?;
+    let resource = resources.next().ok_or("no resource")?;
+    Ok(format!(in alloc; "{principal} on {resource}")?)
+}
+
+/// The same of requests that came to name what is defined, or why they were refused.
+fn requested(
+    alloc: Global,
+    qualified: Result<ValidatorApplySpec<EntityType>, SchemaError>,
+) -> Result<String, Fail> {
+    match qualified {
+        Ok(spec) => of_one(alloc, &spec),
+        Err(error) => Ok(error.to_string(alloc)?),
+    }
+}
+
+/// What requests by a principal on `T` come to name where some entity types are defined, or the refusal.
+fn named(alloc: Global, defined: &[&str], principal: &str) -> Result<String, Fail> {
+    let all_defs = entity_types(alloc, defined)?;
+    let spec = ValidatorApplySpec::new(entity(alloc, principal)?, entity(alloc, "T")?);
+    requested(alloc, spec.fully_qualify_type_references(alloc, &all_defs))
+}
+
+/// Defined entity types and a principal, each with what the requests come to name.
+const REQUESTS: &[(&[&str], &str, &str)] = &[
+    (&["N::U", "U", "T"], "U", "N::U on T"),
+    (&["U", "N::T"], "U", "U on N::T"),
+    (&["T"], "U", "the type `U` is not declared"),
+    (&["U"], "U", "the type `T` is not declared"),
+    (
+        &["__cedar::U", "T"],
+        "__cedar::U",
+        "the name __cedar::U is reserved",
+    ),
+];
 
 #[test]
-fn references_fit_places_of_their_kind(rt: HostRuntime) -> Result<(), Fail> {
+fn requests_name_the_entity_types_that_are_defined(rt: HostRuntime) -> Result<(), Fail> {
     let alloc = rt.alloc();
-    for kind in KINDS {
-        let fits = fits_entity(alloc, kind)?;
-        holds(fits == (kind == ReferenceType::Entity), "an entity type")?;
+    for &(defined, principal, expected) in REQUESTS {
+        same(
+            expected,
+            named(alloc, defined, principal)?.as_str(),
+            expected,
+        )?;
     }
     Ok(())
 }
