@@ -2,28 +2,36 @@
 
 use crate::checked::{holds, same};
 use crate::test_values::sample;
-use cedar_below::{CoreSchemaType, M};
+use cedar_below::CoreSchemaType;
 use cedar_types::{CoreTypeFault, core_type_of};
 use std::alloc::Global;
-use std::collections::BTreeMap;
 use std::test::Fail;
 
-/// The word of a core type's kind, or the name of its entity type.
-fn core_text(alloc: Global, core: &CoreSchemaType) -> M<String> {
-    let word = match core {
+/// The word of a core type's kind.
+fn core_word(core: &CoreSchemaType) -> &'static str {
+    match core {
         CoreSchemaType::Bool => "Bool",
         CoreSchemaType::Long => "Long",
         CoreSchemaType::String => "String",
         CoreSchemaType::Set { .. } => "Set",
         CoreSchemaType::EmptySet => "EmptySet",
         CoreSchemaType::Record { .. } => "Record",
-        CoreSchemaType::Entity { ty } => return Ok(ty.to_string(alloc)?),
+        CoreSchemaType::Entity { .. } => "Entity",
         CoreSchemaType::Extension { .. } => "Extension",
-    };
-    Ok(String::from_str(alloc, word)?)
+    }
 }
 
-/// Types, each with its core type.
+/// The word of a fault.
+fn fault_word(fault: CoreTypeFault) -> &'static str {
+    match fault {
+        CoreTypeFault::NeverType => "NeverType",
+        CoreTypeFault::AnyEntityType => "AnyEntityType",
+        CoreTypeFault::UnionType => "UnionType",
+        CoreTypeFault::Memory => "Memory",
+    }
+}
+
+/// Types, each with the kind of its core type, or why it has none.
 const CORES: &[(&str, &str)] = &[
     ("true", "Bool"),
     ("bool", "Bool"),
@@ -31,82 +39,56 @@ const CORES: &[(&str, &str)] = &[
     ("string", "String"),
     ("any-set", "EmptySet"),
     ("set-Foo", "Set"),
-    ("Foo", "Foo"),
+    ("Foo", "Entity"),
     ("mixed", "Record"),
     ("ipaddr", "Extension"),
+    ("never", "NeverType"),
+    ("set-never", "NeverType"),
+    ("a-never", "NeverType"),
+    ("any-entity", "AnyEntityType"),
+    ("Foo|Bar", "UnionType"),
 ];
 
-/// The core type of the type of a word, as a text.
-fn core_of(alloc: Global, word: &str) -> Result<String, Fail> {
-    let core = core_type_of(alloc, sample(alloc, word)?)?;
-    Ok(core_text(alloc, &core)?)
+/// The kind of the core type of the type of a word, or why it has none.
+fn core_of(alloc: Global, word: &str) -> Result<&'static str, Fail> {
+    Ok(match core_type_of(alloc, sample(alloc, word)?) {
+        Ok(core) => core_word(&core),
+        Err(fault) => fault_word(fault),
+    })
 }
 
 #[test]
 fn core_types_are_of_the_same_kind(rt: HostRuntime) -> Result<(), Fail> {
     let alloc = rt.alloc();
     for &(word, expected) in CORES {
-        same(word, core_of(alloc, word)?.as_str(), expected)?;
+        same(word, core_of(alloc, word)?, expected)?;
     }
     Ok(())
 }
 
-#[test]
-fn what_has_no_core_type_is_named(rt: HostRuntime) -> Result<(), Fail> {
-    let alloc = rt.alloc();
-    for (word, fault) in [
-        ("never", CoreTypeFault::NeverType),
-        ("set-never", CoreTypeFault::NeverType),
-        ("a-never", CoreTypeFault::NeverType),
-        ("any-entity", CoreTypeFault::AnyEntityType),
-        ("Foo|Bar", CoreTypeFault::UnionType),
-    ] {
-        let refused = core_type_of(alloc, sample(alloc, word)?).err();
-        holds(refused == Some(fault), word)?;
-    }
-    Ok(())
-}
-
-/// Types, each with whether it is consistent with the closed core record without attributes, with the open
-/// one, and with the core type of the empty set.
-const CONSISTENT: &[(&str, bool, bool, bool)] = &[
-    ("unit", true, true, false),
-    ("a-long-optional", true, true, false),
-    ("a-long", false, true, false),
-    ("set-bool", false, false, true),
-    ("any-set", false, false, true),
+/// Types, each with one whose core type it is consistent with or not.
+const CONSISTENT: &[(&str, &str, bool)] = &[
+    ("a-long", "a-long", true),
+    ("a-true", "a-bool", true),
+    ("a-long", "a-bool", false),
+    ("unit", "a-long", false),
+    ("unit", "a-long-optional", true),
+    ("any-record", "a-long", true),
+    ("unit", "unit", true),
+    ("a-long-optional", "unit", true),
+    ("a-long", "unit", false),
+    ("a-long", "any-record", true),
+    ("set-bool", "set-long", false),
+    ("set-bool", "any-set", true),
+    ("any-set", "any-set", true),
+    ("unit", "any-set", false),
+    ("Foo|Bar", "Foo", true),
+    ("ipaddr", "ipaddr", true),
+    ("mixed", "mixed", true),
 ];
 
-/// The core record type without attributes, or the core type of the empty set.
-fn empty(alloc: Global, openness: Option<bool>) -> CoreSchemaType {
-    match openness {
-        Some(open_attrs) => CoreSchemaType::Record {
-            attrs: BTreeMap::new(alloc),
-            open_attrs,
-        },
-        None => CoreSchemaType::EmptySet,
-    }
-}
-
-#[test]
-fn what_a_core_record_lacks_is_optional(rt: HostRuntime) -> Result<(), Fail> {
-    let alloc = rt.alloc();
-    for &(word, with_closed, with_open, with_empty_set) in CONSISTENT {
-        let ty = sample(alloc, word)?;
-        for (core, expected) in [
-            (Some(false), with_closed),
-            (Some(true), with_open),
-            (None, with_empty_set),
-        ] {
-            let is_consistent = ty.is_consistent_with(&empty(alloc, core));
-            holds(is_consistent == expected, word)?;
-        }
-    }
-    Ok(())
-}
-
 /// Whether the type of one word is consistent with the core type of that of another.
-fn are_consistent(alloc: Global, word: &str, of: &str) -> Result<bool, Fail> {
+fn is_consistent(alloc: Global, word: &str, of: &str) -> Result<bool, Fail> {
     let core = core_type_of(alloc, sample(alloc, of)?)?;
     Ok(sample(alloc, word)?.is_consistent_with(&core))
 }
@@ -114,25 +96,8 @@ fn are_consistent(alloc: Global, word: &str, of: &str) -> Result<bool, Fail> {
 #[test]
 fn what_a_record_lacks_is_optional(rt: HostRuntime) -> Result<(), Fail> {
     let alloc = rt.alloc();
-    for (word, of, expected) in [
-        ("a-long", "a-long", true),
-        ("a-true", "a-bool", true),
-        ("a-long", "a-bool", false),
-        ("unit", "a-long", false),
-        ("unit", "a-long-optional", true),
-        ("any-record", "a-long", true),
-        ("set-bool", "set-long", false),
-    ] {
-        holds(are_consistent(alloc, word, of)? == expected, word)?;
-    }
-    Ok(())
-}
-
-#[test]
-fn types_are_consistent_with_their_core_types(rt: HostRuntime) -> Result<(), Fail> {
-    let alloc = rt.alloc();
-    for &(word, _) in CORES {
-        holds(are_consistent(alloc, word, word)?, word)?;
+    for &(word, of, expected) in CONSISTENT {
+        holds(is_consistent(alloc, word, of)? == expected, word)?;
     }
     Ok(())
 }

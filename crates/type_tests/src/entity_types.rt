@@ -1,8 +1,8 @@
 //! Tests of entity types of a schema.
 
 use crate::checked::holds;
-use crate::test_values::{PLACE, entity_type, sample, text};
-use cedar_below::{Eid, EntityType, NonEmpty};
+use crate::test_values::{PLACE, entity_type, entity_types, sample, text};
+use cedar_below::{Eid, NonEmpty};
 use cedar_entities::ValidatorEntityType;
 use cedar_types::{Attributes, OpenTag, Type};
 use std::alloc::Global;
@@ -16,27 +16,13 @@ fn attributes(alloc: Global) -> Result<Attributes, Fail> {
     }
 }
 
-/// The entity types of these words.
-fn types(alloc: Global, words: &[&str]) -> Result<Vec<EntityType>, Fail> {
-    let mut types = Vec::new(alloc);
-    for word in words {
-        types.push(entity_type(alloc, word)?)?;
-    }
-    Ok(types)
-}
-
-/// The standard entity type `User`, with tags, above others.
-fn standard(alloc: Global, below: Vec<EntityType>) -> Result<ValidatorEntityType, Fail> {
+/// The standard entity type `User`, with tags, above another.
+fn standard(alloc: Global) -> Result<ValidatorEntityType, Fail> {
     let name = entity_type(alloc, "User")?;
-    Ok(ValidatorEntityType::new_standard(
-        alloc,
-        name,
-        below,
-        attributes(alloc)?,
-        OpenTag::OpenAttributes,
-        Some(Type::Long),
-        Some(PLACE),
-    )?)
+    let below = entity_types(alloc, &["Foo", "Foo"])?;
+    let attributes = attributes(alloc)?;
+    let (open, tags) = (OpenTag::OpenAttributes, Some(Type::Long));
+    Ok(ValidatorEntityType::new_standard(alloc, name, below, attributes, open, tags, Some(PLACE))?)
 }
 
 /// Two choices.
@@ -47,31 +33,46 @@ fn choices(alloc: Global) -> Result<NonEmpty<Eid>, Fail> {
 }
 
 /// The enumerated entity type `Color`, above others.
-fn enumerated(alloc: Global, below: Vec<EntityType>) -> Result<ValidatorEntityType, Fail> {
+fn enumerated(alloc: Global) -> Result<ValidatorEntityType, Fail> {
     let name = entity_type(alloc, "Color")?;
+    let below = entity_types(alloc, &["Foo", "Bar"])?;
     Ok(ValidatorEntityType::new_enum(alloc, name, below, choices(alloc)?, None)?)
+}
+
+/// The external entity type `Elsewhere`.
+fn external(alloc: Global) -> Result<ValidatorEntityType, Fail> {
+    let name = entity_type(alloc, "Elsewhere")?;
+    Ok(ValidatorEntityType::new_external(alloc, name, Vec::new(alloc), None)?)
 }
 
 /// The entity type of a word for its kind.
 fn of_kind(alloc: Global, kind: &str) -> Result<ValidatorEntityType, Fail> {
     match kind {
-        "standard" => standard(alloc, types(alloc, &["Foo", "Foo"])?),
-        "enumerated" => enumerated(alloc, types(alloc, &["Foo", "Bar"])?),
-        _ => {
-            let name = entity_type(alloc, "Elsewhere")?;
-            Ok(ValidatorEntityType::new_external(alloc, name, Vec::new(alloc), None)?)
-        }
+        "standard" => standard(alloc),
+        "enumerated" => enumerated(alloc),
+        _ => external(alloc),
     }
+}
+
+/// Kinds of entity types, each with whether it has tags.
+const KINDS: &[(&str, bool)] = &[
+    ("standard", true),
+    ("enumerated", false),
+    ("external", false),
+];
+
+/// Whether a copy of the entity type of a kind is equal to it, with its location, and has tags just if that is said.
+fn is_copied(alloc: Global, kind: &str, has_tags: bool) -> Result<bool, Fail> {
+    let ty = of_kind(alloc, kind)?;
+    let copy = ty.clone()?;
+    Ok(copy == ty && copy.loc == ty.loc && copy.tag_type().is_some() == has_tags)
 }
 
 #[test]
 fn copies_of_entity_types_are_equal(rt: HostRuntime) -> Result<(), Fail> {
-    for kind in ["standard", "enumerated", "external"] {
-        let ty = of_kind(rt.alloc(), kind)?;
-        let mut copy = ty.clone()?;
-        holds(copy == ty && copy.loc == ty.loc, kind)?;
-        copy.loc = None;
-        holds(copy == ty, kind)?;
+    let alloc = rt.alloc();
+    for &(kind, has_tags) in KINDS {
+        holds(is_copied(alloc, kind, has_tags)?, kind)?;
     }
     Ok(())
 }

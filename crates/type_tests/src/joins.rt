@@ -1,13 +1,11 @@
 //! Tests of joins and of reductions.
 
-use crate::checked::{holds, same};
-use crate::test_values::{PLACE, kind, sample, text, union};
-use cedar_below::{Loc, Memory, ValidationMode};
-use cedar_types::{AttributeType, JoinError, JoinOrder, OpenTag, Type, reduce};
+use crate::checked::same;
+use crate::test_values::{kind, sample, union};
+use cedar_below::{Memory, ValidationMode};
+use cedar_types::{JoinError, Type, reduce};
 use std::alloc::Global;
-use std::cmp::Ordering;
 use std::fmt::Display;
-use std::rc::Rc;
 use std::test::Fail;
 
 /// The text of a join, or the word of the help.
@@ -176,79 +174,4 @@ fn unions_and_kinds_are_joined_through_the_trait(rt: HostRuntime) -> Result<(), 
         same("kinds", reduced_kinds(alloc, mode)?.as_str(), expected)?;
     }
     Ok(())
-}
-
-#[test]
-fn a_type_with_the_any_set_is_not_clean(rt: HostRuntime) -> Result<(), Fail> {
-    let alloc = rt.alloc();
-    for (word, is_clean) in [("set-long", true), ("mixed", true), ("any-set", false)] {
-        holds(sample(alloc, word)?.is_clean() == is_clean, word)?;
-    }
-    Ok(())
-}
-
-/// The closed record type of numbers at `bar` and of another type at `foo`, both declared at the place.
-fn placed(alloc: Global, foo: &str) -> Result<Type, Fail> {
-    let mut items = Vec::new(alloc);
-    for (name, word) in [("bar", "long"), ("foo", foo)] {
-        let ty = Rc::new(alloc, sample(alloc, word)?)?;
-        let attribute = AttributeType::new_with_loc(ty, true, Some(PLACE));
-        items.push((text(alloc, name)?, attribute))?;
-    }
-    Ok(Type::record_with_attributes(alloc, items, OpenTag::ClosedAttributes)?)
-}
-
-/// Where an attribute of a record type was declared, if it is there and was declared anywhere.
-fn place_of(ty: &Type, name: &str) -> Option<Loc> {
-    match ty {
-        Type::Record { attrs, .. } => attrs.get_attr(name)?.loc,
-        _ => None,
-    }
-}
-
-/// What such types of two words at `foo` are joined to.
-fn joined_at_places(
-    alloc: Global,
-    first: &str,
-    second: &str,
-    mode: ValidationMode,
-) -> Result<Type, Fail> {
-    let (a, b) = (placed(alloc, first)?, placed(alloc, second)?);
-    Ok(Type::least_upper_bound(alloc, &a, &b, mode)?)
-}
-
-#[test]
-fn joined_attributes_have_no_location(rt: HostRuntime) -> Result<(), Fail> {
-    let alloc = rt.alloc();
-    for (mode, other, joined) in [
-        (ValidationMode::Strict, "false", "{bar: Long,foo: Bool,}"),
-        (
-            ValidationMode::Permissive,
-            "string",
-            "__cedar::internal::OpenRecord{bar: Long,}",
-        ),
-    ] {
-        let join = joined_at_places(alloc, "true", other, mode)?;
-        same(other, join.to_string(alloc)?.as_str(), joined)?;
-        holds(place_of(&join, "bar").is_none(), other)?;
-    }
-    Ok(())
-}
-
-#[test]
-fn what_is_joined_with_itself_keeps_its_locations(rt: HostRuntime) -> Result<(), Fail> {
-    let join = joined_at_places(rt.alloc(), "true", "true", ValidationMode::Strict)?;
-    holds(place_of(&join, "foo") == Some(PLACE), "foo")
-}
-
-#[test]
-fn locations_within_types_are_not_compared(rt: HostRuntime) -> Result<(), Fail> {
-    let alloc = rt.alloc();
-    let (here, nowhere) = (placed(alloc, "false")?, sample(alloc, "r1")?);
-    holds(place_of(&here, "bar") == Some(PLACE), "here")?;
-    holds(place_of(&nowhere, "bar").is_none(), "nowhere")?;
-    holds(
-        here == nowhere && here.cmp(&nowhere) == Ordering::Equal,
-        "both",
-    )
 }

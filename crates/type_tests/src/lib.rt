@@ -4,8 +4,6 @@
 #[cfg(test)]
 mod actions;
 #[cfg(test)]
-mod attributes;
-#[cfg(test)]
 mod checked;
 #[cfg(test)]
 mod core_types;
@@ -14,11 +12,11 @@ mod entity_types;
 #[cfg(test)]
 mod joins;
 #[cfg(test)]
+mod members;
+#[cfg(test)]
 mod requests;
 #[cfg(test)]
 mod separate;
-#[cfg(test)]
-mod subtyping;
 #[cfg(test)]
 mod test_values;
 #[cfg(test)]

@@ -3,7 +3,6 @@
 use cedar_below::{Eid, EntityType, EntityUID, Id, InternalName, Loc, Name, RestrictedExpr};
 use cedar_types::{AttributeType, EntityKind, EntityLUB, OpenTag, Type};
 use std::alloc::Global;
-use std::collections::BTreeMap;
 use std::rc::Rc;
 use std::test::Fail;
 
@@ -18,22 +17,29 @@ pub(crate) fn text(alloc: Global, text: &str) -> Result<String, Fail> {
     Ok(String::from_str(alloc, text)?)
 }
 
-fn id(alloc: Global, word: &str) -> Result<Id, Fail> {
-    Ok(Id::new(text(alloc, word)?).ok_or("no identifier")?)
-}
-
-/// The name whose parts stand between `::` in a word.
+/// The name of a word, without a path.
 pub(crate) fn name(alloc: Global, word: &str) -> Result<Name, Fail> {
-    let mut parts = Vec::new(alloc);
-    for part in word.split("::") {
-        parts.push(id(alloc, part)?)?;
-    }
-    let base = parts.pop().ok_or("no name")?;
-    Ok(Name::new(InternalName::new(base, parts, None)).ok_or("a reserved name")?)
+    let base = Id::new(text(alloc, word)?).ok_or("no identifier")?;
+    let name = InternalName::new(base, Vec::new(alloc), None);
+    Ok(Name::new(name).ok_or("a reserved name")?)
 }
 
 pub(crate) fn entity_type(alloc: Global, word: &str) -> Result<EntityType, Fail> {
     Ok(EntityType::new(name(alloc, word)?))
+}
+
+pub(crate) fn entity_types(alloc: Global, words: &[&str]) -> Result<Vec<EntityType>, Fail> {
+    let mut types = Vec::new(alloc);
+    for word in words {
+        types.push(entity_type(alloc, word)?)?;
+    }
+    Ok(types)
+}
+
+/// The entity of a type and an id.
+pub(crate) fn uid(alloc: Global, ty: &str, id: &str) -> Result<EntityUID, Fail> {
+    let ty = entity_type(alloc, ty)?;
+    Ok(EntityUID::new(ty, Eid(text(alloc, id)?), None))
 }
 
 /// The union of one entity type.
@@ -151,11 +157,28 @@ const RECORDS: &[Record] = &[
         CLOSED,
         &[("s", true, "long"), ("t", true, "long")],
     ),
-    ("spaced", CLOSED, &[("a b", true, "long")]),
     (
-        "address",
+        "repeated",
         CLOSED,
-        &[("b", true, "long"), ("a", true, "ipaddr")],
+        &[
+            ("b", true, "long"),
+            ("a", true, "long"),
+            ("b", true, "string"),
+        ],
+    ),
+    (
+        "any-texts",
+        CLOSED,
+        &[
+            ("é", true, "long"),
+            ("ab", true, "long"),
+            ("b", true, "long"),
+            ("", true, "long"),
+            ("日", true, "long"),
+            ("a", true, "long"),
+            ("Z", true, "long"),
+            ("a b", true, "long"),
+        ],
     ),
     (
         "mixed",
@@ -197,72 +220,17 @@ pub(crate) fn sample(alloc: Global, word: &str) -> Result<Type, Fail> {
     simple(alloc, word)
 }
 
-/// The entity `Foo::"blue"`.
-fn blue(alloc: Global) -> Result<RestrictedExpr, Fail> {
-    let eid = Eid(text(alloc, "blue")?);
-    let blue = EntityUID::new(entity_type(alloc, "Foo")?, eid, None);
-    Ok(RestrictedExpr::EntityUid(blue))
-}
-
-/// The value of a word, of those without arguments and parts: a number, an entity, a call such as `ip()`, or
-/// else a text.
-fn leaf_value(alloc: Global, word: &str) -> Result<RestrictedExpr, Fail> {
+/// The value of a word: a number, the entity `Foo::"blue"`, a call without arguments such as `ip()`, or else a text.
+pub(crate) fn value(alloc: Global, word: &str) -> Result<RestrictedExpr, Fail> {
+    if let Some(function) = word.strip_suffix("()") {
+        return Ok(RestrictedExpr::ExtensionCall {
+            function: name(alloc, function)?,
+            args: Vec::new(alloc),
+        });
+    }
     match word {
         "1" => Ok(RestrictedExpr::Long(1)),
-        "blue" => blue(alloc),
-        _ => match word.strip_suffix("()") {
-            Some(function) => Ok(RestrictedExpr::ExtensionCall {
-                function: name(alloc, function)?,
-                args: Vec::new(alloc),
-            }),
-            None => Ok(RestrictedExpr::String(text(alloc, word)?)),
-        },
+        "blue" => Ok(RestrictedExpr::EntityUid(uid(alloc, "Foo", "blue")?)),
+        _ => Ok(RestrictedExpr::String(text(alloc, word)?)),
     }
-}
-
-/// The values of words that stand between commas, or none for no text.
-fn listed(alloc: Global, words: &str) -> Result<Vec<RestrictedExpr>, Fail> {
-    let mut values = Vec::new(alloc);
-    for word in words.split(", ").filter(|word| !word.is_empty()) {
-        values.push(leaf_value(alloc, word)?)?;
-    }
-    Ok(values)
-}
-
-/// The record of entries `name: word` that stand between commas, or of none for no text.
-fn values(alloc: Global, entries: &str) -> Result<RestrictedExpr, Fail> {
-    let mut values = BTreeMap::new(alloc);
-    for entry in entries.split(", ") {
-        if let Some((name, word)) = entry.split_once(": ") {
-            values.insert(text(alloc, name)?, leaf_value(alloc, word)?)?;
-        }
-    }
-    Ok(RestrictedExpr::Record(values))
-}
-
-/// The call of `ip` with the arguments of words that stand between commas.
-fn call(alloc: Global, words: &str) -> Result<RestrictedExpr, Fail> {
-    Ok(RestrictedExpr::ExtensionCall {
-        function: name(alloc, "ip")?,
-        args: listed(alloc, words)?,
-    })
-}
-
-/// What stands between two texts, if they begin and end a word.
-fn between<'w>(word: &'w str, begin: &str, end: &str) -> Option<&'w str> {
-    word.strip_prefix(begin)?.strip_suffix(end)
-}
-
-/// The value of a word: a record `{a: 1}`, a set `[1, x]`, a call `ip(x)`, or one without parts.
-pub(crate) fn value(alloc: Global, word: &str) -> Result<RestrictedExpr, Fail> {
-    if let Some(elements) = between(word, "[", "]") {
-        return Ok(RestrictedExpr::Set(listed(alloc, elements)?));
-    }
-    if let Some(entries) = between(word, "{", "}") {
-        return values(alloc, entries);
-    }
-    if let Some(arguments) = between(word, "ip(", ")") {
-        return call(alloc, arguments);
-    }
-    leaf_value(alloc, word)
 }
