@@ -4,6 +4,8 @@
 #[cfg(test)]
 mod actions;
 #[cfg(test)]
+mod attributes;
+#[cfg(test)]
 mod checked;
 #[cfg(test)]
 mod core_types;
