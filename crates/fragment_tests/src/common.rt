@@ -208,11 +208,15 @@ const LOCATED: &[&str] = &[
     "is_required: false, loc: Some(Loc { source: 1, start: 2, stop: 5 })",
 ];
 
+/// What a record type with attributes at places is written out as, with all that it holds.
+fn with_locations(alloc: Global) -> Result<String, Fail> {
+    let written = written_out(alloc, &[("A", "record", "User")])??;
+    Ok(format!(in alloc; "{written:?}")?)
+}
+
 #[test]
 fn attributes_keep_their_locations(rt: HostRuntime) -> Result<(), Fail> {
-    let alloc = rt.alloc();
-    let written = written_out(alloc, &[("A", "record", "User")])?;
-    let shown = format!(in alloc; "{written:?}")?;
+    let shown = with_locations(rt.alloc())?;
     for &attribute in LOCATED {
         holds(shown.contains(attribute), attribute)?;
     }
