@@ -1,15 +1,15 @@
 //! What the builder answers of fragments, as text.
 
-use crate::checked::{holds, one_of};
-use crate::names::name;
 use crate::orders::{as_written, in_order, order_count, taken_apart};
 use crate::refusals::refusal_text;
-use crate::shorthand::{fragment_of, fragments_of};
 use crate::written_back::comes_back;
 use cedar_schema::below::{CoreSchemaType, ExtensionFunction, Extensions, M};
 use cedar_schema::json_schema::{Fragment, RawName};
 use cedar_schema::{SchemaError, ValidatorSchema};
 use schema_lines::lines_of;
+use shorthand::checked::{holds, one_of};
+use shorthand::names::name;
+use shorthand::{fragment_of, fragments_of};
 use std::alloc::Global;
 use std::collections::BTreeMap;
 use std::test::Fail;

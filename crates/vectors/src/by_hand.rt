@@ -7,15 +7,15 @@
 //!   ` tags TYPE` for tags, or ` for A` for an action's principals, where `TYPE` is `Long`, `True`, `ext NAME` or the name of an entity type
 
 use crate::answers::{answer_text, sample_extensions, shown};
-use crate::checked::{holds, one_of, same};
-use crate::entries::parts;
-use crate::names::{NONE, entity_type, entity_types, name, uid, uids};
 use crate::questions::{answer, two_parts};
 use cedar_schema::below::{Eid, EntityType, NonEmpty};
 use cedar_schema::{
     AttributeType, Attributes, OpenTag, SchemaError, Type, ValidatorActionId, ValidatorEntityType,
     ValidatorSchema,
 };
+use shorthand::checked::{holds, one_of, same};
+use shorthand::names::{NONE, entity_type, entity_types, name, uid, uids};
+use shorthand::parts;
 use std::alloc::Global;
 use std::rc::Rc;
 use std::test::Fail;
@@ -273,11 +273,16 @@ fn valid_schemas_are_closed(rt: HostRuntime) -> Result<(), Fail> {
     Ok(())
 }
 
+/// Whether the schema of a text is valid.
+fn is_valid(alloc: Global, text: &str) -> Result<bool, Fail> {
+    Ok(validated(alloc, text)?.is_ok())
+}
+
 #[test]
 fn schemas_are_refused_and_the_nearest_are_valid(rt: HostRuntime) -> Result<(), Fail> {
     for (text, allowed, nearest) in REFUSED {
         check_validated(rt.alloc(), text, allowed)?;
-        holds(validated(rt.alloc(), nearest)?.is_ok(), nearest)?;
+        holds(is_valid(rt.alloc(), nearest)?, nearest)?;
     }
     Ok(())
 }

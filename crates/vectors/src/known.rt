@@ -6,11 +6,11 @@
 //!
 //! The types are those of the entities of the listed types, or one of `Long`, `{*}` (any record) and `any` (any entity).
 
-use crate::names::{entity_type, uid};
 use crate::questions::unknown;
 use cedar_schema::below::{M, ValidationMode};
 use cedar_schema::lookup::{KnownAttrs, SchemaLookup};
 use cedar_schema::{EntityKind, Type, ValidatorSchema};
+use shorthand::names::{entity_type, uid};
 use std::alloc::Global;
 use std::test::Fail;
 

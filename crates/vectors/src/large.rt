@@ -1,11 +1,11 @@
 //! Declarations in large numbers.
 
 use crate::answers::{schema_of, shown};
-use crate::checked::{holds, same};
-use crate::names::entity_type;
 use crate::questions::answer;
 use cedar_schema::ValidatorSchema;
 use cedar_schema::below::M;
+use shorthand::checked::{holds, same};
+use shorthand::names::entity_type;
 use std::alloc::Global;
 use std::test::Fail;
 

@@ -8,17 +8,11 @@ mod answers;
 #[cfg(test)]
 mod by_hand;
 #[cfg(test)]
-mod checked;
-#[cfg(test)]
-mod entries;
-#[cfg(test)]
 mod kinds;
 #[cfg(test)]
 mod known;
 #[cfg(test)]
 mod large;
-#[cfg(test)]
-mod names;
 #[cfg(test)]
 mod orders;
 #[cfg(test)]
@@ -38,10 +32,6 @@ mod rows;
 #[cfg(test)]
 mod same;
 #[cfg(test)]
-mod shorthand;
-#[cfg(test)]
 mod tried;
-#[cfg(test)]
-mod types;
 #[cfg(test)]
 mod written_back;

@@ -11,11 +11,11 @@
 //! A place is answered as the number of its text, and no place as 0.
 
 use crate::known::type_of;
-use crate::names::{entity_type, uid};
 use crate::questions::{two_parts, unknown};
 use cedar_schema::below::{Loc, M};
 use cedar_schema::lookup::SchemaLookup;
 use cedar_schema::{CompleteError, Type, ValidatorActionId, ValidatorEntityType, ValidatorSchema};
+use shorthand::names::{entity_type, uid};
 use std::alloc::Global;
 use std::test::Fail;
 

@@ -17,11 +17,11 @@ ghost use Rattle.std.specs.Iterator.{IsFinite};
 
 use crate::answers::{sample_extensions, shown};
 use crate::known::{of_literal, of_types};
-use crate::names::{entity_type, entity_types, uid, uids};
 use crate::places::{common_types, lacking_at, namespaces, place};
 use cedar_schema::below::{Entity, EntityType, EntityUID, M, ValidationMode};
 use cedar_schema::{CompleteError, IncompleteSchemaError, UnresolvedDeclaration, ValidatorSchema};
 use schema_lines::uid_text;
+use shorthand::names::{entity_type, entity_types, uid, uids};
 use std::alloc::Global;
 use std::collections::hash_set;
 use std::test::Fail;

@@ -1,15 +1,15 @@
 //! Declarations in reserved namespaces, which no fragment of plain data can hold.
 
 use crate::answers::{answer_text, sample_extensions};
-use crate::checked::{holds, one_of};
-use crate::names::internal_name;
 use crate::orders::taken_apart;
-use crate::shorthand::{declare, nothing, placed};
 use crate::written_back::comes_back;
 use cedar_schema::below::InternalName;
 use cedar_schema::json_schema::ConditionalName;
 use cedar_schema::namespace::{ValidatorNamespaceDef, ValidatorSchemaFragment};
 use cedar_schema::{SchemaError, ValidatorSchema};
+use shorthand::checked::{holds, one_of};
+use shorthand::names::internal_name;
+use shorthand::{declare, nothing, placed};
 use std::alloc::Global;
 use std::test::Fail;
 

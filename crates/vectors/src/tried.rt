@@ -1,9 +1,9 @@
 //! That rows are tried as they are said to be: in each order, and in one fragment only where it declares
 //! no id twice.
 
-use crate::checked::holds;
 use crate::orders::{in_order, order_count};
-use crate::shorthand::fragment_of;
+use shorthand::checked::holds;
+use shorthand::fragment_of;
 use std::alloc::Global;
 use std::collections::BTreeSet;
 use std::test::Fail;

@@ -2,9 +2,9 @@
 
 use crate::answers::{build, sample_extensions, schema_of};
 use crate::by_hand::put_together;
-use crate::checked::{holds, same};
 use cedar_schema::below::Memory;
 use cedar_schema::{ValidatorSchema, WriteBackFault};
+use shorthand::checked::{holds, same};
 use std::alloc::Global;
 use std::test::Fail;
 

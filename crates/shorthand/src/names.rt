@@ -1,16 +1,16 @@
 //! Names that texts spell, and places. A text that spells no name fails by name.
 
-use cedar_schema::below::{Eid, EntityType, EntityUID, Id, InternalName, Loc, Name, UnreservedId};
-use cedar_schema::json_schema::RawName;
+use cedar_below::{Eid, EntityType, EntityUID, Id, InternalName, Loc, Name, UnreservedId};
+use cedar_names::json_schema::RawName;
 use std::alloc::Global;
 use std::test::Fail;
 
 /// The text of no names in a list.
-pub(crate) const NONE: &str = "-";
+pub const NONE: &str = "-";
 
 /// What stands before an `@` and a number at the end of a text, and the place in the text of that number; or the
 /// whole text, and no place.
-pub(crate) fn placed_at(text: &str) -> (&str, Option<Loc>) {
+pub fn placed_at(text: &str) -> (&str, Option<Loc>) {
     let Some((before, number)) = text.rsplit_once('@') else {
         return (text, None);
     };
@@ -37,7 +37,7 @@ fn id(alloc: Global, text: &str) -> Result<Id, Fail> {
 }
 
 /// The identifier that a text spells, which isn't the reserved word.
-pub(crate) fn unreserved_id(alloc: Global, text: &str) -> Result<UnreservedId, Fail> {
+pub fn unreserved_id(alloc: Global, text: &str) -> Result<UnreservedId, Fail> {
     match UnreservedId::new(String::from_str(alloc, text)?) {
         Some(id) => Ok(id),
         None => Err(Fail::new(format_args!("no unreserved identifier: {text}"))),
@@ -45,7 +45,7 @@ pub(crate) fn unreserved_id(alloc: Global, text: &str) -> Result<UnreservedId, F
 }
 
 /// The name whose parts stand between `::` in a text. It may be reserved.
-pub(crate) fn internal_name(alloc: Global, text: &str) -> Result<InternalName, Fail> {
+pub fn internal_name(alloc: Global, text: &str) -> Result<InternalName, Fail> {
     internal_name_at(alloc, text, None)
 }
 
@@ -60,7 +60,7 @@ fn internal_name_at(alloc: Global, text: &str, loc: Option<Loc>) -> Result<Inter
 }
 
 /// The name of such a text, which isn't reserved.
-pub(crate) fn name(alloc: Global, text: &str) -> Result<Name, Fail> {
+pub fn name(alloc: Global, text: &str) -> Result<Name, Fail> {
     match Name::new(internal_name(alloc, text)?) {
         Some(name) => Ok(name),
         None => Err(Fail::new(format_args!("a reserved name: {text}"))),
@@ -68,7 +68,7 @@ pub(crate) fn name(alloc: Global, text: &str) -> Result<Name, Fail> {
 }
 
 /// The name of such a text with its place, which isn't reserved, or None for no text.
-pub(crate) fn namespace(alloc: Global, text: &str) -> Result<Option<Name>, Fail> {
+pub fn namespace(alloc: Global, text: &str) -> Result<Option<Name>, Fail> {
     if text.is_empty() {
         return Ok(None);
     }
@@ -80,12 +80,12 @@ pub(crate) fn namespace(alloc: Global, text: &str) -> Result<Option<Name>, Fail>
 }
 
 /// The entity type of such a text.
-pub(crate) fn entity_type(alloc: Global, text: &str) -> Result<EntityType, Fail> {
+pub fn entity_type(alloc: Global, text: &str) -> Result<EntityType, Fail> {
     Ok(EntityType::new(name(alloc, text)?))
 }
 
 /// The entity types that stand between commas, or none for `-`.
-pub(crate) fn entity_types(alloc: Global, text: &str) -> Result<Vec<EntityType>, Fail> {
+pub fn entity_types(alloc: Global, text: &str) -> Result<Vec<EntityType>, Fail> {
     let mut types = Vec::new(alloc);
     if text == NONE {
         return Ok(types);
@@ -97,7 +97,7 @@ pub(crate) fn entity_types(alloc: Global, text: &str) -> Result<Vec<EntityType>,
 }
 
 /// The uid whose type stands before the last `::` of a text, and its id behind it.
-pub(crate) fn uid(alloc: Global, text: &str) -> Result<EntityUID, Fail> {
+pub fn uid(alloc: Global, text: &str) -> Result<EntityUID, Fail> {
     let Some((ty, id)) = text.rsplit_once("::") else {
         return Err(Fail::new(format_args!("no uid: {text}")));
     };
@@ -106,7 +106,7 @@ pub(crate) fn uid(alloc: Global, text: &str) -> Result<EntityUID, Fail> {
 }
 
 /// The uids that stand between commas, or none for `-`.
-pub(crate) fn uids(alloc: Global, text: &str) -> Result<Vec<EntityUID>, Fail> {
+pub fn uids(alloc: Global, text: &str) -> Result<Vec<EntityUID>, Fail> {
     let mut uids = Vec::new(alloc);
     if text == NONE {
         return Ok(uids);
@@ -118,12 +118,12 @@ pub(crate) fn uids(alloc: Global, text: &str) -> Result<Vec<EntityUID>, Fail> {
 }
 
 /// The reference that is written as such a text.
-pub(crate) fn raw(alloc: Global, text: &str) -> Result<RawName, Fail> {
+pub fn raw(alloc: Global, text: &str) -> Result<RawName, Fail> {
     Ok(RawName::new(internal_name(alloc, text)?))
 }
 
 /// The references that are written between commas, or none for `-`.
-pub(crate) fn raws(alloc: Global, text: &str) -> Result<Vec<RawName>, Fail> {
+pub fn raws(alloc: Global, text: &str) -> Result<Vec<RawName>, Fail> {
     let mut names = Vec::new(alloc);
     if text == NONE {
         return Ok(names);

@@ -7,8 +7,8 @@
 //! behind them, `{a@1: Set<Long@2>@3}`.
 
 use crate::names::{placed_at, raw, unreserved_id};
-use cedar_schema::below::Loc;
-use cedar_schema::json_schema::{RawName, RecordType, Type, TypeOfAttribute, TypeVariant};
+use cedar_below::Loc;
+use cedar_names::json_schema::{RawName, RecordType, Type, TypeOfAttribute, TypeVariant};
 use std::alloc::Global;
 use std::collections::BTreeMap;
 use std::test::Fail;

@@ -16,13 +16,13 @@
 use crate::entries::{action, entity_type, id_text};
 use crate::names::{namespace, placed_at, unreserved_id};
 use crate::types::written_type;
-use cedar_schema::json_schema::{CommonType, CommonTypeId, Fragment, NamespaceDefinition, RawName};
+use cedar_names::json_schema::{CommonType, CommonTypeId, Fragment, NamespaceDefinition, RawName};
 use std::alloc::Global;
 use std::collections::BTreeMap;
 use std::test::Fail;
 
 /// A definition that declares nothing.
-pub(crate) fn nothing(alloc: Global) -> NamespaceDefinition<RawName> {
+pub fn nothing(alloc: Global) -> NamespaceDefinition<RawName> {
     NamespaceDefinition {
         common_types: BTreeMap::new(alloc),
         entity_types: BTreeMap::new(alloc),
@@ -75,7 +75,7 @@ fn add_action(
 }
 
 /// Adds a declaration without its namespace to a definition. Answers whether its id is new there.
-pub(crate) fn declare(
+pub fn declare(
     alloc: Global,
     definition: &mut NamespaceDefinition<RawName>,
     text: &str,
@@ -99,7 +99,7 @@ pub(crate) fn declare(
 }
 
 /// The text of a declaration's namespace, and the declaration, which is missing only after a namespace.
-pub(crate) fn placed(text: &str) -> (&str, Option<&str>) {
+pub fn placed(text: &str) -> (&str, Option<&str>) {
     let (word, rest) = match text.split_once(' ') {
         Some((word, rest)) => (word, Some(rest)),
         None => (text, None),
@@ -142,7 +142,7 @@ fn add_declarations(
 
 /// The one fragment of all declarations of a text, or None where one of its definitions would declare
 /// an id twice.
-pub(crate) fn fragment_of(alloc: Global, text: &str) -> Result<Option<Fragment<RawName>>, Fail> {
+pub fn fragment_of(alloc: Global, text: &str) -> Result<Option<Fragment<RawName>>, Fail> {
     let mut fragment = Fragment(BTreeMap::new(alloc));
     let mut fresh = true;
     for piece in text.split('|') {
@@ -152,7 +152,7 @@ pub(crate) fn fragment_of(alloc: Global, text: &str) -> Result<Option<Fragment<R
 }
 
 /// A fragment of each text. A definition that would declare an id twice fails by its fragment's text.
-pub(crate) fn fragments_of(alloc: Global, texts: &[&str]) -> Result<Vec<Fragment<RawName>>, Fail> {
+pub fn fragments_of(alloc: Global, texts: &[&str]) -> Result<Vec<Fragment<RawName>>, Fail> {
     let mut fragments = Vec::new(alloc);
     for text in texts {
         match fragment_of(alloc, text)? {

@@ -2,8 +2,8 @@
 
 use crate::names::{placed_at, raw, raws};
 use crate::types::{empty_record, written_type};
-use cedar_schema::below::{Eid, NonEmpty};
-use cedar_schema::json_schema::{
+use cedar_below::{Eid, NonEmpty};
+use cedar_names::json_schema::{
     ActionEntityUID, ActionType, ApplySpec, AttributesOrContext, EntityType, EntityTypeKind,
     RawName, StandardEntityType, Type,
 };
@@ -12,7 +12,7 @@ use std::collections::BTreeMap;
 use std::test::Fail;
 
 /// What stands before a word of a text, and what stands after it, if it is there.
-pub(crate) fn parts<'t>(text: &'t str, word: &str) -> (&'t str, Option<&'t str>) {
+pub fn parts<'t>(text: &'t str, word: &str) -> (&'t str, Option<&'t str>) {
     match text.split_once(word) {
         Some((before, after)) => (before, Some(after)),
         None => (text, None),

@@ -3,7 +3,7 @@
 use std::test::Fail;
 
 /// Fails, with the row, where an answer isn't the text that was expected.
-pub(crate) fn same(row: &str, answer: &str, expected: &str) -> Result<(), Fail> {
+pub fn same(row: &str, answer: &str, expected: &str) -> Result<(), Fail> {
     if answer == expected {
         return Ok(());
     }
@@ -11,7 +11,7 @@ pub(crate) fn same(row: &str, answer: &str, expected: &str) -> Result<(), Fail> 
 }
 
 /// Fails, with the row, where something isn't so.
-pub(crate) fn holds(is_so: bool, row: &str) -> Result<(), Fail> {
+pub fn holds(is_so: bool, row: &str) -> Result<(), Fail> {
     if is_so {
         return Ok(());
     }
@@ -19,7 +19,7 @@ pub(crate) fn holds(is_so: bool, row: &str) -> Result<(), Fail> {
 }
 
 /// Fails, with the row, where an answer is none of the texts that are allowed, between which stands ` or `.
-pub(crate) fn one_of(row: &str, answer: &str, allowed: &str) -> Result<(), Fail> {
+pub fn one_of(row: &str, answer: &str, allowed: &str) -> Result<(), Fail> {
     for text in allowed.split(" or ") {
         if text == answer {
             return Ok(());
