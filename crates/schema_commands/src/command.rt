@@ -6,7 +6,7 @@ ghost use Rattle.schema_commands.specs.Words.{IsCommand, case_names, mode_names,
 use cedar_schema::below::ValidationMode;
 
 /// A built-in case.
-#[derive(Clone, Copy, Debug, PartialEq, Eq)]
+#[derive(Clone, Copy)]
 pub enum Case {
     /// An entity type that is named as a built-in type.
     Alias,
@@ -55,7 +55,7 @@ fn case_named(name: &str) -> Option<Case>
 
 /// A type that the program separates from others: no `Never` stands in it, and each attribute in it is
 /// required.
-#[derive(Clone, Copy, Debug, PartialEq, Eq)]
+#[derive(Clone, Copy)]
 pub enum StatedType {
     /// The value true.
     True,
@@ -92,7 +92,7 @@ pub enum StatedType {
 }
 
 /// A type that the program joins.
-#[derive(Clone, Copy, Debug, PartialEq, Eq)]
+#[derive(Clone, Copy)]
 pub enum SampleType {
     /// No value.
     Never,
@@ -152,7 +152,7 @@ fn mode_named(name: &str) -> Option<ValidationMode>
 }
 
 /// What the program is asked to do.
-#[derive(Clone, Copy, Debug, PartialEq, Eq)]
+#[derive(Clone, Copy)]
 pub enum Command {
     /// To print the names of the built-in cases.
     List,

@@ -49,6 +49,15 @@ pub(crate) fn raw(alloc: Global, text: &str) -> M<RawName>
     Ok(RawName::new(InternalName::new(id(alloc, text)?, Vec::new(alloc), None)))
 }
 
+/// One reference that is written without a path.
+pub(crate) fn one(alloc: Global, text: &str) -> M<Vec<RawName>>
+    requires { IsIdentifier text.now }
+{
+    let mut references = Vec::new(alloc);
+    references.push(raw(alloc, text)?)?;
+    Ok(references)
+}
+
 /// A reference that is written with the path `__cedar`.
 pub(crate) fn raw_built_in(alloc: Global, text: &str) -> M<RawName>
     requires { IsIdentifier text.now }
@@ -103,14 +112,13 @@ pub(crate) fn add_attribute(
     ty: Type<RawName>,
     required: bool,
 ) -> M<()> {
+    let name = String::from_str(alloc, text)?;
     let attribute = TypeOfAttribute {
         ty,
         required,
         loc: None,
     };
-    record
-        .attributes
-        .insert(String::from_str(alloc, text)?, attribute)?;
+    record.attributes.insert(name, attribute)?;
     Ok(())
 }
 
@@ -205,17 +213,17 @@ pub(crate) fn add_below(
     )
 }
 
-/// Declares an external entity type, below another.
+/// Declares an external entity type, below others.
 pub(crate) fn add_external(
     alloc: Global,
     definition: &mut NamespaceDefinition<RawName>,
     text: &str,
-    parent: RawName,
+    parents: Vec<RawName>,
 ) -> M<()>
     requires identifier { IsIdentifier text.now }
     requires unreserved { text.now ≢ reserved_word }
 {
-    let mut declaration = standard(vec![in alloc; parent]?, no_attributes(alloc));
+    let mut declaration = standard(parents, no_attributes(alloc));
     declaration.external = true;
     add_entity_type(alloc, definition, text, declaration)
 }
@@ -228,6 +236,7 @@ pub(crate) fn add_action(
     principal_types: Vec<RawName>,
     resource_types: Vec<RawName>,
 ) -> M<()> {
+    let name = String::from_str(alloc, text)?;
     let context = AttributesOrContext(plain(TypeVariant::Record(no_attributes(alloc))));
     let declaration = ActionType {
         attributes: None,
@@ -241,9 +250,7 @@ pub(crate) fn add_action(
         loc: None,
         defn_loc: None,
     };
-    definition
-        .actions
-        .insert(String::from_str(alloc, text)?, declaration)?;
+    definition.actions.insert(name, declaration)?;
     Ok(())
 }
 
