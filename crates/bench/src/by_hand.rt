@@ -7,6 +7,28 @@ use crate::types::{attributes, closed_record};
 use cedar_schema::below::{Eid, EntityType, EntityUID, InternalName, Name, UnreservedId};
 use cedar_schema::{OpenTag, ValidatorActionId, ValidatorEntityType};
 use std::alloc::Global;
+use std::ops::Range;
+
+/// The entity type of a number, with others right below it and as many attributes.
+fn standard_type(
+    alloc: Global,
+    number: usize,
+    below: Range<usize>,
+    count: usize,
+) -> Result<ValidatorEntityType, Stop> {
+    let name = entity_type(alloc, number)?;
+    let below = entity_types(alloc, below)?;
+    let attributes = attributes(alloc, 0..count)?;
+    Ok(ValidatorEntityType::new_standard(
+        alloc,
+        name,
+        below,
+        attributes,
+        OpenTag::ClosedAttributes,
+        None,
+        None,
+    )?)
+}
 
 /// Entity types with an attribute, each with its descendants right below it in a graph of trees.
 pub(crate) fn standard_types(
@@ -15,16 +37,8 @@ pub(crate) fn standard_types(
 ) -> Result<Vec<ValidatorEntityType>, Stop> {
     let mut types = Vec::new(alloc);
     for number in 0..count {
-        let below = entity_types(alloc, Shape::Trees.right_below(number, count))?;
-        types.push(ValidatorEntityType::new_standard(
-            alloc,
-            entity_type(alloc, number)?,
-            below,
-            attributes(alloc, 0..1)?,
-            OpenTag::ClosedAttributes,
-            None,
-            None,
-        )?)?;
+        let below = Shape::Trees.right_below(number, count);
+        types.push(standard_type(alloc, number, below, 1)?)?;
     }
     Ok(types)
 }
@@ -33,15 +47,7 @@ pub(crate) fn standard_types(
 pub(crate) fn growing_types(alloc: Global, count: usize) -> Result<Vec<ValidatorEntityType>, Stop> {
     let mut types = Vec::new(alloc);
     for number in 0..count {
-        types.push(ValidatorEntityType::new_standard(
-            alloc,
-            entity_type(alloc, number)?,
-            Vec::new(alloc),
-            attributes(alloc, 0..number.saturating_add(1))?,
-            OpenTag::ClosedAttributes,
-            None,
-            None,
-        )?)?;
+        types.push(standard_type(alloc, number, 0..0, number.saturating_add(1))?)?;
     }
     Ok(types)
 }
@@ -59,20 +65,29 @@ pub(crate) fn uid(alloc: Global, number: usize) -> Result<EntityUID, Stop> {
     Ok(EntityUID::new(action_type(alloc)?, eid, None))
 }
 
+/// The action of a number, for requests of the entity type of its number on itself.
+fn action(alloc: Global, number: usize) -> Result<ValidatorActionId, Stop> {
+    let end = number.saturating_add(1);
+    let uid = uid(alloc, number)?;
+    let principals = entity_types(alloc, number..end)?;
+    let resources = entity_types(alloc, number..end)?;
+    let context = closed_record(alloc, 0..1)?;
+    Ok(ValidatorActionId::new_defined(
+        alloc,
+        uid,
+        principals,
+        resources,
+        Vec::new(alloc),
+        context,
+        None,
+    )?)
+}
+
 /// Actions, each for requests of the entity type of its number on itself.
 pub(crate) fn actions(alloc: Global, count: usize) -> Result<Vec<ValidatorActionId>, Stop> {
     let mut actions = Vec::new(alloc);
     for number in 0..count {
-        let of_type = number..number.saturating_add(1);
-        actions.push(ValidatorActionId::new_defined(
-            alloc,
-            uid(alloc, number)?,
-            entity_types(alloc, of_type.clone()?)?,
-            entity_types(alloc, of_type)?,
-            Vec::new(alloc),
-            closed_record(alloc, 0..1)?,
-            None,
-        )?)?;
+        actions.push(action(alloc, number)?)?;
     }
     Ok(actions)
 }

@@ -3,6 +3,7 @@
 use crate::graphs::right_above;
 use crate::names::{numbered, raw, unreserved_id};
 use crate::stop::Stop;
+use cedar_schema::below::UnreservedId;
 use cedar_schema::json_schema::{
     ActionType, ApplySpec, AttributesOrContext, CommonType, CommonTypeId, EntityType,
     EntityTypeKind, Fragment, NamespaceDefinition, RawName, RecordType, StandardEntityType, Type,
@@ -19,13 +20,14 @@ fn plain(ty: TypeVariant<RawName>) -> Type<RawName> {
 
 /// The closed record of one attribute, of a type.
 fn record_of(alloc: Global, ty: Type<RawName>) -> Result<TypeVariant<RawName>, Stop> {
+    let name = numbered(alloc, "attribute", 0)?;
     let mut attributes = BTreeMap::new(alloc);
     let attribute = TypeOfAttribute {
         ty,
         required: true,
         loc: None,
     };
-    attributes.insert(numbered(alloc, "attribute", 0)?, attribute)?;
+    attributes.insert(name, attribute)?;
     Ok(TypeVariant::Record(RecordType {
         attributes,
         additional_attributes: false,
@@ -48,11 +50,11 @@ fn declaration(
     number: usize,
     ty: Type<RawName>,
 ) -> Result<EntityType<RawName>, Stop> {
+    let member_of_types = references(alloc, right_above(number))?;
     let shape = record_of(alloc, ty)?;
-    let above = right_above(number);
     Ok(EntityType {
         kind: EntityTypeKind::Standard(StandardEntityType {
-            member_of_types: references(alloc, above)?,
+            member_of_types,
             shape: AttributesOrContext(plain(shape)),
             tags: None,
         }),
@@ -61,18 +63,40 @@ fn declaration(
     })
 }
 
-/// The declaration of an action for requests of some principals on some resources.
-fn action(
+/// Declares the entity type of a number, with an attribute of a type.
+fn add_entity_type(
     alloc: Global,
-    principals: Range<usize>,
-    resources: Range<usize>,
-) -> Result<ActionType<RawName>, Stop> {
+    entity_types: &mut BTreeMap<UnreservedId, EntityType<RawName>>,
+    number: usize,
+    ty: Type<RawName>,
+) -> Result<(), Stop> {
+    let declared = declaration(alloc, number, ty)?;
+    entity_types.insert(unreserved_id(alloc, "E", number)?, declared)?;
+    Ok(())
+}
+
+/// The declarations of the entity types of some numbers, each with an attribute of whole numbers.
+fn entity_types(
+    alloc: Global,
+    numbers: Range<usize>,
+) -> Result<BTreeMap<UnreservedId, EntityType<RawName>>, Stop> {
+    let mut entity_types = BTreeMap::new(alloc);
+    for number in numbers {
+        add_entity_type(alloc, &mut entity_types, number, plain(TypeVariant::Long))?;
+    }
+    Ok(entity_types)
+}
+
+/// The declaration of an action for requests of each entity type of some numbers on each of them.
+fn action(alloc: Global, numbers: Range<usize>) -> Result<ActionType<RawName>, Stop> {
+    let principal_types = references(alloc, numbers.start..numbers.end)?;
+    let resource_types = references(alloc, numbers)?;
     let context = record_of(alloc, plain(TypeVariant::String))?;
     Ok(ActionType {
         attributes: None,
         applies_to: Some(ApplySpec {
-            principal_types: references(alloc, principals)?,
-            resource_types: references(alloc, resources)?,
+            principal_types,
+            resource_types,
             context: AttributesOrContext(plain(context)),
         }),
         member_of: None,
@@ -82,18 +106,34 @@ fn action(
     })
 }
 
-/// A definition of the entity types of some numbers, and of an action for each of them.
-fn definition(alloc: Global, numbers: Range<usize>) -> Result<NamespaceDefinition<RawName>, Stop> {
-    let mut entity_types = BTreeMap::new(alloc);
+/// Declares the action of a name, for requests of each entity type of some numbers on each of them.
+fn add_action(
+    alloc: Global,
+    actions: &mut BTreeMap<String, ActionType<RawName>>,
+    name: String,
+    numbers: Range<usize>,
+) -> Result<(), Stop> {
+    actions.insert(name, action(alloc, numbers)?)?;
+    Ok(())
+}
+
+/// An action for each entity type of some numbers, for its requests on itself.
+fn actions(
+    alloc: Global,
+    numbers: Range<usize>,
+) -> Result<BTreeMap<String, ActionType<RawName>>, Stop> {
     let mut actions = BTreeMap::new(alloc);
     for number in numbers {
-        let id = unreserved_id(alloc, "E", number)?;
-        let of_number = declaration(alloc, number, plain(TypeVariant::Long))?;
-        entity_types.insert(id, of_number)?;
-        let of_type = number..number.saturating_add(1);
-        let for_type = action(alloc, of_type.clone()?, of_type)?;
-        actions.insert(numbered(alloc, "action", number)?, for_type)?;
+        let name = numbered(alloc, "action", number)?;
+        add_action(alloc, &mut actions, name, number..number.saturating_add(1))?;
     }
+    Ok(actions)
+}
+
+/// A definition of the entity types of some numbers, and of an action for each of them.
+fn definition(alloc: Global, numbers: Range<usize>) -> Result<NamespaceDefinition<RawName>, Stop> {
+    let entity_types = entity_types(alloc, numbers.start..numbers.end)?;
+    let actions = actions(alloc, numbers)?;
     Ok(NamespaceDefinition {
         common_types: BTreeMap::new(alloc),
         entity_types,
@@ -112,9 +152,19 @@ fn fragment(
     Ok(Fragment(definitions))
 }
 
+/// One definition in the empty namespace, as fragments.
+fn alone(
+    alloc: Global,
+    definition: NamespaceDefinition<RawName>,
+) -> Result<Vec<Fragment<RawName>>, Stop> {
+    let mut fragments = Vec::new(alloc);
+    fragments.push(fragment(alloc, definition)?)?;
+    Ok(fragments)
+}
+
 /// As many entity types and actions, in one fragment.
 pub(crate) fn whole(alloc: Global, count: usize) -> Result<Vec<Fragment<RawName>>, Stop> {
-    Ok(vec![in alloc; fragment(alloc, definition(alloc, 0..count)?)?]?)
+    alone(alloc, definition(alloc, 0..count)?)
 }
 
 /// As many entity types and actions, one of each in a fragment.
@@ -127,42 +177,55 @@ pub(crate) fn split(alloc: Global, count: usize) -> Result<Vec<Fragment<RawName>
     Ok(fragments)
 }
 
+/// A reference to the common type of a number.
+fn common_type(alloc: Global, number: usize) -> Result<Type<RawName>, Stop> {
+    Ok(plain(TypeVariant::EntityOrCommon {
+        type_name: raw(alloc, "T", number)?,
+    }))
+}
+
+/// What the common type of a number stands for, of as many: the next one, or numbers if it is the last.
+fn next_of(alloc: Global, number: usize, count: usize) -> Result<Type<RawName>, Stop> {
+    let next = number.saturating_add(1);
+    if next == count {
+        return Ok(plain(TypeVariant::Long));
+    }
+    common_type(alloc, next)
+}
+
+/// As many common types, each another name for the next and the last one for numbers.
+fn common_types(
+    alloc: Global,
+    count: usize,
+) -> Result<BTreeMap<CommonTypeId, CommonType<RawName>>, Stop> {
+    let mut common_types = BTreeMap::new(alloc);
+    for number in 0..count {
+        let id = CommonTypeId::new(unreserved_id(alloc, "T", number)?).ok_or(Stop::Refused)?;
+        let ty = next_of(alloc, number, count)?;
+        common_types.insert(id, CommonType { ty, loc: None })?;
+    }
+    Ok(common_types)
+}
+
 /// As many common types, each another name for the next and the last one for numbers, and an entity type with an
 /// attribute of the first.
 pub(crate) fn chain(alloc: Global, count: usize) -> Result<Vec<Fragment<RawName>>, Stop> {
-    let mut common_types = BTreeMap::new(alloc);
-    for number in 0..count {
-        let next = if number.saturating_add(1) == count {
-            TypeVariant::Long
-        } else {
-            TypeVariant::EntityOrCommon {
-                type_name: raw(alloc, "T", number.saturating_add(1))?,
-            }
-        };
-        let ty = plain(next);
-        let id = CommonTypeId::new(unreserved_id(alloc, "T", number)?).ok_or(Stop::Refused)?;
-        common_types.insert(id, CommonType { ty, loc: None })?;
-    }
-    let first = plain(TypeVariant::EntityOrCommon {
-        type_name: raw(alloc, "T", 0)?,
-    });
+    let first = common_type(alloc, 0)?;
     let mut entity_types = BTreeMap::new(alloc);
-    entity_types.insert(unreserved_id(alloc, "E", 0)?, declaration(alloc, 0, first)?)?;
+    add_entity_type(alloc, &mut entity_types, 0, first)?;
     let definition = NamespaceDefinition {
-        common_types,
+        common_types: common_types(alloc, count)?,
         entity_types,
         actions: BTreeMap::new(alloc),
         loc: None,
     };
-    Ok(vec![in alloc; fragment(alloc, definition)?]?)
+    alone(alloc, definition)
 }
 
 /// As many entity types, and an action that applies to all of them as principals and as resources.
 pub(crate) fn applying_to_all(alloc: Global, count: usize) -> Result<Vec<Fragment<RawName>>, Stop> {
+    let name = numbered(alloc, "all", count)?;
     let mut of_all = definition(alloc, 0..count)?;
-    let for_all = action(alloc, 0..count, 0..count)?;
-    of_all
-        .actions
-        .insert(numbered(alloc, "all", count)?, for_all)?;
-    Ok(vec![in alloc; fragment(alloc, of_all)?]?)
+    add_action(alloc, &mut of_all.actions, name, 0..count)?;
+    alone(alloc, of_all)
 }

@@ -54,18 +54,20 @@ pub(crate) fn right_above(number: usize) -> Range<usize> {
     above..above.saturating_add(1)
 }
 
+/// The entity type of a number as a node, with others right below it.
+fn node(alloc: Global, number: usize, below: Range<usize>) -> Result<ValidatorEntityType, Stop> {
+    let below = entity_types(alloc, below)?;
+    let name = entity_type(alloc, number)?;
+    Ok(ValidatorEntityType::new_external(alloc, name, below, None)?)
+}
+
 /// The graph of a shape, of as many entity types.
 pub(crate) fn graph(alloc: Global, shape: Shape, count: usize) -> Result<Graph, Stop> {
     let mut graph = HashMap::new(alloc);
     for number in 0..count {
-        let below = entity_types(alloc, shape.right_below(number, count))?;
-        let node = ValidatorEntityType::new_external(
-            alloc,
-            entity_type(alloc, number)?,
-            below,
-            None,
-        )?;
-        graph.insert(entity_type(alloc, number)?, node)?;
+        let name = entity_type(alloc, number)?;
+        let node = node(alloc, number, shape.right_below(number, count))?;
+        graph.insert(name, node)?;
     }
     Ok(graph)
 }

@@ -14,40 +14,63 @@ use crate::types::{
 };
 use cedar_schema::below::{EntityType, EntityUID, Extensions, ValidationMode, Value};
 use cedar_schema::json_schema::{Fragment, RawName};
-use cedar_schema::{Attributes, OpenTag, Type, ValidatorSchema};
+use cedar_schema::{
+    Attributes, OpenTag, Type, ValidatorActionId, ValidatorEntityType, ValidatorSchema,
+};
 use std::alloc::Global;
 use std::collections::BTreeMap;
+
+/// What is asked of one type.
+#[derive(Clone, Copy)]
+pub(crate) enum OfOne {
+    /// Its text.
+    Print,
+    /// A copy of it.
+    Copy,
+}
+
+/// What is asked of two types.
+#[derive(Clone, Copy)]
+pub(crate) enum OfTwo {
+    /// Whether the first is a subtype of the second.
+    Subtype(ValidationMode),
+    /// Whether they are equal.
+    Equality,
+    /// Whether no value has both.
+    Disjointness,
+    /// Their join.
+    Join(ValidationMode),
+    /// A value that the first has and the second hasn't.
+    Separation,
+}
+
+/// What is asked of a schema.
+#[derive(Clone, Copy)]
+pub(crate) enum OfSchema {
+    /// The environments of its requests.
+    Environments,
+    /// The fragment that it is written back as.
+    WriteBack,
+}
 
 /// What is lent to the work, which may be done on it again.
 #[derive(Drop)]
 pub(crate) enum Lent {
-    /// Whether the first type is a subtype of the second.
-    Subtype(Type, Type, ValidationMode),
-    /// The attribute of a name.
+    /// A type, of which something is asked.
+    One(OfOne, Type),
+    /// Two types, of which something is asked.
+    Two(OfTwo, Type, Type),
+    /// Attributes, of which the one of a name is looked up.
     LookUp(Attributes, String),
-    /// Whether a value has a type.
-    Membership(Type, Value, Extensions),
-    /// The text of a type.
-    Print(Type),
-    /// Whether two types are equal.
-    Equality(Type, Type),
-    /// A copy of a type.
-    Copy(Type),
-    /// Whether no value has both types.
-    Disjointness(Type, Type),
-    /// The join of some types, one after another.
+    /// A type and a value that may have it.
+    Membership(Type, Value),
+    /// Types that are joined, one after another.
     Joins(Vec<Type>),
-    /// The join of two types.
-    Join(Type, Type, ValidationMode),
-    /// A value that the first type has and the second hasn't.
-    Separation(Type, Type, Extensions),
-    /// The entity type of a name and the action of a uid.
+    /// A schema, of which something is asked.
+    Schema(OfSchema, ValidatorSchema),
+    /// A schema, in which an entity type and an action are looked up.
     Declared(ValidatorSchema, EntityType, EntityUID),
-    /// The environments of requests of a schema.
-    Environments(ValidatorSchema),
-    /// A schema written back as a fragment.
-    WrittenBack(ValidatorSchema),
-    /// What a schema knows of the attributes of a type.
+    /// A schema, and a type of which it may know attributes.
     KnownAttributes(ValidatorSchema, Type),
 }
 
@@ -83,22 +106,21 @@ fn on_lent(lent: Lent) -> Result<Prepared, Stop> {
     Ok(Prepared::Lent(lent))
 }
 
-/// Subtyping of two equal records, which is settled at their last attributes.
-fn subtype(
-    alloc: Global,
-    count: usize,
-    openness: OpenTag,
-    mode: ValidationMode,
-) -> Result<Prepared, Stop> {
-    let lower = record(alloc, 0..count, Type::primitive_long(), openness)?;
-    let upper = record(alloc, 0..count, Type::primitive_long(), openness)?;
-    on_lent(Lent::Subtype(lower, upper, mode))
+/// A record, of which something is asked.
+fn record_alone(alloc: Global, question: OfOne, count: usize) -> Result<Prepared, Stop> {
+    on_lent(Lent::One(question, closed_record(alloc, 0..count)?))
 }
 
-/// Equality of two equal records.
-fn equality(alloc: Global, count: usize) -> Result<Prepared, Stop> {
-    let one = closed_record(alloc, 0..count)?;
-    on_lent(Lent::Equality(one, closed_record(alloc, 0..count)?))
+/// Two equal records, of which something is asked that is settled at their last attributes.
+fn equal_records(
+    alloc: Global,
+    question: OfTwo,
+    count: usize,
+    openness: OpenTag,
+) -> Result<Prepared, Stop> {
+    let one = record(alloc, 0..count, Type::primitive_long(), openness)?;
+    let other = record(alloc, 0..count, Type::primitive_long(), openness)?;
+    on_lent(Lent::Two(question, one, other))
 }
 
 /// Look-up of the last attribute of as many.
@@ -110,32 +132,14 @@ fn look_up(alloc: Global, count: usize) -> Result<Prepared, Stop> {
 /// Membership of a value with all attributes.
 fn membership(alloc: Global, count: usize) -> Result<Prepared, Stop> {
     let ty = closed_record(alloc, 0..count)?;
-    let value = record_value(alloc, 0..count)?;
-    on_lent(Lent::Membership(ty, value, no_extensions(alloc)))
+    on_lent(Lent::Membership(ty, record_value(alloc, 0..count)?))
 }
 
-/// The text of a record.
-fn print(alloc: Global, count: usize) -> Result<Prepared, Stop> {
-    on_lent(Lent::Print(closed_record(alloc, 0..count)?))
-}
-
-/// A copy of a record.
-fn copy(alloc: Global, count: usize) -> Result<Prepared, Stop> {
-    on_lent(Lent::Copy(closed_record(alloc, 0..count)?))
-}
-
-/// Inclusion of a union in an equal one.
-fn inclusion(alloc: Global, count: usize) -> Result<Prepared, Stop> {
-    let lower = union(alloc, 0..count)?;
-    let upper = union(alloc, 0..count)?;
-    on_lent(Lent::Subtype(lower, upper, ValidationMode::Permissive))
-}
-
-/// Disjointness of two unions, where no member of the one is one of the other.
-fn disjointness(alloc: Global, count: usize) -> Result<Prepared, Stop> {
+/// Two unions, of which something is asked, from some number on in the second.
+fn unions(alloc: Global, question: OfTwo, count: usize, from: usize) -> Result<Prepared, Stop> {
     let one = union(alloc, 0..count)?;
-    let other = union(alloc, count..count.saturating_add(count))?;
-    on_lent(Lent::Disjointness(one, other))
+    let other = union(alloc, from..count.saturating_add(from))?;
+    on_lent(Lent::Two(question, one, other))
 }
 
 /// The join of some entity types, one after another.
@@ -145,53 +149,61 @@ fn joins(alloc: Global, count: usize) -> Result<Prepared, Stop> {
 
 /// The join of two closed records of unlike attributes, from some number on in the second.
 fn join(alloc: Global, count: usize, from: usize, mode: ValidationMode) -> Result<Prepared, Stop> {
-    let (yes, no) = (
-        Type::singleton_boolean(true),
-        Type::singleton_boolean(false),
-    );
-    let one = record(alloc, 0..count, yes, OpenTag::ClosedAttributes)?;
+    let closed = OpenTag::ClosedAttributes;
     let numbers = from..count.saturating_add(from);
-    let other = record(alloc, numbers, no, OpenTag::ClosedAttributes)?;
-    on_lent(Lent::Join(one, other, mode))
+    let one = record(alloc, 0..count, Type::singleton_boolean(true), closed)?;
+    let other = record(alloc, numbers, Type::singleton_boolean(false), closed)?;
+    on_lent(Lent::Two(OfTwo::Join(mode), one, other))
 }
 
 /// A value of one record that isn't one of another, whose last attributes are unlike.
 fn separation(alloc: Global, count: usize) -> Result<Prepared, Stop> {
     let one = closed_record(alloc, 0..count)?;
-    let other = record_with_text(alloc, count)?;
-    on_lent(Lent::Separation(one, other, no_extensions(alloc)))
+    on_lent(Lent::Two(OfTwo::Separation, one, record_with_text(alloc, count)?))
+}
+
+/// The schema that is built from fragments.
+pub(crate) fn built(
+    alloc: Global,
+    fragments: Vec<Fragment<RawName>>,
+) -> Result<ValidatorSchema, Stop> {
+    Ok(ValidatorSchema::from_raw_fragments(alloc, fragments, &no_extensions(alloc))?)
+}
+
+/// The schema that is put together by hand from entity types and actions.
+fn put_together(
+    alloc: Global,
+    types: Vec<ValidatorEntityType>,
+    actions: Vec<ValidatorActionId>,
+) -> Result<ValidatorSchema, Stop> {
+    Ok(ValidatorSchema::new(alloc, types, actions)?)
 }
 
 /// The environments of an action that applies to each pair of as many entity types.
 fn environments(alloc: Global, count: usize) -> Result<Prepared, Stop> {
-    let fragments = applying_to_all(alloc, count)?;
-    let schema = ValidatorSchema::from_raw_fragments(alloc, fragments, &no_extensions(alloc))?;
-    on_lent(Lent::Environments(schema))
+    let schema = built(alloc, applying_to_all(alloc, count)?)?;
+    on_lent(Lent::Schema(OfSchema::Environments, schema))
 }
 
-/// A schema of as many entity types and actions.
-fn schema(alloc: Global, count: usize) -> Result<ValidatorSchema, Stop> {
-    let fragments = whole(alloc, count)?;
-    Ok(ValidatorSchema::from_raw_fragments(alloc, fragments, &no_extensions(alloc))?)
+/// A schema of as many entity types and actions, to be written back.
+fn written_back(alloc: Global, count: usize) -> Result<Prepared, Stop> {
+    let schema = built(alloc, whole(alloc, count)?)?;
+    on_lent(Lent::Schema(OfSchema::WriteBack, schema))
 }
 
 /// The last entity type and the last action of a schema, to be looked up.
 fn schema_look_up(alloc: Global, count: usize) -> Result<Prepared, Stop> {
     let last = count.saturating_sub(1);
     let (ty, action) = (entity_type(alloc, last)?, uid(alloc, last)?);
-    on_lent(Lent::Declared(schema(alloc, count)?, ty, action))
-}
-
-/// A schema of as many entity types and actions, to be written back.
-fn written_back(alloc: Global, count: usize) -> Result<Prepared, Stop> {
-    on_lent(Lent::WrittenBack(schema(alloc, count)?))
+    let schema = built(alloc, whole(alloc, count)?)?;
+    on_lent(Lent::Declared(schema, ty, action))
 }
 
 /// A union of as many entity types, each of which has one attribute more than the one before it.
 fn known_attributes(alloc: Global, count: usize) -> Result<Prepared, Stop> {
-    let types = growing_types(alloc, count)?;
-    let schema = ValidatorSchema::new(alloc, types, Vec::new(alloc))?;
-    on_lent(Lent::KnownAttributes(schema, union(alloc, 0..count)?))
+    let ty = union(alloc, 0..count)?;
+    let schema = put_together(alloc, growing_types(alloc, count)?, Vec::new(alloc))?;
+    on_lent(Lent::KnownAttributes(schema, ty))
 }
 
 /// Fragments that are built.
@@ -207,7 +219,7 @@ fn close(alloc: Global, shape: Shape, count: usize) -> Result<Prepared, Stop> {
 /// A schema that is put together by hand.
 fn validate(alloc: Global, count: usize) -> Result<Prepared, Stop> {
     let types = standard_types(alloc, count)?;
-    let schema = ValidatorSchema::new(alloc, types, actions(alloc, count)?)?;
+    let schema = put_together(alloc, types, actions(alloc, count)?)?;
     Ok(Prepared::Given(Given::Validate(schema)))
 }
 
@@ -216,17 +228,21 @@ pub(crate) fn prepare(alloc: Global, piece: Piece, count: usize) -> Result<Prepa
     let (closed, open) = (OpenTag::ClosedAttributes, OpenTag::OpenAttributes);
     let (strict, permissive) = (ValidationMode::Strict, ValidationMode::Permissive);
     match piece {
-        Piece::SubtypeClosedStrict => subtype(alloc, count, closed, strict),
-        Piece::SubtypeClosedPermissive => subtype(alloc, count, closed, permissive),
-        Piece::SubtypeOpenStrict => subtype(alloc, count, open, strict),
-        Piece::SubtypeOpenPermissive => subtype(alloc, count, open, permissive),
+        Piece::SubtypeClosedStrict => equal_records(alloc, OfTwo::Subtype(strict), count, closed),
+        Piece::SubtypeClosedPermissive => {
+            equal_records(alloc, OfTwo::Subtype(permissive), count, closed)
+        }
+        Piece::SubtypeOpenStrict => equal_records(alloc, OfTwo::Subtype(strict), count, open),
+        Piece::SubtypeOpenPermissive => {
+            equal_records(alloc, OfTwo::Subtype(permissive), count, open)
+        }
         Piece::LookUp => look_up(alloc, count),
         Piece::Membership => membership(alloc, count),
-        Piece::Print => print(alloc, count),
-        Piece::Equality => equality(alloc, count),
-        Piece::Copy => copy(alloc, count),
-        Piece::UnionInclusion => inclusion(alloc, count),
-        Piece::UnionDisjointness => disjointness(alloc, count),
+        Piece::Print => record_alone(alloc, OfOne::Print, count),
+        Piece::Equality => equal_records(alloc, OfTwo::Equality, count, closed),
+        Piece::Copy => record_alone(alloc, OfOne::Copy, count),
+        Piece::UnionInclusion => unions(alloc, OfTwo::Subtype(permissive), count, 0),
+        Piece::UnionDisjointness => unions(alloc, OfTwo::Disjointness, count, count),
         Piece::UnionJoins => joins(alloc, count),
         Piece::JoinStrict => join(alloc, count, 0, strict),
         Piece::JoinPermissive => join(alloc, count, count / 2, permissive),

@@ -9,15 +9,6 @@ use std::collections::BTreeMap;
 use std::ops::Range;
 use std::rc::Rc;
 
-/// The names of some attributes.
-pub(crate) fn attribute_names(alloc: Global, numbers: Range<usize>) -> Result<Vec<String>, Stop> {
-    let mut names = Vec::new(alloc);
-    for number in numbers {
-        names.push(numbered(alloc, "attribute", number)?)?;
-    }
-    Ok(names)
-}
-
 /// Attributes of one type, which an entity has to have.
 fn attributes_of(
     alloc: Global,
@@ -26,7 +17,8 @@ fn attributes_of(
 ) -> Result<Vec<(String, AttributeType)>, Stop> {
     let ty = Rc::new(alloc, ty)?;
     let mut attributes = Vec::new(alloc);
-    for name in attribute_names(alloc, numbers)? {
+    for number in numbers {
+        let name = numbered(alloc, "attribute", number)?;
         attributes.push((name, AttributeType::required_attribute(ty.clone()?)))?;
     }
     Ok(attributes)
@@ -62,19 +54,18 @@ pub(crate) fn closed_record(alloc: Global, numbers: Range<usize>) -> Result<Type
 /// A closed record of as many attributes: of whole numbers, but for the last, which is of texts.
 pub(crate) fn record_with_text(alloc: Global, count: usize) -> Result<Type, Stop> {
     let last = count.saturating_sub(1);
+    let name = numbered(alloc, "attribute", last)?;
+    let text = AttributeType::required_attribute(Rc::new(alloc, Type::primitive_string())?);
     let mut attributes = attributes_of(alloc, 0..last, Type::primitive_long())?;
-    let text = Rc::new(alloc, Type::primitive_string())?;
-    attributes.push((
-        numbered(alloc, "attribute", last)?,
-        AttributeType::required_attribute(text),
-    ))?;
+    attributes.push((name, text))?;
     Ok(Type::record_with_attributes(alloc, attributes, OpenTag::ClosedAttributes)?)
 }
 
 /// A record of whole numbers, with a value for each attribute.
 pub(crate) fn record_value(alloc: Global, numbers: Range<usize>) -> Result<Value, Stop> {
     let mut values = BTreeMap::new(alloc);
-    for name in attribute_names(alloc, numbers)? {
+    for number in numbers {
+        let name = numbered(alloc, "attribute", number)?;
         values.insert(name, RestrictedExpr::Long(1))?;
     }
     Ok(Value::new(RestrictedExpr::Record(values)))

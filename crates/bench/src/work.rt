@@ -1,9 +1,9 @@
 //! The work of each piece, done once.
 
 use crate::graphs::Graph;
-use crate::prepared::{Given, Lent, no_extensions};
+use crate::prepared::{Given, Lent, OfOne, OfSchema, OfTwo, built, no_extensions};
 use crate::stop::Stop;
-use cedar_schema::below::{Extensions, ValidationMode};
+use cedar_schema::below::{ValidationMode, Value};
 use cedar_schema::json_schema::{Fragment, RawName};
 use cedar_schema::lookup::SchemaLookup;
 use cedar_schema::member::separating_value;
@@ -50,18 +50,19 @@ fn environments(schema: &ValidatorSchema) -> usize {
     count
 }
 
+/// 1 or 0 for whether a value has a type.
+fn has_type(alloc: Global, ty: &Type, value: &Value) -> usize {
+    let answer = ty.typecheck_value(value, &no_extensions(alloc));
+    usize::from(matches!(answer, Ok(true)))
+}
+
 /// 1 or 0 for whether some value has the one type and not the other, which have to be stated.
-fn separated(
-    alloc: Global,
-    one: &Type,
-    other: &Type,
-    extensions: &Extensions,
-) -> Result<usize, Stop> {
-    let samples = Vec::new(alloc);
-    if !(one.is_stated(extensions, &samples) && other.is_stated(extensions, &samples)) {
+fn separated(alloc: Global, one: &Type, other: &Type) -> Result<usize, Stop> {
+    let extensions = no_extensions(alloc);
+    if !(one.is_stated(&extensions, &[]) && other.is_stated(&extensions, &[])) {
         return Err(Stop::Refused);
     }
-    let found = separating_value(alloc, one, other, extensions, &samples)?;
+    let found = separating_value(alloc, one, other, &extensions, &[])?;
     Ok(usize::from(found.is_some()))
 }
 
@@ -75,40 +76,62 @@ fn declarations(fragment: &Fragment<RawName>) -> usize {
     count
 }
 
+/// How many attributes or entity types the join of some types lists.
+fn joined(alloc: Global, types: &[Type]) -> Result<usize, Stop> {
+    let ty = Type::reduce_to_least_upper_bound(alloc, types, ValidationMode::Permissive)?;
+    Ok(listed(&ty))
+}
+
+impl OfOne {
+    /// The length of the text of a type, or how many attributes or entity types its copy lists.
+    fn work(self, alloc: Global, ty: &Type) -> Result<usize, Stop> {
+        match self {
+            OfOne::Print => Ok(ty.to_string(alloc)?.len()),
+            OfOne::Copy => Ok(listed(&ty.clone()?)),
+        }
+    }
+}
+
+impl OfTwo {
+    /// 1 or 0 for yes or no, or how many attributes or entity types a join lists.
+    fn work(self, alloc: Global, one: &Type, other: &Type) -> Result<usize, Stop> {
+        match self {
+            OfTwo::Subtype(mode) => Ok(usize::from(Type::is_subtype(one, other, mode))),
+            OfTwo::Equality => Ok(usize::from(one == other)),
+            OfTwo::Disjointness => Ok(usize::from(Type::are_types_disjoint(one, other))),
+            OfTwo::Join(mode) => Ok(listed(&Type::least_upper_bound(alloc, one, other, mode)?)),
+            OfTwo::Separation => separated(alloc, one, other),
+        }
+    }
+}
+
+impl OfSchema {
+    /// How many environments or declarations there are.
+    fn work(self, alloc: Global, schema: &ValidatorSchema) -> Result<usize, Stop> {
+        match self {
+            OfSchema::Environments => Ok(environments(schema)),
+            OfSchema::WriteBack => Ok(declarations(&schema.to_json_schema(alloc)?)),
+        }
+    }
+}
+
 impl Lent {
     /// Does the work once, and answers what it computed: 1 or 0 for yes or no, the length of a text, or how
     /// many names were compared, attributes or members are listed, or environments or declarations there are.
     pub(crate) fn work(&self, alloc: Global) -> Result<usize, Stop> {
         match self {
-            Lent::Subtype(lower, upper, mode) => Ok(usize::from(Type::is_subtype(
-                lower, upper, *mode,
-            ))),
+            Lent::One(question, ty) => question.work(alloc, ty),
+            Lent::Two(question, one, other) => question.work(alloc, one, other),
             Lent::LookUp(attributes, name) => Ok(attributes.get_attr_counted(name).1 as usize),
-            Lent::Membership(ty, value, extensions) => Ok(usize::from(matches!(
-                ty.typecheck_value(value, extensions),
-                Ok(true)
-            ))),
-            Lent::Print(ty) => Ok(ty.to_string(alloc)?.len()),
-            Lent::Equality(one, other) => Ok(usize::from(one == other)),
-            Lent::Copy(ty) => Ok(listed(&ty.clone()?)),
-            Lent::Disjointness(one, other) => Ok(usize::from(Type::are_types_disjoint(one, other))),
-            Lent::Joins(types) => Ok(listed(&Type::reduce_to_least_upper_bound(
-                alloc,
-                types,
-                ValidationMode::Permissive,
-            )?)),
-            Lent::Join(one, other, mode) => Ok(listed(&Type::least_upper_bound(
-                alloc, one, other, *mode,
-            )?)),
-            Lent::Separation(one, other, extensions) => separated(alloc, one, other, extensions),
+            Lent::Membership(ty, value) => Ok(has_type(alloc, ty, value)),
+            Lent::Joins(types) => joined(alloc, types),
+            Lent::Schema(question, schema) => question.work(alloc, schema),
             Lent::Declared(schema, ty, uid) => Ok(usize::from(
                 schema.get_entity_type(ty).is_some() && schema.get_action_id(uid).is_some(),
             )),
-            Lent::WrittenBack(schema) => Ok(declarations(&schema.to_json_schema(alloc)?)),
-            Lent::Environments(schema) => Ok(environments(schema)),
-            Lent::KnownAttributes(schema, ty) => Ok(
-                ty.all_attributes(alloc, schema)?.keys().count(),
-            ),
+            Lent::KnownAttributes(schema, ty) => {
+                Ok(ty.all_attributes(alloc, schema)?.keys().count())
+            }
         }
     }
 }
@@ -118,11 +141,7 @@ impl Given {
     /// joined.
     pub(crate) fn work(self, alloc: Global) -> Result<usize, Stop> {
         match self {
-            Given::Build(fragments) => {
-                let extensions = no_extensions(alloc);
-                let schema = ValidatorSchema::from_raw_fragments(alloc, fragments, &extensions)?;
-                Ok(entries_of(&schema))
-            }
+            Given::Build(fragments) => Ok(entries_of(&built(alloc, fragments)?)),
             Given::Close(graph) => rows_joined(alloc, graph),
             Given::Validate(schema) => {
                 let schema = schema.try_validate(alloc, &no_extensions(alloc))?;
