@@ -14,6 +14,8 @@ mod entity_types;
 #[cfg(test)]
 mod joins;
 #[cfg(test)]
+mod large;
+#[cfg(test)]
 mod members;
 #[cfg(test)]
 mod requests;
