@@ -1,6 +1,6 @@
 //! Entity types that are written out, each from one declaration.
 
-ghost use Rattle.std.specs.Prelude.{◌≡◌, ◌⊎◌, IfErr, IfOk, OnOk, Some};
+ghost use Rattle.std.specs.Prelude.{◌≡◌, ◌⊎◌, IfErr, IfOk, List, OnOk, Some};
 ghost use Rattle.std.specs.Option.{option_map};
 ghost use Rattle.cedar_below.specs.EntityType.{type_name};
 ghost use Rattle.cedar_below.specs.declared.internal_name.InternalName.{InternalName as Full};
@@ -10,7 +10,9 @@ ghost use Rattle.cedar_declared.specs.SchemaError.{fault_of};
 ghost use Rattle.cedar_declared.specs.SettledExpr.{settled_expr, settled_reference};
 ghost use Rattle.cedar_declared.specs.WrittenOut.{IsRecordType};
 ghost use Rattle.cedar_fragments.specs.TypeDeclarations.{fragment_body};
+ghost use Rattle.cedar_names.specs.EntityBody.{standard};
 ghost use Rattle.cedar_names.specs.Expr.{Expr};
+ghost use Rattle.cedar_names.specs.Reference.{Reference};
 ghost use Rattle.cedar_rules.specs.Ty.{Ty, record_of};
 ghost use Rattle.cedar_types.specs.Meaning.{fields_of, ty_of};
 ghost use Rattle.cedar_built.specs.Nodes.{IsWrittenEntity};
@@ -67,6 +69,29 @@ fn tags_type(
     }
 }
 
+/// The standard entity type of a name with this shape and this type of tags, as yet without descendants.
+fn standard_type(
+    alloc: Global,
+    name: EntityType,
+    shape: &json_schema::Type<InternalName>,
+    tags: &Option<json_schema::Type<InternalName>>,
+    known: &KnownTypes,
+) -> Result<ValidatorEntityType, SchemaError>
+    ensures written_out { IfOk result (λ ty. (parents : List Reference) → IsWrittenEntity known.now (type_name name)
+        (standard parents (settled_expr shape.now) (option_map settled_expr tags.now)) ty) }
+    ensures sound { OnOk result ((parents : List Reference) → IsSoundBody known.now
+        (standard parents (settled_expr shape.now) (option_map settled_expr tags.now))) }
+    ensures fault { IfErr result (λ error. (parents : List Reference) → IsBodyFault known.now (type_name name)
+        (standard parents (settled_expr shape.now) (option_map settled_expr tags.now)) (fault_of error)) }
+{
+    let loc = name.loc();
+    let attributes = shape_attributes(alloc, &name, shape, known)?;
+    let tags = tags_type(alloc, tags, known)?;
+    let descendants: Vec<EntityType> = Vec::new(alloc);
+    let open = OpenTag::ClosedAttributes;
+    Ok(ValidatorEntityType::new_standard(alloc, name, descendants, attributes, open, tags, loc)?)
+}
+
 /// The entity type that a declaration of the name gives alone, as yet without descendants.
 pub(crate) fn written_type(
     alloc: Global,
@@ -81,30 +106,18 @@ pub(crate) fn written_type(
         IsBodyFault known.now (type_name name) (fragment_body Full settled_reference fragment) (fault_of error)) }
 {
     let loc = name.loc();
-    let descendants: Vec<EntityType> = Vec::new(alloc);
     match fragment {
         EntityTypeFragment::Standard {
             attributes,
             parents: _parents,
             tags,
-        } => {
-            let attributes = shape_attributes(alloc, &name, &attributes.0, known)?;
-            let tags = tags_type(alloc, &tags, known)?;
-            let open = OpenTag::ClosedAttributes;
-            Ok(ValidatorEntityType::new_standard(
-                alloc,
-                name,
-                descendants,
-                attributes,
-                open,
-                tags,
-                loc,
-            )?)
-        }
+        } => standard_type(alloc, name, &attributes.0, &tags, known),
         EntityTypeFragment::Enum(choices) => {
+            let descendants: Vec<EntityType> = Vec::new(alloc);
             Ok(ValidatorEntityType::new_enum(alloc, name, descendants, choices, loc)?)
         }
         EntityTypeFragment::External { parents: _parents } => {
+            let descendants: Vec<EntityType> = Vec::new(alloc);
             Ok(ValidatorEntityType::new_external(alloc, name, descendants, loc)?)
         }
     }

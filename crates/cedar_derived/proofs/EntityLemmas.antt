@@ -3,6 +3,7 @@ use Rattle.std.proofs.Common.{◌≡◌, ◌≢◌, ◌⊎◌, ◌↔◌, ◌++�
 use Rattle.std.proofs.lemmas.Bool.{false≢true, cond-true, cond-false}
 use Rattle.std.proofs.lemmas.List.{append-nil, map-append}
 use Rattle.std.proofs.lemmas.List.Elements.{Contains-append_cases, Contains-append_left, Contains-append_right}
+use Rattle.std.proofs.lemmas.Option.{same_Some}
 use Rattle.std.proofs.lemmas.Simd.{map-map}
 use Rattle.std.specs.BTreeMap.{BTreeMap, is_at}
 use Rattle.std.specs.BTreeSet.{BTreeSet}
@@ -337,7 +338,7 @@ module _ (all : List Item) where
             → entity_at new uid ≡ Some found_one → IsEntityOf (Lists all uid) uid (plain_action_entity found_one) × Defines More uid
         each_at uid found_one true is_it found =
             let same = (uid_test uid (entity_uid entity)).0 is_it in
-            let one : entity ≡ found_one = let both = sym (here uid same) ∙ found in cc in
+            let one : entity ≡ found_one = same_Some entity found_one (sym (here uid same) ∙ found) in
             let P : Entity → Type 0 = λ each. IsEntityOf (Lists all uid) uid (plain_action_entity each) in
             let Q : PlainUid → Type 0 = λ each. IsEntityOf (Lists all each) each (plain_action_entity entity) in
             let R : PlainUid → Type 0 = Defines More in (

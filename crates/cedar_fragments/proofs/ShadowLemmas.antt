@@ -3,6 +3,7 @@ use Rattle.std.proofs.Common.{◌≡◌, ◌⊎◌, Bool, true, false, List, [],
 use Rattle.std.proofs.lemmas.Bool.{false≢true}
 use Rattle.std.proofs.lemmas.List.{append-nil, map-append}
 use Rattle.std.proofs.lemmas.List.Elements.{Contains-append_right, Contains-append_cases}
+use Rattle.std.proofs.lemmas.Option.{none-some, same_Some}
 use Rattle.std.specs.BTreeMap.{insert_entry}
 use Rattle.std.specs.List.{AllByRecursion}
 use Rattle.std.specs.Map.{lookup}
@@ -151,7 +152,7 @@ plain_listed all left entries nothing so_far =
 -- what a look-up by id finds is plain and has the id
 pub looked_up : (actions : List PlainUid) (entries : Entries) (text : Text) (uid : EntityUID) → ArePlain actions entries
     → lookup (λ key. is_eq (text_cmp text (string_bytes key))) entries ≡ Some uid → IsPlainAction actions text (uid_of uid)
-looked_up actions [] text uid all found = cc
+looked_up actions [] text uid all found = absurd (none-some uid found)
 looked_up actions (entry ∷ rest) text uid all found =
     decided (is_eq (text_cmp text (string_bytes entry.0))) refl found (looked_up actions rest text uid all.1)
   where
@@ -162,7 +163,7 @@ looked_up actions (entry ∷ rest) text uid all found =
     decided true is here later =
         let same : string_bytes entry.0 ≡ text =
         sym ((text_cmp-Equal text (string_bytes entry.0)).0 (is_eq-Equal (text_cmp text (string_bytes entry.0)) is)) in
-        let this : entry.1 ≡ uid = cc in
+        let this : entry.1 ≡ uid = same_Some entry.1 uid here in
         let P : Text → Type 0 = λ each. IsPlainAction actions each (uid_of uid) in
         let Q : EntityUID → Type 0 = λ each. IsPlainAction actions (string_bytes entry.0) (uid_of each) in
         subst P same (subst Q this all.0)

@@ -42,10 +42,12 @@ fn write_requests(
     let Some(context) = action.context() else {
         return Ok(None);
     };
+    let principal_types = known.write_names(namespace, action.principals())?;
+    let resource_types = known.write_names(namespace, action.resources())?;
     let context = write_type(known, namespace, context)?;
     Ok(Some(ApplySpec {
-        principal_types: known.write_names(namespace, action.principals())?,
-        resource_types: known.write_names(namespace, action.resources())?,
+        principal_types,
+        resource_types,
         context: AttributesOrContext(plain(context)),
     }))
 }
@@ -114,9 +116,9 @@ pub(crate) fn write_actions(
             return Err(WriteBackFault::Unwritable);
         }
         let namespace = namespace_of(known.alloc, uid.entity_type().name())?;
+        let id = uid.eid().clone()?;
         let above = parents_of_action(known.alloc, parents, uid)?;
         let declared = write_action(known, &namespace, above, action)?;
-        let id = uid.eid().clone()?;
         put_action(known.alloc, definitions, namespace, id.0, declared)?;
     }
     Ok(())

@@ -196,9 +196,9 @@ pub(crate) fn write_entity_types(
 {
     for (name, ty) in known.entity_types {
         let namespace = namespace_of(known.alloc, name.name())?;
+        let id = base_id(known.alloc, name.name())?;
         let above = parents_of_type(known.alloc, parents, name)?;
         let declared = write_entity_type(known, &namespace, above, ty)?;
-        let id = base_id(known.alloc, name.name())?;
         put_entity_type(known.alloc, definitions, namespace, id, declared)?;
     }
     Ok(())

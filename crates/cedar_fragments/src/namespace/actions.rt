@@ -137,30 +137,34 @@ fn action_parents(
     Ok(parents)
 }
 
-/// The requests that are written of an action; where none are written it is for none, and its
-/// context is the closed record without attributes.
-fn action_requests(
+/// No requests, with the closed record without attributes for a context.
+fn no_requests(alloc: Global) -> ActionRequests<ConditionalName>
+    ensures { fragment_requests Conditional placed_reference (Some result)
+        ≡ applies_to Raw (raw_reference None) None None }
+{
+    let no_attributes = RecordType {
+        attributes: BTreeMap::new(alloc),
+        additional_attributes: false,
+    };
+    ActionRequests {
+        principals: Vec::new(alloc),
+        resources: Vec::new(alloc),
+        context: Type::Plain {
+            ty: TypeVariant::Record(no_attributes),
+            loc: None,
+        },
+    }
+}
+
+/// The requests that are written of an action.
+fn written_requests(
     alloc: Global,
     namespace: Option<&InternalName>,
-    written: Option<ApplySpec<RawName>>,
+    written: ApplySpec<RawName>,
 ) -> M<ActionRequests<ConditionalName>>
     ensures { IfOk result (λ it. fragment_requests Conditional placed_reference (Some it)
-        ≡ applies_to Raw (raw_reference (namespace_name namespace.entry)) (namespace_name namespace.entry) written) }
+        ≡ applies_to Raw (raw_reference (namespace_name namespace.entry)) (namespace_name namespace.entry) (Some written)) }
 {
-    let Some(written) = written else {
-        let no_attributes = RecordType {
-            attributes: BTreeMap::new(alloc),
-            additional_attributes: false,
-        };
-        return Ok(ActionRequests {
-            principals: Vec::new(alloc),
-            resources: Vec::new(alloc),
-            context: Type::Plain {
-                ty: TypeVariant::Record(no_attributes),
-                loc: None,
-            },
-        });
-    };
     let ApplySpec {
         principal_types,
         resource_types,
@@ -176,6 +180,22 @@ fn action_requests(
         resources,
         context,
     })
+}
+
+/// The requests that are written of an action; where none are written it is for none, and its
+/// context is the closed record without attributes.
+fn action_requests(
+    alloc: Global,
+    namespace: Option<&InternalName>,
+    written: Option<ApplySpec<RawName>>,
+) -> M<ActionRequests<ConditionalName>>
+    ensures { IfOk result (λ it. fragment_requests Conditional placed_reference (Some it)
+        ≡ applies_to Raw (raw_reference (namespace_name namespace.entry)) (namespace_name namespace.entry) written) }
+{
+    match written {
+        Some(written) => written_requests(alloc, namespace, written),
+        None => Ok(no_requests(alloc)),
+    }
 }
 
 impl ActionFragment<ConditionalName, ConditionalName> {

@@ -18,7 +18,7 @@ ghost use Rattle.cedar_names.specs.Reference.{name_within, path_within};
 ghost use Rattle.cedar_names.specs.declared.json_schema.raw_name.RawName.{RawName as Raw};
 ghost use Rattle.std.specs.Option.{option_map};
 ghost use Rattle.cedar_names.specs.ConditionalExpr.{placed_reference, placed_expr};
-ghost use Rattle.cedar_names.specs.EntityBody.{raw_entity_body};
+ghost use Rattle.cedar_names.specs.EntityBody.{raw_entity_body, standard};
 ghost use Rattle.cedar_names.specs.NamespaceName.{namespace_name};
 ghost use Rattle.cedar_names.specs.RawExpr.{raw_reference, raw_expr};
 ghost use Rattle.cedar_names.specs.declared.json_schema.conditional_name.ConditionalName.{ConditionalName as Conditional};
@@ -123,6 +123,33 @@ fn tags_type(
     }
 }
 
+/// What is declared of a standard entity type that is written in a namespace.
+fn standard_fragment(
+    alloc: Global,
+    namespace: Option<&InternalName>,
+    written: StandardEntityType<RawName>,
+) -> M<EntityTypeFragment<ConditionalName>>
+    ensures { IfOk result (λ it. fragment_body Conditional placed_reference it
+        ≡ standard (map (raw_reference (namespace_name namespace.entry) entity) written.member_of_types.items)
+        (raw_expr (namespace_name namespace.entry) written.shape.0) (option_map (raw_expr (namespace_name namespace.entry)) written.tags)) }
+{
+    let StandardEntityType {
+        member_of_types,
+        shape,
+        tags,
+    } = written;
+    let parents = entity_references(alloc, namespace, member_of_types)?;
+    let attributes = shape
+        .0
+        .conditionally_qualify_type_references(alloc, namespace)?;
+    let tags = tags_type(alloc, namespace, tags)?;
+    Ok(EntityTypeFragment::Standard {
+        attributes: AttributesOrContext(attributes),
+        parents,
+        tags,
+    })
+}
+
 impl EntityTypeFragment<ConditionalName> {
     /// What is declared of an entity type that is written in a namespace.
     pub(crate) fn from_raw_entity_type(
@@ -133,35 +160,17 @@ impl EntityTypeFragment<ConditionalName> {
         ensures { IfOk result (λ it. fragment_body Conditional placed_reference it
             ≡ raw_entity_body (namespace_name namespace.entry) written) }
     {
-        let json_schema::EntityType { kind, external, .. } = written;
-        match kind {
-            EntityTypeKind::Standard(standard) => {
-                let StandardEntityType {
-                    member_of_types,
-                    shape,
-                    tags,
-                } = standard;
-                let parents = entity_references(alloc, namespace, member_of_types)?;
-                if external {
-                    return Ok(EntityTypeFragment::External { parents });
-                }
-                let attributes = shape
-                    .0
-                    .conditionally_qualify_type_references(alloc, namespace)?;
-                let tags = tags_type(alloc, namespace, tags)?;
-                Ok(EntityTypeFragment::Standard {
-                    attributes: AttributesOrContext(attributes),
-                    parents,
-                    tags,
-                })
+        match (written.kind, written.external) {
+            (EntityTypeKind::Standard(standard), false) => {
+                standard_fragment(alloc, namespace, standard)
             }
-            EntityTypeKind::Enum { choices } => {
-                if external {
-                    let parents = Vec::new(alloc);
-                    return Ok(EntityTypeFragment::External { parents });
-                }
-                Ok(EntityTypeFragment::Enum(choices))
-            }
+            (EntityTypeKind::Standard(standard), true) => Ok(EntityTypeFragment::External {
+                parents: entity_references(alloc, namespace, standard.member_of_types)?,
+            }),
+            (EntityTypeKind::Enum { choices }, false) => Ok(EntityTypeFragment::Enum(choices)),
+            (EntityTypeKind::Enum { .. }, true) => Ok(EntityTypeFragment::External {
+                parents: Vec::new(alloc),
+            }),
         }
     }
 }

@@ -11,10 +11,10 @@ use Rattle.cedar_actions.specs.ValidatorActionId.{action_of}
 use Rattle.cedar_written_back.proofs.KindLemmas.{defined_written, principal_of, resource_of, sound_action}
 use Rattle.cedar_written_back.proofs.actions.write_requests.Goals as goal
 
-pub returns-in_err-write_names-clause-refusal : goal.returns-in_err-write_names-clause-refusal
-returns-in_err-write_names-clause-refusal c =
+pub returns-in_err-principal_types-clause-refusal : goal.returns-in_err-principal_types-clause-refusal
+returns-in_err-principal_types-clause-refusal c =
     let kind = (action_of c.args.action.now).kind in
-    let p = err_from_is_err_and c.from_residual-in_err-write_names.result c.from_residual-in_err-write_names.ensures.1 in
+    let p = err_from_is_err_and c.from_residual.result c.from_residual.ensures.1 in
     let names = known_names c.args.known.now in
     let namespace = plain_namespace c.args.namespace.now in
     rw (p.1, p.2)
@@ -24,12 +24,12 @@ returns-in_err-write_names-clause-refusal c =
     (λ some sound.
     let P : List PlainName → Type 0 = λ names. Contains names some.0 in
     some.2 (sound.no_other some.0 (principal_of kind some.0 (subst P c.principals.ensures.names some.1))))
-    _ c.in_err-write_names.ensures.refusal)
+    _ c.in_err-principal_types.ensures.refusal)
 
-pub returns-in_err-write_names-2-clause-refusal : goal.returns-in_err-write_names-2-clause-refusal
-returns-in_err-write_names-2-clause-refusal c =
+pub returns-in_err-resource_types-clause-refusal : goal.returns-in_err-resource_types-clause-refusal
+returns-in_err-resource_types-clause-refusal c =
     let kind = (action_of c.args.action.now).kind in
-    let p = err_from_is_err_and c.from_residual-in_err-write_names-2.result c.from_residual-in_err-write_names-2.ensures.1 in
+    let p = err_from_is_err_and c.from_residual-in_err-resource_types.result c.from_residual-in_err-resource_types.ensures.1 in
     let names = known_names c.args.known.now in
     let namespace = plain_namespace c.args.namespace.now in
     rw (p.1, p.2)
@@ -39,14 +39,14 @@ returns-in_err-write_names-2-clause-refusal c =
     (λ some sound.
     let P : List PlainName → Type 0 = λ names. Contains names some.0 in
     some.2 (sound.no_other some.0 (resource_of kind some.0 (subst P c.resources.ensures.names some.1))))
-    _ c.in_err-write_names-2.ensures.refusal)
+    _ c.in_err-resource_types.ensures.refusal)
 
 pub returns-clause-written : goal.returns-clause-written
 returns-clause-written c =
     let namespace = plain_namespace c.args.namespace.now in
-    defined_written namespace (action_of c.args.action.now).kind c.in_ok-write_names.field-0.items c.in_ok-write_names-2.field-0.items
-    (ty_of c.in-Some.context.now) _ (sym c.in-Some.ensures) (c.in_ok-write_names.ensures.names ∙ c.principals.ensures.names)
-    (c.in_ok-write_names-2.ensures.names ∙ c.resources.ensures.names)
+    defined_written namespace (action_of c.args.action.now).kind c.in_ok-principal_types.principal_types.items c.in_ok-resource_types.resource_types.items
+    (ty_of c.in-Some.context.now) _ (sym c.in-Some.ensures) (c.in_ok-principal_types.ensures.names ∙ c.principals.ensures.names)
+    (c.in_ok-resource_types.ensures.names ∙ c.resources.ensures.names)
     (c.in_ok-context.ensures.written ∙ ap Some (sym (c.plain.ensures namespace)))
 
 pub returns-clause-sound : goal.returns-clause-sound
@@ -56,7 +56,7 @@ returns-clause-sound c =
     sound_action namespace names (action_of c.args.action.now).kind (ty_of c.in-Some.context.now) (sym c.in-Some.ensures) c.in_ok-context.ensures.sound
     (λ name among.
     let P : List PlainName → Type 0 = λ items. Contains items name in
-    c.in_ok-write_names.ensures.no_other name (subst P (sym c.principals.ensures.names) among))
+    c.in_ok-principal_types.ensures.no_other name (subst P (sym c.principals.ensures.names) among))
     (λ name among.
     let P : List PlainName → Type 0 = λ items. Contains items name in
-    c.in_ok-write_names-2.ensures.no_other name (subst P (sym c.resources.ensures.names) among))
+    c.in_ok-resource_types.ensures.no_other name (subst P (sym c.resources.ensures.names) among))
