@@ -1,4 +1,5 @@
 pub mod AnyLemmas
+mod LeafLemmas
 pub mod LentLemmas
 pub mod LookupLemmas
 pub mod NameLemmas

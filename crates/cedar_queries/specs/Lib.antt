@@ -1,5 +1,7 @@
+pub mod GivesLeaf
 pub mod Hierarchy
 pub mod Incomplete
+pub mod Leaves
 pub mod RequestEnvs
 pub mod RequestTypes
 pub mod Role

@@ -7,6 +7,7 @@ pub use descent::{
     any_descendent_of, entity_types_in, is_known_entity_type,
 };
 pub use environments::RequestEnvs;
+pub use leaves::{TypeIterator, leaf_types};
 pub use requests::{
     ActionsFor, ApplicableTypes, actions_for_principal_and_resource, context_type,
     is_known_action_id, principals, principals_for_action, resources, resources_for_action,
@@ -18,6 +19,7 @@ pub use unresolved::{
 mod completeness;
 mod descent;
 mod environments;
+mod leaves;
 mod requests;
 mod selected;
 mod tests_of_values;

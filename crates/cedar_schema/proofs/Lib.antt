@@ -1,3 +1,10 @@
 mod ClosedTwice
+mod DeclaredParts
+mod GatheredBags
+mod KnownBags
+mod Mapped
+mod ReadySteps
 pub mod SchemaEquality
 mod SchemaNames
+mod SettledOver
+mod SurePieces

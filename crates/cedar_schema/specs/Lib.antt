@@ -1,1 +1,3 @@
+pub mod SchemaParts
+pub mod SettledBag
 pub mod ValidatorSchema

@@ -9,12 +9,11 @@ pub use cedar_entities::{
     ValidatorEntityTypeKind,
 };
 pub use cedar_fragments::{defs, namespace};
-pub use cedar_leaves::TypeIterator;
 pub use cedar_located::{LocatedCommonType, LocatedNamespace, LocatedType};
 pub use cedar_names::{below, json_schema};
 pub use cedar_queries::{
     ActionGroups, ActionsFor, Ancestors, ApplicableTypes, CompleteError, IncompleteSchemaError,
-    RequestEnvs, UnresolvedDeclaration, UnresolvedDeclarations,
+    RequestEnvs, TypeIterator, UnresolvedDeclaration, UnresolvedDeclarations,
 };
 pub use cedar_separated as member;
 pub use cedar_types::{
@@ -24,9 +23,11 @@ pub use cedar_types::{
 pub use cedar_written_back::WriteBackFault;
 pub use schema::ValidatorSchema;
 
+mod building;
 mod located;
 pub mod lookup;
 mod queries;
+mod raw;
 mod schema;
 pub mod theorems;
 mod written_back;

@@ -5,9 +5,8 @@ use cedar_actions::ValidatorActionId;
 use cedar_below::{Entities, EntityType, EntityUID, Extensions, M, ValidationMode};
 use cedar_derived::action_entities;
 use cedar_entities::{UnlinkedRequestEnv, ValidatorEntityType};
-use cedar_leaves::TypeIterator;
 use cedar_queries::{
-    ActionGroups, ActionsFor, Ancestors, ApplicableTypes, CompleteError, RequestEnvs,
+    ActionGroups, ActionsFor, Ancestors, ApplicableTypes, CompleteError, RequestEnvs, TypeIterator,
     UnresolvedDeclarations,
 };
 use cedar_types::Type;
@@ -31,8 +30,8 @@ impl ValidatorSchema {
     ghost use Rattle.cedar_derived.specs.ActionEntities.{schema_with};
     ghost use Rattle.cedar_entities.specs.RequestEnv.{owned_environment};
     ghost use Rattle.cedar_entities.specs.ValidatorEntityType.{entity_type_of};
-    ghost use Rattle.cedar_leaves.specs.GivesLeaf.{pending_types};
-    ghost use Rattle.cedar_leaves.specs.Leaves.{leaves_of, schema_leaves};
+    ghost use Rattle.cedar_queries.specs.GivesLeaf.{pending_types};
+    ghost use Rattle.cedar_queries.specs.Leaves.{leaves_of, schema_leaves};
     ghost use Rattle.cedar_queries.specs.Hierarchy.{IsKnownType, MayBeIn, action_descendants, descendants_of, groups, types_above};
     ghost use Rattle.cedar_queries.specs.Incomplete.{IsIncomplete};
     ghost use Rattle.cedar_queries.specs.RequestEnvs.{environments_left};
@@ -264,7 +263,7 @@ impl ValidatorSchema {
         ensures { IfOk result (λ leaves. IsPermutation
             (schema_leaves (schema_of self.now).entity_types (schema_of self.now).actions) (leaves_of (pending_types leaves))) }
     {
-        cedar_leaves::leaf_types(alloc, &self.entity_types, &self.actions)
+        cedar_queries::leaf_types(alloc, &self.entity_types, &self.actions)
     }
 
     /// The entities of the actions that the schema defines, by uid: without attributes and tags, each just

@@ -9,6 +9,8 @@ ghost use Rattle.cedar_entities.specs.RequestEnv.{owned_environment};
 ghost use Rattle.cedar_entities.specs.ValidatorEntityType.{plain_entry};
 ghost use Rattle.cedar_laws.specs.EndToEnd.{IsInOrder, StandsUnderItsNames};
 
+use crate::building::{SchemaParts, build};
+use crate::raw::build_raw;
 use cedar_actions::ValidatorActionId;
 use cedar_below::{Entities, EntityType, EntityUID, Extensions, M};
 use cedar_declared::SchemaError;
@@ -20,7 +22,6 @@ use cedar_names::json_schema::{ConditionalName, Fragment, NamespaceDefinition, R
 use cedar_validated::{
     Validated, actions_by_uid, copied_actions, copied_types, types_by_name, validate,
 };
-use cedar_whole::{SchemaParts, build, build_raw};
 use std::alloc::Global;
 use std::collections::BTreeMap;
 
@@ -81,7 +82,7 @@ impl ValidatorSchema {
     ghost use Rattle.cedar_schema.specs.ValidatorSchema.{action_entries, action_of_uid, entity_type_named, located_of, schema_entries, schema_of};
     ghost use Rattle.cedar_validated.specs.Copies.{IsActionCopied, IsTypeCopied};
     ghost use Rattle.cedar_validated.specs.LastNamed.{last_named, last_of_uid};
-    ghost use Rattle.cedar_whole.specs.SchemaParts.{parts_schema};
+    ghost use Rattle.cedar_schema.specs.SchemaParts.{parts_schema};
 
     /// The schema that declares nothing.
     pub fn empty(alloc: Global) -> Self

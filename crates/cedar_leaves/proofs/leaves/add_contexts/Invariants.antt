@@ -1,9 +1,0 @@
-use Rattle.std.proofs.Common.{◌≡◌, ◌++◌}
-use Rattle.cedar_leaves.proofs.LeafLemmas.{contexts_of_each}
-use Rattle.cedar_leaves.specs.Leaves.{shown_types}
-use Rattle.cedar_leaves.proofs.leaves.add_contexts.Given as goal
-
-abbrev pub invariant-loop-action : goal.invariant-loop-action
-invariant-loop-action l =
-    shown_types l.pending.items ++ contexts_of_each l.action-iterator
-    ≡ shown_types l.initial.pending.items ++ contexts_of_each l.initial.action-iterator

@@ -1,9 +1,0 @@
-use Rattle.std.proofs.Common.{◌≡◌, ◌++◌}
-use Rattle.cedar_leaves.proofs.LeafLemmas.{types_of_each}
-use Rattle.cedar_leaves.specs.Leaves.{shown_types}
-use Rattle.cedar_leaves.proofs.leaves.add_entity_types.Given as goal
-
-abbrev pub invariant-loop-ty : goal.invariant-loop-ty
-invariant-loop-ty l =
-    shown_types l.pending.items ++ types_of_each l.ty-iterator
-    ≡ shown_types l.initial.pending.items ++ types_of_each l.initial.ty-iterator

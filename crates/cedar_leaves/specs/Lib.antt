@@ -1,2 +1,0 @@
-pub mod GivesLeaf
-pub mod Leaves

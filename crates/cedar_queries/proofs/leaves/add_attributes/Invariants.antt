@@ -1,0 +1,10 @@
+use Rattle.std.proofs.Common.{◌≡◌, ◌++◌}
+use Rattle.cedar_queries.specs.Leaves.{field_types, shown_types}
+use Rattle.cedar_rules.specs.Ty.{fields_from}
+use Rattle.cedar_types.specs.Attributes.{plain_attributes}
+use Rattle.cedar_queries.proofs.leaves.add_attributes.Given as goal
+
+abbrev pub invariant-loop-attribute : goal.invariant-loop-attribute
+invariant-loop-attribute l =
+    shown_types l.pending.items ++ field_types (fields_from (plain_attributes l.attribute-iterator))
+    ≡ shown_types l.initial.pending.items ++ field_types (fields_from (plain_attributes l.initial.attribute-iterator))

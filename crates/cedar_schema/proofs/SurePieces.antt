@@ -1,0 +1,58 @@
+-- What the steps make sure of, together, is that the bag isn't ill-formed.
+use Rattle.std.proofs.Common.{subst, map, Contains}
+use Rattle.cedar_below.proofs.Lists.{Contains-preimage}
+use Rattle.cedar_below.specs.PlainName.{PlainName}
+use Rattle.cedar_below.specs.declared.extension.Extensions.{Extensions}
+use Rattle.cedar_built.specs.Sound.{EntityTypesAreSound}
+use Rattle.cedar_built_actions.specs.Sound.{ActionsAreSound}
+use Rattle.cedar_common_types.specs.SoundTypes.{CommonTypesAreSound}
+use Rattle.cedar_declared.specs.Bag.{Bag, declared_entities, defined_names}
+use Rattle.cedar_declared.specs.Fault.{action_attributes, action_entity_type, reserved_name}
+use Rattle.cedar_declared.specs.IllFormed.{IsIllFormed}
+use Rattle.cedar_declared.specs.Mentions.{HasOpenRecord}
+use Rattle.cedar_declared.specs.Names.{Names, ResolvesTo}
+use Rattle.cedar_fragments.specs.DefinitionFault.{HasNoDefinitionFault}
+use Rattle.cedar_laws.proofs.MentionLemmas.{HasKnownExtensions}
+use Rattle.cedar_laws.proofs.SureBags.{of_counted, of_placed, sure_is_well}
+use Rattle.cedar_names.specs.EntityBody.{EntityBody}
+use Rattle.cedar_below.specs.PlainName.{IsActionType}
+use Rattle.cedar_schema.specs.SettledBag.{IsSettledOver}
+
+module _ (bag : Bag) (extensions : Extensions) (names : Names) (settled : IsSettledOver bag extensions names)
+    (definitions_sound : HasNoDefinitionFault bag) (common : CommonTypesAreSound bag extensions)
+    (entities : EntityTypesAreSound bag extensions) (actions : ActionsAreSound bag extensions) where
+  -- a declared entity type is no type of actions
+  declared_no_action : (name : PlainName) → Contains (map (λ it. it.0) (declared_entities bag)) name → ¬ IsActionType name
+  declared_no_action name among is_action =
+      let found = Contains-preimage (λ (it : PlainName × EntityBody). it.0) (declared_entities bag) name among in
+      let P : PlainName → Type 0 = λ each. Contains (declared_entities bag) (each, found.0.1) in
+      definitions_sound extensions (action_entity_type name) tt (found.0.1, subst P found.2 found.1, is_action)
+
+  -- nothing in the bag is at fault
+  pub pieces_well : ¬ IsIllFormed bag extensions
+  pieces_well =
+      sure_is_well bag extensions (record {
+        attributes = λ ids. definitions_sound extensions (action_attributes ids) tt;
+        closed = of_counted bag (λ expr. ¬ HasOpenRecord expr) common.closed entities.closed actions.closed;
+        known = of_counted bag (HasKnownExtensions extensions) common.known entities.extension_types actions.extension_types;
+        places = λ reference name placed resolves. of_placed bag
+            (λ each. ResolvesTo (defined_names bag extensions) each name → ¬ IsActionType name)
+            (λ lower each parent is. declared_no_action name (entities.parents lower name each parent is))
+            (λ uid body each among place is. declared_no_action name (actions.entity_types uid body each name among place is))
+            reference placed resolves;
+        resolves = settled.resolves;
+        names = settled.parents;
+        types_shadow = settled.types_shadow;
+        actions_shadow = settled.actions_shadow;
+        entity_types_once = entities.once;
+        common_types_once = common.once;
+        actions_once = actions.once;
+        no_action_cycle = actions.no_cycle;
+        no_common_cycle = common.no_cycle;
+        no_action_types = λ name. definitions_sound extensions (action_entity_type name) tt;
+        shapes = entities.records;
+        contexts = actions.records;
+        unreserved = λ name. definitions_sound extensions (reserved_name name) tt;
+        external_above = entities.external_above;
+        enumerated_alone = entities.enumerated_alone;
+      })

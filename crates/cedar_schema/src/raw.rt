@@ -1,0 +1,63 @@
+//! The builder over fragments as they are written.
+
+ghost use Rattle.std.specs.Prelude.{◌≡◌, ◌⊎◌, IfErr, IfOk};
+ghost use Rattle.std.specs.List.{flat_map};
+ghost use Rattle.std.specs.Result.{result_map_both};
+ghost use Rattle.cedar_below.specs.Extensions.{extension_types};
+ghost use Rattle.cedar_below.specs.TypeNames.{TypeNamesFit};
+ghost use Rattle.cedar_declared.specs.Fault.{want_of_memory};
+ghost use Rattle.cedar_declared.specs.SchemaError.{fault_of};
+ghost use Rattle.cedar_fragments.specs.DefinitionFault.{IsDefinitionFault};
+ghost use Rattle.cedar_fragments.specs.FragmentDeclarations.{conditional_bag};
+ghost use Rattle.cedar_fragments.specs.Located.{fragment_common_names, named_namespaces, raw_common_names, raw_namespaces};
+ghost use Rattle.cedar_laws.specs.EndToEnd.{IsBuiltFrom};
+ghost use Rattle.cedar_located.specs.Located.{ShowsWritten};
+ghost use Rattle.cedar_names.specs.Declaration.{raw_bag};
+ghost use Rattle.cedar_names.specs.declared.json_schema.conditional_name.ConditionalName.{ConditionalName as Conditional};
+ghost use Rattle.cedar_schema.specs.SchemaParts.{parts_schema};
+
+use crate::building::{SchemaParts, build};
+use cedar_below::Extensions;
+use cedar_declared::SchemaError;
+use cedar_fragments::namespace::ValidatorSchemaFragment;
+use cedar_names::json_schema::{ConditionalName, Fragment, RawName};
+use std::alloc::Global;
+
+/// The same fragments, whose names say what they may stand for.
+fn conditional_fragments(
+    alloc: Global,
+    fragments: Vec<Fragment<RawName>>,
+) -> Result<Vec<ValidatorSchemaFragment<ConditionalName, ConditionalName>>, SchemaError>
+    ensures bag { IfOk result (λ it. conditional_bag it.items ≡ raw_bag fragments.items) }
+    ensures common_types { IfOk result (λ it. flat_map (fragment_common_names Conditional Conditional) it.items
+        ≡ flat_map raw_common_names fragments.items) }
+    ensures namespaces { IfOk result (λ it. flat_map (named_namespaces Conditional Conditional) it.items
+        ≡ flat_map raw_namespaces fragments.items) }
+    ensures fault { IfErr result (λ error. (fault_of error ≡ want_of_memory)
+        ⊎ IsDefinitionFault (raw_bag fragments.items) (fault_of error)) }
+{
+    let mut conditional = Vec::new(alloc);
+    for fragment in fragments {
+        let fragment = ValidatorSchemaFragment::from_schema_fragment(alloc, fragment)?;
+        conditional.push(fragment)?;
+    }
+    Ok(conditional)
+}
+
+/// What fragments declare over some extensions, whose names of extension types have to fit, as
+/// [`Extensions::type_names_fit`] tests.
+///
+/// It is refused exactly where the bag of their declarations is ill-formed, with a fault of it by name,
+/// or where memory is wanting.
+pub(crate) fn build_raw(
+    alloc: Global,
+    fragments: Vec<Fragment<RawName>>,
+    extensions: &Extensions,
+) -> Result<SchemaParts, SchemaError>
+    requires { TypeNamesFit (extension_types extensions.now) }
+    ensures built { IsBuiltFrom (raw_bag fragments.items) extensions.now (result_map_both parts_schema fault_of result) }
+    ensures located { IfOk result (λ parts. ShowsWritten fragments.items parts.located) }
+{
+    let fragments = conditional_fragments(alloc, fragments)?;
+    build(alloc, fragments, extensions)
+}

@@ -1,2 +1,0 @@
-pub mod SchemaParts
-pub mod SettledBag
