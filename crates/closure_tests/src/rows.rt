@@ -3,6 +3,7 @@
 use crate::member::{edges_in_all, marks_stand, nodes_of};
 use cedar_below::M;
 use cedar_closure::{TCNode, TcError, compute_tc, compute_tc_counted};
+use shorthand::checked::{holds, same};
 use std::alloc::Global;
 use std::test::Fail;
 
@@ -22,44 +23,68 @@ fn ring(alloc: Global, count: u32) -> M<Vec<(u32, u32)>> {
     Ok(edges)
 }
 
+/// Whether a chain is closed with so many edges in all, in at most as many joins as there are pairs of nodes.
+fn closes_chain(alloc: Global, count: u32, total: usize) -> Result<bool, Fail> {
+    let mut nodes = nodes_of(alloc, count, &chain(alloc, count)?)?;
+    let joins = compute_tc_counted(alloc, &mut nodes, true)?;
+    let most = u128::from(count).saturating_mul(u128::from(count));
+    let is_whole = nodes.len() == count as usize && marks_stand(&nodes);
+    Ok(is_whole && joins <= most && edges_in_all(&nodes) == total)
+}
+
+/// Lengths of chains, each with the edges that the closed one has in all.
+const CHAINS: &[(u32, usize)] = &[(1, 0), (63, 1953), (64, 2016), (65, 2080), (130, 8385)];
+
 #[test]
 fn chains_are_closed(rt: HostRuntime) -> Result<(), Fail> {
-    let alloc = rt.alloc();
-    for (count, total) in [(1, 0), (63, 1953), (64, 2016), (65, 2080), (130, 8385)] {
-        let mut nodes = nodes_of(alloc, count, &chain(alloc, count)?)?;
-        let joins = compute_tc_counted(alloc, &mut nodes, true)?;
-        let most = u128::from(count).saturating_mul(u128::from(count));
-        assert!(rt; joins <= most, "at {count}");
-        assert_eq!(rt; edges_in_all(&nodes), total, "at {count}");
-        assert_eq!(rt; nodes.len(), count as usize, "at {count}");
-        assert!(rt; marks_stand(&nodes), "at {count}");
+    for &(count, total) in CHAINS {
+        holds(closes_chain(rt.alloc(), count, total)?, "a chain")?;
     }
     Ok(())
+}
+
+/// What closing answers where cycles are refused: how many edges there are in all, or who leads back to itself.
+fn refusing(alloc: Global, count: u32, edges: &[(u32, u32)]) -> Result<String, Fail> {
+    let mut nodes = nodes_of(alloc, count, edges)?;
+    match compute_tc(alloc, &mut nodes, true) {
+        Ok(()) => Ok(format!(in alloc; "{} edges", edges_in_all(&nodes))?),
+        Err(TcError::HasCycle(key)) => Ok(format!(in alloc; "a cycle through {key}")?),
+        Err(TcError::Memory) => Err(Fail::from("out of memory")),
+    }
+}
+
+/// How many edges there are in all where a graph is closed and cycles are allowed.
+fn allowing(alloc: Global, count: u32, edges: &[(u32, u32)]) -> Result<usize, Fail> {
+    let mut nodes = nodes_of(alloc, count, edges)?;
+    compute_tc(alloc, &mut nodes, false)?;
+    Ok(edges_in_all(&nodes))
 }
 
 #[test]
 fn a_ring_is_closed_or_refused(rt: HostRuntime) -> Result<(), Fail> {
     let alloc = rt.alloc();
-    let mut nodes = nodes_of(alloc, 65, &ring(alloc, 65)?)?;
-    match compute_tc(alloc, &mut nodes, true) {
-        Err(TcError::HasCycle(key)) => assert!(rt; key < 65),
-        Err(TcError::Memory) => return Err(Fail::from("out of memory")),
-        Ok(()) => return Err(Fail::from("a ring was accepted")),
-    }
-    compute_tc(alloc, &mut nodes, false)?;
-    assert_eq!(rt; edges_in_all(&nodes), 4225);
-    for (key, node) in &nodes {
-        assert!(rt; node.has_edge_to(key), "at {key}");
-    }
-    Ok(())
+    let ring = ring(alloc, 65)?;
+    let refused = refusing(alloc, 65, &ring)?;
+    holds(refused.starts_with("a cycle"), refused.as_str())?;
+    holds(allowing(alloc, 65, &ring)? == 4225, "each reaches each")
 }
 
+/// Graphs: how many nodes and which edges they have, what closing answers where cycles are refused, and how many edges there
+/// are in all where they are allowed.
+const GRAPHS: &[(u32, &[(u32, u32)], &str, usize)] = &[
+    (0, &[], "0 edges", 0),
+    (2, &[(0, 1), (1, 9)], "3 edges", 3),
+    (3, &[(0, 1), (1, 1), (1, 2)], "a cycle through 1", 4),
+    (5, &[(0, 1), (1, 4), (2, 3), (3, 4)], "6 edges", 6),
+];
+
 #[test]
-fn an_empty_map_is_closed(rt: HostRuntime) -> Result<(), Fail> {
+fn graphs_are_closed_or_refused(rt: HostRuntime) -> Result<(), Fail> {
     let alloc = rt.alloc();
-    let mut nodes = nodes_of(alloc, 0, &[])?;
-    compute_tc(alloc, &mut nodes, true)?;
-    assert_eq!(rt; nodes.len(), 0);
+    for &(count, edges, refused, total) in GRAPHS {
+        same(refused, refusing(alloc, count, edges)?.as_str(), refused)?;
+        holds(allowing(alloc, count, edges)? == total, refused)?;
+    }
     Ok(())
 }
 
@@ -67,43 +92,10 @@ fn an_empty_map_is_closed(rt: HostRuntime) -> Result<(), Fail> {
 fn an_edge_to_no_node_leads_no_further(rt: HostRuntime) -> Result<(), Fail> {
     let alloc = rt.alloc();
     let mut nodes = nodes_of(alloc, 2, &[(0, 1), (1, 9)])?;
-    assert_eq!(rt; compute_tc_counted(alloc, &mut nodes, true)?, 1);
-    assert_eq!(rt; nodes.len(), 2);
-    assert_eq!(rt; edges_in_all(&nodes), 3);
-    let Some(first) = nodes.get_mut(&0) else {
-        return Err(Fail::from("a node is lost"));
-    };
-    first.reset_edges();
-    assert!(rt; first.has_edge_to(&9));
-    assert_eq!(rt; *first.get_key(), 0);
-    Ok(())
-}
-
-#[test]
-fn a_node_with_an_edge_to_itself_is_a_cycle(rt: HostRuntime) -> Result<(), Fail> {
-    let alloc = rt.alloc();
-    let mut nodes = nodes_of(alloc, 3, &[(0, 1), (1, 1), (1, 2)])?;
-    match compute_tc(alloc, &mut nodes, true) {
-        Err(TcError::HasCycle(key)) => assert_eq!(rt; key, 1),
-        Err(TcError::Memory) => return Err(Fail::from("out of memory")),
-        Ok(()) => return Err(Fail::from("a cycle was accepted")),
-    }
-    compute_tc(alloc, &mut nodes, false)?;
-    assert_eq!(rt; edges_in_all(&nodes), 4);
-    Ok(())
-}
-
-#[test]
-fn two_chains_share_an_end(rt: HostRuntime) -> Result<(), Fail> {
-    let alloc = rt.alloc();
-    let mut nodes = nodes_of(alloc, 5, &[(0, 1), (1, 4), (2, 3), (3, 4)])?;
-    compute_tc(alloc, &mut nodes, true)?;
-    assert_eq!(rt; edges_in_all(&nodes), 6);
-    for from in 0..4u32 {
-        let Some(node) = nodes.get(&from) else {
-            return Err(Fail::from("a node is lost"));
-        };
-        assert!(rt; node.has_edge_to(&4), "from {from}");
-    }
-    Ok(())
+    let joins = compute_tc_counted(alloc, &mut nodes, true)?;
+    let first = nodes.get(&0).ok_or("a node is lost")?;
+    holds(
+        joins == 1 && first.has_edge_to(&9) && *first.get_key() == 0,
+        "0 to 9",
+    )
 }

@@ -1,13 +1,14 @@
 //! What common types are written out as, and why they are refused.
 
-use crate::checked::{holds, same};
-use crate::declarations::PLACE;
-use crate::names::{addresses, full, id, text};
+use crate::refusals::refusal_text;
 use cedar_below::InternalName;
 use cedar_declared::SchemaError;
 use cedar_names::json_schema::{RecordType, Type, TypeOfAttribute, TypeVariant};
 use cedar_types::Type as Written;
 use cedar_written::common_types;
+use shorthand::checked::{holds, same};
+use shorthand::names::{internal_name, placed_at, unreserved_id};
+use shorthand::sample_extensions;
 use std::alloc::Global;
 use std::collections::{BTreeMap, BTreeSet};
 use std::test::Fail;
@@ -22,7 +23,7 @@ const ENTITIES: &[&str] = &["User", "Both", "__cedar"];
 fn entities(alloc: Global) -> Result<BTreeSet<InternalName>, Fail> {
     let mut names = BTreeSet::new(alloc);
     for word in ENTITIES {
-        names.insert(full(alloc, word)?)?;
+        names.insert(internal_name(alloc, word)?)?;
     }
     Ok(names)
 }
@@ -30,13 +31,13 @@ fn entities(alloc: Global) -> Result<BTreeSet<InternalName>, Fail> {
 /// A place of a name that may be that of a common type or of an entity type.
 fn either(alloc: Global, word: &str) -> Result<Type<InternalName>, Fail> {
     let ty = TypeVariant::EntityOrCommon {
-        type_name: full(alloc, word)?,
+        type_name: internal_name(alloc, word)?,
     };
     Ok(Type::Plain { ty, loc: None })
 }
 
-/// The keys of attributes, each with whether it is required.
-const KEYS: &[(&str, bool)] = &[("a", true), ("b", false)];
+/// The keys of attributes with their places, each with whether it is required.
+const KEYS: &[(&str, bool)] = &[("a@1", true), ("b@2", false)];
 
 /// Those attributes, of one type.
 fn attributes(
@@ -45,13 +46,13 @@ fn attributes(
 ) -> Result<BTreeMap<String, TypeOfAttribute<InternalName>>, Fail> {
     let mut attributes = BTreeMap::new(alloc);
     for &(key, required) in KEYS {
-        let name = text(alloc, key)?;
+        let (key, loc) = placed_at(key);
         let attribute = TypeOfAttribute {
             ty: either(alloc, word)?,
             required,
-            loc: Some(PLACE),
+            loc,
         };
-        attributes.insert(name, attribute)?;
+        attributes.insert(String::from_str(alloc, key)?, attribute)?;
     }
     Ok(attributes)
 }
@@ -68,16 +69,16 @@ fn record(alloc: Global, word: &str, is_open: bool) -> Result<TypeVariant<Intern
 fn variant(alloc: Global, form: &str, word: &str) -> Result<TypeVariant<InternalName>, Fail> {
     match form {
         "entity" => Ok(TypeVariant::Entity {
-            name: full(alloc, word)?,
+            name: internal_name(alloc, word)?,
         }),
         "either" => Ok(TypeVariant::EntityOrCommon {
-            type_name: full(alloc, word)?,
+            type_name: internal_name(alloc, word)?,
         }),
         "set" => Ok(TypeVariant::Set {
             element: Box::new(alloc, either(alloc, word)?)?,
         }),
         "extension" => Ok(TypeVariant::Extension {
-            name: id(alloc, word)?,
+            name: unreserved_id(alloc, word)?,
         }),
         "record" => record(alloc, word, false),
         "open" => record(alloc, word, true),
@@ -89,7 +90,7 @@ fn variant(alloc: Global, form: &str, word: &str) -> Result<TypeVariant<Internal
 fn ty(alloc: Global, form: &str, word: &str) -> Result<Type<InternalName>, Fail> {
     let loc = None;
     if form == "common" {
-        let type_name = full(alloc, word)?;
+        let type_name = internal_name(alloc, word)?;
         return Ok(Type::CommonTypeRef { type_name, loc });
     }
     let ty = variant(alloc, form, word)?;
@@ -100,7 +101,7 @@ fn ty(alloc: Global, form: &str, word: &str) -> Result<Type<InternalName>, Fail>
 fn declared(alloc: Global, rows: &[Row]) -> Result<Vec<(InternalName, Type<InternalName>)>, Fail> {
     let mut types = Vec::new(alloc);
     for &(key, form, word) in rows {
-        types.push((full(alloc, key)?, ty(alloc, form, word)?))?;
+        types.push((internal_name(alloc, key)?, ty(alloc, form, word)?))?;
     }
     Ok(types)
 }
@@ -121,7 +122,7 @@ fn written_out(
 ) -> Result<Result<BTreeMap<InternalName, Written>, SchemaError>, Fail> {
     let types = declared(alloc, rows)?;
     let entities = entities(alloc)?;
-    let extensions = addresses(alloc)?;
+    let extensions = sample_extensions(alloc)?;
     Ok(common_types(alloc, &types, &entities, &extensions))
 }
 
@@ -129,7 +130,7 @@ fn written_out(
 fn outcome(alloc: Global, rows: &[Row]) -> Result<String, Fail> {
     match written_out(alloc, rows)? {
         Ok(types) => listed(alloc, &types),
-        Err(error) => Ok(error.to_string(alloc)?),
+        Err(error) => Ok(refusal_text(alloc, error)?),
     }
 }
 
@@ -205,7 +206,7 @@ fn common_types_are_written_out_or_refused(rt: HostRuntime) -> Result<(), Fail> 
 /// What is shown of attributes that keep their locations.
 const LOCATED: &[&str] = &[
     "is_required: true, loc: Some(Loc { source: 1, start: 2, stop: 5 })",
-    "is_required: false, loc: Some(Loc { source: 1, start: 2, stop: 5 })",
+    "is_required: false, loc: Some(Loc { source: 2, start: 2, stop: 5 })",
 ];
 
 /// What a record type with attributes at places is written out as, with all that it holds.

@@ -1,17 +1,17 @@
 //! Copies of fragments, before and after their names are settled.
 
-use crate::checked::same;
 use crate::declarations::fragment_of;
 use cedar_below::{EntityType, InternalName};
 use cedar_fragments::defs::AllDefs;
 use cedar_fragments::namespace::ValidatorSchemaFragment;
+use shorthand::checked::same;
 use std::alloc::Global;
 use std::test::Fail;
 
 /// A fragment that declares something of each kind in two namespaces.
 const WRITTEN: &str =
-    "N::M: common C; alias C; entity T; user T; external X; action b; action a in b; \
-     action c by T | : entity O";
+    "N::M: type C = Long; type D = c:C@2; entity T; entity U {a@3: e:T@2}; external entity X; action b; \
+     action a in b@1; action c P T R - | : entity O";
 
 #[test]
 fn copies_of_fragments_show_the_same(rt: HostRuntime) -> Result<(), Fail> {

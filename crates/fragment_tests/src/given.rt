@@ -1,16 +1,13 @@
 //! Definitions and fragments that are put together, and the names that they show.
 
-use crate::checked::{holds, same};
-use crate::declarations::{Conditional, PLACE, definition_of, fragment_of};
-use crate::names::{id, within};
+use crate::declarations::{Conditional, Definition, definition_of, fragment_of};
 use cedar_fragments::namespace::ValidatorNamespaceDef;
 use cedar_names::json_schema::{ConditionalName, Type, TypeVariant};
+use shorthand::checked::{holds, same};
+use shorthand::names::{internal_namespace, placed_at, unreserved_id};
 use std::alloc::Global;
 use std::collections::HashMap;
 use std::test::Fail;
-
-/// A definition whose names say what they may stand for.
-type Definition = ValidatorNamespaceDef<ConditionalName, ConditionalName>;
 
 /// The base names of the namespaces of a fragment, and `none` for the empty one.
 fn namespaces(alloc: Global, fragment: &Conditional) -> Result<String, Fail> {
@@ -57,31 +54,32 @@ fn first_names(alloc: Global, definition: &Definition) -> Result<String, Fail> {
 #[test]
 fn definitions_show_their_names(rt: HostRuntime) -> Result<(), Fail> {
     let alloc = rt.alloc();
-    let definition = definition_of(alloc, "N: common C; external E; action a")?;
+    let definition = definition_of(alloc, "N: type C = Long; external entity E; action a")?;
     let names = first_names(alloc, &definition)?;
     same("names", names.as_str(), "N::C N::E N::Action a")
 }
 
-/// Whole numbers, at the place.
+/// Whole numbers, at a place.
 fn long() -> Type<ConditionalName> {
+    let (_, loc) = placed_at("Long@1");
     Type::Plain {
         ty: TypeVariant::Long,
-        loc: Some(PLACE),
+        loc,
     }
 }
 
 /// The definition of `N` that declares a map of the common type `C`.
 fn several(alloc: Global) -> Result<Definition, Fail> {
     let mut definitions = HashMap::new(alloc);
-    definitions.insert(id(alloc, "C")?, long())?;
-    let inside = within(alloc, "N")?;
+    definitions.insert(unreserved_id(alloc, "C")?, long())?;
+    let inside = internal_namespace(alloc, "N")?;
     Ok(ValidatorNamespaceDef::from_common_type_defs(alloc, inside, definitions)?)
 }
 
 /// The definition of `N` that declares the common type `C`.
 fn single(alloc: Global) -> Result<Definition, Fail> {
-    let inside = within(alloc, "N")?;
-    let definition = (id(alloc, "C")?, long());
+    let inside = internal_namespace(alloc, "N")?;
+    let definition = (unreserved_id(alloc, "C")?, long());
     Ok(ValidatorNamespaceDef::from_common_type_def(alloc, inside, definition)?)
 }
 

@@ -3,8 +3,6 @@
 #![tactic(auto)]
 
 #[cfg(test)]
-mod checked;
-#[cfg(test)]
 mod common;
 #[cfg(test)]
 mod copies;
@@ -13,8 +11,8 @@ mod declarations;
 #[cfg(test)]
 mod given;
 #[cfg(test)]
-mod names;
-#[cfg(test)]
 mod qualification;
+#[cfg(test)]
+mod refusals;
 #[cfg(test)]
 mod resolution;

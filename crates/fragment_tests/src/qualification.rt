@@ -1,12 +1,14 @@
 //! What fragments become that are settled together, and what they are refused for.
 
-use crate::checked::{holds, same};
 use crate::copies::settled_fragment;
 use crate::declarations::fragments_of;
-use crate::names::{addresses, full};
+use crate::refusals::refusal_text;
 use cedar_declared::SchemaError;
 use cedar_gathered::gather;
 use cedar_resolved::{Settled, settle};
+use shorthand::checked::{holds, same};
+use shorthand::names::internal_name;
+use shorthand::sample_extensions;
 use std::alloc::Global;
 use std::test::Fail;
 
@@ -14,13 +16,13 @@ use std::test::Fail;
 fn shown(alloc: Global, settled: Result<Settled, SchemaError>) -> Result<String, Fail> {
     match settled {
         Ok(settled) => Ok(format!(in alloc; "{:?}", settled.fragments)?),
-        Err(error) => Ok(error.to_string(alloc)?),
+        Err(error) => Ok(refusal_text(alloc, error)?),
     }
 }
 
 /// The same of the fragments of some texts.
 fn outcome(alloc: Global, texts: &[&str]) -> Result<String, Fail> {
-    let extensions = addresses(alloc)?;
+    let extensions = sample_extensions(alloc)?;
     let fragments = fragments_of(alloc, texts)?;
     shown(alloc, settle(alloc, fragments, &extensions))
 }
@@ -28,8 +30,8 @@ fn outcome(alloc: Global, texts: &[&str]) -> Result<String, Fail> {
 /// What stands before and after the name of an entity type that an attribute is of.
 const ATTRIBUTE: (&str, &str) = (
     "\"a\": TypeOfAttribute { ty: Plain { ty: Entity { name: ",
-    " }, loc: Some(Loc { source: 1, start: 6, stop: 7 }) }, required: true, \
-     loc: Some(Loc { source: 1, start: 8, stop: 9 }) }",
+    " }, loc: Some(Loc { source: 2, start: 2, stop: 5 }) }, required: true, \
+     loc: Some(Loc { source: 3, start: 2, stop: 5 }) }",
 );
 
 /// The same of the type of the one parent of an action.
@@ -44,7 +46,7 @@ const PRINCIPAL: (&str, &str) = ("principals: [", "], resources: []");
 /// The same of the common type that another one refers to.
 const REFERENCE: (&str, &str) = (
     "CommonTypeRef { type_name: ",
-    ", loc: Some(Loc { source: 1, start: 6, stop: 7 }) }",
+    ", loc: Some(Loc { source: 2, start: 2, stop: 5 }) }",
 );
 
 /// The same of an external entity type, which is declared without parents.
@@ -55,38 +57,62 @@ const EXTERNAL: (&str, &str) = (
 
 /// Fragments, each with a place of a name in what they become, and the name that is there.
 const SETTLED: &[(&[&str], (&str, &str), &str)] = &[
-    (&[": entity T", "N: user T"], ATTRIBUTE, "T"),
-    (&["N: entity T", "N: user T"], ATTRIBUTE, "N::T"),
-    (&["N: entity T", "M: user N::T"], ATTRIBUTE, "N::T"),
-    (&["N::M: entity T", "N: user N::M::T"], ATTRIBUTE, "N::M::T"),
-    (&["N: action x; user Action"], ATTRIBUTE, "N::Action"),
-    (&[": action b", ": action a in b"], PARENT, "Action"),
-    (&["N: action b", "N: action a in b"], PARENT, "N::Action"),
-    (&[": action b", "N: action a in b"], PARENT, "Action"),
+    (&[": entity T", "N: entity U {a@3: e:T@2}"], ATTRIBUTE, "T"),
     (
-        &["N: action b", "N: action a in Action::b"],
+        &["N: entity T", "N: entity U {a@3: e:T@2}"],
+        ATTRIBUTE,
+        "N::T",
+    ),
+    (
+        &["N: entity T", "M: entity U {a@3: e:N::T@2}"],
+        ATTRIBUTE,
+        "N::T",
+    ),
+    (
+        &["N::M: entity T", "N: entity U {a@3: e:N::M::T@2}"],
+        ATTRIBUTE,
+        "N::M::T",
+    ),
+    (
+        &["N: action x; entity U {a@3: e:Action@2}"],
+        ATTRIBUTE,
+        "N::Action",
+    ),
+    (&[": action b", ": action a in b@1"], PARENT, "Action@1"),
+    (
+        &["N: action b", "N: action a in b@1"],
+        PARENT,
+        "N::Action@1",
+    ),
+    (&[": action b", "N: action a in b@1"], PARENT, "Action@1"),
+    (
+        &["N: action b", "N: action a in Action::b@1"],
         PARENT,
         "N::Action",
     ),
     (
-        &["M: action b", "N: action a in M::Action::b"],
+        &["M: action b", "N: action a in M::Action::b@1"],
         PARENT,
         "M::Action",
     ),
     (
-        &["M: action b", ": action a in M::Action::b"],
+        &["M: action b", ": action a in M::Action::b@1"],
         PARENT,
         "M::Action",
     ),
-    (&["N: entity X; action a by X"], PRINCIPAL, "N::X"),
-    (&["N: common C; alias C"], REFERENCE, "N::C"),
-    (&["N: common C", "M: alias N::C"], REFERENCE, "N::C"),
-    (&["N: external T"], EXTERNAL, "N::T"),
+    (&["N: entity X; action a P X R -"], PRINCIPAL, "N::X"),
+    (&["N: type C = Long; type D = c:C@2"], REFERENCE, "N::C"),
+    (
+        &["N: type C = Long", "M: type D = c:N::C@2"],
+        REFERENCE,
+        "N::C",
+    ),
+    (&["N: external entity T"], EXTERNAL, "N::T"),
 ];
 
 /// Whether what becomes of the fragments of some texts shows a name at its place.
 fn shows(alloc: Global, texts: &[&str], place: (&str, &str), name: &str) -> Result<bool, Fail> {
-    let shown = format!(in alloc; "{}{:?}{}", place.0, full(alloc, name)?, place.1)?;
+    let shown = format!(in alloc; "{}{:?}{}", place.0, internal_name(alloc, name)?, place.1)?;
     Ok(outcome(alloc, texts)?.contains(shown.as_str()))
 }
 
@@ -102,17 +128,20 @@ fn names_are_those_of_what_is_declared(rt: HostRuntime) -> Result<(), Fail> {
 /// Fragments, each with the refusal of settling them.
 const REFUSED: &[(&[&str], &str)] = &[
     (
-        &["N: entity T", "N::M: user T"],
+        &["N: entity T", "N::M: entity U {a@3: e:T@2}"],
         "the type `T` is not declared",
     ),
     (
-        &["N::M: entity T", "N: user M::T"],
+        &["N::M: entity T", "N: entity U {a@3: e:M::T@2}"],
         "the type `M::T` is not declared",
     ),
-    (&["N: entity T", ": user T"], "the type `T` is not declared"),
-    (&["N: action a by Y"], "the type `Y` is not declared"),
     (
-        &["M: action b", "N: action a in b"],
+        &["N: entity T", ": entity U {a@3: e:T@2}"],
+        "the type `T` is not declared",
+    ),
+    (&["N: action a P Y R -"], "the type `Y` is not declared"),
+    (
+        &["M: action b", "N: action a in b@1"],
         "an action is not declared: b",
     ),
     (
@@ -124,11 +153,11 @@ const REFUSED: &[(&[&str], &str)] = &[
         "an action is not declared: c",
     ),
     (
-        &["N: action b", ": action a in Action::b"],
+        &["N: action b", ": action a in Action::b@1"],
         "an action is not declared: b",
     ),
     (
-        &["N: common T; entity U", ": entity T"],
+        &["N: type T = Long; entity U", ": entity T"],
         "the type N::T would shadow T",
     ),
     (
@@ -159,7 +188,7 @@ fn gathered(alloc: Global, text: &str) -> Result<(usize, usize, usize), Fail> {
 
 #[test]
 fn declarations_are_gathered(rt: HostRuntime) -> Result<(), Fail> {
-    let text = "N: common C; entity U; external T; action view";
+    let text = "N: type C = Long; entity U; external entity T; action view";
     let counts = gathered(rt.alloc(), text)?;
     holds(counts == (1, 2, 1), text)
 }

@@ -1,29 +1,30 @@
 //! What references resolve to, by what is defined under their names.
 
-use crate::checked::same;
 use crate::declarations::fragments_of;
-use crate::names::{full, raw};
+use crate::refusals::refusal_text;
 use cedar_actions::ValidatorApplySpec;
 use cedar_below::{EntityType, InternalName};
 use cedar_declared::SchemaError;
 use cedar_fragments::defs::{AllDefs, ResolveName};
 use cedar_names::json_schema::{ConditionalName, QualifyError, ReferenceType};
+use shorthand::checked::same;
+use shorthand::names::{internal_name, raw};
 use std::alloc::Global;
 use std::collections::HashSet;
 use std::test::Fail;
 
 /// A reference of a kind that is written in the namespace `N`.
 fn reference(alloc: Global, written: &str, kind: ReferenceType) -> Result<ConditionalName, Fail> {
-    let inside = full(alloc, "N")?;
+    let inside = internal_name(alloc, "N")?;
     Ok(raw(alloc, written)?.conditionally_qualify_with(alloc, Some(&inside), kind)?)
 }
 
 /// In the namespace `N` the common type `T`, the entity type `Both` and the common type `Both`; in the
 /// empty namespace the entity types `T` and `Only`; and in a reserved one a common type.
 const DEFINED: &[&str] = &[
-    "N: common T; common Both; entity Both; action a",
-    ": entity T; external Only",
-    "__cedar: common Foo",
+    "N: type T = Long; type Both = Long; entity Both; action a",
+    ": entity T; external entity Only",
+    "__cedar: type Foo = Long",
 ];
 
 /// The name that a reference resolved to, or why it was refused.
@@ -77,7 +78,7 @@ fn references_resolve_to_the_first_that_is_permitted(rt: HostRuntime) -> Result<
 #[test]
 fn names_in_full_are_those_of_declarations(rt: HostRuntime) -> Result<(), Fail> {
     let alloc = rt.alloc();
-    let inside = full(alloc, "A::N")?;
+    let inside = internal_name(alloc, "A::N")?;
     let full = raw(alloc, "T")?.qualify_with(alloc, Some(&inside))?;
     same("T", full.to_string(alloc)?.as_str(), "A::N::T")
 }
@@ -93,7 +94,7 @@ fn entity(alloc: Global, written: &str) -> Result<HashSet<ConditionalName>, Fail
 fn entity_types(alloc: Global, names: &[&str]) -> Result<AllDefs, Fail> {
     let mut all_defs = AllDefs::new(alloc, &fragments_of(alloc, &[])?)?;
     for name in names {
-        all_defs.mark_as_defined_as_entity_type(full(alloc, name)?)?;
+        all_defs.mark_as_defined_as_entity_type(internal_name(alloc, name)?)?;
     }
     Ok(all_defs)
 }
@@ -114,7 +115,7 @@ fn requested(
 ) -> Result<String, Fail> {
     match qualified {
         Ok(spec) => of_one(alloc, &spec),
-        Err(error) => Ok(error.to_string(alloc)?),
+        Err(error) => Ok(refusal_text(alloc, error)?),
     }
 }
 

@@ -1,11 +1,11 @@
 //! Tests of names, values, extensions and entities.
 
-use crate::checked::{holds, same};
 use cedar_below::{
     CoreAttributeType, CoreSchemaType, Eid, Entities, Entity, EntityType, EntityUID,
     ExtensionFunction, ExtensionFunctionLookupError, Extensions, Id, InternalName, Loc, Name,
     NonEmpty, RestrictedExpr, UnreservedId,
 };
+use shorthand::checked::{holds, same};
 use std::alloc::Global;
 use std::collections::{BTreeMap, BTreeSet};
 use std::test::Fail;

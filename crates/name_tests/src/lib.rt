@@ -4,6 +4,4 @@
 #[cfg(test)]
 mod below;
 #[cfg(test)]
-mod checked;
-#[cfg(test)]
 mod names;

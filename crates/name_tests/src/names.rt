@@ -1,11 +1,11 @@
 //! Tests of fragments and of their names.
 
 use crate::below::{internal, text};
-use crate::checked::{holds, same};
 use cedar_names::below::{Loc, Memory, NonEmpty, UnreservedId};
 use cedar_names::json_schema::{
     CommonTypeId, ConditionalName, QualifyError, RawName, ReferenceType, TypeNotDefinedError,
 };
+use shorthand::checked::{holds, same};
 use std::alloc::Global;
 use std::test::Fail;
 

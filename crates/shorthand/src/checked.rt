@@ -1,5 +1,7 @@
-//! What the tests say of an answer that isn't the one that was expected.
+//! What the tests say of an answer that isn't the one that was expected, and answers on one line.
 
+use cedar_below::M;
+use std::alloc::Global;
 use std::test::Fail;
 
 /// Fails, with the row, where an answer isn't the text that was expected.
@@ -26,4 +28,9 @@ pub fn one_of(row: &str, answer: &str, allowed: &str) -> Result<(), Fail> {
         }
     }
     same(row, answer, allowed)
+}
+
+/// The lines of a text, with `; ` between them.
+pub fn on_one_line(alloc: Global, lines: &str) -> M<String> {
+    Ok(lines.trim_end().replace(alloc, '\n', "; ")?)
 }

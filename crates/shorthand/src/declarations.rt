@@ -8,14 +8,15 @@
 //! - `action view in all,N::Action::read P A,B R C context {a: Long} attributes`, with `-` for no types
 //! - `external` before `entity` or `action`
 //! - `N::M: entity U`, or `N::M:` for a namespace that declares nothing
-//! - places: `entity U@1`, `type T@1 = Long@2`, `action view@1@2` for the action and its id, `N@1@2: entity U` for the name of
-//!   the namespace and its definition, and as `types` says of types and attributes
+//! - places: `entity U@1`, `type T@1 = Long@2`, `action view@1@2 in all@3` for the action, its id and its parent,
+//!   `N@1@2: entity U` for the name of the namespace and its definition, and as `types` says of types and attributes
 //!
 //! A text that spells none of these fails by name.
 
 use crate::entries::{action, entity_type, id_text};
 use crate::names::{namespace, placed_at, unreserved_id};
 use crate::types::written_type;
+use cedar_below::M;
 use cedar_names::json_schema::{CommonType, CommonTypeId, Fragment, NamespaceDefinition, RawName};
 use std::alloc::Global;
 use std::collections::BTreeMap;
@@ -149,6 +150,18 @@ pub fn fragment_of(alloc: Global, text: &str) -> Result<Option<Fragment<RawName>
         fresh = add_declarations(alloc, &mut fragment, piece)? && fresh;
     }
     Ok(if fresh { Some(fragment) } else { None })
+}
+
+/// The texts of the fragments of a text, which stand between `|`, or none of the empty text.
+pub fn written(alloc: Global, text: &str) -> M<Vec<&str>> {
+    let mut fragments = Vec::new(alloc);
+    if text.is_empty() {
+        return Ok(fragments);
+    }
+    for fragment in text.split('|') {
+        fragments.push(fragment.trim())?;
+    }
+    Ok(fragments)
 }
 
 /// A fragment of each text. A definition that would declare an id twice fails by its fragment's text.

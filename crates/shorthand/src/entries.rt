@@ -117,8 +117,10 @@ pub(crate) fn entity_type(
     Ok((name, declared))
 }
 
-/// The reference to an action that is written as its id, with its type and `::` before it or without.
+/// The reference to an action that is written as its id, with its type and `::` before it or without, and a place
+/// behind it.
 fn group(alloc: Global, text: &str) -> Result<ActionEntityUID<RawName>, Fail> {
+    let (text, loc) = placed_at(text);
     let (ty, id) = match text.rsplit_once("::") {
         Some((ty, id)) => (Some(raw(alloc, ty)?), id),
         None => (None, text),
@@ -126,7 +128,7 @@ fn group(alloc: Global, text: &str) -> Result<ActionEntityUID<RawName>, Fail> {
     Ok(ActionEntityUID {
         id: id_text(alloc, id)?,
         ty,
-        loc: None,
+        loc,
     })
 }
 

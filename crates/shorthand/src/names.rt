@@ -44,13 +44,9 @@ pub fn unreserved_id(alloc: Global, text: &str) -> Result<UnreservedId, Fail> {
     }
 }
 
-/// The name whose parts stand between `::` in a text. It may be reserved.
+/// The name whose parts stand between `::` in a text, with a place behind them. It may be reserved.
 pub fn internal_name(alloc: Global, text: &str) -> Result<InternalName, Fail> {
-    internal_name_at(alloc, text, None)
-}
-
-/// The name of such a text, which is written at a place.
-fn internal_name_at(alloc: Global, text: &str, loc: Option<Loc>) -> Result<InternalName, Fail> {
+    let (text, loc) = placed_at(text);
     let mut parts = Vec::new(alloc);
     for part in text.split("::") {
         parts.push(id(alloc, part)?)?;
@@ -67,16 +63,20 @@ pub fn name(alloc: Global, text: &str) -> Result<Name, Fail> {
     }
 }
 
-/// The name of such a text with its place, which isn't reserved, or None for no text.
+/// The name of such a text, which isn't reserved, or None for no text.
 pub fn namespace(alloc: Global, text: &str) -> Result<Option<Name>, Fail> {
     if text.is_empty() {
         return Ok(None);
     }
-    let (text, loc) = placed_at(text);
-    match Name::new(internal_name_at(alloc, text, loc)?) {
-        Some(name) => Ok(Some(name)),
-        None => Err(Fail::new(format_args!("a reserved name: {text}"))),
+    Ok(Some(name(alloc, text)?))
+}
+
+/// The name of such a text, which may be reserved, or None for no text.
+pub fn internal_namespace(alloc: Global, text: &str) -> Result<Option<InternalName>, Fail> {
+    if text.is_empty() {
+        return Ok(None);
     }
+    Ok(Some(internal_name(alloc, text)?))
 }
 
 /// The entity type of such a text.

@@ -1,10 +1,10 @@
 //! Tests of actions of a schema.
 
-use crate::checked::holds;
 use crate::test_values::{PLACE, entity_types, name, uid};
 use cedar_actions::{ValidatorActionId, ValidatorApplySpec};
 use cedar_names::json_schema::{ConditionalName, ReferenceType};
 use cedar_types::Type;
+use shorthand::checked::holds;
 use std::alloc::Global;
 use std::collections::HashSet;
 use std::test::Fail;
@@ -44,12 +44,17 @@ fn action(alloc: Global, word: &str) -> Result<ValidatorActionId, Fail> {
 /// Actions, each with how many principals it has.
 const ACTIONS: &[(&str, usize)] = &[("view", 2), ("look", 0)];
 
+/// Whether two actions are equal, with their locations, and the second has as many principals as said.
+fn are_alike(first: &ValidatorActionId, second: &ValidatorActionId, principals: usize) -> bool {
+    let are_equal = first == second && first.loc() == second.loc();
+    are_equal && second.principals().count() == principals
+}
+
 /// Whether a copy of the action of a word is equal to it, with its location, and has as many principals as said.
 fn is_copied(alloc: Global, word: &str, principals: usize) -> Result<bool, Fail> {
     let action = action(alloc, word)?;
     let copy = action.clone()?;
-    let is_alike = copy == action && copy.loc() == action.loc();
-    Ok(is_alike && copy.principals().count() == principals)
+    Ok(are_alike(&action, &copy, principals))
 }
 
 #[test]

@@ -1,9 +1,9 @@
 //! Tests of attributes: that each of many is found, and where those are of joined types.
 
-use crate::checked::{holds, same};
-use crate::test_values::{PLACE, sample, text};
+use crate::test_values::{PLACE, text};
 use cedar_below::ValidationMode;
 use cedar_types::{AttributeType, Attributes, OpenTag, Type};
+use shorthand::checked::{holds, same};
 use std::alloc::Global;
 use std::rc::Rc;
 use std::test::Fail;
@@ -35,13 +35,18 @@ fn each_of_a_thousand_names_is_found(rt: HostRuntime) -> Result<(), Fail> {
     holds(none && attributes.keys().count() == 1000, "other names")
 }
 
+/// The attribute of a name and a type, declared at the place.
+fn attribute(alloc: Global, name: &str, ty: Type) -> Result<(String, AttributeType), Fail> {
+    let ty = Rc::new(alloc, ty)?;
+    let attribute = AttributeType::new_with_loc(ty, true, Some(PLACE));
+    Ok((text(alloc, name)?, attribute))
+}
+
 /// The closed record type of numbers at `bar` and of truth values at `foo`, both declared at the place.
 fn placed(alloc: Global, foo: bool) -> Result<Type, Fail> {
     let mut items = Vec::new(alloc);
-    for (name, ty) in [("bar", Type::Long), ("foo", Type::singleton_boolean(foo))] {
-        let attribute = AttributeType::new_with_loc(Rc::new(alloc, ty)?, true, Some(PLACE));
-        items.push((text(alloc, name)?, attribute))?;
-    }
+    items.push(attribute(alloc, "bar", Type::Long)?)?;
+    items.push(attribute(alloc, "foo", Type::singleton_boolean(foo))?)?;
     Ok(Type::record_with_attributes(alloc, items, OpenTag::ClosedAttributes)?)
 }
 
@@ -57,23 +62,36 @@ fn is_placed(ty: &Type, name: &str) -> bool {
 fn joined(alloc: Global, first: bool, second: bool) -> Result<Type, Fail> {
     let first = placed(alloc, first)?;
     let second = placed(alloc, second)?;
-    Ok(Type::least_upper_bound(alloc, &first, &second, ValidationMode::Permissive)?)
+    let mode = ValidationMode::Permissive;
+    Type::least_upper_bound(alloc, &first, &second, mode).map_err(|_| Fail::from("no join"))
 }
 
-#[test]
-fn attributes_that_are_joined_have_no_location(rt: HostRuntime) -> Result<(), Fail> {
-    let join = joined(rt.alloc(), true, false)?;
-    holds(!is_placed(&join, "bar"), "bar")?;
-    let text = join.to_string(rt.alloc())?;
-    same("a join", text.as_str(), "{bar: Long,foo: Bool,}")
+/// The text of such a join, and whether `bar` and `foo` were declared at the place.
+fn shown(alloc: Global, first: bool, second: bool) -> Result<String, Fail> {
+    let join = joined(alloc, first, second)?;
+    let (bar, foo) = (is_placed(&join, "bar"), is_placed(&join, "foo"));
+    Ok(format!(in alloc; "{join} {bar} {foo}")?)
 }
 
+/// Truth values at `foo`, each two with the text of the join: what is joined with itself keeps its locations, and what is
+/// joined with another type has none.
+const JOINED: &[(bool, bool, &str)] = &[
+    (true, false, "{bar: Long,foo: Bool,} false false"),
+    (
+        true,
+        true,
+        "{bar: Long,foo: __cedar::internal::True,} true true",
+    ),
+];
+
 #[test]
-fn what_is_joined_with_itself_keeps_its_locations(rt: HostRuntime) -> Result<(), Fail> {
-    let join = joined(rt.alloc(), true, true)?;
-    holds(
-        is_placed(&join, "bar") && is_placed(&join, "foo"),
-        "bar, foo",
-    )?;
-    holds(join != sample(rt.alloc(), "r1")?, "another type")
+fn joins_of_equal_types_alone_keep_locations(rt: HostRuntime) -> Result<(), Fail> {
+    for &(first, second, expected) in JOINED {
+        same(
+            "a join",
+            shown(rt.alloc(), first, second)?.as_str(),
+            expected,
+        )?;
+    }
+    Ok(())
 }

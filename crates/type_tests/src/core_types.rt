@@ -1,9 +1,9 @@
 //! Tests of core types and of consistency with them.
 
-use crate::checked::{holds, same};
 use crate::test_values::sample;
 use cedar_below::CoreSchemaType;
 use cedar_types::{CoreTypeFault, core_type_of};
+use shorthand::checked::{holds, same};
 use std::alloc::Global;
 use std::test::Fail;
 

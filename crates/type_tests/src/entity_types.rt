@@ -1,10 +1,10 @@
 //! Tests of entity types of a schema.
 
-use crate::checked::holds;
 use crate::test_values::{PLACE, entity_type, entity_types, sample, text};
 use cedar_below::{Eid, NonEmpty};
 use cedar_entities::ValidatorEntityType;
 use cedar_types::{Attributes, OpenTag, Type};
+use shorthand::checked::holds;
 use std::alloc::Global;
 use std::test::Fail;
 
@@ -61,11 +61,17 @@ const KINDS: &[(&str, bool)] = &[
     ("external", false),
 ];
 
+/// Whether two entity types are equal, with their locations, and the second has tags just if that is said.
+fn are_alike(first: &ValidatorEntityType, second: &ValidatorEntityType, has_tags: bool) -> bool {
+    let are_equal = first == second && first.loc == second.loc;
+    are_equal && second.tag_type().is_some() == has_tags
+}
+
 /// Whether a copy of the entity type of a kind is equal to it, with its location, and has tags just if that is said.
 fn is_copied(alloc: Global, kind: &str, has_tags: bool) -> Result<bool, Fail> {
     let ty = of_kind(alloc, kind)?;
     let copy = ty.clone()?;
-    Ok(copy == ty && copy.loc == ty.loc && copy.tag_type().is_some() == has_tags)
+    Ok(are_alike(&ty, &copy, has_tags))
 }
 
 #[test]

@@ -1,9 +1,9 @@
 //! Tests of joins and of reductions.
 
-use crate::checked::same;
 use crate::test_values::{kind, sample, union};
 use cedar_below::{Memory, ValidationMode};
 use cedar_types::{JoinError, Type, reduce};
+use shorthand::checked::same;
 use std::alloc::Global;
 use std::fmt::Display;
 use std::test::Fail;

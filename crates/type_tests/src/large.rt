@@ -1,9 +1,9 @@
 //! Tests of types that are large.
 
-use crate::checked::{holds, same};
 use crate::test_values::entity_type;
 use cedar_below::ValidationMode;
 use cedar_types::Type;
+use shorthand::checked::{holds, same};
 use std::alloc::Global;
 use std::rc::Rc;
 use std::test::Fail;

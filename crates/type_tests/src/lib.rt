@@ -6,8 +6,6 @@ mod actions;
 #[cfg(test)]
 mod attributes;
 #[cfg(test)]
-mod checked;
-#[cfg(test)]
 mod core_types;
 #[cfg(test)]
 mod entity_types;

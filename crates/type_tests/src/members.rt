@@ -1,8 +1,8 @@
 //! Tests of membership.
 
-use crate::checked::holds;
 use crate::test_values::{name, sample, value};
 use cedar_below::{CoreSchemaType, ExtensionFunction, Extensions, Value};
+use shorthand::checked::holds;
 use std::alloc::Global;
 use std::collections::BTreeMap;
 use std::test::Fail;

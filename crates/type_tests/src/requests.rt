@@ -1,9 +1,9 @@
 //! Tests of the types of a request.
 
-use crate::checked::holds;
 use crate::test_values::{entity_type, uid};
 use cedar_entities::UnlinkedRequestEnv;
 use cedar_types::Type;
+use shorthand::checked::holds;
 use std::alloc::Global;
 use std::rc::Rc;
 use std::test::Fail;

@@ -1,11 +1,11 @@
 //! Tests of values that separate two types, and of types that are stated.
 
-use crate::checked::holds;
 use crate::members::extensions;
 use crate::test_values::{sample, text, value};
 use cedar_below::{Extensions, M, Value};
 use cedar_separated::separating_value;
 use cedar_types::{OpenTag, Type};
+use shorthand::checked::holds;
 use std::alloc::Global;
 use std::rc::Rc;
 use std::test::Fail;

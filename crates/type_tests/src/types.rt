@@ -1,9 +1,9 @@
 //! Tests of types and of how they compare.
 
-use crate::checked::{holds, same};
 use crate::test_values::sample;
 use cedar_below::{Memory, ValidationMode};
 use cedar_types::{JoinError, LubHelp, Type};
+use shorthand::checked::{holds, same};
 use std::alloc::Global;
 use std::test::Fail;
 

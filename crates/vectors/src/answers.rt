@@ -1,31 +1,16 @@
 //! What the builder answers of fragments, as text.
 
-use crate::orders::{as_written, in_order, order_count, taken_apart};
+use crate::orders::{in_order, order_count, taken_apart};
 use crate::refusals::refusal_text;
 use crate::written_back::comes_back;
-use cedar_schema::below::{CoreSchemaType, ExtensionFunction, Extensions, M};
+use cedar_schema::below::M;
 use cedar_schema::json_schema::{Fragment, RawName};
 use cedar_schema::{SchemaError, ValidatorSchema};
 use schema_lines::lines_of;
-use shorthand::checked::{holds, one_of};
-use shorthand::names::name;
-use shorthand::{fragment_of, fragments_of};
+use shorthand::checked::{holds, on_one_line, one_of};
+use shorthand::{fragment_of, fragments_of, sample_extensions, written};
 use std::alloc::Global;
-use std::collections::BTreeMap;
 use std::test::Fail;
-
-/// The sample extension: the type `ipaddr`, and the function `ip` that makes one of a text.
-pub(crate) fn sample_extensions(alloc: Global) -> Result<Extensions, Fail> {
-    let ip = ExtensionFunction {
-        arg_types: vec![in alloc; CoreSchemaType::String]?,
-        return_type: Some(CoreSchemaType::Extension {
-            name: name(alloc, "ipaddr")?,
-        }),
-    };
-    let mut functions = BTreeMap::new(alloc);
-    functions.insert(name(alloc, "ip")?, ip)?;
-    Ok(Extensions::new(vec![in alloc; name(alloc, "ipaddr")?]?, functions))
-}
 
 /// What the builder gives of fragments over the sample extension.
 pub(crate) fn build(
@@ -33,39 +18,18 @@ pub(crate) fn build(
     fragments: Vec<Fragment<RawName>>,
 ) -> Result<Result<ValidatorSchema, SchemaError>, Fail> {
     let extensions = sample_extensions(alloc)?;
-    if !extensions.type_names_fit() {
-        return Err(Fail::from("unfit extension types"));
-    }
     Ok(ValidatorSchema::from_raw_fragments(alloc, fragments, &extensions))
-}
-
-/// The schema of a text, which is accepted.
-pub(crate) fn schema_of(alloc: Global, text: &str) -> Result<ValidatorSchema, Fail> {
-    let texts = as_written(alloc, text)?;
-    let fragments = fragments_of(alloc, &texts)?;
-    Ok(build(alloc, fragments)??)
 }
 
 /// The lines of a schema, with `; ` between them.
 pub(crate) fn shown(alloc: Global, schema: &ValidatorSchema) -> M<String> {
-    let lines = lines_of(alloc, schema)?;
-    let mut shown = String::new(alloc);
-    for line in lines.lines() {
-        if !shown.is_empty() {
-            shown.push_str("; ")?;
-        }
-        shown.push_str(line)?;
-    }
-    Ok(shown)
+    on_one_line(alloc, &lines_of(alloc, schema)?)
 }
 
 /// What the builder answers, as text: the lines of the schema, or the refusal.
-pub(crate) fn answer_text(
-    alloc: Global,
-    built: &Result<ValidatorSchema, SchemaError>,
-) -> M<String> {
+pub(crate) fn answer_text(alloc: Global, built: Result<ValidatorSchema, SchemaError>) -> M<String> {
     match built {
-        Ok(schema) => shown(alloc, schema),
+        Ok(schema) => shown(alloc, &schema),
         Err(refused) => refusal_text(alloc, refused),
     }
 }
@@ -79,23 +43,22 @@ struct Row<'t> {
     first: Option<ValidatorSchema>,
 }
 
-/// Compares what was built with what the row wants.
-fn check_built(
-    alloc: Global,
-    row: &Row,
-    built: &Result<ValidatorSchema, SchemaError>,
-) -> Result<(), Fail> {
-    one_of(row.name, answer_text(alloc, built)?.as_str(), row.allowed)?;
-    match built {
-        Ok(schema) => holds(row.first.as_ref() == Some(schema), row.name),
-        Err(_) => Ok(()),
-    }
+/// Compares a schema with what the row wants, and with the row's own.
+fn check_schema(alloc: Global, row: &Row, schema: &ValidatorSchema) -> Result<(), Fail> {
+    one_of(row.name, shown(alloc, schema)?.as_str(), row.allowed)?;
+    holds(row.first.as_ref() == Some(schema), row.name)
 }
 
 /// Compares what is built of fragments with what the row wants.
 fn check_answer(alloc: Global, row: &Row, fragments: Vec<Fragment<RawName>>) -> Result<(), Fail> {
-    let built = build(alloc, fragments)?;
-    check_built(alloc, row, &built)
+    match build(alloc, fragments)? {
+        Ok(schema) => check_schema(alloc, row, &schema),
+        Err(refused) => one_of(
+            row.name,
+            refusal_text(alloc, refused)?.as_str(),
+            row.allowed,
+        ),
+    }
 }
 
 /// Compares the answer for each order of some fragments.
@@ -136,17 +99,17 @@ fn check_comes_back(alloc: Global, row: &Row) -> Result<(), Fail> {
 /// with a fragment for each declaration, and with one fragment for all. The schemas are equal too, and
 /// validation gives an equal one back, as does building what it is written back as.
 pub(crate) fn check_row(alloc: Global, name: &str, text: &str, allowed: &str) -> Result<(), Fail> {
-    let written = as_written(alloc, text)?;
+    let texts = written(alloc, text)?;
     let row = Row {
         name,
         allowed,
-        first: first_schema(alloc, &written)?,
+        first: first_schema(alloc, &texts)?,
     };
     check_comes_back(alloc, &row)?;
-    check_orders(alloc, &row, &written)?;
-    if written.is_empty() {
+    check_orders(alloc, &row, &texts)?;
+    if texts.is_empty() {
         return Ok(());
     }
-    check_orders(alloc, &row, &taken_apart(alloc, &written)?)?;
+    check_orders(alloc, &row, &taken_apart(alloc, &texts)?)?;
     check_together(alloc, &row, text)
 }

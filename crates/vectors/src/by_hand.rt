@@ -6,8 +6,7 @@
 //! - then ` > A,B` for descendants, and then ` : TYPE` for an attribute `a` or for the context of an action,
 //!   ` tags TYPE` for tags, or ` for A` for an action's principals, where `TYPE` is `Long`, `True`, `ext NAME` or the name of an entity type
 
-use crate::answers::{answer_text, sample_extensions, shown};
-use crate::questions::{answer, two_parts};
+use crate::answers::{answer_text, shown};
 use cedar_schema::below::{Eid, EntityType, NonEmpty};
 use cedar_schema::{
     AttributeType, Attributes, OpenTag, SchemaError, Type, ValidatorActionId, ValidatorEntityType,
@@ -15,7 +14,7 @@ use cedar_schema::{
 };
 use shorthand::checked::{holds, one_of, same};
 use shorthand::names::{NONE, entity_type, entity_types, name, uid, uids};
-use shorthand::parts;
+use shorthand::{parts, sample_extensions};
 use std::alloc::Global;
 use std::rc::Rc;
 use std::test::Fail;
@@ -92,7 +91,8 @@ fn external(alloc: Global, text: &str) -> Result<ValidatorEntityType, Fail> {
 
 /// The entity type of a text.
 fn type_item(alloc: Global, text: &str) -> Result<ValidatorEntityType, Fail> {
-    let (word, rest) = two_parts(text)?;
+    let (word, rest) = parts(text, " ");
+    let rest = rest.ok_or("no item")?;
     match word {
         "entity" => standard(alloc, rest),
         "enum" => enumerated(alloc, rest),
@@ -261,7 +261,7 @@ fn validated(alloc: Global, text: &str) -> Result<Result<ValidatorSchema, Schema
 
 /// Compares what validation answers of the schema of a text with the answers that are allowed.
 fn check_validated(alloc: Global, text: &str, allowed: &str) -> Result<(), Fail> {
-    let answer = answer_text(alloc, &validated(alloc, text)?)?;
+    let answer = answer_text(alloc, validated(alloc, text)?)?;
     one_of(text, answer.as_str(), allowed)
 }
 
@@ -303,11 +303,16 @@ fn validation_again_changes_nothing(rt: HostRuntime) -> Result<(), Fail> {
     Ok(())
 }
 
-/// Compares the lines of a copy of the schema of a text with its own.
+/// Compares a copy of the schema of a text, and its lines, with the schema's own.
 fn check_copied(alloc: Global, text: &str) -> Result<(), Fail> {
     let schema = put_together(alloc, text)?;
-    let copied = answer(alloc, &schema, "copy")?;
-    same(text, copied.as_str(), shown(alloc, &schema)?.as_str())
+    let copied = schema.clone()?;
+    holds(copied == schema, text)?;
+    same(
+        text,
+        shown(alloc, &copied)?.as_str(),
+        shown(alloc, &schema)?.as_str(),
+    )
 }
 
 #[test]

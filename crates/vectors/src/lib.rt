@@ -10,17 +10,7 @@ mod by_hand;
 #[cfg(test)]
 mod kinds;
 #[cfg(test)]
-mod known;
-#[cfg(test)]
-mod large;
-#[cfg(test)]
 mod orders;
-#[cfg(test)]
-mod places;
-#[cfg(test)]
-mod queries;
-#[cfg(test)]
-mod questions;
 #[cfg(test)]
 mod refusals;
 #[cfg(test)]
@@ -29,8 +19,6 @@ mod refused;
 mod reserved;
 #[cfg(test)]
 mod rows;
-#[cfg(test)]
-mod same;
 #[cfg(test)]
 mod tried;
 #[cfg(test)]

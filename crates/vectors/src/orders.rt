@@ -27,18 +27,6 @@ pub(crate) fn in_order<'t>(alloc: Global, texts: &[&'t str], number: usize) -> M
     Ok(ordered)
 }
 
-/// The fragments of a text, or none of the empty text.
-pub(crate) fn as_written(alloc: Global, text: &str) -> M<Vec<&str>> {
-    let mut fragments = Vec::new(alloc);
-    if text.is_empty() {
-        return Ok(fragments);
-    }
-    for fragment in text.split('|') {
-        fragments.push(fragment.trim())?;
-    }
-    Ok(fragments)
-}
-
 /// The declarations of some fragments, each as a fragment of its own.
 pub(crate) fn taken_apart<'t>(alloc: Global, fragments: &[&'t str]) -> M<Vec<&'t str>> {
     let mut declarations = Vec::new(alloc);

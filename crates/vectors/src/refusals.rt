@@ -106,8 +106,13 @@ fn contents(alloc: Global, refused: &SchemaError) -> M<String> {
 }
 
 /// The kind of a refusal and what it carries, after `refused: `.
-pub(crate) fn refusal_text(alloc: Global, refused: &SchemaError) -> M<String> {
+fn kind_and_contents(alloc: Global, refused: &SchemaError) -> M<String> {
     let contents = contents(alloc, refused)?;
     let kind = refused.kind();
     Ok(format!(in alloc; "refused: {kind} {contents}")?)
+}
+
+/// The text of a refusal, which goes with it.
+pub(crate) fn refusal_text(alloc: Global, refused: SchemaError) -> M<String> {
+    kind_and_contents(alloc, &refused)
 }

@@ -1,35 +1,26 @@
 //! Declarations in reserved namespaces, which no fragment of plain data can hold.
 
-use crate::answers::{answer_text, sample_extensions};
+use crate::answers::answer_text;
 use crate::orders::taken_apart;
 use crate::written_back::comes_back;
-use cedar_schema::below::InternalName;
 use cedar_schema::json_schema::ConditionalName;
 use cedar_schema::namespace::{ValidatorNamespaceDef, ValidatorSchemaFragment};
 use cedar_schema::{SchemaError, ValidatorSchema};
 use shorthand::checked::{holds, one_of};
-use shorthand::names::internal_name;
-use shorthand::{declare, nothing, placed};
+use shorthand::names::internal_namespace;
+use shorthand::{declare, nothing, placed, sample_extensions};
 use std::alloc::Global;
 use std::test::Fail;
 
 /// A fragment whose names say what they may stand for.
 type Conditional = ValidatorSchemaFragment<ConditionalName, ConditionalName>;
 
-/// The namespace of a text, which may be reserved, or None for no text.
-fn within(alloc: Global, text: &str) -> Result<Option<InternalName>, Fail> {
-    if text.is_empty() {
-        return Ok(None);
-    }
-    Ok(Some(internal_name(alloc, text)?))
-}
-
 /// The fragment of one declaration in its namespace, or its refusal.
 fn conditional(alloc: Global, text: &str) -> Result<Result<Conditional, SchemaError>, Fail> {
     let (namespace, declaration) = placed(text);
     let mut definition = nothing(alloc);
     declare(alloc, &mut definition, declaration.ok_or("no declaration")?)?;
-    let namespace = within(alloc, namespace)?;
+    let namespace = internal_namespace(alloc, namespace)?;
     match ValidatorNamespaceDef::from_namespace_definition(alloc, namespace, definition) {
         Ok(definition) => { Ok(Ok(ValidatorSchemaFragment::from_namespaces(alloc, [definition])?)) }
         Err(refused) => Ok(Err(refused)),
@@ -51,9 +42,6 @@ fn conditionals(alloc: Global, text: &str) -> Result<Result<Vec<Conditional>, Sc
 /// What is built of the declarations of a text, each in a fragment of its own.
 fn build_each(alloc: Global, text: &str) -> Result<Result<ValidatorSchema, SchemaError>, Fail> {
     let extensions = sample_extensions(alloc)?;
-    if !extensions.type_names_fit() {
-        return Err(Fail::from("unfit extension types"));
-    }
     match conditionals(alloc, text)? {
         Ok(fragments) => Ok(ValidatorSchema::from_schema_fragments(alloc, fragments, &extensions)),
         Err(refused) => Ok(Err(refused)),
@@ -108,15 +96,19 @@ const ROWS: &[(&str, &str)] = &[
     ("N: entity X", "entity N::X standard"),
 ];
 
-/// Compares what is built of the declarations of a text with the answers that are allowed; a schema comes back when it is
-/// written back, and validated.
-fn check_reserved(alloc: Global, text: &str, allowed: &str) -> Result<(), Fail> {
-    let built = build_each(alloc, text)?;
-    one_of(text, answer_text(alloc, &built)?.as_str(), allowed)?;
-    match &built {
-        Ok(schema) => holds(comes_back(alloc, schema)?, text),
-        Err(_) => Ok(()),
+/// Whether what is built of the declarations of a text is refused, or comes back when it is written back, and validated.
+fn is_refused_or_comes_back(alloc: Global, text: &str) -> Result<bool, Fail> {
+    match build_each(alloc, text)? {
+        Ok(schema) => comes_back(alloc, &schema),
+        Err(_) => Ok(true),
     }
+}
+
+/// Compares what is built of the declarations of a text with the answers that are allowed.
+fn check_reserved(alloc: Global, text: &str, allowed: &str) -> Result<(), Fail> {
+    let answer = answer_text(alloc, build_each(alloc, text)?)?;
+    one_of(text, answer.as_str(), allowed)?;
+    holds(is_refused_or_comes_back(alloc, text)?, text)
 }
 
 #[test]

@@ -1,10 +1,11 @@
 //! Schemas that are written back as fragments, and built again.
 
-use crate::answers::{build, sample_extensions, schema_of};
+use crate::answers::build;
 use crate::by_hand::put_together;
 use cedar_schema::below::Memory;
 use cedar_schema::{ValidatorSchema, WriteBackFault};
 use shorthand::checked::{holds, same};
+use shorthand::{fragments_of, sample_extensions, written};
 use std::alloc::Global;
 use std::test::Fail;
 
@@ -33,6 +34,12 @@ pub(crate) fn comes_back(alloc: Global, schema: &ValidatorSchema) -> Result<bool
     Ok(validated == *schema && outcome(alloc, schema)? == "equal")
 }
 
+/// How what is built again of the schema of a text compares with it.
+fn outcome_of(alloc: Global, text: &str) -> Result<&'static str, Fail> {
+    let fragments = fragments_of(alloc, &written(alloc, text)?)?;
+    outcome(alloc, &build(alloc, fragments)??)
+}
+
 /// Schemas that are built, in some of which a name without a namespace would name another one where it is written,
 /// each before the nearest that is written back: without the other name in the namespace, or with the type elsewhere.
 const BUILT: &[(&str, &str)] = &[
@@ -57,8 +64,7 @@ const BUILT: &[(&str, &str)] = &[
 #[test]
 fn names_that_would_name_others_are_not_written(rt: HostRuntime) -> Result<(), Fail> {
     for (text, wanted) in BUILT {
-        let schema = schema_of(rt.alloc(), text)?;
-        same(text, outcome(rt.alloc(), &schema)?, wanted)?;
+        same(text, outcome_of(rt.alloc(), text)?, wanted)?;
     }
     Ok(())
 }

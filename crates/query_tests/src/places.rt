@@ -52,26 +52,25 @@ fn in_record(ty: Option<&Type>, name: &str) -> Result<Option<Loc>, Fail> {
     }
 }
 
-/// Where an attribute is that is listed of some types.
+/// Where an attribute is that is listed of a type.
 fn listed(
     alloc: Global,
     schema: &ValidatorSchema,
-    types: &str,
+    ty: &Type,
     name: &str,
 ) -> Result<Option<Loc>, Fail> {
-    let listed = type_of(alloc, types)?.all_attributes(alloc, schema)?;
+    let listed = ty.all_attributes(alloc, schema)?;
     Ok(listed.get_attr(name).ok_or("no attribute")?.loc)
 }
 
-/// Where an attribute is that is looked up of some types.
+/// Where an attribute is that is looked up of a type.
 fn looked_up(
     alloc: Global,
     schema: &ValidatorSchema,
-    types: &str,
+    ty: &Type,
     name: &str,
 ) -> Result<Option<Loc>, Fail> {
-    let ty = type_of(alloc, types)?;
-    let found = Type::lookup_attribute_type(alloc, schema, &ty, name)?;
+    let found = Type::lookup_attribute_type(alloc, schema, ty, name)?;
     Ok(found.ok_or("no attribute")?.loc)
 }
 
@@ -92,8 +91,8 @@ fn inner_loc(
         ),
         "tags" => in_record(declared(alloc, schema, outer)?.tag_type(), name),
         "context" => in_record(action(alloc, schema, outer)?.context(), name),
-        "listed" => listed(alloc, schema, outer, name),
-        "looked_up" => looked_up(alloc, schema, outer, name),
+        "listed" => listed(alloc, schema, &type_of(alloc, outer)?, name),
+        "looked_up" => looked_up(alloc, schema, &type_of(alloc, outer)?, name),
         _ => Err(unknown(thing)),
     }
 }

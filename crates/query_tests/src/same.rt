@@ -1,6 +1,6 @@
 //! Declarations whose schemas are equal, and such whose schemas aren't, though their lines may be.
 
-use crate::answers::schema_of;
+use crate::schemas::schema_of;
 use shorthand::checked::holds;
 use std::alloc::Global;
 use std::test::Fail;

@@ -1,7 +1,7 @@
 //! Declarations in large numbers.
 
-use crate::answers::{schema_of, shown};
 use crate::questions::answer;
+use crate::schemas::{schema_of, shown};
 use cedar_schema::ValidatorSchema;
 use cedar_schema::below::M;
 use shorthand::checked::{holds, same};
@@ -45,7 +45,7 @@ fn shared_common_types(alloc: Global, depth: u32) -> M<String> {
 #[test]
 fn a_long_chain_of_common_types_is_written_out(rt: HostRuntime) -> Result<(), Fail> {
     let alloc = rt.alloc();
-    let text = chain_of_common_types(alloc, 30_000)?;
+    let text = chain_of_common_types(alloc, 10_000)?;
     let shown = shown(alloc, &schema_of(alloc, text.as_str())?)?;
     same("T0", shown.as_str(), "attr U a: Long; entity U standard")
 }

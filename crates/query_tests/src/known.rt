@@ -53,6 +53,25 @@ fn looked_up(alloc: Global, schema: &ValidatorSchema, ty: &Type, name: &str) -> 
     }
 }
 
+/// The answer to a question of what is known of a type, and of an attribute of a name.
+fn of_type(
+    alloc: Global,
+    schema: &ValidatorSchema,
+    word: &str,
+    ty: &Type,
+    name: &str,
+) -> Result<String, Fail> {
+    match word {
+        "known" => known(alloc, schema, ty),
+        "look_up" => Ok(looked_up(alloc, schema, ty, name)?),
+        "listed" => Ok(ty.all_attributes(alloc, schema)?.to_string(alloc)?),
+        "may_have" => Ok(Type::may_have_attr(schema, ty, name).to_string(alloc)?),
+        "may_have_tags" => Ok(Type::may_have_tags(schema, ty).to_string(alloc)?),
+        "are_declared" => Ok(Type::has_declared_entity_types(schema, ty).to_string(alloc)?),
+        _ => Err(unknown(word)),
+    }
+}
+
 /// The answer to a question of what is known of types.
 pub(crate) fn of_types(
     alloc: Global,
@@ -62,15 +81,7 @@ pub(crate) fn of_types(
 ) -> Result<String, Fail> {
     let (types, name) = text.split_once(' ').unwrap_or((text, ""));
     let ty = type_of(alloc, types)?;
-    match word {
-        "known" => known(alloc, schema, &ty),
-        "look_up" => Ok(looked_up(alloc, schema, &ty, name)?),
-        "listed" => Ok(ty.all_attributes(alloc, schema)?.to_string(alloc)?),
-        "may_have" => Ok(Type::may_have_attr(schema, &ty, name).to_string(alloc)?),
-        "may_have_tags" => Ok(Type::may_have_tags(schema, &ty).to_string(alloc)?),
-        "are_declared" => Ok(Type::has_declared_entity_types(schema, &ty).to_string(alloc)?),
-        _ => Err(unknown(word)),
-    }
+    of_type(alloc, schema, word, &ty, name)
 }
 
 /// The type of the literal of a uid.

@@ -15,13 +15,14 @@
 
 ghost use Rattle.std.specs.Iterator.{IsFinite};
 
-use crate::answers::{sample_extensions, shown};
 use crate::known::{of_literal, of_types};
 use crate::places::{common_types, lacking_at, namespaces, place};
+use crate::schemas::shown;
 use cedar_schema::below::{Entity, EntityType, EntityUID, M, ValidationMode};
 use cedar_schema::{CompleteError, IncompleteSchemaError, UnresolvedDeclaration, ValidatorSchema};
 use schema_lines::uid_text;
 use shorthand::names::{entity_type, entity_types, uid, uids};
+use shorthand::sample_extensions;
 use std::alloc::Global;
 use std::collections::hash_set;
 use std::test::Fail;

@@ -1,12 +1,12 @@
 //! What schemas answer to questions.
 
-use crate::answers::{sample_extensions, schema_of};
 use crate::questions::answer;
+use crate::schemas::schema_of;
 use cedar_schema::below::Loc;
 use cedar_schema::{LocatedCommonType, LocatedType, Type, ValidatorSchema};
 use shorthand::checked::{holds, one_of, same};
-use shorthand::fragment_of;
 use shorthand::names::{entity_type, internal_name};
+use shorthand::{fragment_of, sample_extensions};
 use std::alloc::Global;
 use std::test::Fail;
 

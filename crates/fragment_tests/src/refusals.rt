@@ -1,0 +1,10 @@
+//! Refusals as texts.
+
+use cedar_below::{M, Memory};
+use cedar_declared::SchemaError;
+use std::alloc::Global;
+
+/// What is printed of a refusal.
+pub(crate) fn refusal_text(alloc: Global, refused: SchemaError) -> M<String> {
+    refused.to_string(alloc).map_err(|_| Memory)
+}

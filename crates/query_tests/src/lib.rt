@@ -1,0 +1,17 @@
+//! What schemas answer to questions that texts put to them, and which schemas are equal.
+#![tactic(auto)]
+
+#[cfg(test)]
+mod known;
+#[cfg(test)]
+mod large;
+#[cfg(test)]
+mod places;
+#[cfg(test)]
+mod queries;
+#[cfg(test)]
+mod questions;
+#[cfg(test)]
+mod same;
+#[cfg(test)]
+mod schemas;
