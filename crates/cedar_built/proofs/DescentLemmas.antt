@@ -1,19 +1,16 @@
 -- Chains of edges between entity types, and descent in the bag.
-use Rattle.std.proofs.Common.{◌≡◌, List, map, sym, subst, ◌∙◌, refl, Contains}
+use Rattle.std.proofs.Common.{◌≡◌, List, map, sym, ◌∙◌, refl, Contains}
 use Rattle.cedar_below.proofs.Chains.{joined}
+use Rattle.cedar_below.proofs.Names.{entity_type_eq-same}
 use Rattle.cedar_below.specs.Chain.{Chain, one, more}
 use Rattle.cedar_below.specs.EntityType.{type_name}
 use Rattle.cedar_below.specs.PlainName.{PlainName}
 use Rattle.cedar_below.specs.declared.entity_type.EntityType.{EntityType}
 use Rattle.cedar_below.specs.declared.extension.Extensions.{Extensions}
 use Rattle.cedar_below.specs.declared.internal_name.InternalName.{InternalName}
-use Rattle.cedar_declared.proofs.OccurrenceLemmas.{Contains-image}
 use Rattle.cedar_declared.specs.Bag.{Bag}
 use Rattle.cedar_declared.specs.Descent.{IsDescendant}
-use Rattle.cedar_declared.specs.Settled.{reference_to_one}
 use Rattle.cedar_fragments.specs.declared.namespace.entity_types.EntityTypeFragment.{EntityTypeFragment}
-use Rattle.cedar_names.specs.Reference.{Reference}
-use Rattle.cedar_names.specs.declared.json_schema.reference_type.ReferenceType.TheVariants.{Entity}
 use Rattle.cedar_built.proofs.ParentLemmas.{edge_has_parent, parent_edge}
 use Rattle.cedar_gathered.specs.Gathered.{gathered_entities}
 use Rattle.cedar_built.specs.Nodes.{IsAbove}
@@ -23,10 +20,9 @@ use Rattle.cedar_written.specs.declared.known_types.KnownTypes.{KnownTypes}
 
 -- an edge between entity types of the same names is one
 pub edge_above : (edges : List (EntityType × EntityType)) (edge : EntityType × EntityType) (upper lower : EntityType)
-    → Contains edges edge → type_name edge.0 ≡ type_name lower → type_name edge.1 ≡ type_name upper → IsAbove edges upper lower
-edge_above edges edge upper lower among below above =
-    let P : PlainName × Reference → Type 0 = Contains (map plain_edge edges) in
-    subst P (λ i. (below i, reference_to_one Entity (above i))) (Contains-image plain_edge edges edge among)
+    → Contains edges edge → type_name edge.0 ≡ type_name upper → type_name edge.1 ≡ type_name lower → IsAbove edges upper lower
+edge_above edges edge upper lower among above below =
+    (edge, among, (entity_type_eq-same edge.0 upper).1 above, (entity_type_eq-same edge.1 lower).1 below)
 
 module _ (bag : Bag) (extensions : Extensions) (declared : List (EntityType × EntityTypeFragment InternalName))
     (known : KnownTypes) (ready : IsReady bag extensions declared known) (edges : List (EntityType × EntityType))
@@ -44,10 +40,10 @@ module _ (bag : Bag) (extensions : Extensions) (declared : List (EntityType × E
       → upper ≡ type_name key → (ty : EntityType) × (type_name ty ≡ lower) × Chain (IsAbove edges) key ty
   descends_by_chain {lower = lower} {upper = upper} (one step) key is =
       let found = parent_edge bag extensions declared known ready edges are lower upper step in
-      (found.0.0, found.2, one (edge_above edges found.0 key found.0.0 found.1 refl (found.3 ∙ is)))
+      (found.0.1, found.3, one (edge_above edges found.0 key found.0.1 found.1 (found.2 ∙ is) refl))
   descends_by_chain {lower = lower} (more {b = between} step rest) key is =
       let above = descends_by_chain rest key is in
       let found = parent_edge bag extensions declared known ready edges are lower between step in
-      let last : Chain (IsAbove edges) above.0 found.0.0 =
-      one (edge_above edges found.0 above.0 found.0.0 found.1 refl (found.3 ∙ sym above.1)) in
-      (found.0.0, found.2, joined above.2 last)
+      let last : Chain (IsAbove edges) above.0 found.0.1 =
+      one (edge_above edges found.0 above.0 found.0.1 found.1 (found.2 ∙ sym above.1) refl) in
+      (found.0.1, found.3, joined above.2 last)

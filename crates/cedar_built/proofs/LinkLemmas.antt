@@ -1,266 +1,14 @@
--- Entity types that are linked one edge after another, and what is checked of the links.
-use Rattle.std.proofs.Common.{◌≡◌, ◌⊎◌, ◌↔◌, ◌||◌, Bool, true, false, cond, IsTrue, List, [], ◌∷◌, ◌++◌, Option, None, Some, IsSome, IsSomeAnd, HashMap, is_some, Result, Ok, Err, OnOk, map, ap, sym, subst, ◌∙◌, refl, inl, inr, ⊎_elim, arith, append_assoc, Contains}
-use Rattle.std.proofs.lemmas.Bool.{false≢true, cond-true, cond-false}
-use Rattle.std.proofs.lemmas.List.{append-nil, map-append}
-use Rattle.std.proofs.lemmas.List.Elements.{Contains-append_cases, Contains-append_left, Contains-append_right}
-use Rattle.cedar_below.proofs.Chains.{refined}
-use Rattle.cedar_below.proofs.Lists.{Contains-preimage}
-use Rattle.cedar_below.proofs.Names.{entity_type_eq-same}
-use Rattle.cedar_below.specs.Chain.{Chain, one}
-use Rattle.cedar_below.specs.EntityType.{type_name}
-use Rattle.cedar_below.specs.PlainName.{PlainName}
+-- Entity types that are linked, and what is checked of the links.
+use Rattle.std.proofs.Common.{◌≡◌, ◌↔◌, List, Option, None, Some, IsSome, HashMap, sym, subst, inr, Contains}
+use Rattle.cedar_below.specs.Chain.{Chain}
 use Rattle.cedar_below.specs.contracts.entity_type.EntityTypeEq.TheImpl as entity_type_equal
-use Rattle.cedar_below.specs.contracts.entity_type.EntityTypePartialEq.TheImpl as entity_type_eq
 use Rattle.cedar_below.specs.declared.entity_type.EntityType.{EntityType}
 use Rattle.cedar_closure.proofs.Numbers.{get_alike}
-use Rattle.cedar_declared.proofs.OccurrenceLemmas.{Contains-single}
 use Rattle.cedar_declared.specs.EntityTypeKind.{external_kind}
 use Rattle.cedar_declared.specs.Fault.{Fault}
-use Rattle.cedar_declared.specs.Settled.{reference_to_one}
-use Rattle.cedar_entities.specs.ValidatorEntityType.{PlainEntityType, entity_type_of}
+use Rattle.cedar_entities.specs.ValidatorEntityType.{PlainEntityType}
 use Rattle.cedar_entities.specs.declared.entity_type.ValidatorEntityType.{ValidatorEntityType}
-use Rattle.cedar_names.specs.Reference.{Reference}
-use Rattle.cedar_names.specs.declared.json_schema.reference_type.ReferenceType.TheVariants.{Entity}
-use Rattle.cedar_built.proofs.PutLemmas.{node_alike}
-use Rattle.cedar_built.specs.Nodes.{AreLinked, AreTheSame, IsAbove, IsEdgeSound, IsEnumerated, IsEnumeratedAt, IsExternalAt, IsLinkFault, IsLinkingFault, LeadsTo, has_descendant, node_at}
-use Rattle.cedar_built.specs.Steps.{plain_edge}
-
--- whether entity types are equal
-abbrev pub same_type : EntityType → EntityType → Bool
-same_type = (entity_type_eq.ghosts).eq
-
--- what stands at a key is the same as itself
-pub same_itself : (o : Option ValidatorEntityType) → AreTheSame o o
-same_itself None = tt
-same_itself (Some it) = refl
-
--- what is the same as what is the same as another is the same as that
-pub same_onwards : (o p q : Option ValidatorEntityType) → AreTheSame o p → AreTheSame p q → AreTheSame o q
-same_onwards None None q first second = second
-same_onwards None (Some it) q first second = absurd first
-same_onwards (Some it) None q first second = absurd first
-same_onwards (Some it) (Some other) None first second = absurd second
-same_onwards (Some it) (Some other) (Some last) first second = first ∙ second
-
--- what stands at a key before and after stands there or not alike
-pub same_some : (o p : Option ValidatorEntityType) → AreTheSame o p → IsSome p → IsSome o
-same_some None None same there = there
-same_some None (Some it) same there = absurd same
-same_some (Some it) None same there = absurd same
-same_some (Some it) (Some other) same there = refl
-
--- a disjunction that holds, holds for one of two reasons
-or_cases : (b c : Bool) → IsTrue (b || c) → IsTrue b ⊎ IsTrue c
-or_cases true c is = inl refl
-or_cases false c is = inr is
-
--- and for each of them
-or_left : (b c : Bool) → IsTrue b → IsTrue (b || c)
-or_left true c is = refl
-or_left false c is = absurd (false≢true is)
-
-or_right : (b c : Bool) → IsTrue c → IsTrue (b || c)
-or_right true c is = refl
-or_right false c is = is
-
-module _ {S : Type 0} (before after : HashMap EntityType ValidatorEntityType S) (upper : EntityType)
-    (old new : ValidatorEntityType) (found : node_at before upper ≡ Some old)
-    (updated : (key : EntityType) → node_at after key ≡ cond (same_type upper key) (Some new) (node_at before key)) where
-  -- what stands at the key of an updated node, and at another
-  at_upper : (key : EntityType) → same_type upper key ≡ true → (node_at before key ≡ Some old) × (node_at after key ≡ Some new)
-  at_upper key same = (
-    sym (get_alike entity_type_equal.Laws.laws-law before upper key same) ∙ found,
-    updated key ∙ cond-true (same_type upper key) (Some new) (node_at before key) same,
-  )
-
-  at_other : (key : EntityType) → same_type upper key ≡ false → node_at after key ≡ node_at before key
-  at_other key apart = updated key ∙ cond-false (same_type upper key) (Some new) (node_at before key) apart
-
-  -- each node stays the same, where the updated one does
-  pub updated_same : entity_type_of old ≡ entity_type_of new → (key : EntityType) → AreTheSame (node_at before key) (node_at after key)
-  updated_same alike key = by (same_type upper key) refl where
-    by : (b : Bool) → same_type upper key ≡ b → AreTheSame (node_at before key) (node_at after key)
-    by true same =
-        let both = at_upper key same in
-        let P : Option ValidatorEntityType → Type 0 = λ o. AreTheSame o (node_at after key) in
-        let Q : Option ValidatorEntityType → Type 0 = AreTheSame (Some old) in
-        subst P (sym both.0) (subst Q (sym both.1) alike)
-    by false apart =
-        let P : Option ValidatorEntityType → Type 0 = AreTheSame (node_at before key) in
-        subst P (sym (at_other key apart)) (same_itself (node_at before key))
-
-  module _ (lower : EntityType)
-      (added : (to : EntityType) → has_descendant new to ≡ (same_type lower to || has_descendant old to)) where
-    -- the nodes lead where they led, and the upper entity type leads to the lower
-    pub updated_leads : (from to : EntityType) → LeadsTo after from to
-        ↔ (LeadsTo before from to ⊎ (IsSome (node_at before from) × (type_name from ≡ type_name upper) × (type_name to ≡ type_name lower)))
-    updated_leads from to = by (same_type upper from) refl where
-      More : Type 0
-      More = IsSome (node_at before from) × (type_name from ≡ type_name upper) × (type_name to ≡ type_name lower)
-
-      by : (b : Bool) → same_type upper from ≡ b → LeadsTo after from to ↔ (LeadsTo before from to ⊎ More)
-      by true same =
-          let both = at_upper from same in
-          let P : Option ValidatorEntityType → Type 0 = λ o. IsSomeAnd o (λ node. IsTrue (has_descendant node to)) in (
-            λ leads.
-                let has : IsTrue (has_descendant new to) = subst P both.1 leads in
-                ⊎_elim
-                (λ here. inr (
-                  ap is_some both.0,
-                  sym ((entity_type_eq-same upper from).0 same),
-                  sym ((entity_type_eq-same lower to).0 here),
-                ))
-                (λ there. inl (subst P (sym both.0) there))
-                (or_cases (same_type lower to) (has_descendant old to) (sym (added to) ∙ has)),
-            λ either.
-                let has : IsTrue (same_type lower to || has_descendant old to) =
-                ⊎_elim
-                (λ there. or_right (same_type lower to) (has_descendant old to) (subst P both.0 there))
-                (λ here. or_left (same_type lower to) (has_descendant old to) ((entity_type_eq-same lower to).1 (sym here.2)))
-                either in
-                subst P (sym both.1) (added to ∙ has),
-          )
-      by false apart =
-          let P : Option ValidatorEntityType → Type 0 = λ o. IsSomeAnd o (λ node. IsTrue (has_descendant node to)) in (
-            λ leads. inl (subst P (at_other from apart) leads),
-            λ either. ⊎_elim
-                (λ there. subst P (sym (at_other from apart)) there)
-                (λ here. absurd (false≢true (sym apart ∙ (entity_type_eq-same upper from).1 (sym here.1))))
-                either,
-          )
-
--- references to one name each are the same where the names are
-one_name : {a b : PlainName} → reference_to_one Entity a ≡ reference_to_one Entity b → a ≡ b
-one_name same = let names = ap (λ (each : Reference). each.possibilities) same in cc
-
--- what holds on success, so does what follows from it
-pub on_ok : {A E P Q : Type 0} (r : Result A E) → OnOk r P → (P → Q) → OnOk r Q
-on_ok (Ok x) holds to = to holds
-on_ok (Err e) holds to = tt
-
-module _ {S : Type 0} (before after : HashMap EntityType ValidatorEntityType S) (upper lower : EntityType)
-    (same : (key : EntityType) → node_at after key ≡ node_at before key) (none : node_at before upper ≡ None) where
-  -- where the upper entity type doesn't stand and nothing changes, the nodes lead where they led
-  pub unchanged_leads : (from to : EntityType) → LeadsTo after from to
-      ↔ (LeadsTo before from to ⊎ (IsSome (node_at before from) × (type_name from ≡ type_name upper) × (type_name to ≡ type_name lower)))
-  unchanged_leads from to =
-      let P : Option ValidatorEntityType → Type 0 = λ o. IsSomeAnd o (λ node. IsTrue (has_descendant node to)) in (
-        λ leads. inl (subst P (same from) leads),
-        λ either. ⊎_elim
-            (λ there. subst P (sym (same from)) there)
-            (λ here.
-            let alike : node_at before upper ≡ node_at before from =
-            get_alike entity_type_equal.Laws.laws-law before upper from ((entity_type_eq-same upper from).1 (sym here.1)) in
-            absurd (false≢true (ap is_some (sym none ∙ alike) ∙ here.0)))
-            either,
-      )
-
--- with one more edge, the one is above the other where it was, or by that edge
-above_cases : (edges : List (EntityType × EntityType)) (lower upper from to : EntityType)
-    → IsAbove (edges ++ (lower, upper) ∷ []) from to
-    → IsAbove edges from to ⊎ ((type_name from ≡ type_name upper) × (type_name to ≡ type_name lower))
-above_cases edges lower upper from to above =
-    let P : List (PlainName × Reference) → Type 0 = λ parents. Contains parents (plain_edge (to, from)) in
-    ⊎_elim
-    (λ before. inl before)
-    (λ last.
-    let same = Contains-single (plain_edge (lower, upper)) (plain_edge (to, from)) last in
-    inr (one_name (ap (λ (each : PlainName × Reference). each.1) (sym same)), ap (λ (each : PlainName × Reference). each.0) (sym same)))
-    (Contains-append_cases (map plain_edge edges) (plain_edge (lower, upper) ∷ []) (plain_edge (to, from))
-    (subst P (map-append plain_edge edges ((lower, upper) ∷ [])) above))
-
--- and the other way round
-above_kept : (edges : List (EntityType × EntityType)) (lower upper from to : EntityType) → IsAbove edges from to
-    → IsAbove (edges ++ (lower, upper) ∷ []) from to
-above_kept edges lower upper from to above =
-    let P : List (PlainName × Reference) → Type 0 = λ parents. Contains parents (plain_edge (to, from)) in
-    subst P (sym (map-append plain_edge edges ((lower, upper) ∷ [])))
-    (Contains-append_left (map plain_edge edges) (plain_edge (lower, upper) ∷ []) (plain_edge (to, from)) above)
-
-above_new : (edges : List (EntityType × EntityType)) (lower upper from to : EntityType) → type_name from ≡ type_name upper
-    → type_name to ≡ type_name lower → IsAbove (edges ++ (lower, upper) ∷ []) from to
-above_new edges lower upper from to above below =
-    let P : List (PlainName × Reference) → Type 0 = λ parents. Contains parents (plain_edge (to, from)) in
-    subst P (sym (map-append plain_edge edges ((lower, upper) ∷ [])))
-    (Contains-append_right (map plain_edge edges) (plain_edge (lower, upper) ∷ []) (plain_edge (to, from))
-    (0, omega arith, (λ i. (sym below i, reference_to_one Entity (sym above i)))))
-
--- some edges are added, and others are left
-pub record LinkedSoFar {S : Type 0} (all : List (EntityType × EntityType)) (before nodes : HashMap EntityType ValidatorEntityType S)
-    (left : List (EntityType × EntityType)) : Type 0 where
-  pub done : List (EntityType × EntityType)
-  pub split : all ≡ done ++ left
-  pub same : (key : EntityType) → AreTheSame (node_at before key) (node_at nodes key)
-  pub leads : (from to : EntityType) → LeadsTo nodes from to
-      ↔ (LeadsTo before from to ⊎ (IsSome (node_at before from) × IsAbove done from to))
-
-module _ {S : Type 0} (all : List (EntityType × EntityType)) (before : HashMap EntityType ValidatorEntityType S) where
-  -- at first none is
-  pub linked_none : (left : List (EntityType × EntityType)) → left ≡ all → LinkedSoFar all before before left
-  linked_none left same = record {
-    done = [];
-    split = sym same;
-    same = λ key. same_itself (node_at before key);
-    leads = λ from to. (λ there. inl there, λ either. ⊎_elim (λ there. there) (λ none. absurd (omega (arith, none.1.1))) either);
-  }
-
-  -- one more is
-  pub linked_more : (old new : HashMap EntityType ValidatorEntityType S) (left rest : List (EntityType × EntityType))
-      (lower upper : EntityType) → left ≡ (lower, upper) ∷ rest
-      → ((key : EntityType) → AreTheSame (node_at old key) (node_at new key))
-      → ((from to : EntityType) → LeadsTo new from to
-      ↔ (LeadsTo old from to ⊎ (IsSome (node_at old from) × (type_name from ≡ type_name upper) × (type_name to ≡ type_name lower))))
-      → LinkedSoFar all before old left → LinkedSoFar all before new rest
-  linked_more old new left rest lower upper is same leads so_far = record {
-    done = so_far.done ++ (lower, upper) ∷ [];
-    split = so_far.split ∙ (ap (λ others. so_far.done ++ others) is ∙ sym (append_assoc so_far.done ((lower, upper) ∷ []) rest));
-    same = λ key. same_onwards (node_at before key) (node_at old key) (node_at new key) (so_far.same key) (same key);
-    leads = λ from to. (
-      λ there. ⊎_elim
-          (λ led. ⊎_elim
-          (λ first. inl first)
-          (λ done. inr (done.0, above_kept so_far.done lower upper from to done.1))
-          ((so_far.leads from to).0 led))
-          (λ here. inr (
-            same_some (node_at before from) (node_at old from) (so_far.same from) here.0,
-            above_new so_far.done lower upper from to here.1 here.2,
-          ))
-          ((leads from to).0 there),
-      λ either. (leads from to).1 (⊎_elim
-          (λ first. inl ((so_far.leads from to).1 (inl first)))
-          (λ above. ⊎_elim
-          (λ done. inl ((so_far.leads from to).1 (inr (above.0, done))))
-          (λ last. inr (
-            some_kept (node_at before from) (node_at old from) (so_far.same from) above.0,
-            last.0,
-            last.1,
-          ))
-          (above_cases so_far.done lower upper from to above.1))
-          either),
-    );
-  }
-    where
-      some_kept : (o p : Option ValidatorEntityType) → AreTheSame o p → IsSome o → IsSome p
-      some_kept None None same there = there
-      some_kept None (Some it) same there = absurd same
-      some_kept (Some it) None same there = absurd same
-      some_kept (Some it) (Some other) same there = refl
-
-  -- where none is left, all are
-  pub linked_all : (nodes : HashMap EntityType ValidatorEntityType S) (left : List (EntityType × EntityType)) → left ≡ []
-      → (so_far : LinkedSoFar all before nodes left) → so_far.done ≡ all
-  linked_all nodes left nothing so_far =
-      sym (so_far.split ∙ (ap (λ others. so_far.done ++ others) nothing ∙ append-nil so_far.done))
-
-module _ {S : Type 0} (all : List (EntityType × EntityType)) (before : HashMap EntityType ValidatorEntityType S) where
-  -- where none is left, the nodes lead where all edges do
-  pub linked_result : (nodes : HashMap EntityType ValidatorEntityType S) (left : List (EntityType × EntityType)) → left ≡ []
-      → LinkedSoFar all before nodes left → (from to : EntityType) → LeadsTo nodes from to
-      ↔ (LeadsTo before from to ⊎ (IsSome (node_at before from) × IsAbove all from to))
-  linked_result nodes left nothing so_far =
-      let P : List (EntityType × EntityType) → Type 0 = λ edges. (from to : EntityType) → LeadsTo nodes from to
-      ↔ (LeadsTo before from to ⊎ (IsSome (node_at before from) × IsAbove edges from to)) in
-      subst P (linked_all all before nodes left nothing so_far) so_far.leads
+use Rattle.cedar_built.specs.Nodes.{AreLinked, AreTheSame, IsAbove, IsEdgeSound, IsEnumerated, IsEnumeratedAt, IsExternalAt, IsLinkFault, IsLinkingFault, LeadsTo, node_at}
 
 -- an enumerated entity type stands at a key before and after
 enumerated_same : (o p : Option ValidatorEntityType) → AreTheSame o p → IsEnumeratedAt o ↔ IsEnumeratedAt p
@@ -280,69 +28,49 @@ external_same (Some it) (Some other) same =
     let P : PlainEntityType → Type 0 = λ each. each.kind ≡ external_kind in
     (λ there. subst P same there, λ there. subst P (sym same) there)
 
-module _ {S : Type 0} (edges : List (EntityType × EntityType)) (before added after : HashMap EntityType ValidatorEntityType S)
-    (none : (upper lower : EntityType) → ¬ LeadsTo before upper lower)
-    (sound : (edge : EntityType × EntityType) → Contains edges edge → IsEdgeSound before edge.0 edge.1)
-    (added_same : (key : EntityType) → AreTheSame (node_at before key) (node_at added key))
-    (added_leads : (from to : EntityType) → LeadsTo added from to
-    ↔ (LeadsTo before from to ⊎ (IsSome (node_at before from) × IsAbove edges from to)))
-    (closed_same : (key : EntityType) → AreTheSame (node_at added key) (node_at after key))
-    (closed_leads : (from to : EntityType) → LeadsTo after from to ↔ Chain (LeadsTo added) from to) where
-  -- an edge between these names is sound
+module _ {S : Type 0} (edges : List (EntityType × EntityType)) (before : HashMap EntityType ValidatorEntityType S)
+    (sound : (edge : EntityType × EntityType) → Contains edges edge → IsEdgeSound before edge.1 edge.0) where
+  -- an edge between entity types that are equal to its own is sound
   above_sound : (upper lower : EntityType) → IsAbove edges upper lower
       → IsSome (node_at before upper) × (¬ IsEnumeratedAt (node_at before lower))
   above_sound upper lower above =
-      let it = Contains-preimage plain_edge edges (plain_edge (lower, upper)) above in
-      let one = sound it.0 it.1 in
-      let below : type_name it.0.0 ≡ type_name lower = ap (λ (each : PlainName × Reference). each.0) it.2 in
-      let over : type_name it.0.1 ≡ type_name upper = one_name (ap (λ (each : PlainName × Reference). each.1) it.2) in
+      let edge = above.0 in
+      let one = sound edge above.1 in
       let P : Option ValidatorEntityType → Type 0 = IsSome in
       let Q : Option ValidatorEntityType → Type 0 = λ o. ¬ IsEnumeratedAt o in (
-        subst P (node_alike before it.0.1 upper over) one.stands,
-        subst Q (node_alike before it.0.0 lower below) one.not_enumerated,
+        subst P (get_alike entity_type_equal.Laws.laws-law before edge.0 upper above.2) one.stands,
+        subst Q (get_alike entity_type_equal.Laws.laws-law before edge.1 lower above.3) one.not_enumerated,
       )
 
-  -- what is the same before and after all
-  same_after_all : (key : EntityType) → AreTheSame (node_at before key) (node_at after key)
-  same_after_all key = same_onwards (node_at before key) (node_at added key) (node_at after key) (added_same key) (closed_same key)
+  -- the upper entity type of an edge stands in the map
+  pub upper_stands : (upper lower : EntityType) → IsAbove edges upper lower → IsSome (node_at before upper)
+  upper_stands upper lower above = (above_sound upper lower above).0
 
-  -- an edge is what an added node leads to
-  above_leads : (from to : EntityType) → IsAbove edges from to → LeadsTo added from to
-  above_leads from to above = (added_leads from to).1 (inr ((above_sound from to above).0, above))
+  module _ (after : HashMap EntityType ValidatorEntityType S)
+      (same : (key : EntityType) → AreTheSame (node_at before key) (node_at after key))
+      (leads : (upper lower : EntityType) → LeadsTo after upper lower ↔ Chain (IsAbove edges) upper lower) where
+    -- the nodes are linked, where no external one stands below an enumerated one
+    pub are_linked : ((upper lower : EntityType) → LeadsTo after upper lower → IsEnumeratedAt (node_at after upper)
+        → ¬ IsExternalAt (node_at after lower)) → AreLinked edges before after
+    are_linked checked = record {
+      same = same;
+      linked = leads;
+      uppers = upper_stands;
+      lowers = λ upper lower above. (above_sound upper lower above).1;
+      external_above = λ upper lower chain is_enumerated is_external.
+          checked upper lower ((leads upper lower).1 chain)
+          ((enumerated_same (node_at before upper) (node_at after upper) (same upper)).0 is_enumerated)
+          ((external_same (node_at before lower) (node_at after lower) (same lower)).0 is_external);
+    }
 
-  leads_above : (from to : EntityType) → LeadsTo added from to → IsAbove edges from to
-  leads_above from to leads =
-      ⊎_elim (λ there. absurd (none from to there)) (λ above. above.1) ((added_leads from to).0 leads)
-
-  -- after all a node leads where chains of edges do
-  leads_after : (upper lower : EntityType) → LeadsTo after upper lower ↔ Chain (IsAbove edges) upper lower
-  leads_after upper lower = (
-    λ leads. refined (λ k l step. one (leads_above k l step)) ((closed_leads upper lower).0 leads),
-    λ chain. (closed_leads upper lower).1 (refined (λ k l step. one (above_leads k l step)) chain),
-  )
-
-  -- the nodes are linked, where no external one stands below an enumerated one
-  pub are_linked : ((upper lower : EntityType) → LeadsTo after upper lower → IsEnumeratedAt (node_at after upper)
-      → ¬ IsExternalAt (node_at after lower)) → AreLinked edges before after
-  are_linked checked = record {
-    same = same_after_all;
-    linked = leads_after;
-    uppers = λ upper lower above. (above_sound upper lower above).0;
-    lowers = λ upper lower above. (above_sound upper lower above).1;
-    external_above = λ upper lower chain is_enumerated is_external.
-        checked upper lower ((leads_after upper lower).1 chain)
-        ((enumerated_same (node_at before upper) (node_at after upper) (same_after_all upper)).0 is_enumerated)
-        ((external_same (node_at before lower) (node_at after lower) (same_after_all lower)).0 is_external);
-  }
-
-  -- an external one below an enumerated one is refused truly
-  pub below_fault : (upper lower : EntityType) → LeadsTo after upper lower → IsEnumeratedAt (node_at after upper)
-      → IsExternalAt (node_at after lower) → (fault : Fault) → IsLinkFault lower upper fault → IsLinkingFault edges before fault
-  below_fault upper lower leads is_enumerated is_external fault is = inr (inr (
-    upper,
-    lower,
-    (leads_after upper lower).0 leads,
-    (enumerated_same (node_at before upper) (node_at after upper) (same_after_all upper)).1 is_enumerated,
-    (external_same (node_at before lower) (node_at after lower) (same_after_all lower)).1 is_external,
-    is,
-  ))
+    -- an external one below an enumerated one is refused truly
+    pub below_fault : (upper lower : EntityType) → LeadsTo after upper lower → IsEnumeratedAt (node_at after upper)
+        → IsExternalAt (node_at after lower) → (fault : Fault) → IsLinkFault lower upper fault → IsLinkingFault edges before fault
+    below_fault upper lower led is_enumerated is_external fault is = inr (inr (
+      upper,
+      lower,
+      (leads upper lower).0 led,
+      (enumerated_same (node_at before upper) (node_at after upper) (same upper)).1 is_enumerated,
+      (external_same (node_at before lower) (node_at after lower) (same lower)).1 is_external,
+      is,
+    ))

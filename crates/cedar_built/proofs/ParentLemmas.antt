@@ -1,6 +1,7 @@
 -- Parents of entity types, as edges and in the bag.
 use Rattle.std.proofs.Common.{◌≡◌, List, map, ap, sym, subst, refl, inl, ⊎_elim, Contains}
 use Rattle.cedar_below.proofs.Lists.{Contains-preimage}
+use Rattle.cedar_below.proofs.Names.{entity_type_eq-same}
 use Rattle.cedar_below.specs.EntityType.{type_name}
 use Rattle.cedar_below.specs.PlainName.{PlainName}
 use Rattle.cedar_below.specs.declared.entity_type.EntityType.{EntityType}
@@ -81,8 +82,13 @@ module _ (bag : Bag) (extensions : Extensions) (declared : List (EntityType × E
     pub edge_parent : (upper lower : EntityType) → IsAbove edges upper lower
         → IsParent bag (type_name lower) (reference_to_one Entity (type_name upper))
     edge_parent upper lower above =
-        let P : List (PlainName × Reference) → Type 0 = λ parents. Contains parents (plain_edge (lower, upper)) in
-        parent_in_bag (type_name lower) (reference_to_one Entity (type_name upper)) (subst P are above)
+        let edge = above.0 in
+        let P : PlainName × Reference → Type 0 = Contains (parents_in (gathered_entities declared)) in
+        let Q : List (PlainName × Reference) → Type 0 = λ parents. Contains parents (plain_edge edge) in
+        let named : plain_edge edge ≡ plain_edge (upper, lower) =
+        λ i. ((entity_type_eq-same edge.1 lower).0 above.3 i, reference_to_one Entity ((entity_type_eq-same edge.0 upper).0 above.2 i)) in
+        parent_in_bag (type_name lower) (reference_to_one Entity (type_name upper))
+        (subst P named (subst Q are (Contains-image plain_edge edges edge above.1)))
 
     -- the upper entity type of an edge is a parent of the lower
     pub edge_has_parent : (upper lower : EntityType) → IsAbove edges upper lower
@@ -96,7 +102,7 @@ module _ (bag : Bag) (extensions : Extensions) (declared : List (EntityType × E
 
     -- a parent of an entity type is so by an edge
     pub parent_edge : (lower upper : PlainName) → HasParent bag extensions lower upper → (edge : EntityType × EntityType)
-        × Contains edges edge × (type_name edge.0 ≡ lower) × (type_name edge.1 ≡ upper)
+        × Contains edges edge × (type_name edge.0 ≡ upper) × (type_name edge.1 ≡ lower)
     parent_edge lower upper parent =
         let P : List (PlainName × Reference) → Type 0 = λ parents. Contains parents (lower, parent.0) in
         let it = Contains-preimage plain_edge edges (lower, parent.0) (subst P (sym are) (bag_parent lower parent.0 parent.1)) in
@@ -104,6 +110,6 @@ module _ (bag : Bag) (extensions : Extensions) (declared : List (EntityType × E
         let resolves = subst Q (sym (ap (λ (each : PlainName × Reference). each.1) it.2)) parent.2 in (
           it.0,
           it.1,
-          ap (λ (each : PlainName × Reference). each.0) it.2,
           ⊎_elim (λ here. here.0) (λ later. absurd later.1) resolves,
+          ap (λ (each : PlainName × Reference). each.0) it.2,
         )

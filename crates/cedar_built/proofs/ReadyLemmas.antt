@@ -456,10 +456,10 @@ module _ (bag : Bag) (extensions : Extensions) (declared : List (EntityType × E
           (λ wanting. inl wanting)
           (λ others. inr (⊎_elim
           (λ one.
-          let above = edge_above edges one.0 one.0.1 one.0.0 one.1 refl refl in
+          let above = edge_above edges one.0 one.0.0 one.0.1 one.1 refl refl in
           ⊎_elim
-          (λ missing. subst P (sym missing.0) (undeclared_fault one.0.1 one.0.0 above missing.1))
-          (λ alone. subst P (sym alone.0) (enumerated_fault one.0.1 one.0.0 above alone.1))
+          (λ missing. subst P (sym missing.0) (undeclared_fault one.0.0 one.0.1 above missing.1))
+          (λ alone. subst P (sym alone.0) (enumerated_fault one.0.0 one.0.1 above alone.1))
           one.2)
           (λ below.
           let upper = at_enumerated below.0 below.3 in
@@ -558,18 +558,18 @@ module _ (bag : Bag) (extensions : Extensions) (declared : List (EntityType × E
                 → Contains (entry_names (declared_entities bag)) upper
             parent_declared name upper parent =
                 let edge = parent_edge bag extensions declared known ready edges are name upper parent in
-                let there = linked.uppers edge.0.1 edge.0.0 (edge_above edges edge.0 edge.0.1 edge.0.0 edge.1 refl refl) in
+                let there = linked.uppers edge.0.0 edge.0.1 (edge_above edges edge.0 edge.0.0 edge.0.1 edge.1 refl refl) in
                 let P : List Entry → PlainName → Type 0 = λ entries each. Contains (entry_names entries) each in
                 subst (λ entries. P entries upper) ready.entities
-                (subst (λ each. P Entries each) edge.3 (stands_declared edge.0.1 there))
+                (subst (λ each. P Entries each) edge.2 (stands_declared edge.0.0 there))
 
             no_enumerated_below : (lower upper : PlainName) (choices : List Text)
                 → Contains (declared_entities bag) (lower, enumerated choices) → ¬ HasParent bag extensions lower upper
             no_enumerated_below lower upper choices among parent =
                 let edge = parent_edge bag extensions declared known ready edges are lower upper parent in
                 let P : PlainName → Type 0 = λ each. Contains Entries (each, enumerated choices) in
-                linked.lowers edge.0.1 edge.0.0 (edge_above edges edge.0 edge.0.1 edge.0.0 edge.1 refl refl)
-                (enumerated_at edge.0.0 choices (subst P (sym edge.2) (among_gathered lower (enumerated choices) among)))
+                linked.lowers edge.0.0 edge.0.1 (edge_above edges edge.0 edge.0.0 edge.0.1 edge.1 refl refl)
+                (enumerated_at edge.0.1 choices (subst P (sym edge.3) (among_gathered lower (enumerated choices) among)))
 
             no_external_below : (lower upper : PlainName) (choices : List Text) → IsExternalType bag lower
                 → Contains (declared_entities bag) (upper, enumerated choices) → ¬ IsDescendant bag extensions lower upper

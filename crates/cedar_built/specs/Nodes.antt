@@ -1,5 +1,5 @@
 -- What the private steps promise of entity types as nodes of a graph, which stand in a map under their names.
-use Rattle.std.specs.Prelude.{◌≡◌, ◌⊎◌, ◌↔◌, Bool, List, [], ◌∷◌, Option, None, Some, IsSome, Contains, map}
+use Rattle.std.specs.Prelude.{◌≡◌, ◌⊎◌, ◌↔◌, Bool, List, [], ◌∷◌, Option, None, Some, IsSome, Contains}
 use Rattle.std.specs.HashMap.{HashMap, get}
 use Rattle.std.specs.HashSet.{contains}
 use Rattle.cedar_below.specs.Chain.{Chain}
@@ -7,13 +7,13 @@ use Rattle.cedar_below.specs.EntityType.{type_name}
 use Rattle.cedar_below.specs.PlainName.{PlainName}
 use Rattle.cedar_below.specs.contracts.entity_type.EntityTypePartialEq.TheImpl as entity_type_eq
 use Rattle.cedar_below.specs.declared.entity_type.EntityType.{EntityType}
-use Rattle.cedar_closure.specs.Edges.{HasEdge, AreAlike}
+use Rattle.cedar_closure.specs.Edges.{HasEdge, IsEdgeIn, AreAlike}
 use Rattle.cedar_declared.specs.EntityTypeKind.{EntityTypeKind, enumerated_kind, external_kind}
 use Rattle.cedar_declared.specs.Fault.{Fault, undeclared_entity_types, enumerated_below, external_below_enumerated, want_of_memory}
 use Rattle.cedar_entities.specs.ValidatorEntityType.{entity_type_of, descendant_names}
 use Rattle.cedar_entities.specs.declared.entity_type.ValidatorEntityType.{ValidatorEntityType}
 use Rattle.cedar_names.specs.EntityBody.{EntityBody}
-use Rattle.cedar_built.specs.Steps.{SaysTogether, IsWrittenKind, entry_names, plain_edge}
+use Rattle.cedar_built.specs.Steps.{SaysTogether, IsWrittenKind, entry_names}
 use Rattle.cedar_written.specs.declared.known_types.KnownTypes.{KnownTypes}
 
 -- the kind is enumerated
@@ -82,7 +82,7 @@ module _ {S : Type 0} where
 
 -- the one is a parent of the other by some edge
 abbrev pub IsAbove : List (EntityType × EntityType) → EntityType → EntityType → Type 0
-IsAbove edges upper lower = Contains (map plain_edge edges) (plain_edge (lower, upper))
+IsAbove = IsEdgeIn (entity_type_eq.ghosts).eq
 
 -- what stands at a key before and after are entity types that are the same but for their descendants, or none
 abbrev pub AreTheSame : Option ValidatorEntityType → Option ValidatorEntityType → Type 0
@@ -119,6 +119,6 @@ module _ {S : Type 0} where
   -- why edges are refused: some one is, or an external entity type stands below an enumerated one; or memory was wanting
   abbrev pub IsLinkingFault : List (EntityType × EntityType) → HashMap EntityType ValidatorEntityType S → Fault → Type 0
   IsLinkingFault edges nodes fault = (fault ≡ want_of_memory)
-      ⊎ (((edge : EntityType × EntityType) × Contains edges edge × IsEdgeFault nodes edge.0 edge.1 fault)
+      ⊎ (((edge : EntityType × EntityType) × Contains edges edge × IsEdgeFault nodes edge.1 edge.0 fault)
       ⊎ ((upper lower : EntityType) × Chain (IsAbove edges) upper lower × IsEnumeratedAt (node_at nodes upper)
       × IsExternalAt (node_at nodes lower) × IsLinkFault lower upper fault))

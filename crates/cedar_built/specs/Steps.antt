@@ -44,9 +44,9 @@ parents_of name references = map (λ reference. (name, reference)) references
 abbrev pub parents_in : List (PlainName × EntityBody) → List (PlainName × Reference)
 parents_in entries = flat_map (λ it. parents_of it.0 (entity_parents it.1)) entries
 
--- an entity type and a parent of it, as plain data
+-- an edge from a parent to an entity type, as plain data: the name of the entity type, with its parent
 abbrev pub plain_edge : EntityType × EntityType → PlainName × Reference
-plain_edge edge = (type_name edge.0, reference_to_one Entity (type_name edge.1))
+plain_edge edge = (type_name edge.1, reference_to_one Entity (type_name edge.0))
 
 -- why parents are refused: one has a reserved name, or memory was wanting
 abbrev pub IsParentFault : List (PlainName × Reference) → Fault → Type 0

@@ -42,7 +42,7 @@ fn is_external_at(nodes: &Nodes, name: &EntityType) -> bool
     }
 }
 
-/// Refuses an edge to what isn't declared, and one from an enumerated entity type.
+/// Refuses an edge from what isn't declared, and one to an enumerated entity type.
 fn check_edge(
     alloc: Global,
     nodes: &Nodes,
@@ -66,12 +66,12 @@ fn check_edge(
 
 /// The same of each edge.
 pub(crate) fn check_edges(alloc: Global, nodes: &Nodes, edges: &[Edge]) -> Result<(), SchemaError>
-    ensures sound { OnOk result ((edge : Key × Key) → Contains edges.now edge → IsEdgeSound nodes.now edge.0 edge.1) }
+    ensures sound { OnOk result ((edge : Key × Key) → Contains edges.now edge → IsEdgeSound nodes.now edge.1 edge.0) }
     ensures fault { IfErr result (λ error. (fault_of error ≡ want_of_memory)
-        ⊎ ((edge : Key × Key) × Contains edges.now edge × IsEdgeFault nodes.now edge.0 edge.1 (fault_of error))) }
+        ⊎ ((edge : Key × Key) × Contains edges.now edge × IsEdgeFault nodes.now edge.1 edge.0 (fault_of error))) }
 {
     for edge in edges {
-        check_edge(alloc, nodes, &edge.0, &edge.1)?;
+        check_edge(alloc, nodes, &edge.1, &edge.0)?;
     }
     Ok(())
 }

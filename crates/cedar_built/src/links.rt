@@ -1,8 +1,7 @@
 //! Entity types linked with their descendants.
 
-ghost use Rattle.std.specs.Prelude.{◌≡◌, ◌⊎◌, ◌↔◌, IfErr, IfOk, IsSome, OnOk};
+ghost use Rattle.std.specs.Prelude.{◌↔◌, IfErr, IfOk, IsSome, OnOk};
 ghost use Rattle.cedar_below.specs.Chain.{Chain};
-ghost use Rattle.cedar_below.specs.EntityType.{type_name};
 ghost use Rattle.cedar_below.specs.declared.entity_type.EntityType.{EntityType as Key};
 ghost use Rattle.cedar_declared.specs.SchemaError.{fault_of};
 ghost use Rattle.cedar_built.specs.Nodes.{AreLinked, AreTheSame, IsAbove, IsLinkingFault, LeadsTo, node_at};
@@ -11,41 +10,19 @@ use crate::checks::{check_descendants, check_edges};
 use crate::nodes::Nodes;
 use crate::parents::Edge;
 use cedar_below::{EntityType, M, Memory};
-use cedar_closure::{TCNode, compute_tc};
+use cedar_closure::{add_edges, compute_tc};
 use cedar_declared::SchemaError;
 use cedar_entities::ValidatorEntityType;
 use std::alloc::Global;
 
-/// Adds the one entity type to the descendants of the other, if that is there.
-fn add_edge(nodes: &mut Nodes, lower: EntityType, upper: &EntityType) -> M<()>
-    ensures same { (key : Key) → AreTheSame (node_at nodes.old key) (node_at nodes.new key) }
-    ensures leads { OnOk result ((from to : Key) → LeadsTo nodes.new from to
-        ↔ (LeadsTo nodes.old from to ⊎ (IsSome (node_at nodes.old from) × (type_name from ≡ type_name upper.now)
-        × (type_name to ≡ type_name lower)))) }
-{
-    match nodes.get_mut(upper) {
-        Some(node) => node.add_edge_to(lower),
-        None => Ok(()),
-    }
-}
-
-/// Adds each entity type of an edge to the descendants of its parent, if that is there.
-fn add_edges(nodes: &mut Nodes, edges: Vec<Edge>) -> M<()>
+/// Adds to the descendants of each entity type those that chains of edges lead to from it.
+fn link(alloc: Global, nodes: &mut Nodes, edges: Vec<Edge>) -> M<()>
     ensures same { OnOk result ((key : Key) → AreTheSame (node_at nodes.old key) (node_at nodes.new key)) }
-    ensures leads { OnOk result ((from to : Key) → LeadsTo nodes.new from to
-        ↔ (LeadsTo nodes.old from to ⊎ (IsSome (node_at nodes.old from) × IsAbove edges.items from to))) }
+    ensures leads { OnOk result (((upper lower : Key) → ¬ LeadsTo nodes.old upper lower)
+        → ((upper lower : Key) → IsAbove edges.items upper lower → IsSome (node_at nodes.old upper))
+        → (upper lower : Key) → LeadsTo nodes.new upper lower ↔ Chain (IsAbove edges.items) upper lower) }
 {
-    for (lower, upper) in edges {
-        add_edge(nodes, lower, &upper)?;
-    }
-    Ok(())
-}
-
-/// Adds to the descendants those that chains of edges lead to.
-fn close(alloc: Global, nodes: &mut Nodes) -> M<()>
-    ensures same { (key : Key) → AreTheSame (node_at nodes.old key) (node_at nodes.new key) }
-    ensures leads { OnOk result ((from to : Key) → LeadsTo nodes.new from to ↔ Chain (LeadsTo nodes.old) from to) }
-{
+    add_edges::<EntityType, ValidatorEntityType>(nodes, edges)?;
     match compute_tc::<EntityType, ValidatorEntityType>(alloc, nodes, false) {
         Ok(()) => Ok(()),
         Err(_refused) => Err(Memory),
@@ -63,8 +40,7 @@ pub(crate) fn linked_nodes(
         → IsLinkingFault edges.items nodes (fault_of error)) }
 {
     check_edges(alloc, &nodes, &edges)?;
-    add_edges(&mut nodes, edges)?;
-    close(alloc, &mut nodes)?;
+    link(alloc, &mut nodes, edges)?;
     check_descendants(&nodes)?;
     Ok(nodes)
 }

@@ -16,7 +16,7 @@ use cedar_declared::SchemaError;
 use cedar_fragments::namespace::EntityTypeFragment;
 use std::alloc::Global;
 
-/// An entity type, and a parent of it.
+/// An edge from a parent to an entity type that has it.
 pub(crate) type Edge = (EntityType, EntityType);
 
 /// The entity type of a name, which must not be reserved.
@@ -34,7 +34,7 @@ fn named_type(name: &InternalName) -> Result<EntityType, SchemaError>
     }
 }
 
-/// Adds an edge to each of the parents.
+/// Adds an edge from each of the parents.
 fn add_parents(
     edges: &mut Vec<Edge>,
     lower: &EntityType,
@@ -46,12 +46,12 @@ fn add_parents(
 {
     for parent in parents {
         let upper = named_type(parent)?;
-        edges.push((lower.clone()?, upper))?;
+        edges.push((upper, lower.clone()?))?;
     }
     Ok(())
 }
 
-/// An edge from each declared entity type to each of its parents.
+/// An edge to each declared entity type from each of its parents.
 pub(crate) fn parent_edges(
     alloc: Global,
     declared: &[(EntityType, EntityTypeFragment<InternalName>)],

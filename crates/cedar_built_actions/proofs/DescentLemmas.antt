@@ -1,7 +1,8 @@
 -- Chains of edges between actions, and descent in the bag.
-use Rattle.std.proofs.Common.{◌≡◌, List, map, sym, subst, ◌∙◌, refl, Contains}
+use Rattle.std.proofs.Common.{◌≡◌, List, map, sym, ◌∙◌, refl, Contains}
 use Rattle.std.specs.BTreeMap.{BTreeMap}
 use Rattle.cedar_below.proofs.Chains.{joined}
+use Rattle.cedar_below.proofs.Uids.{entity_uid_eq-same}
 use Rattle.cedar_below.specs.Chain.{Chain, one, more}
 use Rattle.cedar_below.specs.EntityUID.{uid_of}
 use Rattle.cedar_below.specs.PlainUid.{PlainUid}
@@ -16,26 +17,24 @@ use Rattle.cedar_entities.specs.declared.entity_type.ValidatorEntityType.{Valida
 use Rattle.cedar_fragments.specs.declared.namespace.actions.ActionFragment.{ActionFragment}
 use Rattle.cedar_gathered.specs.Gathered.{gathered_actions}
 use Rattle.cedar_names.specs.ActionBody.{ActionBody}
-use Rattle.cedar_names.specs.Reference.{ActionReference}
 use Rattle.cedar_built_actions.proofs.ParentLemmas.{edge_has_parent, parent_edge}
 use Rattle.cedar_built_actions.specs.Nodes.{IsAbove}
 use Rattle.cedar_built_actions.specs.Ready.{AreActionsOf}
-use Rattle.cedar_built_actions.specs.Steps.{parents_in, plain_edge, reference_to_action}
+use Rattle.cedar_built_actions.specs.Steps.{parents_in, plain_edge}
 use Rattle.cedar_written.specs.declared.known_types.KnownTypes.{KnownTypes}
 
 -- an edge between actions of the same uids is one
 edge_above : (edges : List (EntityUID × EntityUID)) (edge : EntityUID × EntityUID) (upper lower : EntityUID)
-    → Contains edges edge → uid_of edge.0 ≡ uid_of lower → uid_of edge.1 ≡ uid_of upper → IsAbove edges upper lower
-edge_above edges edge upper lower among below above =
-    let P : PlainUid × ActionReference → Type 0 = Contains (map plain_edge edges) in
-    subst P (λ i. (below i, reference_to_action (above i))) (Contains-image plain_edge edges edge among)
+    → Contains edges edge → uid_of edge.0 ≡ uid_of upper → uid_of edge.1 ≡ uid_of lower → IsAbove edges upper lower
+edge_above edges edge upper lower among above below =
+    (edge, among, (entity_uid_eq-same edge.0 upper).1 above, (entity_uid_eq-same edge.1 lower).1 below)
 
 -- a chain of edges to an action is one to each of the same uid
 pub chain_to_same : (edges : List (EntityUID × EntityUID)) {upper lower : EntityUID} (other : EntityUID)
     → Chain (IsAbove edges) upper lower → uid_of lower ≡ uid_of other → Chain (IsAbove edges) upper other
 chain_to_same edges {upper = upper} {lower = lower} other (one step) same =
-    let P : PlainUid → Type 0 = λ uid. Contains (map plain_edge edges) (uid, reference_to_action (uid_of upper)) in
-    one (subst P same step)
+    let named : uid_of step.0.1 ≡ uid_of other = (entity_uid_eq-same step.0.1 lower).0 step.3 ∙ same in
+    one (step.0, step.1, step.2, (entity_uid_eq-same step.0.1 other).1 named)
 chain_to_same edges other (more step rest) same = more step (chain_to_same edges other rest same)
 
 -- a descendant is declared
@@ -62,10 +61,10 @@ module _ (bag : Bag) (extensions : Extensions) (declared : List (EntityUID × Ac
       → upper ≡ uid_of key → (uid : EntityUID) × (uid_of uid ≡ lower) × Chain (IsAbove edges) key uid
   descends_by_chain {lower = lower} {upper = upper} (one step) key is =
       let found = parent_edge bag extensions declared types known ready edges are lower upper step in
-      (found.0.0, found.2, one (edge_above edges found.0 key found.0.0 found.1 refl (found.3 ∙ is)))
+      (found.0.1, found.3, one (edge_above edges found.0 key found.0.1 found.1 (found.2 ∙ is) refl))
   descends_by_chain {lower = lower} (more {b = between} step rest) key is =
       let above = descends_by_chain rest key is in
       let found = parent_edge bag extensions declared types known ready edges are lower between step in
-      let last : Chain (IsAbove edges) above.0 found.0.0 =
-      one (edge_above edges found.0 above.0 found.0.0 found.1 refl (found.3 ∙ sym above.1)) in
-      (found.0.0, found.2, joined above.2 last)
+      let last : Chain (IsAbove edges) above.0 found.0.1 =
+      one (edge_above edges found.0 above.0 found.0.1 found.1 (found.2 ∙ sym above.1) refl) in
+      (found.0.1, found.3, joined above.2 last)

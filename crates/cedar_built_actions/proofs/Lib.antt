@@ -2,7 +2,6 @@ mod ActionsLemmas
 mod DescentLemmas
 mod EdgeLemmas
 mod GatheringLemmas
-mod LinkLemmas
 mod ParentLemmas
 mod PlaceLemmas
 mod PutLemmas

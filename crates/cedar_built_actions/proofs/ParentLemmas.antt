@@ -1,6 +1,7 @@
 -- Parents of actions, as edges and in the bag.
 use Rattle.std.proofs.Common.{◌≡◌, List, map, ap, sym, subst, refl, inl, ⊎_elim, Contains}
 use Rattle.cedar_below.proofs.Lists.{Contains-preimage}
+use Rattle.cedar_below.proofs.Uids.{entity_uid_eq-same}
 use Rattle.cedar_below.specs.EntityUID.{uid_of}
 use Rattle.cedar_below.specs.PlainUid.{PlainUid}
 use Rattle.cedar_below.specs.declared.entity_type.EntityType.{EntityType}
@@ -73,8 +74,13 @@ module _ (bag : Bag) (extensions : Extensions) (declared : List (EntityUID × Ac
     edge_parent : (upper lower : EntityUID) → IsAbove edges upper lower
         → IsActionParent bag (uid_of lower) (reference_to_action (uid_of upper))
     edge_parent upper lower above =
-        let P : List (PlainUid × ActionReference) → Type 0 = λ parents. Contains parents (plain_edge (lower, upper)) in
-        parent_in_bag (uid_of lower) (reference_to_action (uid_of upper)) (subst P are above)
+        let edge = above.0 in
+        let P : PlainUid × ActionReference → Type 0 = Contains (parents_in (gathered_actions declared)) in
+        let Q : List (PlainUid × ActionReference) → Type 0 = λ parents. Contains parents (plain_edge edge) in
+        let named : plain_edge edge ≡ plain_edge (upper, lower) =
+        λ i. ((entity_uid_eq-same edge.1 lower).0 above.3 i, reference_to_action ((entity_uid_eq-same edge.0 upper).0 above.2 i)) in
+        parent_in_bag (uid_of lower) (reference_to_action (uid_of upper))
+        (subst P named (subst Q are (Contains-image plain_edge edges edge above.1)))
 
     -- the upper action of an edge is declared
     pub edge_declared : (upper lower : EntityUID) → IsAbove edges upper lower → Contains (action_uids bag) (uid_of upper)
@@ -91,15 +97,15 @@ module _ (bag : Bag) (extensions : Extensions) (declared : List (EntityUID × Ac
 
     -- a parent of an action is so by an edge
     pub parent_edge : (lower upper : PlainUid) → HasParentAction bag lower upper → (edge : EntityUID × EntityUID)
-        × Contains edges edge × (uid_of edge.0 ≡ lower) × (uid_of edge.1 ≡ upper)
+        × Contains edges edge × (uid_of edge.0 ≡ upper) × (uid_of edge.1 ≡ lower)
     parent_edge lower upper parent =
         let P : List (PlainUid × ActionReference) → Type 0 = λ parents. Contains parents (lower, parent.0) in
         let it = Contains-preimage plain_edge edges (lower, parent.0) (subst P (sym are) (bag_parent lower parent.0 parent.1)) in
         let Q : ActionReference → Type 0 = λ reference. NamesAction (action_uids bag) reference upper in
         let names = subst Q (sym (ap (λ (each : PlainUid × ActionReference). each.1) it.2)) parent.2 in
-        let ty : (uid_of it.0.1).ty ≡ upper.ty = ⊎_elim (λ here. here.0) (λ later. absurd later.1) names.0 in (
+        let ty : (uid_of it.0.0).ty ≡ upper.ty = ⊎_elim (λ here. here.0) (λ later. absurd later.1) names.0 in (
           it.0,
           it.1,
-          ap (λ (each : PlainUid × ActionReference). each.0) it.2,
           λ i. record { ty = ty i; eid = sym names.1 i },
+          ap (λ (each : PlainUid × ActionReference). each.0) it.2,
         )

@@ -1,5 +1,5 @@
 -- What the private steps promise of actions as nodes of a graph, which stand in a map under their uids.
-use Rattle.std.specs.Prelude.{◌≡◌, ◌⊎◌, ◌↔◌, Bool, List, [], Option, None, Some, IsSome, Contains, map}
+use Rattle.std.specs.Prelude.{◌≡◌, ◌⊎◌, ◌↔◌, Bool, List, [], Option, None, Some, IsSome, Contains}
 use Rattle.std.specs.HashMap.{HashMap, get}
 use Rattle.std.specs.HashSet.{contains}
 use Rattle.cedar_actions.specs.ValidatorActionId.{action_of}
@@ -9,11 +9,11 @@ use Rattle.cedar_below.specs.EntityUID.{uid_of}
 use Rattle.cedar_below.specs.PlainUid.{PlainUid}
 use Rattle.cedar_below.specs.contracts.entity_uid.EntityUIDPartialEq.TheImpl as uid_eq
 use Rattle.cedar_below.specs.declared.entity_uid.EntityUID.{EntityUID}
-use Rattle.cedar_closure.specs.Edges.{HasEdge, AreAlike}
+use Rattle.cedar_closure.specs.Edges.{HasEdge, IsEdgeIn, AreAlike}
 use Rattle.cedar_declared.specs.Fault.{Fault, action_cycle, want_of_memory}
 use Rattle.cedar_declared.specs.PlainSchema.{external_action}
 use Rattle.cedar_names.specs.ActionBody.{Requests}
-use Rattle.cedar_built_actions.specs.Steps.{SaysTogether, IsWrittenKind, entry_uids, plain_edge}
+use Rattle.cedar_built_actions.specs.Steps.{SaysTogether, IsWrittenKind, entry_uids}
 use Rattle.cedar_written.specs.declared.known_types.KnownTypes.{KnownTypes}
 
 -- at a key stands an action that isn't external
@@ -67,7 +67,7 @@ module _ {S : Type 0} where
 
 -- the one is a parent of the other by some edge
 abbrev pub IsAbove : List (EntityUID × EntityUID) → EntityUID → EntityUID → Type 0
-IsAbove edges upper lower = Contains (map plain_edge edges) (plain_edge (lower, upper))
+IsAbove = IsEdgeIn (uid_eq.ghosts).eq
 
 -- what stands at a key before and after are actions that are the same but for their descendants, or none
 abbrev pub AreTheSame : Option ValidatorActionId → Option ValidatorActionId → Type 0

@@ -59,9 +59,9 @@ parents_in entries = flat_map (λ it. parents_of it.0 it.1.parents) entries
 abbrev pub reference_to_action : PlainUid → ActionReference
 reference_to_action uid = record { id = uid.eid; ty = reference_to_one Entity uid.ty }
 
--- an action and a parent of it, as plain data
+-- an edge from a parent to an action, as plain data: the uid of the action, with its parent
 abbrev pub plain_edge : EntityUID × EntityUID → PlainUid × ActionReference
-plain_edge edge = (uid_of edge.0, reference_to_action (uid_of edge.1))
+plain_edge edge = (uid_of edge.1, reference_to_action (uid_of edge.0))
 
 -- the names are just those that the references are to
 abbrev pub AreNamed : List Reference → List PlainName → Type 0

@@ -13,7 +13,7 @@ use cedar_below::{Eid, EntityType, EntityUID, InternalName, M};
 use cedar_fragments::namespace::{ActionFragment, ActionParent};
 use std::alloc::Global;
 
-/// An action, and a parent of it.
+/// An edge from a parent to an action that has it.
 pub(crate) type Edge = (EntityUID, EntityUID);
 
 /// The uid of a parent.
@@ -24,7 +24,7 @@ fn parent_uid(parent: &ActionParent<EntityType>) -> M<EntityUID>
     Ok(EntityUID::new(parent.ty.clone()?, Eid(parent.id.clone()?), parent.loc))
 }
 
-/// Adds an edge to each of the parents.
+/// Adds an edge from each of the parents.
 fn add_parents(
     edges: &mut Vec<Edge>,
     lower: &EntityUID,
@@ -35,12 +35,12 @@ fn add_parents(
 {
     for parent in parents {
         let upper = parent_uid(parent)?;
-        edges.push((lower.clone()?, upper))?;
+        edges.push((upper, lower.clone()?))?;
     }
     Ok(())
 }
 
-/// An edge from each declared action to each of its parents.
+/// An edge to each declared action from each of its parents.
 pub(crate) fn parent_edges(
     alloc: Global,
     declared: &[(EntityUID, ActionFragment<InternalName, EntityType>)],

@@ -1,6 +1,11 @@
--- Nodes that gain edges: none, more, and one gain after another.
-use Rattle.std.proofs.Common.{Bool, IsTrue, ◌⊎◌, inl, inr, ⊎_elim, Option, None, Some, IsSome, IsSomeAnd}
+-- Nodes that gain edges: none, more, one gain after another, and the gain of one node of a map.
+use Rattle.std.proofs.Common.{◌≡◌, Bool, true, false, cond, ◌||◌, IsTrue, ◌⊎◌, inl, inr, ⊎_elim, Option, None, Some, IsSome, IsSomeAnd, HashMap, Result, Ok, Err, OnOk, OnErr, sym, ◌∙◌, subst, subst₂}
+use Rattle.std.specs.Cmp.{IsEquivalence}
+use Rattle.std.specs.HashMap.{get}
+use Rattle.std.proofs.lemmas.Bool.{cases_Bool, cond-true, cond-false, or_cases, or_right}
+use Rattle.cedar_closure.specs.Edges.{AreAlike}
 use Rattle.cedar_closure.specs.Growth.{GrowsBy, GrowsAt}
+use Rattle.cedar_closure.proofs.Numbers.{get_alike}
 
 module _ {K V : Type 0} (has_edge : V → K → Bool) (is_alike : V → V → Type 0) where
   -- a node that is left as it was
@@ -23,6 +28,23 @@ module _ {K V : Type 0} (has_edge : V → K → Bool) (is_alike : V → V → Ty
     old_stay = λ to edge. second.old_stay to (first.old_stay to edge);
     sound = λ to edge. ⊎_elim (λ before. first.sound to before) (λ may. inr may) (second.sound to edge);
     alike = onwards u v w first.alike second.alike;
+  }
+
+module _ {K V A E : Type 0} (eq : K → K → Bool) (has_edge : V → K → Bool) (is_alike : V → V → Type 0) where
+  -- a node that is given one edge, or is left as it was where memory is wanting
+  pub grows_by_one : (key : K) (v w : V) (result : Result A E)
+      → OnOk result ((to : K) → has_edge w to ≡ (eq key to || has_edge v to))
+      → OnErr result ((to : K) → has_edge w to ≡ has_edge v to) → is_alike v w
+      → GrowsBy has_edge is_alike v w (λ to. IsTrue (eq key to))
+  grows_by_one key v w (Ok done) added err alike = record {
+    old_stay = λ to edge. added to ∙ or_right (eq key to) (has_edge v to) edge;
+    sound = λ to edge. ⊎_elim (λ new. inr new) (λ old. inl old) (or_cases (eq key to) (has_edge v to) (sym (added to) ∙ edge));
+    alike = alike;
+  }
+  grows_by_one key v w (Err wanting) added err alike = record {
+    old_stay = λ to edge. err to ∙ edge;
+    sound = λ to edge. inl (sym (err to) ∙ edge);
+    alike = alike;
   }
 
 module _ {K V : Type 0} (has_edge : V → K → Bool) (is_alike : V → V → Type 0) where
@@ -71,3 +93,31 @@ module _ {K V : Type 0} (has_edge : V → K → Bool) (is_alike : V → V → Ty
   some_kept May None (Some w) grows is = elim grows [ ]
   some_kept May (Some v) None grows is = elim grows [ ]
   some_kept May (Some v) (Some w) grows is = is
+
+  -- what stands there stays alike
+  pub alike_kept : (May : K → Type 0) (o p : Option V) → GrowsAt has_edge is_alike o p May → AreAlike is_alike o p
+  alike_kept May None None grows = tt
+  alike_kept May None (Some w) grows = grows
+  alike_kept May (Some v) None grows = grows
+  alike_kept May (Some v) (Some w) grows = grows.alike
+
+module _ {K V S : Type 0} {eq : K → K → Bool} (laws : IsEquivalence eq) (has_edge : V → K → Bool) (is_alike : V → V → Type 0)
+    (itself : (v : V) → is_alike v v) (before after : HashMap K V S) (name : K) (old new : V) (May : K → Type 0)
+    (found : get eq before name ≡ Some old)
+    (updated : (key : K) → get eq after key ≡ cond (eq name key) (Some new) (get eq before key))
+    (grows : GrowsBy has_edge is_alike old new May) where
+  -- where the node at one key grows, what stands at each key does
+  pub updated_grows : (key : K)
+      → GrowsAt has_edge is_alike (get eq before key) (get eq after key) (λ to. IsTrue (eq name key) × May to)
+  updated_grows key = ⊎_elim
+      (λ (same : eq name key ≡ true).
+      let was : Some old ≡ get eq before key = sym found ∙ get_alike laws before name key same in
+      let is : Some new ≡ get eq after key = sym (updated key ∙ cond-true (eq name key) (Some new) (get eq before key) same) in
+      subst₂ (λ o p. GrowsAt has_edge is_alike o p (λ to. IsTrue (eq name key) × May to)) was is
+      (grows_weaker has_edge is_alike May (λ to. IsTrue (eq name key) × May to) (λ to there. (same, there)) old new grows))
+      (λ (apart : eq name key ≡ false).
+      let kept : get eq before key ≡ get eq after key =
+      sym (updated key ∙ cond-false (eq name key) (Some new) (get eq before key) apart) in
+      subst (λ p. GrowsAt has_edge is_alike (get eq before key) p (λ to. IsTrue (eq name key) × May to)) kept
+      (grows_at_itself has_edge is_alike itself (λ to. IsTrue (eq name key) × May to) (get eq before key)))
+      (cases_Bool (eq name key))

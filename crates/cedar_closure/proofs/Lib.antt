@@ -1,8 +1,10 @@
+pub mod AddedEdges
 pub mod Bits
 pub mod Counting
 pub mod Growing
 pub mod KeyedEdges
 pub mod Lists
+pub mod MovedMaps
 pub mod Numbers
 pub mod OrderProgress
 pub mod OrderSteps

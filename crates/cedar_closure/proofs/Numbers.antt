@@ -55,7 +55,7 @@ module _ {K : Type 0} (eq : K → K → Bool) where
   name_from_numbered names name key n found stands = subst (λ o. IsSomeAnd o (λ x. IsTrue (eq key x))) found stands
 
 -- tests that agree find the same
-lookup_agree : {K X : Type 0} (test other : K → Bool) → ((k : K) → test k ≡ other k) → (es : List (K × X))
+pub lookup_agree : {K X : Type 0} (test other : K → Bool) → ((k : K) → test k ≡ other k) → (es : List (K × X))
     → lookup test es ≡ lookup other es
 lookup_agree test other agree [] = refl
 lookup_agree test other agree (e ∷ es) =

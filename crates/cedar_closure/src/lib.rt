@@ -6,11 +6,13 @@
 //! row, so it leads no further.
 #![tactic(auto)]
 
+pub use adding::add_edges;
 pub use closure::{compute_tc, compute_tc_counted};
 pub use ordering::{Ordered, topological_order};
 pub use tc_error::TcError;
 pub use tc_node::TCNode;
 
+mod adding;
 mod closing;
 mod closure;
 mod numbering;

@@ -14,7 +14,7 @@ use Rattle.cedar_actions.specs.declared.action_id.ValidatorActionId.{ValidatorAc
 use Rattle.cedar_below.proofs.Chains.{last_step, refined}
 use Rattle.cedar_below.proofs.Lists.{Contains-preimage}
 use Rattle.cedar_below.proofs.PlainNames.{uid_cmp-total}
-use Rattle.cedar_below.proofs.Uids.{entity_uid_eq-same, entity_uid_ord-uid_cmp}
+use Rattle.cedar_below.proofs.Uids.{entity_uid_eq-same, entity_uid_ord-Equal, entity_uid_ord-uid_cmp}
 use Rattle.cedar_below.specs.Chain.{Chain, one}
 use Rattle.cedar_below.specs.EntityUID.{uid_of}
 use Rattle.cedar_below.specs.Lists.{HoldsInTurn}
@@ -25,6 +25,7 @@ use Rattle.cedar_below.specs.contracts.entity_uid.EntityUIDPartialEq.TheImpl as 
 use Rattle.cedar_below.specs.declared.entity.Entity.{Entity}
 use Rattle.cedar_below.specs.declared.entity_type.EntityType.{EntityType as Name}
 use Rattle.cedar_below.specs.declared.entity_uid.EntityUID.{EntityUID}
+use Rattle.cedar_closure.proofs.MovedMaps.{tests_tied}
 use Rattle.cedar_closure.specs.TcError.{IsRefusal}
 use Rattle.cedar_closure.specs.declared.tc_error.TcError.{TcError}
 use Rattle.cedar_closure.specs.declared.tc_error.TcError.TheVariants as variant
@@ -36,8 +37,7 @@ use Rattle.cedar_declared.specs.PlainSchema.{SchemaAction}
 use Rattle.cedar_declared.specs.ValidSchema.{ListsDescendantAction}
 use Rattle.cedar_entities.specs.declared.entity_type.ValidatorEntityType.{ValidatorEntityType as Node}
 use Rattle.cedar_validated.proofs.Graphs.{Graph, ListsIn, closed_entry, keys_chain, names_chain, same_names}
-use Rattle.cedar_validated.proofs.InTurn.{in_turn, in_turn_map, one_test}
-use Rattle.cedar_validated.proofs.Keyed.{uid_tie}
+use Rattle.cedar_validated.proofs.InTurn.{in_turn, in_turn_map}
 use Rattle.cedar_validated.specs.Parts.{graph_fault, plain_schema}
 
 -- the graph of actions
@@ -54,8 +54,7 @@ graph = record {
   plain_total = uid_cmp-total;
   same = entity_uid_eq-same;
   ties = entity_uid_ord-uid_cmp;
-  tied = λ a b. one_test _ _ (λ is. (entity_uid_eq-same a b).1 (sym ((uid_tie a b).0 is)))
-      (λ is. (uid_tie a b).1 (sym ((entity_uid_eq-same a b).0 is)));
+  tied = tests_tied uid_of entity_uid_eq-same entity_uid_ord-Equal;
   edge = λ node key. list_any-uids key node.descendants.keys;
   key_below = λ node name among. let key = Contains-preimage uid_of node.descendants.keys name among in (key.0, key.2);
 }

@@ -19,6 +19,7 @@ use Rattle.cedar_below.proofs.Ordered.{IsStrictlySortedBy-map}
 use Rattle.cedar_below.specs.Chain.{Chain, one, more}
 use Rattle.cedar_below.specs.Lists.{Included}
 use Rattle.cedar_closure.proofs.KeyedEdges.{some_with}
+use Rattle.cedar_closure.proofs.MovedMaps.{moved_entry, moved_found}
 use Rattle.cedar_closure.proofs.Numbers.{get_alike}
 use Rattle.cedar_closure.specs.Edges.{AreAlike, HasEdge, Reaches}
 use Rattle.cedar_declared.proofs.OccurrenceLemmas.{Contains-image}
@@ -125,37 +126,16 @@ module _ {K V P S : Type 0} (graph : Graph K V P) (entries : List (K × V)) (sor
       (complete : (from to : K) → Reaches graph.eq graph.has_edge before from to → HasEdge graph.eq graph.has_edge after from to)
       (unique : hash.IsUnique graph.eq after) (closed : BTreeMap K V)
       (remade : tree.IsFromIterResult graph.cmp after.entries closed) where
-    -- the closed map holds what the closed nodes do
-    held_after : (key : K) → tree.get graph.cmp closed key ≡ hash.get graph.eq after key
-    held_after key =
-        remade.0 key ∙ update_all_none graph.laws (eq_by_cmp graph.cmp) graph.tied after.entries key unique
-
-    -- an entry of it is found
+    -- an entry of the closed map is found among the closed nodes
     found_after : (entry : K × V) → Contains closed.entries entry → hash.get graph.eq after entry.0 ≡ Some entry.1
-    found_after entry among =
-        let T : (K → K → Bool) → Type 0 = λ test. lookup (test entry.0) closed.entries ≡ Some entry.1 in
-        let U : (K → K → Bool) → Type 0 = λ test. IsDistinct test (keys_of closed.entries) in
-        let tests : eq_by_cmp graph.cmp ≡ graph.eq = λ i a b. graph.tied a b i in
-        sym (held_after entry.0)
-        ∙ subst T (sym tests)
-        (lookup_from_place graph.laws closed.entries among.0 entry.0 entry.1
-        (subst U tests (IsDistinct-from_sorted graph.cmp (keys_of closed.entries) remade.1))
-        (slice_get-get_or closed.entries among.0 entry among.1 ∙ ap Some among.2))
+    found_after = moved_found graph.cmp graph.laws graph.tied after unique closed remade
 
     -- what is found there is an entry
     entry_after : (key : K) (node : V) → hash.get graph.eq after key ≡ Some node
         → (entry : K × V) × Contains closed.entries entry × (graph.under entry.0 ≡ graph.under key)
     entry_after key node found =
-        let place = place_from_lookup (eq_by_cmp graph.cmp key) closed.entries node (held_after key ∙ found) in
-        let entry : K × V = (place.1, node) in (
-          entry,
-          (
-            place.0,
-            slice_get_within closed.entries place.0 entry place.2,
-            get_or_from_slice_get closed.entries place.0 entry entry place.2,
-          ),
-          sym ((graph.same key place.1).0 (sym (graph.tied key place.1) ∙ place.3)),
-        )
+        let it = moved_entry graph.cmp graph.laws graph.tied after unique closed remade key node found in
+        (it.0, it.1, sym ((graph.same key it.0.0).0 it.2))
 
     -- an entry and the closed one of its name: alike, and listing what chains lead to
     pub closed_entry : (entry other : K × V) → Contains entries entry → Contains closed.entries other

@@ -20,7 +20,7 @@ use Rattle.cedar_declared.specs.ValidSchema.{HasEntityType, IsEnumerated, IsExte
 use Rattle.cedar_entities.specs.ValidatorEntityType.{descendant_names, entity_type_of, plain_entry}
 use Rattle.cedar_entities.specs.declared.entity_type.ValidatorEntityType.{ValidatorEntityType}
 use Rattle.cedar_types.proofs.MemberLemmas.{Contains-named}
-use Rattle.cedar_validated.proofs.InTurn.{lookup_agree}
+use Rattle.cedar_closure.proofs.Numbers.{lookup_agree}
 use Rattle.cedar_validated.proofs.Keyed.{type_found}
 use Rattle.cedar_validated.proofs.PlaceLemmas.{one_unknown}
 use Rattle.cedar_validated.proofs.TypeGraph.{graph}

@@ -1,11 +1,5 @@
--- Lists that agree in turn, and tests that agree.
-use Rattle.std.proofs.Common.{◌≡◌, Bool, true, false, List, [], ◌∷◌, None, map, arith, inl, inr, ⊎_elim, refl, subst, sym, ◌∙◌, Contains}
-use Rattle.std.proofs.lemmas.Bool.{false≢true}
-use Rattle.std.proofs.lemmas.List.{map-id}
-use Rattle.std.proofs.lemmas.Map.Iter.{iter_end}
-use Rattle.std.specs.Iterator.{DrainsIf}
-use Rattle.std.specs.Map.{lookup}
-use Rattle.std.specs.Map.Iter.{TakesFirst}
+-- Lists that agree in turn.
+use Rattle.std.proofs.Common.{◌≡◌, List, [], ◌∷◌, map, arith, inl, inr, ⊎_elim, refl, subst, Contains}
 use Rattle.cedar_below.proofs.Lists.{Contains-cons, Contains-cons_cases}
 use Rattle.cedar_below.specs.Lists.{HoldsInTurn}
 
@@ -29,23 +23,6 @@ in_turn_map R f g [] [] holds = tt
 in_turn_map R f g [] (y ∷ ys) holds = absurd holds
 in_turn_map R f g (x ∷ xs) [] holds = absurd holds
 in_turn_map R f g (x ∷ xs) (y ∷ ys) holds = (holds.0, in_turn_map R f g xs ys holds.1)
-
--- an iterator that gives the items in turn gives them all
-pub given_all : {A : Type 0} (all from xs : List A) → from ≡ all → DrainsIf (TakesFirst (λ (x : A). x)) (Unit {0}) from xs → xs ≡ all
-given_all all from xs start drains =
-    let ends = drains.2 tt in sym (map-id xs) ∙ (iter_end (λ x. x) all xs from drains.0 ends.0 None start drains.1 refl ends.1).0
-
--- tests that pass alike are one
-pub one_test : (b c : Bool) → (b ≡ true → c ≡ true) → (c ≡ true → b ≡ true) → b ≡ c
-one_test true c to from = sym (to refl)
-one_test false true to from = absurd (false≢true (from refl))
-one_test false false to from = refl
-
--- tests that agree find the same
-pub lookup_agree : {K X : Type 0} (test other : K → Bool) → ((k : K) → test k ≡ other k) → (es : List (K × X))
-    → lookup test es ≡ lookup other es
-lookup_agree test other agree [] = refl
-lookup_agree test other agree (e ∷ es) = rw (agree e.0, lookup_agree test other agree es)
 
 -- where two lists agree in turn, each item of the one has one of the other
 pub in_turn_forth : {A B : Type 0} (R : A → B → Type 0) (xs : List A) (ys : List B) → HoldsInTurn R xs ys → (x : A)

@@ -10,7 +10,7 @@ use Rattle.std.specs.Map.{keys_of}
 use Rattle.cedar_actions.specs.declared.action_id.ValidatorActionId.{ValidatorActionId}
 use Rattle.cedar_below.proofs.Chains.{refined}
 use Rattle.cedar_below.proofs.Lists.{Contains-preimage}
-use Rattle.cedar_below.proofs.Names.{entity_type_eq-same, entity_type_ord-name_cmp}
+use Rattle.cedar_below.proofs.Names.{entity_type_eq-same, entity_type_ord-Equal, entity_type_ord-name_cmp}
 use Rattle.cedar_below.proofs.PlainNames.{name_cmp-total}
 use Rattle.cedar_below.specs.Chain.{one}
 use Rattle.cedar_below.specs.EntityType.{type_name}
@@ -22,6 +22,7 @@ use Rattle.cedar_below.specs.contracts.entity_type.EntityTypePartialEq.TheImpl a
 use Rattle.cedar_below.specs.declared.entity.Entity.{Entity}
 use Rattle.cedar_below.specs.declared.entity_type.EntityType.{EntityType}
 use Rattle.cedar_below.specs.declared.entity_uid.EntityUID.{EntityUID}
+use Rattle.cedar_closure.proofs.MovedMaps.{tests_tied}
 use Rattle.cedar_closure.specs.Edges.{AreAlike, HasEdge, Reaches}
 use Rattle.cedar_declared.proofs.OccurrenceLemmas.{Contains-image}
 use Rattle.cedar_declared.specs.ClosedSchema.{ClosesType}
@@ -32,8 +33,7 @@ use Rattle.cedar_entities.specs.ValidatorEntityType.{descendant_names, plain_ent
 use Rattle.cedar_entities.specs.declared.entity_type.ValidatorEntityType.{ValidatorEntityType}
 use Rattle.cedar_types.proofs.MemberLemmas.{Contains-named, list_any-names}
 use Rattle.cedar_validated.proofs.Graphs.{Graph, ListsIn, closed_entry, same_names}
-use Rattle.cedar_validated.proofs.InTurn.{in_turn, in_turn_map, one_test}
-use Rattle.cedar_validated.proofs.Keyed.{type_tie}
+use Rattle.cedar_validated.proofs.InTurn.{in_turn, in_turn_map}
 use Rattle.cedar_validated.specs.Parts.{plain_schema}
 
 -- the graph of entity types
@@ -50,8 +50,7 @@ graph = record {
   plain_total = name_cmp-total;
   same = entity_type_eq-same;
   ties = entity_type_ord-name_cmp;
-  tied = λ a b. one_test _ _ (λ is. (entity_type_eq-same a b).1 (sym ((type_tie a b).0 is)))
-      (λ is. (type_tie a b).1 (sym ((entity_type_eq-same a b).0 is)));
+  tied = tests_tied type_name entity_type_eq-same entity_type_ord-Equal;
   edge = λ node key. list_any-names key node.descendants.keys;
   key_below = λ node name among. let key = Contains-named node.descendants.keys name among in (key.0, key.2);
 }

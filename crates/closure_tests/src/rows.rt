@@ -2,7 +2,7 @@
 
 use crate::member::{edges_in_all, marks_stand, nodes_of};
 use cedar_below::M;
-use cedar_closure::{TCNode, TcError, compute_tc, compute_tc_counted};
+use cedar_closure::{TCNode, TcError, add_edges, compute_tc, compute_tc_counted};
 use shorthand::checked::{holds, same};
 use std::alloc::Global;
 use std::test::Fail;
@@ -84,6 +84,34 @@ fn graphs_are_closed_or_refused(rt: HostRuntime) -> Result<(), Fail> {
     for &(count, edges, refused, total) in GRAPHS {
         same(refused, refusing(alloc, count, edges)?.as_str(), refused)?;
         holds(allowing(alloc, count, edges)? == total, refused)?;
+    }
+    Ok(())
+}
+
+/// How many edges two nodes have in all once these are added.
+fn adding(alloc: Global, edges: &[(u32, u32)]) -> Result<usize, Fail> {
+    let mut nodes = nodes_of(alloc, 2, &[(1, 0)])?;
+    let mut added = Vec::new(alloc);
+    for edge in edges {
+        added.push(*edge)?;
+    }
+    add_edges(&mut nodes, added)?;
+    holds(nodes.len() == 2 && marks_stand(&nodes), "each node stays")?;
+    Ok(edges_in_all(&nodes))
+}
+
+/// Edges that are added to two nodes of which the second has an edge to the first, and how many there are then.
+const ADDED: &[(&[(u32, u32)], usize, &str)] = &[
+    (&[], 1, "none"),
+    (&[(0, 1), (1, 9)], 3, "one of them to no node"),
+    (&[(0, 1), (0, 1), (1, 0)], 2, "some again"),
+    (&[(9, 0), (0, 0)], 2, "one of them from no node"),
+];
+
+#[test]
+fn edges_are_added_to_nodes(rt: HostRuntime) -> Result<(), Fail> {
+    for &(edges, total, text) in ADDED {
+        holds(adding(rt.alloc(), edges)? == total, text)?;
     }
     Ok(())
 }

@@ -7,6 +7,7 @@ use Rattle.cedar_below.specs.PlainName.{PlainName}
 use Rattle.cedar_below.specs.declared.entity_type.EntityType.{EntityType}
 use Rattle.cedar_below.specs.declared.extension.Extensions.{Extensions}
 use Rattle.cedar_below.specs.declared.internal_name.InternalName.{InternalName}
+use Rattle.cedar_closure.proofs.MovedMaps.{given_all}
 use Rattle.cedar_declared.specs.Bag.{Bag}
 use Rattle.cedar_declared.specs.Fault.{want_of_memory}
 use Rattle.cedar_declared.specs.IllFormed.{IsFault}
@@ -14,7 +15,7 @@ use Rattle.cedar_declared.specs.SchemaError.{fault_of}
 use Rattle.cedar_entities.specs.declared.entity_type.ValidatorEntityType.{ValidatorEntityType}
 use Rattle.cedar_fragments.specs.declared.namespace.entity_types.EntityTypeFragment.{EntityTypeFragment}
 use Rattle.cedar_built.proofs.ReadyLemmas.{certain, declared_at, gathered_apart, gathering_fault, linking_fault, parent_fault, stands_after}
-use Rattle.cedar_built.proofs.TypesLemmas.{entry_at_node, given_all, node_has_entry}
+use Rattle.cedar_built.proofs.TypesLemmas.{entry_at_node, node_has_entry}
 use Rattle.cedar_gathered.specs.Gathered.{gathered_entities}
 use Rattle.cedar_built.specs.Ready.{IsReady}
 use Rattle.cedar_built.specs.Steps.{IsParentFault, parents_in, plain_edge}

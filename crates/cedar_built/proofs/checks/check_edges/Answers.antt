@@ -16,7 +16,7 @@ returns-in_err-check_edge-clause-fault c =
     let edge = c.edge-item.result in
     let fault = fault_of c.in_err-check_edge.field-0.0 in
     let at_fault : (fault ≡ want_of_memory)
-    ⊎ ((each : EntityType × EntityType) × Contains edges each × IsEdgeFault c.args.nodes.now each.0 each.1 fault) =
+    ⊎ ((each : EntityType × EntityType) × Contains edges each × IsEdgeFault c.args.nodes.now each.1 each.0 fault) =
     ⊎_elim (λ wanting. inl wanting)
     (λ refused. inr (edge, item_among edges c.loop-edge.edge-index edge c.loop-edge-test.true c.edge-item.is, refused))
     c.in_err-check_edge.ensures.fault in
@@ -28,7 +28,7 @@ loop-edge-preserved c = λ each among.
     let edges = c.args.edges.now in
     let edge = c.edge-item.result in
     let P : List (EntityType × EntityType) → Type 0 = λ items. Contains items each in
-    let Q : EntityType × EntityType → Type 0 = λ item. IsEdgeSound c.args.nodes.now item.0 item.1 in
+    let Q : EntityType × EntityType → Type 0 = λ item. IsEdgeSound c.args.nodes.now item.1 item.0 in
     ⊎_elim (c.loop-edge.invariant each)
     (λ last. subst Q (Contains-single edge each last) c.in_ok-check_edge.ensures.sound)
     (Contains-append_cases (take c.loop-edge.edge-index edges) (edge ∷ []) each

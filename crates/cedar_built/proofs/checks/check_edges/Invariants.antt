@@ -4,4 +4,4 @@ use Rattle.cedar_built.specs.Nodes.{IsEdgeSound}
 use Rattle.cedar_built.proofs.checks.check_edges.Given as goal
 
 abbrev pub invariant-loop-edge : goal.invariant-loop-edge
-invariant-loop-edge l = (edge : EntityType × EntityType) → Contains (take l.edge-index l.edges) edge → IsEdgeSound l.nodes edge.0 edge.1
+invariant-loop-edge l = (edge : EntityType × EntityType) → Contains (take l.edge-index l.edges) edge → IsEdgeSound l.nodes edge.1 edge.0

@@ -7,12 +7,13 @@ use Rattle.cedar_below.specs.PlainUid.{PlainUid}
 use Rattle.cedar_below.specs.contracts.entity_uid.EntityUIDOrd.TheImpl as uid_ord
 use Rattle.cedar_below.specs.declared.entity_uid.EntityUID.{EntityUID}
 use Rattle.cedar_below.specs.declared.extension.Extensions.{Extensions}
+use Rattle.cedar_closure.proofs.MovedMaps.{given_all}
 use Rattle.cedar_declared.specs.Bag.{Bag}
 use Rattle.cedar_declared.specs.Fault.{want_of_memory}
 use Rattle.cedar_declared.specs.IllFormed.{IsFault}
 use Rattle.cedar_declared.specs.SchemaError.{fault_of}
 use Rattle.cedar_gathered.specs.Gathered.{gathered_actions}
-use Rattle.cedar_built_actions.proofs.ActionsLemmas.{entry_at_node, given_all, node_has_entry}
+use Rattle.cedar_built_actions.proofs.ActionsLemmas.{entry_at_node, node_has_entry}
 use Rattle.cedar_built_actions.proofs.ReadyLemmas.{certain, declared_at, gathering_fault, linking_fault, ready_to_link, stands_after}
 use Rattle.cedar_built_actions.specs.Ready.{AreActionsOf}
 use Rattle.cedar_built_actions.specs.Steps.{parents_in, plain_edge}

@@ -1,26 +1,45 @@
-use Rattle.std.proofs.Common.{⊎_elim, inl, inr}
-use Rattle.std.proofs.lemmas.Result.{err_from_is_err_and}
-use Rattle.cedar_declared.specs.SchemaError.{fault_of}
-use Rattle.cedar_built_actions.proofs.LinkLemmas.{are_linked, chains_above}
-use Rattle.cedar_built_actions.specs.Nodes.{AreReady, IsLinkingFault}
+use Rattle.std.proofs.Common.{◌≡◌, ◌∙◌, true, refl, inr, ap, subst}
+use Rattle.cedar_actions.specs.ActionKind.{plain_kind}
+use Rattle.cedar_actions.specs.ValidatorActionId.{action_of}
+use Rattle.cedar_actions.specs.declared.action_id.ValidatorActionId.{ValidatorActionId}
+use Rattle.cedar_below.specs.Chain.{Chain}
+use Rattle.cedar_below.specs.EntityUID.{uid_of}
+use Rattle.cedar_below.specs.contracts.entity_uid.EntityUIDPartialEq.TheImpl as uid_eq
+use Rattle.cedar_below.specs.declared.entity_uid.EntityUID.{EntityUID}
+use Rattle.cedar_closure.proofs.AddedEdges.{alike_onwards, alike_weaker, chains_in}
+use Rattle.cedar_closure.specs.TcError.{IsRefusal}
+use Rattle.cedar_closure.specs.declared.tc_error.TcError.{TcError}
+use Rattle.cedar_built_actions.specs.Nodes.{LeadsTo, has_descendant, node_at}
 use Rattle.cedar_built_actions.proofs.links.linked_nodes.Goals as goal
 
-pub returns-clause-linked : goal.returns-clause-linked
-returns-clause-linked c = λ ready.
-    are_linked c.args.edges.items c.args.nodes c.add_edges.new.nodes ready c.in_ok-add_edges.ensures.leads c.close.new.nodes
-    c.in_ok-add_edges.ensures.same c.in_ok-close.ensures.same c.in_ok-close.ensures.leads c.in_ok-close.ensures.acyclic
+pub returns-in-Ok-clause-linked : goal.returns-in-Ok-clause-linked
+returns-in-Ok-clause-linked c = λ ready.
+    let before = c.args.nodes in
+    let added = c.add_edges.new.nodes in
+    let after = c.compute_tc.new.nodes in
+    let Alike : ValidatorActionId → ValidatorActionId → Type 0 = λ a b. (a.name ≡ b.name) × (a.kind ≡ b.kind) × (a.loc ≡ b.loc) in
+    let Same : ValidatorActionId → ValidatorActionId → Type 0 =
+    λ a b. ((action_of a).uid ≡ (action_of b).uid) × ((action_of a).kind ≡ (action_of b).kind) in
+    let same : (a b : ValidatorActionId) → Alike a b → Same a b = λ a b alike. (ap uid_of alike.0, ap plain_kind alike.1) in
+    let chains = chains_in (uid_eq.ghosts).eq has_descendant c.args.edges.items before added ready.apart ready.uppers
+    c.in_ok-add_edges.ensures.sound c.in_ok-add_edges.ensures.complete in
+    record {
+      same = λ key. alike_onwards Same (λ a b other first second. (first.0 ∙ second.0, first.1 ∙ second.1)) (node_at before key)
+          (node_at added key) (node_at after key)
+          (alike_weaker Alike Same same (node_at before key) (node_at added key) (c.in_ok-add_edges.ensures.alike key))
+          (alike_weaker Alike Same same (node_at added key) (node_at after key) (c.compute_tc.ensures.alike key));
+      linked = λ upper lower. (
+        λ leads. (chains upper lower).0 (c.compute_tc.ensures.sound upper lower leads),
+        λ chain. c.in-Ok.ensures.complete upper lower ((chains upper lower).1 chain),
+      );
+      acyclic = λ key chain. c.in-Ok.ensures.acyclic refl key ((chains key key).1 chain);
+    }
 
-pub returns-in_err-close-clause-fault : goal.returns-in_err-close-clause-fault
-returns-in_err-close-clause-fault c =
-    let edges = c.args.edges.items in
-    let fault = fault_of c.in_err-close.field-0.0 in
-    let at_fault : AreReady edges c.args.nodes → IsLinkingFault edges fault =
-    λ ready. ⊎_elim (λ wanting. inl wanting)
-    (λ cycle. inr (
-      cycle.0,
-      cycle.1,
-      (chains_above edges c.args.nodes c.add_edges.new.nodes ready c.in_ok-add_edges.ensures.leads cycle.0 cycle.0).0 cycle.2,
-    ))
-    c.in_err-close.ensures.fault in
-    let p = err_from_is_err_and c.from_residual-in_err-close.result c.from_residual-in_err-close.ensures.1 in
-    rw (p.1, p.2) at_fault
+pub returns-in-Err-HasCycle-clause-fault : goal.returns-in-Err-HasCycle-clause-fault
+returns-in-Err-HasCycle-clause-fault c = λ ready.
+    let added = c.add_edges.new.nodes in
+    let chains = chains_in (uid_eq.ghosts).eq has_descendant c.args.edges.items c.args.nodes added ready.apart ready.uppers
+    c.in_ok-add_edges.ensures.sound c.in_ok-add_edges.ensures.complete in
+    let uid = c.in-Err-HasCycle.uid in
+    let P : TcError EntityUID → Type 0 = IsRefusal (Chain (LeadsTo added)) true in
+    inr (uid, refl, (chains uid uid).0 (subst P c.in-Err-HasCycle.field-0-is c.in-Err-HasCycle.ensures.fault).1)

@@ -25,5 +25,5 @@ loop-parent-preserved c =
     ≡ map plain_edge c.args.edges.now.items ++ parents_of lower done in
     subst P more
     (pushed_parent (map plain_edge c.args.edges.now.items) c.loop-parent.edges.items c.push.new.self.items lower
-    (map refer (take index parents)) (refer parent) (c.in_ok-clone.field-0, c.in_ok-upper.upper) c.in_ok-push.ensures.items
+    (map refer (take index parents)) (refer parent) (c.in_ok-upper.upper, c.in_ok-clone.field-0) c.in_ok-push.ensures.items
     (λ i. (c.in_ok-clone.ensures.uid i, named i)) c.loop-parent.invariant)

@@ -5,7 +5,7 @@ use Rattle.cedar_actions.specs.declared.action_id.ValidatorActionId.{ValidatorAc
 use Rattle.cedar_below.specs.declared.entity_uid.EntityUID.{EntityUID}
 use Rattle.cedar_declared.specs.SchemaError.{fault_of}
 use Rattle.cedar_validated.proofs.ActionGraph.{actions_closed, graph, no_cycle, refused_fault}
-use Rattle.cedar_validated.proofs.InTurn.{given_all}
+use Rattle.cedar_closure.proofs.MovedMaps.{given_all}
 use Rattle.cedar_validated.proofs.closing.closed_actions.Goals as goal
 
 abbrev Items : Type 0

@@ -3,7 +3,7 @@ use Rattle.std.specs.HashMap.{IsFromIterResult}
 use Rattle.std.specs.BTreeMap as tree
 use Rattle.cedar_below.specs.declared.entity_type.EntityType.{EntityType}
 use Rattle.cedar_entities.specs.declared.entity_type.ValidatorEntityType.{ValidatorEntityType}
-use Rattle.cedar_validated.proofs.InTurn.{given_all}
+use Rattle.cedar_closure.proofs.MovedMaps.{given_all}
 use Rattle.cedar_validated.proofs.TypeGraph.{graph, types_closed}
 use Rattle.cedar_validated.proofs.closing.closed_types.Goals as goal
 
