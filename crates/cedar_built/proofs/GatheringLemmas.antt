@@ -9,17 +9,18 @@ use Rattle.cedar_below.specs.EntityType.{type_name}
 use Rattle.cedar_below.specs.PlainName.{PlainName, name_cmp}
 use Rattle.cedar_below.specs.contracts.entity_type.EntityTypePartialEq.TheImpl as entity_type_eq
 use Rattle.cedar_below.specs.declared.entity_type.EntityType.{EntityType}
+use Rattle.cedar_declared.proofs.Definitions.{defined_again, defined_is_declared, key_cases, key_defined, once_more, said_definition, said_of_external, said_of_new, said_of_other}
 use Rattle.cedar_declared.proofs.OccurrenceLemmas.{Contains-single, name_test}
-use Rattle.cedar_declared.proofs.TogetherLemmas.{IsDefinition}
+use Rattle.cedar_declared.proofs.TogetherLemmas.{IsDefinition, entity_says_declared, of_entity_types}
 use Rattle.cedar_declared.specs.EntityTypeKind.{EntityTypeKind, standard_kind, enumerated_kind, external_kind}
 use Rattle.cedar_declared.specs.Fault.{Fault, duplicate_entity_type}
 use Rattle.cedar_declared.specs.Occurrences.{Twice}
+use Rattle.cedar_declared.specs.Together.{EntitiesSay, entity_definitions}
 use Rattle.cedar_entities.specs.ValidatorEntityType.{entity_type_of}
 use Rattle.cedar_entities.specs.declared.entity_type.ValidatorEntityType.{ValidatorEntityType}
 use Rattle.cedar_names.specs.EntityBody.{EntityBody, standard, enumerated, external}
-use Rattle.cedar_built.proofs.TogetherLemmas.{defined_again, defined_is_declared, name_cases, name_defined, once_more, said_definition, said_of_external, said_of_new, said_of_other}
 use Rattle.cedar_built.specs.Nodes.{AreGathered, IsDefinedAt, IsGathered, IsGatheredAt, IsPut, IsWrittenEntity, node_at}
-use Rattle.cedar_built.specs.Steps.{IsBodyFault, IsGatheringFault, IsSoundBody, IsWrittenKind, SaysTogether, definitions_in, entry_names}
+use Rattle.cedar_built.specs.Steps.{IsBodyFault, IsGatheringFault, IsSoundBody, IsWrittenKind, entry_names}
 use Rattle.cedar_written.specs.declared.known_types.KnownTypes.{KnownTypes}
 
 abbrev Entry : Type 0
@@ -47,31 +48,29 @@ definition_written known (external parents) external_kind written other = absurd
 
 -- what is external is said where nothing is defined
 said_undefined : (entries : List Entry) (name : PlainName) (body : EntityBody) → ¬ IsDefinition body
-    → SaysTogether entries name body → ¬ Contains (entry_names (definitions_in entries)) name
-said_undefined entries name (standard parents shape tags) is says = absurd (is tt)
-said_undefined entries name (enumerated ids) is says = absurd (is tt)
-said_undefined entries name (external parents) is says = says.1
+    → EntitiesSay entries name body → ¬ Contains (entry_names (entity_definitions entries)) name
+said_undefined entries name body is says = ((entity_says_declared entries name body is).0 says).1
 
 module _ (known : KnownTypes) (entries : List Entry) (name : PlainName) (body : EntityBody) (it : ValidatorEntityType)
     (written : IsWrittenEntity known name body it) where
   -- what stands at another name is still what is said
   pub gathered_other : (other : PlainName) → ¬ (other ≡ name) → (stands : Option ValidatorEntityType)
       → IsGatheredAt known entries other stands → IsGatheredAt known (entries ++ (name, body) ∷ []) other stands
-  gathered_other other apart None none = λ among. ⊎_elim none (λ last. apart (sym last)) (name_cases entries name body other among)
+  gathered_other other apart None none = λ among. ⊎_elim none (λ last. apart (sym last)) (key_cases of_entity_types entries name body other among)
   gathered_other other apart (Some old) gathered = record {
     name = gathered.name;
     body = gathered.body;
-    says = said_of_other entries name body other apart gathered.body gathered.says;
+    says = said_of_other of_entity_types entries name body other apart gathered.body gathered.says;
     kind = gathered.kind;
     no_descendants = gathered.no_descendants;
   }
 
   -- the new entity type is what is said, where the name was not defined
-  new_gathered : ¬ Contains (entry_names (definitions_in entries)) name → IsGathered known (entries ++ (name, body) ∷ []) name it
+  new_gathered : ¬ Contains (entry_names (entity_definitions entries)) name → IsGathered known (entries ++ (name, body) ∷ []) name it
   new_gathered none = record {
     name = written.name;
     body = body;
-    says = said_of_new entries name body none;
+    says = said_of_new of_entity_types entries name body none;
     kind = written.kind;
     no_descendants = written.no_descendants;
   }
@@ -82,7 +81,7 @@ module _ (known : KnownTypes) (entries : List Entry) (name : PlainName) (body : 
   gathered_put None after none put =
       let P : Option ValidatorEntityType → Type 0 = IsGatheredAt known (entries ++ (name, body) ∷ []) name in
       subst P (sym put)
-      (new_gathered (λ defined. none (defined_is_declared entries name defined)))
+      (new_gathered (λ defined. none (defined_is_declared of_entity_types entries name defined)))
   gathered_put (Some old) after gathered put =
       let P : Option ValidatorEntityType → Type 0 = IsGatheredAt known (entries ++ (name, body) ∷ []) name in
       ⊎_elim
@@ -90,7 +89,7 @@ module _ (known : KnownTypes) (entries : List Entry) (name : PlainName) (body : 
       let stays : IsGathered known (entries ++ (name, body) ∷ []) name old = record {
         name = gathered.name;
         body = gathered.body;
-        says = said_of_external entries name body (external_written known body _ written.kind kept.0) gathered.body gathered.says;
+        says = said_of_external of_entity_types entries name body (external_written known body _ written.kind kept.0) gathered.body gathered.says;
         kind = gathered.kind;
         no_descendants = gathered.no_descendants;
       } in
@@ -103,8 +102,8 @@ module _ (known : KnownTypes) (entries : List Entry) (name : PlainName) (body : 
 
   -- a definition that is put at the name is its first
   pub undefined_before : (before after : Option ValidatorEntityType) → IsGatheredAt known entries name before → IsPut it before after
-      → IsDefinition body → ¬ Contains (entry_names (definitions_in entries)) name
-  undefined_before None after none put is = λ defined. none (defined_is_declared entries name defined)
+      → IsDefinition body → ¬ Contains (entry_names (entity_definitions entries)) name
+  undefined_before None after none put is = λ defined. none (defined_is_declared of_entity_types entries name defined)
   undefined_before (Some old) after gathered put is =
       ⊎_elim
       (λ kept. absurd (external_written known body _ written.kind kept.0 is))
@@ -114,11 +113,11 @@ module _ (known : KnownTypes) (entries : List Entry) (name : PlainName) (body : 
 
   -- what stands at the name and isn't external is defined
   pub defined_before : (before : Option ValidatorEntityType) → IsGatheredAt known entries name before → IsDefinedAt before
-      → Contains (entry_names (definitions_in entries)) name
+      → Contains (entry_names (entity_definitions entries)) name
   defined_before None none there = absurd there
   defined_before (Some old) gathered there =
       let is = definition_written known gathered.body _ gathered.kind there in
-      name_defined entries name gathered.body is (said_definition entries name gathered.body is gathered.says)
+      key_defined of_entity_types entries name gathered.body is (said_definition of_entity_types entries name gathered.body is gathered.says)
 
 -- some declarations are gathered in the map, and others are left
 pub record GatheredSoFar {S : Type 0} (known : KnownTypes) (all : List Entry) (nodes : HashMap EntityType ValidatorEntityType S)
@@ -126,7 +125,7 @@ pub record GatheredSoFar {S : Type 0} (known : KnownTypes) (all : List Entry) (n
   pub done : List Entry
   pub split : all ≡ done ++ left
   pub gathered : AreGathered known done nodes
-  pub once : (name : PlainName) → ¬ Twice (entry_names (definitions_in done)) name
+  pub once : (name : PlainName) → ¬ Twice (entry_names (entity_definitions done)) name
   pub sound : (name : PlainName) (body : EntityBody) → Contains done (name, body) → IsSoundBody known body
 
 module _ {S : Type 0} (known : KnownTypes) (all : List Entry) where
@@ -196,7 +195,7 @@ module _ {S : Type 0} (known : KnownTypes) (all : List Entry) where
         done = Done;
         split = next_split ∙ sym (append_assoc so_far.done ((type_name ty, body) ∷ []) rest);
         gathered = λ key. gathered_at other put key (is_eq (name_cmp (type_name key) (type_name ty))) refl;
-        once = once_more so_far.done (type_name ty) body so_far.once
+        once = once_more of_entity_types so_far.done (type_name ty) body so_far.once
             (undefined_before known so_far.done (type_name ty) body it written (node_at old ty) (node_at new ty) (so_far.gathered ty)
             (put ty (sym written.name)));
         sound = λ name of among. ⊎_elim
@@ -208,12 +207,12 @@ module _ {S : Type 0} (known : KnownTypes) (all : List Entry) where
 
       -- a definition of a name under which one stands is refused truly
       pub gathered_twice : (key : EntityType) → type_name key ≡ (entity_type_of it).name → IsDefinedAt (node_at old key)
-          → ¬ ((entity_type_of it).kind ≡ external_kind) → Twice (entry_names (definitions_in all)) (type_name ty)
+          → ¬ ((entity_type_of it).kind ≡ external_kind) → Twice (entry_names (entity_definitions all)) (type_name ty)
       gathered_twice key same there other =
           let Q : PlainName → Type 0 = λ name. IsGatheredAt known so_far.done name (node_at old key) in
-          let P : List Entry → Type 0 = λ entries. Twice (entry_names (definitions_in entries)) (type_name ty) in
+          let P : List Entry → Type 0 = λ entries. Twice (entry_names (entity_definitions entries)) (type_name ty) in
           subst P (sym next_split)
-          (defined_again so_far.done rest (type_name ty) body (definition_written known body _ written.kind other)
+          (defined_again of_entity_types so_far.done rest (type_name ty) body (definition_written known body _ written.kind other)
           (defined_before known so_far.done (type_name ty) body it written (node_at old key)
           (subst Q (same ∙ written.name) (so_far.gathered key)) there))
 

@@ -6,7 +6,6 @@ mod LinkLemmas
 mod ParentLemmas
 mod PutLemmas
 mod ReadyLemmas
-mod TogetherLemmas
 mod TypeCases
 mod TypesLemmas
 mod WrittenLemmas

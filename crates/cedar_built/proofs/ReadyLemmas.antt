@@ -11,9 +11,10 @@ use Rattle.cedar_below.specs.declared.entity_type.EntityType.{EntityType}
 use Rattle.cedar_below.specs.declared.extension.Extensions.{Extensions}
 use Rattle.cedar_below.specs.declared.internal_name.InternalName.{InternalName}
 use Rattle.cedar_declared.proofs.DeclarationLemmas.{action_declaration, entity_declaration}
+use Rattle.cedar_declared.proofs.Definitions.{declared_definition, key_defined, said_declared, said_definition}
 use Rattle.cedar_declared.proofs.OccurrenceLemmas.{Contains-image, Contains-single, value_once}
 use Rattle.cedar_declared.proofs.ResolutionLemmas.{written_once}
-use Rattle.cedar_declared.proofs.TogetherLemmas.{IsDefinition, entity_counted}
+use Rattle.cedar_declared.proofs.TogetherLemmas.{IsDefinition, entity_counted, of_entity_types}
 use Rattle.cedar_declared.specs.Bag.{Bag, action_uids, declared_actions, declared_entities, defined_names, definitions}
 use Rattle.cedar_declared.specs.Counted.{CountsIn, CountsInEntity, IsCounted, IsPlaced, entity_parents}
 use Rattle.cedar_declared.specs.DeclaredSchema.{AreDeclaredTags, IsDeclaredEntityType, IsDeclaredKind}
@@ -25,7 +26,7 @@ use Rattle.cedar_declared.specs.IllFormed.{IsFault}
 use Rattle.cedar_declared.specs.Names.{IsDefined, ResolvesTo}
 use Rattle.cedar_declared.specs.Occurrences.{Twice}
 use Rattle.cedar_declared.specs.Settled.{reference_to_one}
-use Rattle.cedar_declared.specs.Together.{EntitySays, IsExternalType, IsParent}
+use Rattle.cedar_declared.specs.Together.{EntitiesSay, EntitySays, IsExternalType, IsParent, entity_definitions}
 use Rattle.cedar_declared.specs.WrittenOut.{IsNoRecord, IsRecordType}
 use Rattle.cedar_entities.specs.ValidatorEntityType.{PlainEntityType, entity_type_of, descendant_names, plain_entry}
 use Rattle.cedar_entities.specs.declared.entity_type.ValidatorEntityType.{ValidatorEntityType}
@@ -39,12 +40,11 @@ use Rattle.cedar_rules.specs.Ty.{Ty}
 use Rattle.cedar_types.proofs.MemberLemmas.{Contains-named, list_any-names}
 use Rattle.cedar_built.proofs.DescentLemmas.{chain_descends, descends_by_chain, edge_above}
 use Rattle.cedar_built.proofs.ParentLemmas.{edge_parent, edge_has_parent, one_resolves, parent_edge, parent_in_bag, parent_placed}
-use Rattle.cedar_built.proofs.TogetherLemmas.{declared_definition, name_defined, said_declared, said_definition}
 use Rattle.cedar_gathered.specs.Gathered.{gathered_entities}
 use Rattle.cedar_built.specs.Nodes.{AreGathered, AreLinked, AreTheSame, IsAbove, IsEnumerated, IsEnumeratedAt, IsExternalAt, IsGathered, IsGatheredAt, IsLinkingFault, LeadsTo, has_descendant, node_at}
 use Rattle.cedar_built.specs.Ready.{IsReady}
 use Rattle.cedar_built.specs.Sound.{EntityTypesAreSound}
-use Rattle.cedar_built.specs.Steps.{HasNoRecord, IsGatheringFault, IsParentFault, IsSoundBody, IsWrittenKind, AreWrittenTags, SaysTogether, definitions_in, entry_names, parents_in, plain_edge}
+use Rattle.cedar_built.specs.Steps.{HasNoRecord, IsGatheringFault, IsParentFault, IsSoundBody, IsWrittenKind, AreWrittenTags, entry_names, parents_in, plain_edge}
 use Rattle.cedar_written.specs.Known.{Knows, extension_name, known_extensions}
 use Rattle.cedar_written.specs.Refusals.{IsExprFault}
 use Rattle.cedar_written.specs.declared.known_types.KnownTypes.{KnownTypes}
@@ -77,12 +77,6 @@ kind_declared known defined (enumerated ids) external_kind knows written = writt
 kind_declared known defined (external parents) (standard_kind fields openness ty) knows written = written
 kind_declared known defined (external parents) (enumerated_kind choices) knows written = written
 kind_declared known defined (external parents) external_kind knows written = written
-
--- what the declared entity types of a bag say together, the bag says
-bag_says : (bag : Bag) (name : PlainName) (body : EntityBody) → SaysTogether (declared_entities bag) name body → EntitySays bag name body
-bag_says bag name (standard parents shape tags) says = says
-bag_says bag name (enumerated ids) says = says
-bag_says bag name (external parents) says = says
 
 -- what counts in a declaration of an entity type counts in the bag
 counted : (bag : Bag) (name : PlainName) (body : EntityBody) (expr : Expr) → Contains (declared_entities bag) (name, body)
@@ -194,17 +188,17 @@ module _ (bag : Bag) (extensions : Extensions) (declared : List (EntityType × E
   known_counted name body expr among counts = ready.knows expr (counted bag name body expr (among_declared name body among) counts)
 
   -- the kind of an entity type is the declared one
-  said_kind : (name : PlainName) (body : EntityBody) (kind : EntityTypeKind) → SaysTogether Entries name body
+  said_kind : (name : PlainName) (body : EntityBody) (kind : EntityTypeKind) → EntitiesSay Entries name body
       → IsWrittenKind known body kind → IsDeclaredKind (definitions bag extensions) body kind
   said_kind name body kind says written =
       kind_declared known (definitions bag extensions) body kind
-      (λ expr counts. known_counted name body expr (said_definition Entries name body (entity_counted body expr counts) says) counts)
+      (λ expr counts. known_counted name body expr (said_definition of_entity_types Entries name body (entity_counted body expr counts) says) counts)
       written
 
   -- what is said of the declarations the bag says
-  said_in_bag : (name : PlainName) (body : EntityBody) → SaysTogether Entries name body → EntitySays bag name body
+  said_in_bag : (name : PlainName) (body : EntityBody) → EntitiesSay Entries name body → EntitySays bag name body
   said_in_bag name body says =
-      let P : List Entry → Type 0 = λ entries. SaysTogether entries name body in bag_says bag name body (subst P ready.entities says)
+      let P : List Entry → Type 0 = λ entries. EntitiesSay entries name body in subst P ready.entities says
 
   -- the refusal of an expression that counts is a fault of the bag
   expr_fault : (expr : Expr) (fault : Fault) → IsCounted bag expr
@@ -282,7 +276,7 @@ module _ (bag : Bag) (extensions : Extensions) (declared : List (EntityType × E
   pub gathering_fault : (fault : Fault) → IsGatheringFault known Entries fault → (fault ≡ want_of_memory) ⊎ IsFault bag extensions fault
   gathering_fault fault refused =
       let P : Fault → Type 0 = IsFault bag extensions in
-      let Q : List Entry → PlainName → Type 0 = λ entries name. Twice (entry_names (definitions_in entries)) name in
+      let Q : List Entry → PlainName → Type 0 = λ entries name. Twice (entry_names (entity_definitions entries)) name in
       ⊎_elim
       (λ wanting. inl wanting)
       (λ others. ⊎_elim
@@ -299,15 +293,15 @@ module _ (bag : Bag) (extensions : Extensions) (declared : List (EntityType × E
       refused
 
   module _ {S : Type 0} (before : HashMap EntityType ValidatorEntityType S) (gathered : AreGathered known Entries before)
-      (once : (name : PlainName) → ¬ Twice (entry_names (definitions_in Entries)) name) where
+      (once : (name : PlainName) → ¬ Twice (entry_names (entity_definitions Entries)) name) where
     -- a definition is what is said of its name
     said_is : (name : PlainName) (body other : EntityBody) → IsDefinition body → Contains Entries (name, body)
-        → SaysTogether Entries name other → other ≡ body
-    said_is name body (external parents) is among says = absurd (says.1 (name_defined Entries name body is among))
+        → EntitiesSay Entries name other → other ≡ body
+    said_is name body (external parents) is among says = absurd (says.1 (key_defined of_entity_types Entries name body is among))
     said_is name body (standard parents shape tags) is among says =
-        value_once (definitions_in Entries) once name (standard parents shape tags) body says (declared_definition Entries name body is among)
+        value_once (entity_definitions Entries) once name (standard parents shape tags) body says (declared_definition of_entity_types Entries name body is among)
     said_is name body (enumerated ids) is among says =
-        value_once (definitions_in Entries) once name (enumerated ids) body says (declared_definition Entries name body is among)
+        value_once (entity_definitions Entries) once name (enumerated ids) body says (declared_definition of_entity_types Entries name body is among)
 
     -- a declared name has an entity type
     pub stands : (key : EntityType) → Contains (entry_names Entries) (type_name key) → IsSome (node_at before key)
@@ -322,7 +316,7 @@ module _ (bag : Bag) (extensions : Extensions) (declared : List (EntityType × E
       by : (o : Option ValidatorEntityType) → IsGatheredAt known Entries (type_name key) o → IsSome o
           → Contains (entry_names Entries) (type_name key)
       by None none there = absurd (false≢true there)
-      by (Some it) is there = said_declared Entries (type_name key) is.body is.says
+      by (Some it) is there = said_declared of_entity_types Entries (type_name key) is.body is.says
 
     -- a name that is declared by its choices has an enumerated entity type
     enumerated_at : (key : EntityType) (choices : List Text) → Contains Entries (type_name key, enumerated choices)
@@ -347,20 +341,20 @@ module _ (bag : Bag) (extensions : Extensions) (declared : List (EntityType × E
       by None none there = absurd there
       by (Some it) is there =
           let found = enumerated_written known is.body (entity_type_of it).kind is.kind there in
-          let P : EntityBody → Type 0 = SaysTogether Entries (type_name key) in
-          (found.0, said_definition Entries (type_name key) (enumerated found.0) tt (subst P found.1 is.says))
+          let P : EntityBody → Type 0 = EntitiesSay Entries (type_name key) in
+          (found.0, said_definition of_entity_types Entries (type_name key) (enumerated found.0) tt (subst P found.1 is.says))
 
     -- a name that is declared and not defined has an external entity type
     external_at : (key : EntityType) → Contains (entry_names Entries) (type_name key)
-        → ¬ Contains (entry_names (definitions_in Entries)) (type_name key) → IsExternalAt (node_at before key)
+        → ¬ Contains (entry_names (entity_definitions Entries)) (type_name key) → IsExternalAt (node_at before key)
     external_at key among none = by (node_at before key) (gathered key) (stands key among) where
-      said : (body : EntityBody) (kind : EntityTypeKind) → SaysTogether Entries (type_name key) body → IsWrittenKind known body kind
+      said : (body : EntityBody) (kind : EntityTypeKind) → EntitiesSay Entries (type_name key) body → IsWrittenKind known body kind
           → kind ≡ external_kind
       said (external parents) kind says written = written_external known parents kind written
       said (standard parents shape tags) kind says written =
-          absurd (none (Contains-image (λ (it : Entry). it.0) (definitions_in Entries) (type_name key, standard parents shape tags) says))
+          absurd (none (Contains-image (λ (it : Entry). it.0) (entity_definitions Entries) (type_name key, standard parents shape tags) says))
       said (enumerated ids) kind says written =
-          absurd (none (Contains-image (λ (it : Entry). it.0) (definitions_in Entries) (type_name key, enumerated ids) says))
+          absurd (none (Contains-image (λ (it : Entry). it.0) (entity_definitions Entries) (type_name key, enumerated ids) says))
 
       by : (o : Option ValidatorEntityType) → IsGatheredAt known Entries (type_name key) o → IsSome o → IsExternalAt o
       by None none there = absurd (false≢true there)
@@ -368,14 +362,14 @@ module _ (bag : Bag) (extensions : Extensions) (declared : List (EntityType × E
 
     -- and the other way round
     at_external : (key : EntityType) → IsExternalAt (node_at before key) → (parents : List Reference)
-        × SaysTogether Entries (type_name key) (external parents)
+        × EntitiesSay Entries (type_name key) (external parents)
     at_external key there = by (node_at before key) (gathered key) there where
       by : (o : Option ValidatorEntityType) → IsGatheredAt known Entries (type_name key) o → IsExternalAt o
-          → (parents : List Reference) × SaysTogether Entries (type_name key) (external parents)
+          → (parents : List Reference) × EntitiesSay Entries (type_name key) (external parents)
       by None none there = absurd there
       by (Some it) is there =
           let found = external_kind_written known is.body (entity_type_of it).kind is.kind there in
-          let P : EntityBody → Type 0 = SaysTogether Entries (type_name key) in
+          let P : EntityBody → Type 0 = EntitiesSay Entries (type_name key) in
           (found.0, subst P found.1 is.says)
 
     module _ (edges : List (EntityType × EntityType)) (are : map plain_edge edges ≡ parents_in (gathered_entities declared)) where
@@ -444,7 +438,7 @@ module _ (bag : Bag) (extensions : Extensions) (declared : List (EntityType × E
           by choices enumerated_so reference (enumerated ids) among parent resolves = absurd (omega (arith, parent.1))
           by choices enumerated_so reference (standard parents shape tags) among parent resolves =
               let other = said_is (type_name lower) (enumerated choices) (standard parents shape tags) tt enumerated_so
-              (declared_definition Entries (type_name lower) (standard parents shape tags) tt
+              (declared_definition of_entity_types Entries (type_name lower) (standard parents shape tags) tt
               (among_gathered (type_name lower) (standard parents shape tags) among)) in
               cc
 
@@ -530,7 +524,7 @@ module _ (bag : Bag) (extensions : Extensions) (declared : List (EntityType × E
             → EntityTypesAreSound bag extensions
         certain sound = record {
           once = λ name twice. once name
-              (let P : List Entry → Type 0 = λ entries. Twice (entry_names (definitions_in entries)) name in
+              (let P : List Entry → Type 0 = λ entries. Twice (entry_names (entity_definitions entries)) name in
               subst P (sym ready.entities) twice);
           records = λ name fault. no_shape_fault name fault.0 fault.1 fault.2 fault.3 fault.4;
           closed = λ name body expr among counts. (sound name body (among_gathered name body among)).closed expr counts;
@@ -578,7 +572,7 @@ module _ (bag : Bag) (extensions : Extensions) (declared : List (EntityType × E
                 let chain = descends_by_chain bag extensions declared known ready edges are descends key.0 (sym key.1) in
                 let P : PlainName → Type 0 = λ each. Contains Entries (each, enumerated choices) in
                 let Q : List Entry → PlainName → Type 0 = λ entries each. Contains (entry_names entries) each in
-                let R : List Entry → PlainName → Type 0 = λ entries each. Contains (entry_names (definitions_in entries)) each in
+                let R : List Entry → PlainName → Type 0 = λ entries each. Contains (entry_names (entity_definitions entries)) each in
                 linked.external_above key.0 chain.0 chain.2
                 (enumerated_at key.0 choices (subst P (sym key.1) (among_gathered upper (enumerated choices) among)))
                 (external_at chain.0

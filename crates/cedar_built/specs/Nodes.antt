@@ -10,10 +10,11 @@ use Rattle.cedar_below.specs.declared.entity_type.EntityType.{EntityType}
 use Rattle.cedar_closure.specs.Edges.{HasEdge, IsEdgeIn, AreAlike}
 use Rattle.cedar_declared.specs.EntityTypeKind.{EntityTypeKind, enumerated_kind, external_kind}
 use Rattle.cedar_declared.specs.Fault.{Fault, undeclared_entity_types, enumerated_below, external_below_enumerated, want_of_memory}
+use Rattle.cedar_declared.specs.Together.{EntitiesSay}
 use Rattle.cedar_entities.specs.ValidatorEntityType.{entity_type_of, descendant_names}
 use Rattle.cedar_entities.specs.declared.entity_type.ValidatorEntityType.{ValidatorEntityType}
 use Rattle.cedar_names.specs.EntityBody.{EntityBody}
-use Rattle.cedar_built.specs.Steps.{SaysTogether, IsWrittenKind, entry_names}
+use Rattle.cedar_built.specs.Steps.{IsWrittenKind, entry_names}
 use Rattle.cedar_written.specs.declared.known_types.KnownTypes.{KnownTypes}
 
 -- the kind is enumerated
@@ -47,7 +48,7 @@ pub record IsGathered (known : KnownTypes) (entries : List (PlainName × EntityB
     (it : ValidatorEntityType) : Type 0 where
   pub name : (entity_type_of it).name ≡ stated
   pub body : EntityBody
-  pub says : SaysTogether entries stated body
+  pub says : EntitiesSay entries stated body
   pub kind : IsWrittenKind known body (entity_type_of it).kind
   pub no_descendants : descendant_names it ≡ []
 

@@ -10,7 +10,7 @@ use Rattle.cedar_declared.specs.Fault.{Fault, duplicate_entity_type, reserved_na
 use Rattle.cedar_declared.specs.Mentions.{HasOpenRecord}
 use Rattle.cedar_declared.specs.Occurrences.{Twice}
 use Rattle.cedar_declared.specs.Settled.{reference_to_one}
-use Rattle.cedar_declared.specs.Together.{entity_definition_in}
+use Rattle.cedar_declared.specs.Together.{entity_definitions}
 use Rattle.cedar_declared.specs.WrittenOut.{IsRecordType}
 use Rattle.cedar_names.specs.EntityBody.{EntityBody, standard, enumerated, external}
 use Rattle.cedar_names.specs.Expr.{Expr}
@@ -25,16 +25,6 @@ use Rattle.cedar_written.specs.declared.known_types.KnownTypes.{KnownTypes}
 -- the names of declarations
 abbrev pub entry_names : List (PlainName × EntityBody) → List PlainName
 entry_names entries = map (λ it. it.0) entries
-
--- the declarations that aren't external
-abbrev pub definitions_in : List (PlainName × EntityBody) → List (PlainName × EntityBody)
-definitions_in entries = flat_map (λ it. entity_definition_in it.0 it.1) entries
-
--- what the declarations of a name say together, parents aside: what its definition says, or that it is external
-abbrev pub SaysTogether : List (PlainName × EntityBody) → PlainName → EntityBody → Type 0
-SaysTogether entries name (external parents) = Contains (entry_names entries) name
-    × ¬ Contains (entry_names (definitions_in entries)) name
-SaysTogether entries name body = Contains (definitions_in entries) (name, body)
 
 -- a name with each of some references
 abbrev pub parents_of : PlainName → List Reference → List (PlainName × Reference)
@@ -95,4 +85,4 @@ IsBodyFault known name body fault = (fault ≡ want_of_memory)
 abbrev pub IsGatheringFault : KnownTypes → List (PlainName × EntityBody) → Fault → Type 0
 IsGatheringFault known entries fault = (fault ≡ want_of_memory)
     ⊎ (((name : PlainName) × (body : EntityBody) × Contains entries (name, body) × IsBodyFault known name body fault)
-    ⊎ ((name : PlainName) × (fault ≡ duplicate_entity_type name) × Twice (entry_names (definitions_in entries)) name))
+    ⊎ ((name : PlainName) × (fault ≡ duplicate_entity_type name) × Twice (entry_names (entity_definitions entries)) name))

@@ -8,11 +8,12 @@ ghost use Rattle.cedar_declared.specs.EntityTypeKind.{external_kind};
 ghost use Rattle.cedar_declared.specs.Fault.{duplicate_entity_type, want_of_memory};
 ghost use Rattle.cedar_declared.specs.Occurrences.{Twice};
 ghost use Rattle.cedar_declared.specs.SchemaError.{fault_of};
+ghost use Rattle.cedar_declared.specs.Together.{entity_definitions};
 ghost use Rattle.cedar_entities.specs.ValidatorEntityType.{entity_type_of};
 ghost use Rattle.cedar_names.specs.EntityBody.{EntityBody};
 ghost use Rattle.cedar_gathered.specs.Gathered.{gathered_entities};
 ghost use Rattle.cedar_built.specs.Nodes.{AreGathered, IsDefinedAt, IsPut, node_at};
-ghost use Rattle.cedar_built.specs.Steps.{IsGatheringFault, IsSoundBody, definitions_in, entry_names};
+ghost use Rattle.cedar_built.specs.Steps.{IsGatheringFault, IsSoundBody, entry_names};
 
 use crate::written::written_type;
 use cedar_below::{EntityType, InternalName};
@@ -59,7 +60,7 @@ pub(crate) fn gathered_nodes(
     known: &KnownTypes,
 ) -> Result<Nodes, SchemaError>
     ensures gathered { IfOk result (λ nodes. AreGathered known.now (gathered_entities declared.items) nodes) }
-    ensures once { OnOk result ((name : PlainName) → ¬ Twice (entry_names (definitions_in (gathered_entities declared.items))) name) }
+    ensures once { OnOk result ((name : PlainName) → ¬ Twice (entry_names (entity_definitions (gathered_entities declared.items))) name) }
     ensures sound { OnOk result ((name : PlainName) (body : EntityBody)
         → Contains (gathered_entities declared.items) (name, body) → IsSoundBody known.now body) }
     ensures fault { IfErr result (λ error. IsGatheringFault known.now (gathered_entities declared.items) (fault_of error)) }

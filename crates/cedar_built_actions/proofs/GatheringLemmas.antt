@@ -10,6 +10,7 @@ use Rattle.cedar_below.specs.PlainName.{PlainName}
 use Rattle.cedar_below.specs.PlainUid.{PlainUid, uid_cmp}
 use Rattle.cedar_below.specs.contracts.entity_uid.EntityUIDPartialEq.TheImpl as uid_eq
 use Rattle.cedar_below.specs.declared.entity_uid.EntityUID.{EntityUID}
+use Rattle.cedar_declared.proofs.Definitions.{defined_again, defined_is_declared, key_cases, key_defined, once_more, said_definition, said_of_external, said_of_new, said_of_other}
 use Rattle.cedar_declared.proofs.OccurrenceLemmas.{Contains-single, uid_test}
 use Rattle.cedar_declared.proofs.TogetherLemmas.{AreRequests}
 use Rattle.cedar_declared.specs.PlainSchema.{ActionKind, defined_action, external_action}
@@ -18,7 +19,7 @@ use Rattle.cedar_declared.specs.Occurrences.{Twice}
 use Rattle.cedar_actions.specs.ValidatorActionId.{action_of}
 use Rattle.cedar_actions.specs.declared.action_id.ValidatorActionId.{ValidatorActionId}
 use Rattle.cedar_names.specs.ActionBody.{Requests, requests, elsewhere}
-use Rattle.cedar_built_actions.proofs.TogetherLemmas.{defined_again, defined_is_declared, uid_cases, uid_defined, once_more, said_definition, said_of_external, said_of_new, said_of_other}
+use Rattle.cedar_built_actions.proofs.TogetherLemmas.{of_actions, says_declared}
 use Rattle.cedar_built_actions.specs.Nodes.{AreGathered, IsDefinedAt, IsGathered, IsGatheredAt, IsPut, IsWrittenAction, node_at}
 use Rattle.cedar_built_actions.specs.Steps.{IsRequestsFault, IsGatheringFault, AreSoundRequests, IsWrittenKind, SaysTogether, definitions_in, entry_uids}
 use Rattle.cedar_written.specs.declared.known_types.KnownTypes.{KnownTypes}
@@ -43,19 +44,18 @@ definition_written known elsewhere external_action written other = absurd (other
 -- what is external is said where nothing is defined
 said_undefined : (entries : List Entry) (uid : PlainUid) (applies_to : Requests) → ¬ AreRequests applies_to
     → SaysTogether entries uid applies_to → ¬ Contains (entry_uids (definitions_in entries)) uid
-said_undefined entries uid (requests principals resources context) is says = absurd (is tt)
-said_undefined entries uid elsewhere is says = says.1
+said_undefined entries uid applies_to are says = ((says_declared entries uid applies_to are).0 says).1
 
 module _ (known : KnownTypes) (entries : List Entry) (uid : PlainUid) (applies_to : Requests) (it : ValidatorActionId)
     (written : IsWrittenAction known uid applies_to it) where
   -- what stands at another uid is still what is said
   pub gathered_other : (other : PlainUid) → ¬ (other ≡ uid) → (stands : Option ValidatorActionId)
       → IsGatheredAt known entries other stands → IsGatheredAt known (entries ++ (uid, applies_to) ∷ []) other stands
-  gathered_other other apart None none = λ among. ⊎_elim none (λ last. apart (sym last)) (uid_cases entries uid applies_to other among)
+  gathered_other other apart None none = λ among. ⊎_elim none (λ last. apart (sym last)) (key_cases of_actions entries uid applies_to other among)
   gathered_other other apart (Some old) gathered = record {
     uid = gathered.uid;
     applies_to = gathered.applies_to;
-    says = said_of_other entries uid applies_to other apart gathered.applies_to gathered.says;
+    says = said_of_other of_actions entries uid applies_to other apart gathered.applies_to gathered.says;
     kind = gathered.kind;
     no_descendants = gathered.no_descendants;
   }
@@ -65,7 +65,7 @@ module _ (known : KnownTypes) (entries : List Entry) (uid : PlainUid) (applies_t
   new_gathered none = record {
     uid = written.uid;
     applies_to = applies_to;
-    says = said_of_new entries uid applies_to none;
+    says = said_of_new of_actions entries uid applies_to none;
     kind = written.kind;
     no_descendants = written.no_descendants;
   }
@@ -76,7 +76,7 @@ module _ (known : KnownTypes) (entries : List Entry) (uid : PlainUid) (applies_t
   gathered_put None after none put =
       let P : Option ValidatorActionId → Type 0 = IsGatheredAt known (entries ++ (uid, applies_to) ∷ []) uid in
       subst P (sym put)
-      (new_gathered (λ defined. none (defined_is_declared entries uid defined)))
+      (new_gathered (λ defined. none (defined_is_declared of_actions entries uid defined)))
   gathered_put (Some old) after gathered put =
       let P : Option ValidatorActionId → Type 0 = IsGatheredAt known (entries ++ (uid, applies_to) ∷ []) uid in
       ⊎_elim
@@ -84,7 +84,7 @@ module _ (known : KnownTypes) (entries : List Entry) (uid : PlainUid) (applies_t
       let stays : IsGathered known (entries ++ (uid, applies_to) ∷ []) uid old = record {
         uid = gathered.uid;
         applies_to = gathered.applies_to;
-        says = said_of_external entries uid applies_to (external_written known applies_to _ written.kind kept.0) gathered.applies_to gathered.says;
+        says = said_of_external of_actions entries uid applies_to (external_written known applies_to _ written.kind kept.0) gathered.applies_to gathered.says;
         kind = gathered.kind;
         no_descendants = gathered.no_descendants;
       } in
@@ -98,7 +98,7 @@ module _ (known : KnownTypes) (entries : List Entry) (uid : PlainUid) (applies_t
   -- a definition that is put at the uid is its first
   pub undefined_before : (before after : Option ValidatorActionId) → IsGatheredAt known entries uid before → IsPut it before after
       → AreRequests applies_to → ¬ Contains (entry_uids (definitions_in entries)) uid
-  undefined_before None after none put is = λ defined. none (defined_is_declared entries uid defined)
+  undefined_before None after none put is = λ defined. none (defined_is_declared of_actions entries uid defined)
   undefined_before (Some old) after gathered put is =
       ⊎_elim
       (λ kept. absurd (external_written known applies_to _ written.kind kept.0 is))
@@ -112,7 +112,7 @@ module _ (known : KnownTypes) (entries : List Entry) (uid : PlainUid) (applies_t
   defined_before None none there = absurd there
   defined_before (Some old) gathered there =
       let is = definition_written known gathered.applies_to _ gathered.kind there in
-      uid_defined entries uid gathered.applies_to is (said_definition entries uid gathered.applies_to is gathered.says)
+      key_defined of_actions entries uid gathered.applies_to is (said_definition of_actions entries uid gathered.applies_to is gathered.says)
 
 -- some declarations are gathered in the map, and others are left
 pub record GatheredSoFar {S : Type 0} (known : KnownTypes) (types : List PlainName) (all : List Entry)
@@ -192,7 +192,7 @@ module _ {S : Type 0} (known : KnownTypes) (types : List PlainName) (all : List 
         done = Done;
         split = next_split ∙ sym (append_assoc so_far.done ((uid_of stated, applies_to) ∷ []) rest);
         gathered = λ key. gathered_at other put key (is_eq (uid_cmp (uid_of key) (uid_of stated))) refl;
-        once = once_more so_far.done (uid_of stated) applies_to so_far.once
+        once = once_more of_actions so_far.done (uid_of stated) applies_to so_far.once
             (undefined_before known so_far.done (uid_of stated) applies_to it written (node_at old stated) (node_at new stated) (so_far.gathered stated)
             (put stated (sym written.uid)));
         sound = λ uid of among. ⊎_elim
@@ -209,7 +209,7 @@ module _ {S : Type 0} (known : KnownTypes) (types : List PlainName) (all : List 
           let Q : PlainUid → Type 0 = λ uid. IsGatheredAt known so_far.done uid (node_at old key) in
           let P : List Entry → Type 0 = λ entries. Twice (entry_uids (definitions_in entries)) (uid_of stated) in
           subst P (sym next_split)
-          (defined_again so_far.done rest (uid_of stated) applies_to (definition_written known applies_to _ written.kind other)
+          (defined_again of_actions so_far.done rest (uid_of stated) applies_to (definition_written known applies_to _ written.kind other)
           (defined_before known so_far.done (uid_of stated) applies_to it written (node_at old key)
           (subst Q (same ∙ written.uid) (so_far.gathered key)) there))
 

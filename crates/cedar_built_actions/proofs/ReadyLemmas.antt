@@ -17,6 +17,7 @@ use Rattle.cedar_below.specs.declared.entity_uid.EntityUID.{EntityUID}
 use Rattle.cedar_below.specs.declared.extension.Extensions.{Extensions}
 use Rattle.cedar_below.specs.declared.internal_name.InternalName.{InternalName}
 use Rattle.cedar_declared.proofs.DeclarationLemmas.{action_declaration}
+use Rattle.cedar_declared.proofs.Definitions.{declared_definition, said_definition}
 use Rattle.cedar_declared.proofs.OccurrenceLemmas.{Contains-image, Contains-single}
 use Rattle.cedar_declared.proofs.ResolutionLemmas.{written_once}
 use Rattle.cedar_declared.specs.Bag.{Bag, action_uids, declared_actions, declared_entities, defined_names, definitions}
@@ -47,7 +48,7 @@ use Rattle.cedar_names.specs.declared.json_schema.reference_type.ReferenceType.T
 use Rattle.cedar_rules.specs.Ty.{Ty}
 use Rattle.cedar_built_actions.proofs.DescentLemmas.{chain_descends, chain_to_same, descendant_declared, descends_by_chain}
 use Rattle.cedar_built_actions.proofs.ParentLemmas.{edge_declared}
-use Rattle.cedar_built_actions.proofs.TogetherLemmas.{declared_definition, said_definition}
+use Rattle.cedar_built_actions.proofs.TogetherLemmas.{of_actions}
 use Rattle.cedar_built_actions.specs.Nodes.{AreGathered, AreLinked, AreReady, AreTheSame, IsGathered, IsGatheredAt, IsLinkingFault, LeadsTo, has_descendant, node_at}
 use Rattle.cedar_built_actions.specs.Ready.{AreActionsOf}
 use Rattle.cedar_built_actions.specs.Sound.{ActionsAreSound}
@@ -251,7 +252,7 @@ module _ (bag : Bag) (extensions : Extensions) (declared : List (EntityUID × Ac
   said_kind uid (requests principals resources context) external_action says written = written
   said_kind uid (requests principals resources context) (defined_action principal_types resource_types ty) says written =
       let all = requests principals resources context in
-      let among = said_definition Entries uid all tt says in (
+      let among = said_definition of_actions Entries uid all tt says in (
         names_resolved uid all principals principal_types among (λ reference there. inl there) written.0,
         names_resolved uid all resources resource_types among (λ reference there. inr there) written.1,
         written.2 (definitions bag extensions) (known_counted uid all context among refl),
@@ -311,7 +312,7 @@ module _ (bag : Bag) (extensions : Extensions) (declared : List (EntityUID × Ac
         principals,
         resources,
         context,
-        subst P same_definitions (declared_definition Entries uid all tt among),
+        subst P same_definitions (declared_definition of_actions Entries uid all tt among),
         (none.0, none.1 (definitions bag extensions) (known_counted uid all context among refl), none.2),
       )
 
@@ -469,7 +470,7 @@ module _ (bag : Bag) (extensions : Extensions) (declared : List (EntityUID × Ac
         no_context_fault : (uid : PlainUid) → ¬ IsFault bag extensions (context_not_record uid)
         no_context_fault uid fault =
             let P : List Entry → Type 0 = λ entries. Contains entries (uid, requests fault.0 fault.1 fault.2) in
-            let among = said_definition Entries uid (requests fault.0 fault.1 fault.2) tt (subst P (sym same_definitions) fault.3) in
+            let among = said_definition of_actions Entries uid (requests fault.0 fault.1 fault.2) tt (subst P (sym same_definitions) fault.3) in
             let record_context = (sound uid (requests fault.0 fault.1 fault.2) among).record_context in
             let Q : Ty → Type 0 = IsRecordType in
             fault.4.2 (subst Q (written_once (definitions bag extensions) ready.one_definition

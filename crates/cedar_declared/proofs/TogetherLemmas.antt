@@ -1,5 +1,5 @@
 -- What the declarations of one name say together.
-use Rattle.std.proofs.Common.{◌≡◌, ◌⊎◌, List, [], ◌∷◌, ◌++◌, map, ap, sym, subst, ◌∙◌, refl, inl, inr, ⊎_elim, arith, Contains}
+use Rattle.std.proofs.Common.{◌≡◌, ◌⊎◌, ◌↔◌, List, [], ◌∷◌, ◌++◌, map, ap, sym, subst, ◌∙◌, refl, inl, inr, ⊎_elim, arith, Contains}
 use Rattle.std.specs.List.{flat_map}
 use Rattle.cedar_below.proofs.Lists.{Contains-preimage}
 use Rattle.cedar_below.specs.PlainName.{PlainName}
@@ -8,12 +8,14 @@ use Rattle.cedar_names.specs.ActionBody.{ActionBody, Requests, requests, elsewhe
 use Rattle.cedar_names.specs.EntityBody.{EntityBody, standard, enumerated, external}
 use Rattle.cedar_names.specs.Expr.{Expr}
 use Rattle.cedar_names.specs.Reference.{Reference}
+use Rattle.cedar_declared.proofs.Definitions.{Definitions}
+use Rattle.cedar_declared.proofs.Definitions as any
 use Rattle.cedar_declared.proofs.OccurrenceLemmas.{Contains-flat_map, Contains-given, Contains-image, Contains-single, value_once}
 use Rattle.cedar_declared.specs.Bag.{Bag, declared_entities, declared_actions, action_uids}
 use Rattle.cedar_declared.specs.Counted.{CountsInEntity, CountsInRequests, IsPrincipalOrResource}
 use Rattle.cedar_declared.specs.Occurrences.{Twice}
 use Rattle.cedar_declared.specs.SameBag.{SameEntityBody, SameRequests}
-use Rattle.cedar_declared.specs.Together.{entity_definition_in, defined_entities, action_definition_in, defined_actions, EntitySays, ActionSays}
+use Rattle.cedar_declared.specs.Together.{entity_definition_in, entity_definitions, defined_entities, action_definition_in, defined_actions, EntitiesSay, EntitySays, ActionSays}
 
 -- what is declared of an entity type is a definition
 abbrev pub IsDefinition : EntityBody → Type 0
@@ -25,33 +27,70 @@ abbrev pub AreRequests : Requests → Type 0
 AreRequests elsewhere = ⊥
 AreRequests _ = Unit {0}
 
+-- what is declared of an entity type is a definition, or isn't one
+pub entity_decided : (body : EntityBody) → IsDefinition body ⊎ ¬ IsDefinition body
+entity_decided (standard parents shape tags) = inl tt
+entity_decided (enumerated choices) = inl tt
+entity_decided (external parents) = inr (λ is. is)
+
+-- a definition is what its declaration gives
+pub entity_given : (name : PlainName) (body : EntityBody) → IsDefinition body → Contains (entity_definition_in name body) (name, body)
+entity_given name (standard parents shape tags) is = (0, omega arith, refl)
+entity_given name (enumerated choices) is = (0, omega arith, refl)
+entity_given name (external parents) is = absurd is
+
+-- a declaration gives nothing but a definition, itself
+pub entity_only : (name : PlainName) (body : EntityBody) (entry : PlainName × EntityBody) → Contains (entity_definition_in name body) entry
+    → ((name, body) ≡ entry) × IsDefinition body
+entity_only name (standard parents shape tags) entry here = (Contains-single (name, standard parents shape tags) entry here, tt)
+entity_only name (enumerated choices) entry here = (Contains-single (name, enumerated choices) entry here, tt)
+entity_only name (external parents) entry here = absurd (omega (arith, here.1))
+
+-- and gives it once
+pub entity_single : (name : PlainName) (body : EntityBody) (other : PlainName)
+    → ¬ Twice (map (λ it. it.0) (entity_definition_in name body)) other
+entity_single name (standard parents shape tags) other twice = ⊎_elim (λ here. omega (arith, here.1.1)) (λ later. later) twice
+entity_single name (enumerated choices) other twice = ⊎_elim (λ here. omega (arith, here.1.1)) (λ later. later) twice
+entity_single name (external parents) other twice = twice
+
+-- a definition of an entity type says what it declares
+pub entity_says_itself : (entries : List (PlainName × EntityBody)) (name : PlainName) (body : EntityBody) → IsDefinition body
+    → EntitiesSay entries name body ↔ Contains (entity_definitions entries) (name, body)
+entity_says_itself entries name (standard parents shape tags) is = (λ says. says, λ among. among)
+entity_says_itself entries name (enumerated choices) is = (λ says. says, λ among. among)
+entity_says_itself entries name (external parents) is = absurd is
+
+-- an external declaration says that its name is declared and has no definition
+pub entity_says_declared : (entries : List (PlainName × EntityBody)) (name : PlainName) (body : EntityBody) → ¬ IsDefinition body
+    → EntitiesSay entries name body
+    ↔ (Contains (map (λ it. it.0) entries) name × ¬ Contains (map (λ it. it.0) (entity_definitions entries)) name)
+entity_says_declared entries name (standard parents shape tags) is = absurd (is tt)
+entity_says_declared entries name (enumerated choices) is = absurd (is tt)
+entity_says_declared entries name (external parents) is = (λ says. says, λ both. both)
+
+-- definitions of entity types among their declarations
+abbrev pub of_entity_types : Definitions PlainName EntityBody
+of_entity_types = record {
+  definition_in = entity_definition_in;
+  IsDefinition = IsDefinition;
+  decided = entity_decided;
+  given = entity_given;
+  only = entity_only;
+  single = entity_single;
+  Says = EntitiesSay;
+  says_itself = entity_says_itself;
+  says_declared = entity_says_declared;
+}
+
 -- a definition of an entity type is a declaration of it that isn't external
 pub definition_declared : (bag : Bag) (name : PlainName) (body : EntityBody) → Contains (defined_entities bag) (name, body)
     → Contains (declared_entities bag) (name, body) × IsDefinition body
-definition_declared bag name body among =
-    let f = λ (it : PlainName × EntityBody). entity_definition_in it.0 it.1 in
-    let it = Contains-flat_map f (declared_entities bag) (name, body) among in by it.0.0 it.0.1 it.1 it.2 where
-      by : (key : PlainName) (of : EntityBody) → Contains (declared_entities bag) (key, of)
-          → Contains (entity_definition_in key of) (name, body) → Contains (declared_entities bag) (name, body) × IsDefinition body
-      by key (standard parents shape tags) there here =
-          let P : PlainName × EntityBody → Type 0 = λ each. Contains (declared_entities bag) each × IsDefinition each.1 in
-          subst P (Contains-single (key, standard parents shape tags) (name, body) here) (there, tt)
-      by key (enumerated choices) there here =
-          let P : PlainName × EntityBody → Type 0 = λ each. Contains (declared_entities bag) each × IsDefinition each.1 in
-          subst P (Contains-single (key, enumerated choices) (name, body) here) (there, tt)
-      by key (external parents) there here = absurd (omega (arith, here.1))
+definition_declared bag = any.definition_declared of_entity_types (declared_entities bag)
 
 -- a declaration of an entity type that isn't external is a definition of it
 pub declared_definition : (bag : Bag) (name : PlainName) (body : EntityBody) → IsDefinition body
     → Contains (declared_entities bag) (name, body) → Contains (defined_entities bag) (name, body)
-declared_definition bag name body is among =
-    Contains-given (λ (it : PlainName × EntityBody). entity_definition_in it.0 it.1) (declared_entities bag) (name, body) (name, body)
-    among (by body is)
-  where
-    by : (of : EntityBody) → IsDefinition of → Contains (entity_definition_in name of) (name, of)
-    by (standard parents shape tags) is = (0, omega arith, refl)
-    by (enumerated choices) is = (0, omega arith, refl)
-    by (external parents) is = absurd is
+declared_definition bag = any.declared_definition of_entity_types (declared_entities bag)
 
 -- what is declared of an entity type is a definition, or external
 pub definition_or_external : (body : EntityBody) → IsDefinition body ⊎ ((parents : List _) × (body ≡ external parents))
@@ -59,25 +98,10 @@ definition_or_external (standard parents shape tags) = inl tt
 definition_or_external (enumerated choices) = inl tt
 definition_or_external (external parents) = inr (parents, refl)
 
--- an entity type that is defined is declared
-pub defined_is_declared : (bag : Bag) (name : PlainName) → Contains (map (λ it. it.0) (defined_entities bag)) name
-    → Contains (map (λ it. it.0) (declared_entities bag)) name
-defined_is_declared bag name among =
-    let key = λ (each : PlainName × EntityBody). each.0 in
-    let it = Contains-preimage key (defined_entities bag) name among in
-    let P : PlainName → Type 0 = Contains (map key (declared_entities bag)) in
-    subst P it.2 (Contains-image key (declared_entities bag) it.0 (definition_declared bag it.0.0 it.0.1 it.1).0)
-
 -- what the declarations of an entity type say together is said of a declared one
 pub said_is_declared : (bag : Bag) (name : PlainName) (body : EntityBody) → EntitySays bag name body
     → Contains (map (λ it. it.0) (declared_entities bag)) name
-said_is_declared bag name (external parents) says = says.0
-said_is_declared bag name (standard parents shape tags) says =
-    defined_is_declared bag name (Contains-image (λ (each : PlainName × EntityBody). each.0) (defined_entities bag)
-    (name, standard parents shape tags) says)
-said_is_declared bag name (enumerated choices) says =
-    defined_is_declared bag name (Contains-image (λ (each : PlainName × EntityBody). each.0) (defined_entities bag)
-    (name, enumerated choices) says)
+said_is_declared bag = any.said_declared of_entity_types (declared_entities bag)
 
 -- what is declared of an entity type is the same as itself
 pub SameEntityBody-itself : (body : EntityBody) → SameEntityBody body body
@@ -217,9 +241,7 @@ request_placed elsewhere reference place = absurd place
 -- a definition that is said of an entity type is declared
 pub said_definition : (bag : Bag) (name : PlainName) (body : EntityBody) → EntitySays bag name body → IsDefinition body
     → Contains (declared_entities bag) (name, body)
-said_definition bag name (standard ps shape tags) says is = (definition_declared bag name (standard ps shape tags) says).0
-said_definition bag name (enumerated choices) says is = (definition_declared bag name (enumerated choices) says).0
-said_definition bag name (external ps) says is = absurd is
+said_definition bag name body says is = any.said_definition of_entity_types (declared_entities bag) name body is says
 
 -- requests of a definition that are said of an action are declared
 pub said_action_definition : (bag : Bag) (uid : PlainUid) (it : Requests) → ActionSays bag uid it → AreRequests it

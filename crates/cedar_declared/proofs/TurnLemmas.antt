@@ -1,5 +1,5 @@
 -- What holds of two lists in turn.
-use Rattle.std.proofs.Common.{◌≡◌, List, [], ◌∷◌, subst, refl, inl, inr, ⊎_elim, arith, Contains}
+use Rattle.std.proofs.Common.{List, [], ◌∷◌, subst, refl, inl, inr, ⊎_elim, arith, Contains}
 use Rattle.cedar_below.proofs.Lists.{Contains-cons, Contains-cons_cases}
 use Rattle.cedar_below.specs.Lists.{HoldsInTurn}
 

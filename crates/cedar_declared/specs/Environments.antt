@@ -3,7 +3,7 @@ use Rattle.cedar_below.specs.PlainName.{PlainName}
 use Rattle.cedar_below.specs.PlainUid.{PlainUid}
 use Rattle.cedar_below.specs.declared.extension.Extensions.{Extensions}
 use Rattle.cedar_declared.specs.Bag.{Bag, definitions}
-use Rattle.cedar_declared.specs.DeclaredSchema.{IsNamedBy, IsDeclaredSchema}
+use Rattle.cedar_declared.specs.DeclaredSchema.{IsNamedBy}
 use Rattle.cedar_declared.specs.Defined.{Defined, names_of}
 use Rattle.cedar_declared.specs.PlainSchema.{ActionKind, defined_action, external_action, SchemaAction, PlainSchema}
 use Rattle.cedar_declared.specs.WrittenOut.{WrittenOut}

@@ -13,9 +13,13 @@ abbrev pub entity_definition_in : PlainName → EntityBody → List (PlainName �
 entity_definition_in name (external parents) = []
 entity_definition_in name body = (name, body) ∷ []
 
+-- the definitions among declarations of entity types
+abbrev pub entity_definitions : List (PlainName × EntityBody) → List (PlainName × EntityBody)
+entity_definitions entries = flat_map (λ it. entity_definition_in it.0 it.1) entries
+
 -- the definitions of entity types
 abbrev pub defined_entities : Bag → List (PlainName × EntityBody)
-defined_entities bag = flat_map (λ it. entity_definition_in it.0 it.1) (declared_entities bag)
+defined_entities bag = entity_definitions (declared_entities bag)
 
 -- a declaration of an action that isn't external is its definition
 abbrev pub action_definition_in : PlainUid → Requests → List (PlainUid × Requests)
@@ -35,10 +39,15 @@ IsExternalType bag name = Contains (map (λ it. it.0) (declared_entities bag)) n
 abbrev pub IsExternalAction : Bag → PlainUid → Type 0
 IsExternalAction bag uid = Contains (action_uids bag) uid × ¬ Contains (map (λ it. it.0) (defined_actions bag)) uid
 
--- what the declarations of an entity type say together, parents aside: what its definition says, or that it is external
+-- what declarations of entity types say together of one, parents aside: what its definition says, or that it is external
+abbrev pub EntitiesSay : List (PlainName × EntityBody) → PlainName → EntityBody → Type 0
+EntitiesSay entries name (external parents) = Contains (map (λ it. it.0) entries) name
+    × ¬ Contains (map (λ it. it.0) (entity_definitions entries)) name
+EntitiesSay entries name body = Contains (entity_definitions entries) (name, body)
+
+-- what the declarations of an entity type in a bag say together
 abbrev pub EntitySays : Bag → PlainName → EntityBody → Type 0
-EntitySays bag name (external parents) = IsExternalType bag name
-EntitySays bag name body = Contains (defined_entities bag) (name, body)
+EntitySays bag = EntitiesSay (declared_entities bag)
 
 -- what the declarations of an action say together, parents aside: the requests that its definition is for, or that it is
 -- external

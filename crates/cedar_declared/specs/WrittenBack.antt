@@ -1,5 +1,5 @@
 -- A schema written back as a bag of declarations, with each name in full.
-use Rattle.std.specs.Prelude.{◌≡◌, ◌⊎◌, ◌↔◌, ◌++◌, Bool, true, false, List, [], ◌∷◌, map, Option, Some, None, IsSome, Contains}
+use Rattle.std.specs.Prelude.{◌≡◌, ◌⊎◌, ◌↔◌, ◌++◌, false, List, [], ◌∷◌, map, Option, Some, None, IsSome, Contains}
 use Rattle.std.specs.List.Sorted.{IsPermutation}
 use Rattle.std.specs.Option.{option_map, option_zip}
 use Rattle.cedar_below.specs.Lists.{HoldsInTurn}
@@ -7,7 +7,7 @@ use Rattle.cedar_below.specs.PlainName.{PlainName, IsActionType}
 use Rattle.cedar_below.specs.PlainUid.{PlainUid}
 use Rattle.cedar_below.specs.Text.{Text}
 use Rattle.cedar_names.specs.ActionBody.{Requests, requests, elsewhere}
-use Rattle.cedar_names.specs.Declaration.{Declaration, Body, entity_type, action}
+use Rattle.cedar_names.specs.Declaration.{Declaration, entity_type, action}
 use Rattle.cedar_names.specs.EntityBody.{EntityBody, standard, enumerated, external}
 use Rattle.cedar_names.specs.Expr.{Expr, text_expr, long_expr, truth_expr, set_expr, record_expr, named, extension_expr, Members, no_member, member}
 use Rattle.cedar_names.specs.Reference.{Reference, ActionReference, path_within, reference_to}
