@@ -1,5 +1,5 @@
 -- Tests over a list, against what its elements give.
-use Rattle.std.proofs.Common.{◌≡◌, ◌≢◌, ◌<◌, ℕ, suc, zero, ◌+◌, Bool, List, [], ◌∷◌, ◌++◌, ◌⊎◌, inl, inr, map, length, take, get_or, All, AllPairs, Contains, arith, sym, subst, ◌∙◌, ap}
+use Rattle.std.proofs.Common.{◌≡◌, ◌≢◌, ◌<◌, ℕ, suc, zero, ◌+◌, Bool, List, [], ◌∷◌, ◌++◌, ◌⊎◌, inl, inr, ⊎_elim, map, length, take, get_or, All, AllPairs, Contains, arith, sym, subst, ◌∙◌, ap}
 use Rattle.std.proofs.lemmas.Bool.Decides.{Decides-like, Decides-or}
 use Rattle.std.proofs.lemmas.List.{get_or-map, get_or_default, get_or-take, map_more, take-map}
 use Rattle.std.proofs.lemmas.List.Quantifiers.{all_pairs_push}
@@ -17,6 +17,20 @@ Contains-cons b bs x (inr there) = (suc there.0, omega (arith, there.1), there.2
 pub Contains-cons_cases : {B : Type 0} (b : B) (bs : List B) (x : B) → Contains (b ∷ bs) x → (b ≡ x) ⊎ Contains bs x
 Contains-cons_cases b bs x (zero, lt, e) = inl e
 Contains-cons_cases b bs x (suc k, lt, e) = inr (k, omega (arith, lt), e)
+
+-- x is the first of some elements, or the second, and so on
+abbrev pub OneOf : {B : Type 0} → List B → B → Type 0
+OneOf [] x = ⊥
+OneOf (only ∷ []) x = x ≡ only
+OneOf (first ∷ second ∷ rest) x = (x ≡ first) ⊎ OneOf (second ∷ rest) x
+
+-- and then it is among them
+pub one_of : {B : Type 0} (bs : List B) (x : B) → OneOf bs x → Contains bs x
+one_of [] x is = absurd is
+one_of (only ∷ []) x is = Contains-cons only [] x (inl (sym is))
+one_of (first ∷ second ∷ rest) x is =
+    Contains-cons first (second ∷ rest) x
+    (⊎_elim (λ here. inl (sym here)) (λ later. inr (one_of (second ∷ rest) x later)) is)
 
 -- where a test decides whether an element gives x, its search decides whether x is given
 pub list_any-Contains : {X B : Type 0} (f : X → B) (x : B) (test : X → Bool) → ((y : X) → Decides (test y) (f y ≡ x))
