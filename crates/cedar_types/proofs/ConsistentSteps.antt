@@ -26,7 +26,7 @@ use Rattle.cedar_sorted.proofs.SearchLemmas.{text_of, text_at}
 use Rattle.cedar_sorted.specs.ByName.{NamesAscend, entry_texts}
 use Rattle.cedar_types.proofs.CoredWalk.{core_entry}
 use Rattle.cedar_types.proofs.EqualityLaws.{attribute_of-parts}
-use Rattle.cedar_types.proofs.SubtypeSteps.{Sought}
+use Rattle.cedar_types.proofs.SubtypeSteps.{Sought, IsAt}
 use Rattle.cedar_types.specs.Attributes.{plain_attributes}
 use Rattle.cedar_types.specs.Layers.{plain_entry, pairs_of, fields_of-pairs, field_names-entries}
 use Rattle.cedar_types.specs.Meaning.{ty_of, fields_of, attribute_of}
@@ -55,6 +55,10 @@ others-above : (first : Text) (others : List Text) → IsStrictlySortedBy text_c
     → AllByRecursion (λ other. text_cmp first other ≡ Less) others
 unfolding IsStrictlySortedBy
 others-above first others sorted = sorted.0
+
+-- an attribute of a core record type stands for its flag
+flag_of : (other : CoreAttributeType) → (core_attribute_of other).0 ≡ other.required
+flag_of other = ap (λ both. both.0) (core_attribute_of-parts other)
 
 -- what is left of two records is consistent
 abbrev pub AreLeft : Type 0 → Type 0 → List (String Global × AttributeType) → List (String Global × CoreAttributeType) → Type 0
@@ -85,21 +89,23 @@ consistent-first attrs own left IsOpen IsCoreOpen is sorted =
           ((λ whole. whole), (λ whole. whole)));
     }
 
--- a walk that goes on to a place for the next attribute of the other record
+-- a walk that goes on to a place for the next attribute of the other record, and tells whether what it passes may be missing
 pub record ConsistentStep (own : List (String Global × AttributeType)) (IsOpen IsCoreOpen Whole : Type 0) (at place : ℕ)
-    (item : String Global × CoreAttributeType) (rest : List (String Global × CoreAttributeType)) : Type 0 where
+    (item : String Global × CoreAttributeType) (rest : List (String Global × CoreAttributeType)) (may : Bool) : Type 0 where
   pub up : NamesAscend own
   pub so_far : ConsistentSoFar own IsOpen IsCoreOpen Whole at (item ∷ rest)
   pub on : at ≤ place
   pub passed : (i : ℕ) (d : String Global × AttributeType) → at ≤ i → i < place → text_cmp (text_at own i d) (core_text item) ≡ Less
   pub stays : (d : String Global × AttributeType) → place < length own → text_cmp (text_at own place d) (core_text item) ≢ Less
+  pub admits : Decides may (AllByRecursion (MayBeMissing IsOpen IsCoreOpen) (plain_attributes (take (place - at) (drop at own))))
 
 -- a walk on in the list that a record holds is such a one
 pub step_of : (attrs : Attributes) (own : List (String Global × AttributeType)) (IsOpen IsCoreOpen Whole : Type 0) (at place : ℕ)
-    (item : String Global × CoreAttributeType) (rest : List (String Global × CoreAttributeType)) → own ≡ pairs_of attrs
+    (item : String Global × CoreAttributeType) (rest : List (String Global × CoreAttributeType)) (may : Bool) → own ≡ pairs_of attrs
     → ConsistentSoFar own IsOpen IsCoreOpen Whole at (item ∷ rest) → at ≤ place → Sought attrs at place (core_text item)
-    → ConsistentStep own IsOpen IsCoreOpen Whole at place item rest
-step_of attrs own IsOpen IsCoreOpen Whole at place item rest is so_far on sought =
+    → Decides may (AllByRecursion (MayBeMissing IsOpen IsCoreOpen) (plain_attributes (take (place - at) (drop at own))))
+    → ConsistentStep own IsOpen IsCoreOpen Whole at place item rest may
+step_of attrs own IsOpen IsCoreOpen Whole at place item rest may is so_far on sought admits =
     let P : List (String Global × AttributeType) → Type 0 = λ pairs.
     ((i : ℕ) (d : String Global × AttributeType) → at ≤ i → i < place → text_cmp (text_at pairs i d) (core_text item) ≡ Less)
     × ((d : String Global × AttributeType) → place < length pairs → text_cmp (text_at pairs place d) (core_text item) ≢ Less) in
@@ -110,11 +116,12 @@ step_of attrs own IsOpen IsCoreOpen Whole at place item rest is so_far on sought
       on = on;
       passed = both.0;
       stays = both.1;
+      admits = admits;
     }
 
-module _ (own : List (String Global × AttributeType)) (IsOpen IsCoreOpen Whole : Type 0) (at place : ℕ)
-    (item : String Global × CoreAttributeType) (rest : List (String Global × CoreAttributeType))
-    (step : ConsistentStep own IsOpen IsCoreOpen Whole at place item rest) where
+module _ {own : List (String Global × AttributeType)} {IsOpen IsCoreOpen Whole : Type 0} {at place : ℕ}
+    {item : String Global × CoreAttributeType} {rest : List (String Global × CoreAttributeType)} {may : Bool}
+    (step : ConsistentStep own IsOpen IsCoreOpen Whole at place item rest may) where
   -- what is passed
   abbrev front : List (String Global × AttributeType)
   front = take (place - at) (drop at own)
@@ -151,27 +158,26 @@ module _ (own : List (String Global × AttributeType)) (IsOpen IsCoreOpen Whole 
       AreConsistent (fields_from items) (core_fields_from (map core_entry (item ∷ rest))) IsOpen IsCoreOpen in
       (λ parts. step.so_far.decides.0 (subst P (sym split) (both.0 parts)), λ whole. both.1 (subst P split (step.so_far.decides.1 whole)))
 
-  module _ (slice : List (String Global × AttributeType)) (is : slice ≡ front) (b : Bool)
-      (admits : Decides b (AllByRecursion (MayBeMissing IsOpen IsCoreOpen) (plain_attributes slice))) where
-    -- where what is passed may not be missing, the whole isn't consistent
-    pub passed-fails : b ≡ false → Decides false Whole
-    passed-fails fails =
-        part_fails passed-tells (λ all. absurd (let there = admits.1
-        (subst (λ items. AllByRecursion (MayBeMissing IsOpen IsCoreOpen) (plain_attributes items)) (sym is) all) in cc))
+  -- where what is passed may not be missing, the whole isn't consistent
+  pub passed-fails : may ≡ false → Decides false Whole
+  passed-fails fails = part_fails passed-tells (λ all. absurd (let there = step.admits.1 all in cc))
 
+  module _ (passed : may ≡ true) (found : Bool) (tells : Decides found (IsAt own place (core_text item))) where
     -- where it may, what is left tells the whole
-    pub passed-left : b ≡ true → AreLeft IsOpen IsCoreOpen (drop place own) (item ∷ rest) ↔ Whole
-    passed-left holds =
-        rest_alone passed-tells (subst (λ items. AllByRecursion (MayBeMissing IsOpen IsCoreOpen) (plain_attributes items)) is (admits.0 holds))
+    left : AreLeft IsOpen IsCoreOpen (drop place own) (item ∷ rest) ↔ Whole
+    left = rest_alone passed-tells (step.admits.0 passed)
 
-  module _ (left : AreLeft IsOpen IsCoreOpen (drop place own) (item ∷ rest) ↔ Whole) where
-    module _ (x : String Global × AttributeType) (inside : place < length own) (is : x ≡ get_or own place x)
-        (named : (d : String Global × AttributeType) → text_at own place d ≡ core_text item) where
+    module _ (met : found ≡ true) (x : String Global × AttributeType) (is : x ≡ get_or own place x) (b : Bool)
+        (consistent : Decides b (IsConsistent (attribute_of x.1).1 (core_attribute_of item.1).1)) where
+      -- the name is at the place
+      here : IsAt own place (core_text item)
+      here = tells.0 met
+
       -- where the name is in both, their types and what is left tell the whole
-      pub met-tells : (IsConsistent (attribute_of x.1).1 (core_attribute_of item.1).1 × AreLeft IsOpen IsCoreOpen (drop (place + 1) own) rest) ↔ Whole
+      met-tells : (IsConsistent (attribute_of x.1).1 (core_attribute_of item.1).1 × AreLeft IsOpen IsCoreOpen (drop (place + 1) own) rest) ↔ Whole
       met-tells =
-          let split : drop place own ≡ x ∷ drop (place + 1) own = drop-at own place x inside is in
-          let same : string_bytes x.0 ≡ core_text item = ap (λ pair. string_bytes pair.0) is ∙ named x in
+          let split : drop place own ≡ x ∷ drop (place + 1) own = drop-at own place x here.0 is in
+          let same : string_bytes x.0 ≡ core_text item = ap (λ pair. string_bytes pair.0) is ∙ here.1 x in
           let others = core_fields_from (map core_entry rest) in
           let others_fresh : ¬ Contains (core_names others) (core_text item) =
           subst (λ names. ¬ Contains names (core_text item)) (sym (core_names-entries rest))
@@ -192,33 +198,43 @@ module _ (own : List (String Global × AttributeType)) (IsOpen IsCoreOpen Whole 
           let whole = subst Q same (subst P split left) in
           (λ parts. whole.0 (both.0 parts), λ all. both.1 (whole.1 all))
 
-      -- and then the walk goes on past it
-      pub met-next : IsConsistent (attribute_of x.1).1 (core_attribute_of item.1).1 → ConsistentSoFar own IsOpen IsCoreOpen Whole (place + 1) rest
-      met-next consistent = record {
-        within = omega (arith, inside);
+      -- where their types aren't consistent, the whole isn't
+      pub met-fails : b ≡ false → Decides false Whole
+      met-fails fails = part_fails met-tells (λ all. absurd (let there = consistent.1 all in cc))
+
+      -- and where they are, the walk goes on past it
+      pub met-next : b ≡ true → ConsistentSoFar own IsOpen IsCoreOpen Whole (place + 1) rest
+      met-next holds = record {
+        within = let inside = here.0 in omega (arith, inside);
         ahead = Ahead-past text_of core_text text_cmp text_cmp-total own place item rest step.so_far.ahead.up
-            (Ahead-next text_of core_text text_cmp text_cmp-total own at place item rest step.so_far.ahead before) named;
-        decides = rest_alone met-tells consistent;
+            (Ahead-next text_of core_text text_cmp text_cmp-total own at place item rest step.so_far.ahead before) here.1;
+        decides = rest_alone met-tells (consistent.0 holds);
       }
 
-    module _ (alone : ¬ ((place < length own) × ((d : String Global × AttributeType) → text_at own place d ≡ core_text item))) where
+    module _ (alone : found ≡ false) (b : Bool) (lacks : Decides b ((item.1.required ≡ false) ⊎ IsOpen)) where
       -- where the name is in the other record alone, whether it may be missing and what is left tell the whole
-      pub alone-tells : ((((core_attribute_of item.1).0 ≡ false) ⊎ IsOpen) × AreLeft IsOpen IsCoreOpen (drop place own) rest) ↔ Whole
+      alone-tells : (((item.1.required ≡ false) ⊎ IsOpen) × AreLeft IsOpen IsCoreOpen (drop place own) rest) ↔ Whole
       alone-tells =
           let fresh : ¬ Contains (field_names (fields_from (plain_attributes (drop place own)))) (core_text item) =
           subst (λ names. ¬ Contains names (core_text item)) (sym (field_names-entries (drop place own)))
-          (λ among. missed text_of text_cmp text_cmp-total own step.up (core_text item) place before step.stays alone
+          (λ among. missed text_of text_cmp text_cmp-total own step.up (core_text item) place before step.stays
+          (λ at_place. absurd (let there = tells.1 at_place in cc))
           (seen-from text_of own place (core_text item) among)) in
           let both = consistent-other IsOpen IsCoreOpen (fields_from (plain_attributes (drop place own))) (core_text item)
           (core_attribute_of item.1).0 (core_attribute_of item.1).1 (core_fields_from (map core_entry rest)) fresh in
-          (λ parts. left.0 (both.0 parts), λ all. both.1 (left.1 all))
+          let Q : Bool → Type 0 = λ flag. (((flag ≡ false) ⊎ IsOpen) × AreLeft IsOpen IsCoreOpen (drop place own) rest) ↔ Whole in
+          subst Q (flag_of item.1) (λ parts. left.0 (both.0 parts), λ all. both.1 (left.1 all))
 
-      -- and then the walk goes on from the place
-      pub alone-next : place ≤ length own → ((core_attribute_of item.1).0 ≡ false) ⊎ IsOpen → ConsistentSoFar own IsOpen IsCoreOpen Whole place rest
-      alone-next inside missing = record {
+      -- where it may not be missing, the whole isn't consistent
+      pub alone-fails : b ≡ false → Decides false Whole
+      alone-fails fails = part_fails alone-tells (λ all. absurd (let there = lacks.1 all in cc))
+
+      -- and where it may, the walk goes on from the place
+      pub alone-next : place ≤ length own → b ≡ true → ConsistentSoFar own IsOpen IsCoreOpen Whole place rest
+      alone-next inside holds = record {
         within = inside;
         ahead = Ahead-next text_of core_text text_cmp text_cmp-total own at place item rest step.so_far.ahead before;
-        decides = rest_alone alone-tells missing;
+        decides = rest_alone alone-tells (lacks.0 holds);
       }
 
 -- at last what is left of the one record tells the whole
@@ -245,7 +261,3 @@ met_test x other ty is b decides =
     let core : core_ty_of other.attr_type ≡ (core_attribute_of other).1 = sym (ap (λ both. both.1) (core_attribute_of-parts other)) in
     subst (λ of. Decides b (IsConsistent (attribute_of x.1).1 of)) core
     (subst (λ of. Decides b (IsConsistent of (core_ty_of other.attr_type))) own decides)
-
--- an attribute of a core record type stands for its flag
-pub flag_of : (other : CoreAttributeType) → (core_attribute_of other).0 ≡ other.required
-flag_of other = ap (λ both. both.0) (core_attribute_of-parts other)

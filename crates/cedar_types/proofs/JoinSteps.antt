@@ -2,6 +2,7 @@
 use Rattle.std.proofs.Common.{◌↔◌, ◌≡◌, ◌⊎◌, ◌&&◌, ◌++◌, ℕ, Bool, refl, List, [], ◌∷◌, length, get_or, ap, sym, subst, ◌∙◌, inl, inr}
 use Rattle.std.proofs.Common.{string_bytes, arith, Contains, map, Err, Option, Some, None, true, false, cond, IfSome}
 use Rattle.std.proofs.lemmas.List.{append-nil, length-map}
+use Rattle.std.specs.Bool.{Decides}
 use Rattle.std.specs.List.{AllByRecursion}
 use Rattle.std.specs.List.Sorted.{IsStrictlySortedBy}
 use Rattle.std.specs.Option.{option_map}
@@ -131,6 +132,13 @@ module _ (b : Attributes) (at place : ℕ) (item : String Global × AttributeTyp
       ∙ ap (option_map attribute_of)
       (value_at-place (pairs_of b) (out-Attributes b).attrs.value.ascending (string_bytes item.0) place d here.0 (here.1 d)))
 
+-- a walk that goes on to a place for the next attribute of the one record, and tells whether its name is there in the other
+pub record JoinStep (SoFar : Attributes → Attributes → ℕ → Pairs → Pairs → Type 0) (a b : Attributes) (at place : ℕ)
+    (item : String Global × AttributeType) (rest joined : Pairs) (found : Bool) : Type 0 where
+  pub so_far : SoFar a b at (item ∷ rest) joined
+  pub sought : Sought b at place (string_bytes item.0)
+  pub here : Decides found (IsAt (pairs_of b) place (string_bytes item.0))
+
 -- a walk of a permissive join: with the join of what is left behind them, the pairs so far are the join of the whole
 pub record PermissiveSoFar (a b : Attributes) (at : ℕ) (rest joined : Pairs) : Type 0 where
   pub unplaced : AreUnplaced joined
@@ -157,51 +165,52 @@ permissive-last a b at joined so_far =
     let all = so_far.whole [] (no_permissive (fields_of b)) refl in
     (all.0, all.1 ∙ ap fields_from (append-nil (plain_attributes joined)))
 
-module _ (a b : Attributes) (at place : ℕ) (item : String Global × AttributeType) (rest joined : Pairs)
-    (so_far : PermissiveSoFar a b at (item ∷ rest) joined) (sought : Sought b at place (string_bytes item.0)) where
+module _ {a b : Attributes} {at place : ℕ} {item : String Global × AttributeType} {rest joined : Pairs} {found : Bool}
+    (step : JoinStep PermissiveSoFar a b at place item rest joined found) where
   -- a name whose types have no own bound is dropped
   permissive-drop : ((rb : Bool) (of : Ty) → HasField (fields_of b) (string_bytes item.0) rb of → ¬ HaveOwnBound Permissive (attribute_ty item.1) of)
       → PermissiveSoFar a b place rest joined
   unfolding drop_one
   permissive-drop none = record {
-    unplaced = so_far.unplaced;
-    ahead = ahead_next b at place item rest so_far.ahead sought;
+    unplaced = step.so_far.unplaced;
+    ahead = ahead_next b at place item rest step.so_far.ahead step.sought;
     whole = λ tail it is.
-        so_far.whole tail (drop_one (string_bytes item.0) (attribute_of item.1).0 (attribute_ty item.1) (fields_at rest)
+        step.so_far.whole tail (drop_one (string_bytes item.0) (attribute_of item.1).0 (attribute_ty item.1) (fields_at rest)
         (fields_of b) it none) is;
   }
 
   -- a name that the other record hasn't is dropped
-  pub permissive-missed : ¬ IsAt (pairs_of b) place (string_bytes item.0) → PermissiveSoFar a b place rest joined
-  permissive-missed wrong =
-      permissive-drop (λ rb of has own. lacks_name b at place item rest so_far.ahead sought wrong
+  pub permissive-missed : found ≡ false → PermissiveSoFar a b place rest joined
+  permissive-missed apart =
+      permissive-drop (λ rb of has own. lacks_name b at place item rest step.so_far.ahead step.sought
+      (λ wrong. absurd (let there = step.here.1 wrong in cc))
       (HasField-name (fields_of b) (string_bytes item.0) rb of has))
 
   -- a name whose types don't join is dropped
-  pub permissive-refused : (d : String Global × AttributeType) → IsAt (pairs_of b) place (string_bytes item.0)
+  pub permissive-refused : (d : String Global × AttributeType) → found ≡ true
       → ¬ HaveOwnBound Permissive (attribute_ty item.1) (attribute_ty (get_or (pairs_of b) place d).1) → PermissiveSoFar a b place rest joined
-  permissive-refused d here none =
+  permissive-refused d met none =
       permissive-drop (λ rb of has own.
       none (subst (HaveOwnBound Permissive (attribute_ty item.1))
       (HasField-once (fields_of b) (string_bytes item.0) rb _ of _ (IsAscending-fields b) has
-      (has_there b at place item rest so_far.ahead sought d here)).1 own))
+      (has_there b at place item rest step.so_far.ahead step.sought d (step.here.0 met))).1 own))
 
   -- a name whose types join is kept
-  pub permissive-kept : (d one : String Global × AttributeType) → IsAt (pairs_of b) place (string_bytes item.0)
+  pub permissive-kept : (d one : String Global × AttributeType) → found ≡ true
       → string_bytes one.0 ≡ string_bytes item.0
       → IsLeastOwnBound Permissive (attribute_ty item.1) (attribute_ty (get_or (pairs_of b) place d).1) (attribute_ty one.1)
       → (attribute_of one.1).0 ≡ ((attribute_of item.1).0 && (attribute_of (get_or (pairs_of b) place d).1).0)
       → attribute_loc one.1 ≡ None → PermissiveSoFar a b place rest (joined ++ one ∷ [])
   unfolding keep_one
-  permissive-kept d one here named least flag none = record {
-    unplaced = unplaced-push joined one so_far.unplaced none;
-    ahead = ahead_next b at place item rest so_far.ahead sought;
+  permissive-kept d one met named least flag none = record {
+    unplaced = unplaced-push joined one step.so_far.unplaced none;
+    ahead = ahead_next b at place item rest step.so_far.ahead step.sought;
     whole = λ tail it is.
         let other = attribute_of (get_or (pairs_of b) place d).1 in
-        let all = so_far.whole ((string_bytes one.0, attribute_of one.1) ∷ tail)
+        let all = step.so_far.whole ((string_bytes one.0, attribute_of one.1) ∷ tail)
         (keep_one (string_bytes item.0) (attribute_of item.1).0 other.0 (attribute_ty item.1) other.1 (attribute_ty one.1)
-        (fields_at rest) (fields_of b) (ascending_at (item ∷ rest) so_far.ahead.up) it
-        (has_there b at place item rest so_far.ahead sought d here) least (attribute_formed one.1))
+        (fields_at rest) (fields_of b) (ascending_at (item ∷ rest) step.so_far.ahead.up) it
+        (has_there b at place item rest step.so_far.ahead step.sought d (step.here.0 met)) least (attribute_formed one.1))
         (λ i. field (sym named i) (sym flag i) (attribute_ty one.1) (is i)) in
         (all.0, all.1 ∙ ap fields_from (plain-push joined one tail));
   }
@@ -300,43 +309,47 @@ strict-last a b at joined so_far =
     let all = so_far.whole [] (no_strict (fields_of b)) refl in
     (all.0, all.1 ∙ ap fields_from (append-nil (plain_attributes joined)))
 
-module _ (a b : Attributes) (at place : ℕ) (item : String Global × AttributeType) (rest joined : Pairs)
-    (so_far : StrictSoFar a b at (item ∷ rest) joined) (sought : Sought b at place (string_bytes item.0)) where
+module _ {a b : Attributes} {at place : ℕ} {item : String Global × AttributeType} {rest joined : Pairs} {found : Bool}
+    (step : JoinStep StrictSoFar a b at place item rest joined found) where
   -- where the other record hasn't the name, there is the help for that
-  pub strict-missed : ¬ IsAt (pairs_of b) place (string_bytes item.0) → IsHelpAtName (fields_of a) (fields_of b) help.RecordWidth
-  strict-missed wrong =
-      so_far.helped help.RecordWidth (inl (lacks_name b at place item rest so_far.ahead sought wrong, refl))
+  pub strict-missed : found ≡ false → IsHelpAtName (fields_of a) (fields_of b) help.RecordWidth
+  strict-missed apart =
+      step.so_far.helped help.RecordWidth (inl (
+        lacks_name b at place item rest step.so_far.ahead step.sought
+            (λ wrong. absurd (let there = step.here.1 wrong in cc)),
+        refl,
+      ))
 
   -- where the attributes have no join, there is the help for them
-  pub strict-refused : (d : String Global × AttributeType) (given : LubHelp) → IsAt (pairs_of b) place (string_bytes item.0)
+  pub strict-refused : (d : String Global × AttributeType) (given : LubHelp) → found ≡ true
       → (IsFlagHelp (attribute_of item.1) (attribute_of (get_or (pairs_of b) place d).1) given
       ⊎ (¬ HaveOwnBound Strict (attribute_ty item.1) (attribute_ty (get_or (pairs_of b) place d).1)
       × IsHelp Strict (attribute_ty item.1) (attribute_ty (get_or (pairs_of b) place d).1) given))
       → IsHelpAtName (fields_of a) (fields_of b) given
-  strict-refused d given here found =
+  strict-refused d given met right =
       let other = attribute_of (get_or (pairs_of b) place d).1 in
-      so_far.helped given (inr (inl (other.0, other.1, has_there b at place item rest so_far.ahead sought d here, found)))
+      step.so_far.helped given (inr (inl (other.0, other.1, has_there b at place item rest step.so_far.ahead step.sought d (step.here.0 met), right)))
 
   -- a name whose types join and whose flags are the same is kept
-  pub strict-kept : (d one : String Global × AttributeType) → IsAt (pairs_of b) place (string_bytes item.0)
+  pub strict-kept : (d one : String Global × AttributeType) → found ≡ true
       → string_bytes one.0 ≡ string_bytes item.0
       → IsLeastOwnBound Strict (attribute_ty item.1) (attribute_ty (get_or (pairs_of b) place d).1) (attribute_ty one.1)
       → (attribute_of item.1).0 ≡ (attribute_of one.1).0 → (attribute_of (get_or (pairs_of b) place d).1).0 ≡ (attribute_of one.1).0
       → attribute_loc one.1 ≡ None → StrictSoFar a b place rest (joined ++ one ∷ [])
   unfolding keep_strict
-  strict-kept d one here named least own_flag other_flag none = record {
-    unplaced = unplaced-push joined one so_far.unplaced none;
-    ahead = ahead_next b at place item rest so_far.ahead sought;
+  strict-kept d one met named least own_flag other_flag none = record {
+    unplaced = unplaced-push joined one step.so_far.unplaced none;
+    ahead = ahead_next b at place item rest step.so_far.ahead step.sought;
     whole = λ tail it is.
         let other = attribute_of (get_or (pairs_of b) place d).1 in
         let has = subst (λ flag. HasField (fields_of b) (string_bytes item.0) flag other.1) (other_flag ∙ sym own_flag)
-        (has_there b at place item rest so_far.ahead sought d here) in
-        let all = so_far.whole ((string_bytes one.0, attribute_of one.1) ∷ tail)
+        (has_there b at place item rest step.so_far.ahead step.sought d (step.here.0 met)) in
+        let all = step.so_far.whole ((string_bytes one.0, attribute_of one.1) ∷ tail)
         (keep_strict (string_bytes item.0) (attribute_of item.1).0 (attribute_ty item.1) other.1 (attribute_ty one.1)
-        (fields_at rest) (fields_of b) (ascending_at (item ∷ rest) so_far.ahead.up) it has least (attribute_formed one.1))
+        (fields_at rest) (fields_of b) (ascending_at (item ∷ rest) step.so_far.ahead.up) it has least (attribute_formed one.1))
         (λ i. field (sym named i) (own_flag i) (attribute_ty one.1) (is i)) in
         (all.0, all.1 ∙ ap fields_from (plain-push joined one tail));
-    helped = λ given found. so_far.helped given (inr (inr found));
+    helped = λ given found. step.so_far.helped given (inr (inr found));
   }
 
 module _ (a b : Attributes) (ta tb : OpenTag) (same : length (pairs_of a) ≡ length (pairs_of b)) where
@@ -371,14 +384,14 @@ module _ (a b : Attributes) (ta tb : OpenTag) (same : length (pairs_of a) ≡ le
   )
 
 -- what refuses two attributes refuses the records
-pub strict-errs : (a b : Attributes) (ta tb : OpenTag) (at place : ℕ) (item : String Global × AttributeType) (rest joined : Pairs)
-    → length (pairs_of a) ≡ length (pairs_of b) → StrictSoFar a b at (item ∷ rest) joined → Sought b at place (string_bytes item.0)
-    → (d : String Global × AttributeType) (refusal : JoinError) → IsAt (pairs_of b) place (string_bytes item.0)
+pub strict-errs : {a b : Attributes} {at place : ℕ} {item : String Global × AttributeType} {rest joined : Pairs} {found : Bool}
+    → (ta tb : OpenTag) → length (pairs_of a) ≡ length (pairs_of b) → JoinStep StrictSoFar a b at place item rest joined found
+    → (d : String Global × AttributeType) (refusal : JoinError) → found ≡ true
     → IsStrictAttribute (attribute_of item.1) (attribute_of (get_or (pairs_of b) place d).1) (Err refusal)
     → IsAnswerOrMemory ty_of (IsJoinAnswer Strict (record_of (fields_of a) ta) (record_of (fields_of b) tb)) (Err refusal)
-strict-errs a b ta tb at place item rest joined same so_far sought d (error.Help given) here found =
-    strict-refusal a b ta tb same given (strict-refused a b at place item rest joined so_far sought d given here found)
-strict-errs a b ta tb at place item rest joined same so_far sought d error.Memory here found = tt
+strict-errs {a = a} {b = b} ta tb same step d (error.Help given) met right =
+    strict-refusal a b ta tb same given (strict-refused step d given met right)
+strict-errs ta tb same step d error.Memory met right = tt
 
 -- where two attributes are dropped, their types have no own bound
 pub dropped_have_none : (a b : Bool × Ty) (found : Option AttributeType) → IsPermissiveAttribute a b found

@@ -1,9 +1,8 @@
 -- Steps of the walk that tells whether attributes are stated with samples.
-use Rattle.std.proofs.Common.{◌≡◌, ◌≢◌, ◌↔◌, ◌∙◌, ◌⊎◌, ⊎_elim, inl, inr, true, false, List, [], ◌∷◌, sym, ap, subst, Global, Contains, arith, Option, None, Some, Bor, IfSome, refl}
+use Rattle.std.proofs.Common.{◌≡◌, ◌↔◌, ◌∙◌, ⊎_elim, inl, inr, true, false, List, [], ◌∷◌, sym, ap, subst, Global, Contains, arith, Option, None, Some, Bor, IfSome, refl}
 use Rattle.std.specs.Bool.{Decides}
 use Rattle.std.specs.Option.{is_some}
 use Rattle.std.specs.declared.string.String.{String}
-use Rattle.cedar_below.proofs.Inclusion.{rest_alone, part_fails}
 use Rattle.cedar_below.proofs.Lists.{Contains-cons, Contains-cons_cases}
 use Rattle.cedar_below.specs.Tree.{Tree}
 use Rattle.cedar_below.specs.declared.extension.Extensions.{Extensions}

@@ -1,5 +1,5 @@
 -- Names within a namespace, and what names that are written in full would name.
-use Rattle.std.proofs.Common.{◌≡◌, ◌≢◌, ◌↔◌, ◌++◌, ◌≤◌, ◌<◌, ◌+◌, ◌-◌, ◌∙◌, Bool, true, false, not, IsTrue, IsSome, IfSome, map, take, length, get_or, arith, List, [], ◌∷◌, Option, None, Some, ap, sym, refl, inl, inr, ⊎_elim, Contains}
+use Rattle.std.proofs.Common.{◌≡◌, ◌≢◌, ◌↔◌, ◌++◌, ◌≤◌, ◌<◌, ◌+◌, ◌-◌, ◌∙◌, Bool, true, false, not, IsTrue, IsSome, IfSome, map, take, length, get_or, arith, List, [], ◌∷◌, Option, None, Some, ap, sym, refl, inl, inr, subst, ⊎_elim, Contains}
 use Rattle.std.proofs.lemmas.Bool.{false≢true}
 use Rattle.std.proofs.Math.Seq.{take-length}
 use Rattle.std.proofs.lemmas.List.{map_more}
@@ -102,6 +102,11 @@ one_namespace (Some namespace) None same = absurd (ends_in-nil namespace.path na
 one_namespace (Some namespace) (Some other) same =
     let both = ends-same namespace.path other.path namespace.base other.base same in
     λ i. let base : Text = both.1 i in let path : List Text = both.0 i in Some (record { base = base; path = path })
+
+-- what holds in the namespace of a path holds in each namespace of that path
+pub in_each_namespace : (P : Option PlainName → Type 0) (namespace : Option PlainName) (path : List Text) → IsPathOf namespace path
+    → P namespace → (other : Option PlainName) → IsPathOf other path → P other
+in_each_namespace P namespace path is holds other also = subst P (one_namespace namespace other (is ∙ sym also)) holds
 
 -- identifiers are all but the last, and then the last
 pub front_and_last : (ids : List Id) (base : Id) → 1 ≤ length ids → base ≡ get_or ids (length ids - 1) base

@@ -1,5 +1,5 @@
 -- Why nothing is written, carried from a part to the whole.
-use Rattle.std.proofs.Common.{Result, Ok, Err, IfErr}
+use Rattle.std.proofs.Common.{◌≡◌, Result, Ok, Err, IfErr, IsErrAnd, subst, sym}
 use Rattle.cedar_written_back.specs.Refusal.{Refuses}
 use Rattle.cedar_written_back.specs.declared.write_back_fault.WriteBackFault.{WriteBackFault}
 use Rattle.cedar_written_back.specs.declared.write_back_fault.WriteBackFault.TheVariants as fault
@@ -14,3 +14,9 @@ pub refusal_weaker : {A : Type 0} (P Q : Type 0) → (P → Q) → (answer : Res
     → IfErr answer (Refuses Q)
 refusal_weaker P Q to (Ok it) why = tt
 refusal_weaker P Q to (Err given) why = refuses_weaker P Q to given why
+
+-- the same of an answer that passes on the error of a part
+pub refusal_passed : {A P Q : Type 0} (answer : Result A WriteBackFault) (given : WriteBackFault) → IsErrAnd answer (λ it. it ≡ given)
+    → Refuses P given → (P → Q) → IfErr answer (Refuses Q)
+refusal_passed (Ok it) given is why to = tt
+refusal_passed {P = P} {Q = Q} (Err passed) given is why to = subst (Refuses Q) (sym is) (refuses_weaker P Q to given why)

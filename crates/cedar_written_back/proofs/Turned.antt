@@ -11,7 +11,7 @@ use Rattle.std.specs.declared.vec.Vec.{Vec}
 use Rattle.cedar_below.proofs.Lists.{Contains-cons}
 use Rattle.cedar_declared.proofs.OccurrenceLemmas.{Contains-single}
 use Rattle.cedar_written_back.proofs.Written.{none_there}
-use Rattle.cedar_written_back.specs.Parents.{AreTurned, held, parents_at}
+use Rattle.cedar_written_back.specs.Parents.{AreTurned, SomeUnsound, edges_to, held, parents_at}
 
 -- with one item more behind them, those that were there stand there, and that one
 pub pushed_cases : {A : Type 0} (items : List A) (last x : A) → Contains (items ++ last ∷ []) x ↔ (Contains items x ⊎ (last ≡ x))
@@ -90,6 +90,17 @@ module _ {K Q P : Type 0} (cmp : K → K → Ordering) (f : K → P) (g : Q → 
             at_other key it (λ same. false≢true (sym is ∙ (tie lower key).1 same))
             (added key ∙ cond-false (is_at (cmp lower) key) (parents_at cmp before lower ++ parent ∷ []) (parents_at cmp before key) is)
 
+-- what is held under a key is what lists it, where that is what the edges of the key lead to
+pub held_listed : {K Q P : Type 0} {cmp : K → K → Ordering} {f : K → P} {g : Q → P} {IsSound : P × P → Type 0}
+    {parents : BTreeMap K (Vec Q Global)} {edges : List (P × P)} → AreTurned cmp f g IsSound parents edges → (key : K)
+    (Lists : P → Type 0) → ((upper : P) → Contains edges (f key, upper) ↔ Lists upper) → (above : List P)
+    → above ≡ map g (parents_at cmp parents key) → (upper : P) → Contains above upper ↔ Lists upper
+held_listed {P = P} turned key Lists listed above is upper =
+    let R : List P → Type 0 = λ items. Contains items upper in (
+      λ among. (listed upper).0 ((turned.listed key upper).0 (subst R is among)),
+      λ lists. subst R (sym is) ((turned.listed key upper).1 ((listed upper).1 lists)),
+    )
+
 -- some of the edges are turned, and others are left
 pub record EdgesSoFar {E M : Type 0} (Turned : M → List E → Type 0) (initial current : M) (all left : List E) : Type 0 where
   pub done : List E
@@ -129,3 +140,36 @@ module _ {E M : Type 0} (Turned : M → List E → Type 0) (initial : M) (all : 
   edges_all left current nothing so_far edges turned =
       let R : List E → Type 0 = λ items. Turned current (edges ++ items) in
       subst R (sym (so_far.split ∙ (ap (λ others. so_far.done ++ others) nothing ∙ append-nil so_far.done))) (so_far.turned edges turned)
+
+-- where some of the next can't be written, some of all can't
+pub unsound_here : {M P : Type 0} {Turned : M → List (P × P) → Type 0} {initial current : M} {all left : List (P × P)}
+    (chunk rest : List (P × P)) → left ≡ chunk ++ rest → EdgesSoFar Turned initial current all left → (IsSound : P × P → Type 0)
+    → SomeUnsound IsSound chunk → SomeUnsound IsSound all
+unsound_here chunk rest is so_far IsSound some = (some.0, edges_here _ _ _ _ chunk rest _ is so_far some.0 some.1, some.2)
+
+-- the next of the lower ones that one upper one has
+module _ {K Q P : Type 0} (cmp : K → K → Ordering) (f : K → P) (g : Q → P)
+    (tie : (key other : K) → IsTrue (is_at (cmp key) other) ↔ (f other ≡ f key)) (IsSound : P × P → Type 0)
+    {initial current : BTreeMap K (Vec Q Global)} {all : List (P × P)} (upper : P) {left rest : List K} {lower : K}
+    (is : left ≡ lower ∷ rest)
+    (so_far : EdgesSoFar (AreTurned cmp f g IsSound) initial current all (edges_to upper (map f left))) where
+  -- where its edge can't be written, some of all can't
+  pub unsound_next : ¬ IsSound (f lower, upper) → SomeUnsound IsSound all
+  unsound_next unsound =
+      let edge : P × P = (f lower, upper) in
+      unsound_here (edge ∷ []) _ (ap (λ lowers. edges_to upper (map f lowers)) is) so_far IsSound
+      (edge, Contains-cons edge [] edge (inl refl), unsound)
+
+  -- with it, some more edges are turned
+  pub turned_next : (after : BTreeMap K (Vec Q Global)) (copy : K) (parent : Q) → f copy ≡ f lower → g parent ≡ upper
+      → ((key : K) → parents_at cmp after key
+      ≡ cond (is_at (cmp copy) key) (parents_at cmp current copy ++ parent ∷ []) (parents_at cmp current key))
+      → IsSound (f lower, upper) → EdgesSoFar (AreTurned cmp f g IsSound) initial after all (edges_to upper (map f rest))
+  turned_next after copy parent copied named added sound =
+      let R : P → Type 0 = λ low. IsSound (low, upper) in
+      let S : P → Type 0 = λ low. (edges : List (P × P)) → AreTurned cmp f g IsSound current edges
+      → AreTurned cmp f g IsSound after (edges ++ (low, upper) ∷ []) in
+      edges_more (AreTurned cmp f g IsSound) initial all _ ((f lower, upper) ∷ []) _ current
+      (ap (λ lowers. edges_to upper (map f lowers)) is) so_far after
+      (subst S copied (λ edges turned. turned_more cmp f g tie IsSound current after edges copy parent upper named added turned
+      (subst R (sym copied) sound)))

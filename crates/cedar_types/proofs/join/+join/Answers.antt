@@ -5,11 +5,13 @@ use Rattle.std.specs.declared.alloc.Global.{Global}
 use Rattle.std.specs.declared.rc.Rc.{Rc}
 use Rattle.cedar_below.proofs.TreeLemmas.{drop-at}
 use Rattle.cedar_below.specs.declared.validation_mode.ValidationMode.TheVariants.{Strict}
+use Rattle.cedar_rules.proofs.RecordAnswers.{PermissiveJoin}
+use Rattle.cedar_rules.proofs.StrictRecordAnswers.{StrictJoin}
 use Rattle.cedar_rules.specs.OpenTag.{either_open}
 use Rattle.cedar_rules.specs.OwnBound.{IsLeastOwnBound}
 use Rattle.cedar_rules.specs.Ty.{record_of, set_of}
 use Rattle.cedar_types.specs.Layers.{pairs_of}
-use Rattle.cedar_types.proofs.JoinSteps.{unplaced-at}
+use Rattle.cedar_types.proofs.JoinSteps.{JoinStep, unplaced-at}
 use Rattle.cedar_types.proofs.JoinSteps.{Pairs, fields_at, names_ascend, PermissiveSoFar, permissive-first, permissive-last}
 use Rattle.cedar_types.proofs.JoinSteps.{permissive-missed, permissive-refused, permissive-kept, permissive-least, StrictSoFar}
 use Rattle.cedar_types.proofs.JoinSteps.{strict-first, strict-last, strict-missed, strict-kept, strict-least, strict-refusal, strict-errs}
@@ -22,11 +24,15 @@ use Rattle.cedar_types.proofs.TypeKinds.{place-Bool, place-Entity, place-Set, pl
 use Rattle.cedar_types.proofs.TypeKinds.{place-not-Set, place-not-Record}
 use Rattle.cedar_types.specs.AttributeJoin.{attribute_ty, IsPermissiveAttribute, IsStrictAttribute}
 use Rattle.cedar_types.specs.Located.{Located}
-use Rattle.cedar_types.specs.Meaning.{ty_of, attribute_of, attribute_loc}
+use Rattle.cedar_types.specs.Meaning.{ty_of, fields_of, attribute_of, attribute_loc}
 use Rattle.cedar_types.specs.declared.attributes.AttributeType.{AttributeType}
 use Rattle.cedar_types.specs.declared.types.Type.{«Type»}
 use Rattle.cedar_types.specs.declared.types.Type.TheVariants as type
 use Rattle.cedar_types.proofs.join.+join.Goals as goal
+use Rattle.cedar_types.proofs.join.+join.Goals.{join_apart-In-Some-Some, permissive_record-After-as_slice-others}
+use Rattle.cedar_types.proofs.join.+join.Goals.{permissive_record-After-is_at, permissive_record-After-loop-name}
+use Rattle.cedar_types.proofs.join.+join.Goals.{strict_record-After-as_slice-others, strict_record-Else-own-others}
+use Rattle.cedar_types.proofs.join.+join.Goals.{strict_record-After-is_at, strict_record-After-loop-name}
 use Rattle.cedar_types.proofs.join.+join.Goals.{join_apart-in_default-via-in-Bool+in_default}
 use Rattle.cedar_types.proofs.join.+join.Goals.{join_apart-in_default-via-in-Entity+in_default}
 use Rattle.cedar_types.proofs.join.+join.Goals.{join_apart-in_default-via-in-Set+in_default}
@@ -34,23 +40,25 @@ use Rattle.cedar_types.proofs.join.+join.Goals.{join_apart-in_default-via-in-Rec
 use Rattle.cedar_types.proofs.join.+join.Goals.{permissive_record-then-is_at+in_ok-join+in-Some+in_ok-push_named}
 use Rattle.cedar_types.proofs.join.+join.Goals.{permissive_record-then-is_at+in_ok-join+in_default, permissive_record-else-is_at}
 
+-- what two sets with elements stand for
+both_sets : (t : _) (c : join_apart-In-Some-Some t)
+    → (ty_of c.args.a.now ≡ set_of (ty_of c.in-Some-Some.element.value)) × (ty_of c.args.b.now ≡ set_of (ty_of c.in-Some-Some.other.value))
+both_sets t c = (
+  ap ty_of (c.in-Set-Set.is-0 ∙ ap type.Set c.in-Some-Some.is-0) ∙ ty_of-set c.in-Some-Some.element,
+  ap ty_of (c.in-Set-Set.is-1 ∙ ap type.Set c.in-Some-Some.is-1) ∙ ty_of-set c.in-Some-Some.other,
+)
+
 pub join_apart-returns-in_err-join_shared-in-Some-Some-clause-join : goal.join_apart-returns-in_err-join_shared-in-Some-Some-clause-join
 join_apart-returns-in_err-join_shared-in-Some-Some-clause-join t c =
     let p = err_from_is_err_and c.from_residual.result c.from_residual.ensures.1 in
-    let first : ty_of c.args.a.now ≡ set_of (ty_of c.in-Some-Some.element.value) =
-    ap ty_of (c.in-Set-Set.is-0 ∙ ap type.Set c.in-Some-Some.is-0) ∙ ty_of-set c.in-Some-Some.element in
-    let second : ty_of c.args.b.now ≡ set_of (ty_of c.in-Some-Some.other.value) =
-    ap ty_of (c.in-Set-Set.is-1 ∙ ap type.Set c.in-Some-Some.is-1) ∙ ty_of-set c.in-Some-Some.other in
+    let (first, second) = both_sets t (goal.at.join_apart-returns-in_err-join_shared-in-Some-Some-clause-join t c).In-Some-Some in
     sets_refused_at (λ (rc : Rc «Type» Global). ty_of rc.value) c.args.mode (ty_of c.args.a.now) (ty_of c.args.b.now)
     (ty_of c.in-Some-Some.element.value) (ty_of c.in-Some-Some.other.value) _ c.in_err-join_shared-in-Some-Some.field-0.0 p.0
     first second p.1 p.2 c.in_err-join_shared-in-Some-Some.ensures
 
 pub join_apart-returns-in_ok-join_shared-in-Some-Some-clause-join : goal.join_apart-returns-in_ok-join_shared-in-Some-Some-clause-join
 join_apart-returns-in_ok-join_shared-in-Some-Some-clause-join t c =
-    let first : ty_of c.args.a.now ≡ set_of (ty_of c.in-Some-Some.element.value) =
-    ap ty_of (c.in-Set-Set.is-0 ∙ ap type.Set c.in-Some-Some.is-0) ∙ ty_of-set c.in-Some-Some.element in
-    let second : ty_of c.args.b.now ≡ set_of (ty_of c.in-Some-Some.other.value) =
-    ap ty_of (c.in-Set-Set.is-1 ∙ ap type.Set c.in-Some-Some.is-1) ∙ ty_of-set c.in-Some-Some.other in
+    let (first, second) = both_sets t (goal.at.join_apart-returns-in_ok-join_shared-in-Some-Some-clause-join t c).In-Some-Some in
     rw (first, second, c.set.ensures)
     (sets_join c.args.mode (ty_of c.in-Some-Some.element.value) (ty_of c.in-Some-Some.other.value)
     (ty_of c.in_ok-join_shared-in-Some-Some.field-0.value) c.in_ok-join_shared-in-Some-Some.ensures)
@@ -90,76 +98,94 @@ join_shared-returns-then-is_subtype-2 t c =
     (upper_joins c.args.mode (ty_of c.args.b.now.value) (ty_of c.args.a.now.value) c.in_ok-shared_again-2.field-0.value
     c.args.a.now.value c.in_ok-shared_again-2.ensures refl below).1
 
+-- the pairs that the two records hold
+permissive_pairs : (t : _) (c : permissive_record-After-as_slice-others t)
+    → (c.as_slice-own.result.now ≡ pairs_of c.args.a.now) × (c.as_slice-others.result.now ≡ pairs_of c.args.b.now)
+permissive_pairs t c = (
+  c.as_slice-own.ensures ∙ ap (λ all. all.entries.items) c.deref.ensures,
+  c.as_slice-others.ensures ∙ ap (λ all. all.entries.items) c.deref-2.ensures,
+)
+
+-- this turn's walk goes on to a place for the next attribute of the one record
+permissive_step : (t : _) (c : permissive_record-After-is_at t)
+    → JoinStep PermissiveSoFar c.args.a.now c.args.b.now c.loop-name.at c.seek-at.result c.loop-name-item.result
+    (drop (c.loop-name.name-index + 1) c.as_slice-own.result.now) c.loop-name.joined.items c.is_at.result
+permissive_step t c =
+    let b = c.args.b.now in
+    let item = c.loop-name-item.result in
+    let P : Pairs → Type 0 = λ left. PermissiveSoFar c.args.a.now b c.loop-name.at left c.loop-name.joined.items in
+    record {
+      so_far = subst P (drop-at _ c.loop-name.name-index item c.loop-name-test.true c.loop-name-item.is) c.loop-name.invariant;
+      sought = Sought-held b c.loop-name.at c.seek-at.result c.deref-in-loop-name.result.now _ (string_bytes item.0)
+          c.deref-in-loop-name.ensures c.deref-in-loop-name-2.ensures c.seek-at.ensures.passed c.seek-at.ensures.stays;
+      here = IsAt-held b c.seek-at.result c.deref-in-loop-name-3.result.now _ (string_bytes item.0) c.is_at.result
+          c.deref-in-loop-name-3.ensures c.deref-in-loop-name-4.ensures c.is_at.ensures;
+    }
+
+-- after the last turn the pairs are the join
+permissive_joined : (t : _) (c : permissive_record-After-loop-name t)
+    → (all : PermissiveJoin (fields_of c.args.a.now) (fields_of c.args.b.now)) × (all.fields ≡ fields_at c.loop-name.joined.items)
+permissive_joined t c =
+    let P : Pairs → Type 0 = λ left. PermissiveSoFar c.args.a.now c.args.b.now c.loop-name.at left c.loop-name.joined.items in
+    permissive-last c.args.a.now c.args.b.now c.loop-name.at c.loop-name.joined.items
+    (subst P (drop_of_length-le c.as_slice-own.result.now c.loop-name-test.false) c.loop-name.invariant)
+
 pub permissive_record-loop-name-init : goal.permissive_record-loop-name-init
 permissive_record-loop-name-init t c =
+    let past = goal.at.permissive_record-loop-name-init t c in
     let a = c.args.a.now in
     let b = c.args.b.now in
-    let own : c.as_slice-own.result.now ≡ pairs_of a = c.as_slice-own.ensures ∙ ap (λ all. all.entries.items) c.deref.ensures in
+    let own = (permissive_pairs t past.After-as_slice-others).0 in
     subst (λ (joined : Pairs). PermissiveSoFar a b 0 c.as_slice-own.result.now joined) (sym c.new-joined.ensures.items)
     (subst (λ (left : Pairs). PermissiveSoFar a b 0 left []) (sym own) (permissive-first a b))
 
 pub permissive_record-loop-name-preserved : goal.permissive_record-loop-name-preserved
 permissive_record-loop-name-preserved t c =
-    let a = c.args.a.now in
+    let past = goal.at.permissive_record-loop-name-preserved t c in
     let b = c.args.b.now in
     let item = c.loop-name-item.result in
     let place = c.seek-at.result in
-    let rest = drop (c.loop-name.name-index + 1) c.as_slice-own.result.now in
-    let P : Pairs → Type 0 = λ left. PermissiveSoFar a b c.loop-name.at left c.loop-name.joined.items in
-    let so_far = subst P (drop-at _ c.loop-name.name-index item c.loop-name-test.true c.loop-name-item.is) c.loop-name.invariant in
-    let sought = Sought-held b c.loop-name.at place c.deref-in-loop-name.result.now _ (string_bytes item.0)
-    c.deref-in-loop-name.ensures c.deref-in-loop-name-2.ensures c.seek-at.ensures.passed c.seek-at.ensures.stays in
-    let here = IsAt-held b place c.deref-in-loop-name-3.result.now _ (string_bytes item.0) c.is_at.result
-    c.deref-in-loop-name-3.ensures c.deref-in-loop-name-4.ensures c.is_at.ensures in
-    let others : c.as_slice-others.result.now ≡ pairs_of b = c.as_slice-others.ensures ∙ ap (λ all. all.entries.items) c.deref-2.ensures in
-    let R : Pairs → Type 0 = PermissiveSoFar a b place rest in
+    let step = permissive_step t past.After-is_at in
+    let others = (permissive_pairs t past.After-as_slice-others).1 in
+    let R : Pairs → Type 0 = PermissiveSoFar c.args.a.now b place (drop (c.loop-name.name-index + 1) c.as_slice-own.result.now) in
     elim c.if-is_at.branch [
       | permissive_record-then-is_at+in_ok-join+in-Some+in_ok-push_named w ↦ (
           let more = w.in_ok-push_named.ensures in
           let one = w.index-others-at.result in
-          let there = here.0 w.if-is_at.true in
           let Q : Pairs → Option AttributeType → Type 0 = λ all found.
           IsPermissiveAttribute (attribute_of item.1) (attribute_of (get_or all place one).1) found in
           let right : Q (pairs_of b) (Some w.in-Some.join) =
           subst (Q (pairs_of b)) w.in-Some.is (subst (λ (all : Pairs). Q all w.in_ok-join.field-0) others w.in_ok-join.ensures.join) in
           subst R (sym (ap (λ v. v.items) w.joined-is ∙ more.2))
-          (permissive-kept a b c.loop-name.at place item rest c.loop-name.joined.items so_far sought one (more.0, w.in-Some.join)
-          there more.1 right.0 right.1
+          (permissive-kept step one (more.0, w.in-Some.join) w.if-is_at.true more.1 right.0 right.1
           (let S : Option AttributeType → Type 0 = λ found. IfSome found (λ join. attribute_loc join ≡ None) in
           subst S w.in-Some.is w.in_ok-join.ensures.loc))
           )
       | permissive_record-then-is_at+in_ok-join+in_default w ↦ (
           let one = w.index-others-at.result in
-          let there = here.0 w.if-is_at.true in
           let Q : Pairs → Type 0 = λ all. IsPermissiveAttribute (attribute_of item.1) (attribute_of (get_or all place one).1) w.in_ok-join.field-0 in
           let none = dropped_have_none (attribute_of item.1) (attribute_of (get_or (pairs_of b) place one).1) w.in_ok-join.field-0 (subst Q others w.in_ok-join.ensures.join) w.in_default.not-Some in
           subst R (sym (ap (λ v. v.items) w.joined-is))
-          (permissive-refused a b c.loop-name.at place item rest c.loop-name.joined.items so_far sought one there none)
+          (permissive-refused step one w.if-is_at.true none)
           )
       | permissive_record-else-is_at w ↦ subst R (sym (ap (λ v. v.items) w.joined-is))
-          (permissive-missed a b c.loop-name.at place item rest c.loop-name.joined.items so_far sought
-          (λ is. absurd (let there = here.1 is in let none = w.if-is_at.false in cc)))
+          (permissive-missed step w.if-is_at.false)
     ]
 
 pub permissive_record-from_ascending-requires : goal.permissive_record-from_ascending-requires
 permissive_record-from_ascending-requires t c =
-    let a = c.args.a.now in
-    let b = c.args.b.now in
-    let P : Pairs → Type 0 = λ left. PermissiveSoFar a b c.loop-name.at left c.loop-name.joined.items in
-    let last = permissive-last a b c.loop-name.at c.loop-name.joined.items
-    (subst P (drop_of_length-le c.as_slice-own.result.now c.loop-name-test.false) c.loop-name.invariant) in
+    let past = goal.at.permissive_record-from_ascending-requires t c in
+    let last = permissive_joined t past.After-loop-name in
     names_ascend c.loop-name.joined.items last.0.fields last.1 last.0.ascending
 
 pub permissive_record-returns-clause-join : goal.permissive_record-returns-clause-join
 permissive_record-returns-clause-join t c =
+    let past = goal.at.permissive_record-returns-clause-join t c in
     let a = c.args.a.now in
     let b = c.args.b.now in
     let joined = c.loop-name.joined.items in
-    let P : Pairs → Type 0 = λ left. PermissiveSoFar a b c.loop-name.at left joined in
-    let last = permissive-last a b c.loop-name.at joined
-    (subst P (drop_of_length-le c.as_slice-own.result.now c.loop-name-test.false) c.loop-name.invariant) in
-    let own : c.as_slice-own.result.now ≡ pairs_of a = c.as_slice-own.ensures ∙ ap (λ all. all.entries.items) c.deref.ensures in
-    let others : c.as_slice-others.result.now ≡ pairs_of b = c.as_slice-others.ensures ∙ ap (λ all. all.entries.items) c.deref-2.ensures in
+    let last = permissive_joined t past.After-loop-name in
+    let (own, others) = permissive_pairs t past.After-as_slice-others in
     let count : c.len.result ≡ length joined = c.len.ensures ∙ c.loop-name.joined.ok.0 in
     let closed = c.permissive_openness-openness.ensures in
     let is : ty_of c.record.result ≡ record_of (fields_at joined) c.permissive_openness-openness.result =
@@ -187,81 +213,88 @@ pub strict_attribute-returns-else-a-b-clause-join : goal.strict_attribute-return
 strict_attribute-returns-else-a-b-clause-join t c =
     inl (flags_refused c.args.a.now c.args.b.now (ty_of c.in_ok-ty.ty.value) c.in_ok-ty.ensures c.if-a-b.false)
 
+-- the pairs that the two records hold
+strict_pairs : (t : _) (c : strict_record-After-as_slice-others t)
+    → (c.as_slice-own.result.now ≡ pairs_of c.args.a.now) × (c.as_slice-others.result.now ≡ pairs_of c.args.b.now)
+strict_pairs t c = (
+  c.as_slice-own.ensures ∙ ap (λ all. all.entries.items) c.deref.ensures,
+  c.as_slice-others.ensures ∙ ap (λ all. all.entries.items) c.deref-2.ensures,
+)
+
+-- they are as many
+same_length : (t : _) (c : strict_record-Else-own-others t) → length (pairs_of c.args.a.now) ≡ length (pairs_of c.args.b.now)
+same_length t c =
+    let own = c.as_slice-own.ensures ∙ ap (λ all. all.entries.items) c.deref.ensures in
+    let others = c.as_slice-others.ensures ∙ ap (λ all. all.entries.items) c.deref-2.ensures in
+    sym (ap length own) ∙ (c.if-own-others.false ∙ ap length others)
+
+-- this turn's walk goes on to a place for the next attribute of the one record
+strict_step : (t : _) (c : strict_record-After-is_at t)
+    → JoinStep StrictSoFar c.args.a.now c.args.b.now c.loop-name.at c.seek-at.result c.loop-name-item.result
+    (drop (c.loop-name.name-index + 1) c.as_slice-own.result.now) c.loop-name.joined.items c.is_at.result
+strict_step t c =
+    let b = c.args.b.now in
+    let item = c.loop-name-item.result in
+    let P : Pairs → Type 0 = λ left. StrictSoFar c.args.a.now b c.loop-name.at left c.loop-name.joined.items in
+    record {
+      so_far = subst P (drop-at _ c.loop-name.name-index item c.loop-name-test.true c.loop-name-item.is) c.loop-name.invariant;
+      sought = Sought-held b c.loop-name.at c.seek-at.result c.deref-in-loop-name.result.now _ (string_bytes item.0)
+          c.deref-in-loop-name.ensures c.deref-in-loop-name-2.ensures c.seek-at.ensures.passed c.seek-at.ensures.stays;
+      here = IsAt-held b c.seek-at.result c.deref-in-loop-name-3.result.now _ (string_bytes item.0) c.is_at.result
+          c.deref-in-loop-name-3.ensures c.deref-in-loop-name-4.ensures c.is_at.ensures;
+    }
+
+-- after the last turn the pairs are the join
+strict_joined : (t : _) (c : strict_record-After-loop-name t)
+    → (all : StrictJoin (fields_of c.args.a.now) (fields_of c.args.b.now)) × (all.fields ≡ fields_at c.loop-name.joined.items)
+strict_joined t c =
+    let P : Pairs → Type 0 = λ left. StrictSoFar c.args.a.now c.args.b.now c.loop-name.at left c.loop-name.joined.items in
+    strict-last c.args.a.now c.args.b.now c.loop-name.at c.loop-name.joined.items
+    (subst P (drop_of_length-le c.as_slice-own.result.now c.loop-name-test.false) c.loop-name.invariant)
+
 pub strict_record-returns-then-own-others-clause-join : goal.strict_record-returns-then-own-others-clause-join
 strict_record-returns-then-own-others-clause-join t c =
+    let past = goal.at.strict_record-returns-then-own-others-clause-join t c in
     let a = c.args.a.now in
     let b = c.args.b.now in
-    let own : c.as_slice-own.result.now ≡ pairs_of a = c.as_slice-own.ensures ∙ ap (λ all. all.entries.items) c.deref.ensures in
-    let others : c.as_slice-others.result.now ≡ pairs_of b = c.as_slice-others.ensures ∙ ap (λ all. all.entries.items) c.deref-2.ensures in
+    let (own, others) = strict_pairs t past.After-as_slice-others in
     strict-unlike a b c.args.a_openness c.args.b_openness
     (λ e. c.if-own-others.true (ap length own ∙ (e ∙ sym (ap length others))))
 
 pub strict_record-loop-name-init : goal.strict_record-loop-name-init
 strict_record-loop-name-init t c =
+    let past = goal.at.strict_record-loop-name-init t c in
     let a = c.args.a.now in
     let b = c.args.b.now in
-    let own : c.as_slice-own.result.now ≡ pairs_of a = c.as_slice-own.ensures ∙ ap (λ all. all.entries.items) c.deref.ensures in
+    let own = (strict_pairs t past.After-as_slice-others).0 in
     subst (λ (joined : Pairs). StrictSoFar a b 0 c.as_slice-own.result.now joined) (sym c.new-joined.ensures.items)
     (subst (λ (left : Pairs). StrictSoFar a b 0 left []) (sym own) (strict-first a b))
 
 pub strict_record-returns-then-not-is_at-clause-join : goal.strict_record-returns-then-not-is_at-clause-join
 strict_record-returns-then-not-is_at-clause-join t c =
-    let a = c.args.a.now in
-    let b = c.args.b.now in
-    let item = c.loop-name-item.result in
-    let place = c.seek-at.result in
-    let rest = drop (c.loop-name.name-index + 1) c.as_slice-own.result.now in
-    let P : Pairs → Type 0 = λ left. StrictSoFar a b c.loop-name.at left c.loop-name.joined.items in
-    let so_far = subst P (drop-at _ c.loop-name.name-index item c.loop-name-test.true c.loop-name-item.is) c.loop-name.invariant in
-    let sought = Sought-held b c.loop-name.at place c.deref-in-loop-name.result.now _ (string_bytes item.0)
-    c.deref-in-loop-name.ensures c.deref-in-loop-name-2.ensures c.seek-at.ensures.passed c.seek-at.ensures.stays in
-    let here = IsAt-held b place c.deref-in-loop-name-3.result.now _ (string_bytes item.0) c.is_at.result
-    c.deref-in-loop-name-3.ensures c.deref-in-loop-name-4.ensures c.is_at.ensures in
-    let others : c.as_slice-others.result.now ≡ pairs_of b = c.as_slice-others.ensures ∙ ap (λ all. all.entries.items) c.deref-2.ensures in
-    let own : c.as_slice-own.result.now ≡ pairs_of a = c.as_slice-own.ensures ∙ ap (λ all. all.entries.items) c.deref.ensures in
-    let same : length (pairs_of a) ≡ length (pairs_of b) = sym (ap length own) ∙ (c.if-own-others.false ∙ ap length others) in
-    strict-refusal a b c.args.a_openness c.args.b_openness same _
-    (strict-missed a b c.loop-name.at place item rest c.loop-name.joined.items so_far sought
-    (λ is. absurd (let there = here.1 is in let none = c.if-not-is_at.true in cc)))
+    let past = goal.at.strict_record-returns-then-not-is_at-clause-join t c in
+    strict-refusal c.args.a.now c.args.b.now c.args.a_openness c.args.b_openness (same_length t past.Else-own-others) _
+    (strict-missed (strict_step t past.After-is_at) c.if-not-is_at.true)
 
 pub strict_record-returns-in_err-join-clause-join : goal.strict_record-returns-in_err-join-clause-join
 strict_record-returns-in_err-join-clause-join t c =
-    let a = c.args.a.now in
-    let b = c.args.b.now in
+    let past = goal.at.strict_record-returns-in_err-join-clause-join t c in
     let item = c.loop-name-item.result in
-    let place = c.seek-at.result in
-    let rest = drop (c.loop-name.name-index + 1) c.as_slice-own.result.now in
-    let P : Pairs → Type 0 = λ left. StrictSoFar a b c.loop-name.at left c.loop-name.joined.items in
-    let so_far = subst P (drop-at _ c.loop-name.name-index item c.loop-name-test.true c.loop-name-item.is) c.loop-name.invariant in
-    let sought = Sought-held b c.loop-name.at place c.deref-in-loop-name.result.now _ (string_bytes item.0)
-    c.deref-in-loop-name.ensures c.deref-in-loop-name-2.ensures c.seek-at.ensures.passed c.seek-at.ensures.stays in
-    let here = IsAt-held b place c.deref-in-loop-name-3.result.now _ (string_bytes item.0) c.is_at.result
-    c.deref-in-loop-name-3.ensures c.deref-in-loop-name-4.ensures c.is_at.ensures in
-    let others : c.as_slice-others.result.now ≡ pairs_of b = c.as_slice-others.ensures ∙ ap (λ all. all.entries.items) c.deref-2.ensures in
-    let own : c.as_slice-own.result.now ≡ pairs_of a = c.as_slice-own.ensures ∙ ap (λ all. all.entries.items) c.deref.ensures in
-    let same : length (pairs_of a) ≡ length (pairs_of b) = sym (ap length own) ∙ (c.if-own-others.false ∙ ap length others) in
-    let one = c.index-others-at.result in
     let Q : Pairs → Type 0 = λ all.
-    IsStrictAttribute (attribute_of item.1) (attribute_of (get_or all place one).1) (Err c.in_err-join.field-0.0) in
+    IsStrictAttribute (attribute_of item.1) (attribute_of (get_or all c.seek-at.result c.index-others-at.result).1) (Err c.in_err-join.field-0.0) in
     let p = err_from_is_err_and c.from_residual.result c.from_residual.ensures.1 in
     rw (p.1, p.2)
-    (strict-errs a b c.args.a_openness c.args.b_openness c.loop-name.at place item rest c.loop-name.joined.items same so_far sought
-    one c.in_err-join.field-0.0 (here.0 c.if-not-is_at.false) (subst Q others c.in_err-join.ensures.join))
+    (strict-errs c.args.a_openness c.args.b_openness (same_length t past.Else-own-others) (strict_step t past.After-is_at)
+    c.index-others-at.result c.in_err-join.field-0.0 c.if-not-is_at.false
+    (subst Q (strict_pairs t past.After-as_slice-others).1 c.in_err-join.ensures.join))
 
 pub strict_record-loop-name-preserved : goal.strict_record-loop-name-preserved
 strict_record-loop-name-preserved t c =
-    let a = c.args.a.now in
-    let b = c.args.b.now in
+    let past = goal.at.strict_record-loop-name-preserved t c in
     let item = c.loop-name-item.result in
     let place = c.seek-at.result in
-    let rest = drop (c.loop-name.name-index + 1) c.as_slice-own.result.now in
-    let P : Pairs → Type 0 = λ left. StrictSoFar a b c.loop-name.at left c.loop-name.joined.items in
-    let so_far = subst P (drop-at _ c.loop-name.name-index item c.loop-name-test.true c.loop-name-item.is) c.loop-name.invariant in
-    let sought = Sought-held b c.loop-name.at place c.deref-in-loop-name.result.now _ (string_bytes item.0)
-    c.deref-in-loop-name.ensures c.deref-in-loop-name-2.ensures c.seek-at.ensures.passed c.seek-at.ensures.stays in
-    let here = IsAt-held b place c.deref-in-loop-name-3.result.now _ (string_bytes item.0) c.is_at.result
-    c.deref-in-loop-name-3.ensures c.deref-in-loop-name-4.ensures c.is_at.ensures in
-    let others : c.as_slice-others.result.now ≡ pairs_of b = c.as_slice-others.ensures ∙ ap (λ all. all.entries.items) c.deref-2.ensures in
+    let step = strict_step t past.After-is_at in
+    let others = (strict_pairs t past.After-as_slice-others).1 in
     let one = c.index-others-at.result in
     let Q : Pairs → Type 0 = λ all.
     IsLeastOwnBound Strict (attribute_ty item.1) (attribute_ty (get_or all place one).1) (attribute_ty c.in_ok-join.join)
@@ -269,30 +302,24 @@ strict_record-loop-name-preserved t c =
     × ((attribute_of (get_or all place one).1).0 ≡ (attribute_of c.in_ok-join.join).0) in
     let right = subst Q others c.in_ok-join.ensures.join in
     let more = c.in_ok-push_named.ensures in
-    subst (λ (joined : Pairs). StrictSoFar a b place rest joined) (sym more.2)
-    (strict-kept a b c.loop-name.at place item rest c.loop-name.joined.items so_far sought one (more.0, c.in_ok-join.join)
-    (here.0 c.if-not-is_at.false) more.1 right.0 right.1 right.2 c.in_ok-join.ensures.loc)
+    let R : Pairs → Type 0 = StrictSoFar c.args.a.now c.args.b.now place (drop (c.loop-name.name-index + 1) c.as_slice-own.result.now) in
+    subst R (sym {A = Pairs} more.2)
+    (strict-kept step one (more.0, c.in_ok-join.join) c.if-not-is_at.false more.1 right.0 right.1 right.2 c.in_ok-join.ensures.loc)
 
 pub strict_record-from_ascending-requires : goal.strict_record-from_ascending-requires
 strict_record-from_ascending-requires t c =
-    let a = c.args.a.now in
-    let b = c.args.b.now in
-    let P : Pairs → Type 0 = λ left. StrictSoFar a b c.loop-name.at left c.loop-name.joined.items in
-    let last = strict-last a b c.loop-name.at c.loop-name.joined.items
-    (subst P (drop_of_length-le c.as_slice-own.result.now c.loop-name-test.false) c.loop-name.invariant) in
+    let past = goal.at.strict_record-from_ascending-requires t c in
+    let last = strict_joined t past.After-loop-name in
     names_ascend c.loop-name.joined.items last.0.fields last.1 last.0.ascending
 
 pub strict_record-returns-clause-join : goal.strict_record-returns-clause-join
 strict_record-returns-clause-join t c =
+    let past = goal.at.strict_record-returns-clause-join t c in
     let a = c.args.a.now in
     let b = c.args.b.now in
     let joined = c.loop-name.joined.items in
-    let P : Pairs → Type 0 = λ left. StrictSoFar a b c.loop-name.at left joined in
-    let last = strict-last a b c.loop-name.at joined
-    (subst P (drop_of_length-le c.as_slice-own.result.now c.loop-name-test.false) c.loop-name.invariant) in
-    let own : c.as_slice-own.result.now ≡ pairs_of a = c.as_slice-own.ensures ∙ ap (λ all. all.entries.items) c.deref.ensures in
-    let others : c.as_slice-others.result.now ≡ pairs_of b = c.as_slice-others.ensures ∙ ap (λ all. all.entries.items) c.deref-2.ensures in
-    let same : length (pairs_of a) ≡ length (pairs_of b) = sym (ap length own) ∙ (c.if-own-others.false ∙ ap length others) in
+    let last = strict_joined t past.After-loop-name in
+    let same = same_length t past.Else-own-others in
     let is : ty_of c.record.result ≡ record_of (fields_at joined) (either_open c.args.a_openness c.args.b_openness) =
     c.record.ensures.ty ∙ (λ i. record_of (c.in_ok-attrs.ensures.attributes i) (c.strict_openness.ensures i)) in
     rw is (strict-least a b c.args.a_openness c.args.b_openness same joined last.0 last.1)

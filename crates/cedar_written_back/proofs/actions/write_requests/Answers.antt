@@ -1,12 +1,8 @@
-use Rattle.std.proofs.Common.{List, Some, ap, map, sym, subst, ◌∙◌, Contains}
-use Rattle.std.proofs.lemmas.Result.{err_from_is_err_and}
-use Rattle.cedar_below.specs.EntityType.{type_name}
+use Rattle.std.proofs.Common.{List, Some, ap, sym, subst, ◌∙◌, Contains}
 use Rattle.cedar_below.specs.PlainName.{PlainName}
-use Rattle.cedar_declared.specs.WrittenBack.{NamesNoOther}
 use Rattle.cedar_types.specs.Meaning.{ty_of}
-use Rattle.cedar_written_back.proofs.Refusals.{refuses_weaker}
+use Rattle.cedar_written_back.proofs.Refusals.{refusal_passed}
 use Rattle.cedar_written_back.specs.Parts.{known_names, plain_namespace}
-use Rattle.cedar_written_back.specs.Sound.{IsSoundAction}
 use Rattle.cedar_actions.specs.ValidatorActionId.{action_of}
 use Rattle.cedar_written_back.proofs.KindLemmas.{defined_written, principal_of, resource_of, sound_action}
 use Rattle.cedar_written_back.proofs.actions.write_requests.Goals as goal
@@ -14,32 +10,18 @@ use Rattle.cedar_written_back.proofs.actions.write_requests.Goals as goal
 pub returns-in_err-principal_types-clause-refusal : goal.returns-in_err-principal_types-clause-refusal
 returns-in_err-principal_types-clause-refusal c =
     let kind = (action_of c.args.action.now).kind in
-    let p = err_from_is_err_and c.from_residual.result c.from_residual.ensures.1 in
-    let names = known_names c.args.known.now in
-    let namespace = plain_namespace c.args.namespace.now in
-    rw (p.1, p.2)
-    (refuses_weaker
-    ((name : PlainName) × Contains (map type_name c.principals.result) name × ¬ NamesNoOther names namespace name)
-    (¬ IsSoundAction names namespace kind)
+    refusal_passed _ _ c.from_residual.ensures.1 c.in_err-principal_types.ensures.refusal
     (λ some sound.
     let P : List PlainName → Type 0 = λ names. Contains names some.0 in
     some.2 (sound.no_other some.0 (principal_of kind some.0 (subst P c.principals.ensures.names some.1))))
-    _ c.in_err-principal_types.ensures.refusal)
 
 pub returns-in_err-resource_types-clause-refusal : goal.returns-in_err-resource_types-clause-refusal
 returns-in_err-resource_types-clause-refusal c =
     let kind = (action_of c.args.action.now).kind in
-    let p = err_from_is_err_and c.from_residual-in_err-resource_types.result c.from_residual-in_err-resource_types.ensures.1 in
-    let names = known_names c.args.known.now in
-    let namespace = plain_namespace c.args.namespace.now in
-    rw (p.1, p.2)
-    (refuses_weaker
-    ((name : PlainName) × Contains (map type_name c.resources.result) name × ¬ NamesNoOther names namespace name)
-    (¬ IsSoundAction names namespace kind)
+    refusal_passed _ _ c.from_residual-in_err-resource_types.ensures.1 c.in_err-resource_types.ensures.refusal
     (λ some sound.
     let P : List PlainName → Type 0 = λ names. Contains names some.0 in
     some.2 (sound.no_other some.0 (resource_of kind some.0 (subst P c.resources.ensures.names some.1))))
-    _ c.in_err-resource_types.ensures.refusal)
 
 pub returns-clause-written : goal.returns-clause-written
 returns-clause-written c =

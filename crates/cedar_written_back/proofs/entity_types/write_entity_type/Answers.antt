@@ -1,12 +1,11 @@
 use Rattle.std.proofs.Common.{ap, map, sym, subst, Contains}
-use Rattle.std.proofs.lemmas.Result.{err_from_is_err_and}
 use Rattle.cedar_below.specs.PlainName.{PlainName}
-use Rattle.cedar_declared.specs.EntityTypeKind.{EntityTypeKind, kind_fields, kind_openness, kind_tags, standard_kind, external_kind}
+use Rattle.cedar_declared.specs.EntityTypeKind.{EntityTypeKind, external_kind}
 use Rattle.cedar_declared.specs.WrittenBack.{IsKindWritten}
 use Rattle.cedar_entities.specs.EntityTypeKind.{plain_kind}
 use Rattle.cedar_entities.specs.ValidatorEntityType.{entity_type_of}
 use Rattle.cedar_names.specs.RawName.{raw_name}
-use Rattle.cedar_written_back.proofs.Refusals.{refusal_weaker, refuses_weaker}
+use Rattle.cedar_written_back.proofs.Refusals.{refusal_passed, refusal_weaker}
 use Rattle.cedar_written_back.specs.Parts.{known_names, plain_namespace}
 use Rattle.cedar_written_back.specs.Sound.{IsSoundKind}
 use Rattle.cedar_names.specs.EntityBody.{EntityBody, raw_entity_body}
@@ -18,11 +17,8 @@ returns-in_err-standard-in-Standard-clause-refusal c =
     let kind = (entity_type_of c.args.ty.now).kind in
     let P : EntityTypeKind → Type 0 = IsSoundKind (known_names c.args.known.now) (plain_namespace c.args.namespace.now)
     (λ upper. Contains (map raw_name c.args.parents.items) upper) in
-    let p = err_from_is_err_and c.from_residual.result c.from_residual.ensures.1 in
-    rw (p.1, p.2)
-    (refuses_weaker (¬ P (standard_kind (kind_fields kind) (kind_openness kind) (kind_tags kind))) (¬ P kind)
+    refusal_passed _ _ c.from_residual.ensures.1 c.in_err-standard-in-Standard.ensures.refusal
     (λ unsound sound. unsound (subst P (sym (standard-parts kind _ _ _ (ap plain_kind c.in-Standard.is))) sound))
-    _ c.in_err-standard-in-Standard.ensures.refusal)
 
 pub returns-in_ok-standard-in-Standard-clause-sound : goal.returns-in_ok-standard-in-Standard-clause-sound
 returns-in_ok-standard-in-Standard-clause-sound c =

@@ -1,14 +1,13 @@
 use Rattle.std.proofs.Common.{[], ap, map}
-use Rattle.std.proofs.lemmas.Result.{err_from_is_err_and}
 use Rattle.cedar_below.specs.EntityUID.{uid_of}
 use Rattle.cedar_below.specs.contracts.entity_uid.EntityUIDOrd.TheImpl as key_ord
 use Rattle.cedar_written_back.specs.Parts.{written_uid}
 use Rattle.cedar_actions.specs.ValidatorActionId.{action_of}
 use Rattle.cedar_actions.specs.ValidatorActionId.{plain_action_entry}
-use Rattle.cedar_written_back.proofs.Refusals.{refuses_weaker}
-use Rattle.cedar_written_back.proofs.Turned.{edges_all, edges_here, edges_more, edges_none, turned_none}
+use Rattle.cedar_written_back.proofs.Refusals.{refusal_passed}
+use Rattle.cedar_written_back.proofs.Turned.{edges_all, edges_more, edges_none, turned_none, unsound_here}
 use Rattle.cedar_written_back.proofs.Keyed.{uid_tie}
-use Rattle.cedar_written_back.specs.Parents.{AreActionsTurned, IsKnownActionEdge, SomeUnsound, edges_to, action_edges}
+use Rattle.cedar_written_back.specs.Parents.{AreActionsTurned, IsKnownActionEdge, edges_to, action_edges}
 use Rattle.cedar_written_back.specs.Parts.{known_schema}
 use Rattle.cedar_written_back.proofs.parents.action_parents.Goals as goal
 
@@ -26,18 +25,10 @@ loop-upper-preserved c =
 
 pub returns-in_err-turn_action-clause-refusal : goal.returns-in_err-turn_action-clause-refusal
 returns-in_err-turn_action-clause-refusal c =
-    let all = action_edges (known_schema c.args.known.now).actions in
-    let chunk = (edges_to (uid_of c.in-Some.upper.now) (action_of c.in-Some.action.now).descendants) in
-    let p = err_from_is_err_and c.from_residual.result c.from_residual.ensures.1 in
-    rw (p.1, p.2)
-    (refuses_weaker (SomeUnsound (IsKnownActionEdge c.args.known.now) chunk) (SomeUnsound (IsKnownActionEdge c.args.known.now) all)
-    (λ some. (
-      some.0,
-      edges_here (AreActionsTurned c.args.known.now) c.new-parents.result all _ chunk _ c.loop-upper.parents
-          (ap (λ entries. action_edges (map plain_action_entry entries)) c.in-Some.ensures.steps) c.loop-upper.invariant some.0 some.1,
-      some.2,
-    ))
-    _ c.in_err-turn_action.ensures.refusal)
+    refusal_passed _ _ c.from_residual.ensures.1 c.in_err-turn_action.ensures.refusal
+    (unsound_here (edges_to (uid_of c.in-Some.upper.now) (action_of c.in-Some.action.now).descendants) _
+    (ap (λ entries. action_edges (map plain_action_entry entries)) c.in-Some.ensures.steps) c.loop-upper.invariant
+    (IsKnownActionEdge c.args.known.now))
 
 pub returns-clause-turned : goal.returns-clause-turned
 returns-clause-turned c =

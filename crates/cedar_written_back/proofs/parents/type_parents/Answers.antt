@@ -1,14 +1,13 @@
 use Rattle.std.proofs.Common.{[], ap, map}
-use Rattle.std.proofs.lemmas.Result.{err_from_is_err_and}
 use Rattle.cedar_below.specs.EntityType.{type_name}
 use Rattle.cedar_below.specs.contracts.entity_type.EntityTypeOrd.TheImpl as key_ord
 use Rattle.cedar_names.specs.RawName.{raw_name}
 use Rattle.cedar_entities.specs.ValidatorEntityType.{descendant_names}
 use Rattle.cedar_entities.specs.ValidatorEntityType.{plain_entry}
-use Rattle.cedar_written_back.proofs.Refusals.{refuses_weaker}
-use Rattle.cedar_written_back.proofs.Turned.{edges_all, edges_here, edges_more, edges_none, turned_none}
+use Rattle.cedar_written_back.proofs.Refusals.{refusal_passed}
+use Rattle.cedar_written_back.proofs.Turned.{edges_all, edges_more, edges_none, turned_none, unsound_here}
 use Rattle.cedar_written_back.proofs.Keyed.{type_tie}
-use Rattle.cedar_written_back.specs.Parents.{AreTypesTurned, IsKnownEdge, SomeUnsound, edges_to, type_edges}
+use Rattle.cedar_written_back.specs.Parents.{AreTypesTurned, IsKnownEdge, edges_to, type_edges}
 use Rattle.cedar_written_back.specs.Parts.{known_schema}
 use Rattle.cedar_written_back.proofs.parents.type_parents.Goals as goal
 
@@ -26,18 +25,10 @@ loop-upper-preserved c =
 
 pub returns-in_err-turn_type-clause-refusal : goal.returns-in_err-turn_type-clause-refusal
 returns-in_err-turn_type-clause-refusal c =
-    let all = type_edges (known_schema c.args.known.now).entity_types in
-    let chunk = (edges_to (type_name c.in-Some.upper.now) (descendant_names c.in-Some.ty.now)) in
-    let p = err_from_is_err_and c.from_residual.result c.from_residual.ensures.1 in
-    rw (p.1, p.2)
-    (refuses_weaker (SomeUnsound (IsKnownEdge c.args.known.now) chunk) (SomeUnsound (IsKnownEdge c.args.known.now) all)
-    (λ some. (
-      some.0,
-      edges_here (AreTypesTurned c.args.known.now) c.new-parents.result all _ chunk _ c.loop-upper.parents
-          (ap (λ entries. type_edges (map plain_entry entries)) c.in-Some.ensures.steps) c.loop-upper.invariant some.0 some.1,
-      some.2,
-    ))
-    _ c.in_err-turn_type.ensures.refusal)
+    refusal_passed _ _ c.from_residual.ensures.1 c.in_err-turn_type.ensures.refusal
+    (unsound_here (edges_to (type_name c.in-Some.upper.now) (descendant_names c.in-Some.ty.now)) _
+    (ap (λ entries. type_edges (map plain_entry entries)) c.in-Some.ensures.steps) c.loop-upper.invariant
+    (IsKnownEdge c.args.known.now))
 
 pub returns-clause-turned : goal.returns-clause-turned
 returns-clause-turned c =

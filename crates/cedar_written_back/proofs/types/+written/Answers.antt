@@ -1,5 +1,4 @@
 use Rattle.std.proofs.Common.{◌≡◌, List, Bool, false, Some, ap, sym, subst, ◌∙◌, string_bytes}
-use Rattle.std.proofs.lemmas.Result.{err_from_is_err_and}
 use Rattle.std.specs.Option.{option_map}
 use Rattle.cedar_below.specs.Name.{plain_name}
 use Rattle.cedar_declared.specs.WrittenBack.{type_written}
@@ -9,14 +8,13 @@ use Rattle.cedar_names.specs.Expr.{Expr, record_expr}
 use Rattle.cedar_names.specs.PlainMembers.{plain_members}
 use Rattle.cedar_names.specs.RawExpr.{raw_reference, raw_variant}
 use Rattle.cedar_names.specs.declared.json_schema.raw_name.RawName.{RawName}
-use Rattle.cedar_rules.specs.Ty.{Ty, extension_of, fields_from, record_of}
-use Rattle.cedar_rules.specs.declared.open_tag.OpenTag.TheVariants.{ClosedAttributes}
+use Rattle.cedar_rules.specs.Ty.{Ty, extension_of, fields_from}
 use Rattle.cedar_types.proofs.MemberParts.{attribute_of-parts, ty_of-extension}
 use Rattle.cedar_types.specs.Attributes.{plain_attributes}
 use Rattle.cedar_below.specs.Text.{Text}
 use Rattle.cedar_types.specs.Meaning.{attribute_of, fields_of, ty_of}
 use Rattle.cedar_written_back.proofs.Answered.{ok_on, ok_to}
-use Rattle.cedar_written_back.proofs.Refusals.{refusal_weaker, refuses_weaker}
+use Rattle.cedar_written_back.proofs.Refusals.{refusal_passed, refusal_weaker}
 use Rattle.cedar_written_back.proofs.TypeLemmas.{AttributesSoFar, attributes_all, attributes_more, attributes_none, attributes_sound, next_above, next_sound, put-behind, sound-extension, unsound-none}
 use Rattle.cedar_written_back.specs.Parts.{known_names, plain_namespace}
 use Rattle.cedar_written_back.specs.Sound.{IsSoundType}
@@ -38,14 +36,11 @@ write_record-returns-in_err-ty-clause-refusal t c =
     let P : Ty → Type 0 = IsSoundType names namespace in
     let same : ty_of c.deref.result.now ≡ (attribute_of attribute).1 =
     ap ty_of c.deref.ensures ∙ ap (λ (p : Bool × Ty). p.1) (sym (attribute_of-parts attribute)) in
-    let p = err_from_is_err_and c.from_residual.result c.from_residual.ensures.1 in
-    rw (p.1, p.2)
-    (refuses_weaker (¬ P (ty_of c.deref.result.now)) (¬ P (record_of (fields_of c.args.attrs.now) ClosedAttributes))
+    refusal_passed _ _ c.from_residual.ensures.1 c.in_err-ty.ensures.refusal
     (λ unsound sound. unsound (subst P (sym same)
     (next_sound names namespace (fields_of c.args.attrs.now) _ _ _ (string_bytes c.in-Some.name.now)
     (attribute_of attribute).0 (attribute_of attribute).1
     (ap (λ entries. fields_from (plain_attributes entries)) c.in-Some.ensures.steps) c.loop-name.invariant sound)))
-    _ c.in_err-ty.ensures.refusal)
 
 pub write_record-loop-name-preserved : goal.write_record-loop-name-preserved
 write_record-loop-name-preserved t c =

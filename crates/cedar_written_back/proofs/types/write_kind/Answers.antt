@@ -1,12 +1,10 @@
 use Rattle.std.proofs.Common.{◌≡◌, Some, ap, sym, subst}
-use Rattle.std.proofs.lemmas.Result.{err_from_is_err_and}
 use Rattle.cedar_below.specs.EntityType.{type_name}
-use Rattle.cedar_declared.specs.WrittenBack.{NamesNoOther}
 use Rattle.cedar_rules.specs.EntityUnion.{only_name}
 use Rattle.cedar_rules.specs.Ty.{Ty}
 use Rattle.cedar_types.specs.EntityKind.{kind_ty}
 use Rattle.cedar_types.specs.EntityLUB.{lub_names}
-use Rattle.cedar_written_back.proofs.Refusals.{refuses_weaker}
+use Rattle.cedar_written_back.proofs.Refusals.{refusal_passed}
 use Rattle.cedar_written_back.proofs.TypeLemmas.{sound-union}
 use Rattle.cedar_written_back.specs.Parts.{known_names, plain_namespace}
 use Rattle.cedar_written_back.specs.Sound.{IsSoundType}
@@ -19,12 +17,9 @@ returns-in_err-write_name-in-Some-clause-refusal c =
     let name = type_name c.in-Some.ty.now in
     let only : only_name (lub_names c.in-Entity.union) ≡ Some name = sym c.in-Some.ensures in
     let P : Ty → Type 0 = IsSoundType names namespace in
-    let p = err_from_is_err_and c.from_residual.result c.from_residual.ensures.1 in
-    rw (p.1, p.2)
-    (refuses_weaker (¬ NamesNoOther names namespace name) (¬ P (kind_ty c.args.kind.now))
+    refusal_passed _ _ c.from_residual.ensures.1 c.in_err-write_name-in-Some.ensures.refusal
     (λ other sound. other ((sound-union names namespace (lub_names c.in-Entity.union) name only).0 (subst P
     (ap kind_ty c.in-Entity.is) sound)))
-    _ c.in_err-write_name-in-Some.ensures.refusal)
 
 pub returns-in_ok-write_name-in-Some-clause-sound : goal.returns-in_ok-write_name-in-Some-clause-sound
 returns-in_ok-write_name-in-Some-clause-sound c =

@@ -1,11 +1,10 @@
-use Rattle.std.proofs.Common.{◌++◌, [], ◌∷◌, ap, ◌∙◌, map, Contains}
+use Rattle.std.proofs.Common.{◌++◌, [], ◌∷◌, ap, ◌∙◌, map}
 use Rattle.std.proofs.lemmas.List.{map-append}
-use Rattle.std.proofs.lemmas.Result.{err_from_is_err_and}
 use Rattle.cedar_below.specs.EntityType.{type_name}
 use Rattle.cedar_below.specs.PlainName.{PlainName}
 use Rattle.cedar_declared.specs.WrittenBack.{NamesNoOther}
 use Rattle.cedar_names.specs.RawName.{raw_name}
-use Rattle.cedar_written_back.proofs.Refusals.{refuses_weaker}
+use Rattle.cedar_written_back.proofs.Refusals.{refusal_passed}
 use Rattle.cedar_written_back.proofs.Written.{each_sound, written_all, written_here, written_more, written_none}
 use Rattle.cedar_written_back.specs.Parts.{known_names, plain_namespace}
 use Rattle.cedar_written_back.proofs.known.Known.write_names.Goals as goal
@@ -19,16 +18,13 @@ pub returns-in_err-write_name-clause-refusal : goal.returns-in_err-write_name-cl
 returns-in_err-write_name-clause-refusal c =
     let P : PlainName → Type 0 = NamesNoOther (known_names c.args.self.now) (plain_namespace c.args.namespace.now) in
     let name = type_name c.in-Some.name.now in
-    let p = err_from_is_err_and c.from_residual.result c.from_residual.ensures.1 in
-    rw (p.1, p.2)
-    (refuses_weaker (¬ P name) ((it : PlainName) × Contains (map type_name c.args.names) it × ¬ P it)
+    refusal_passed _ _ c.from_residual.ensures.1 c.in_err-write_name.ensures.refusal
     (λ other. (
       name,
       written_here P (map type_name c.args.names) _ _ _ name (ap
           (map type_name) c.in-Some.ensures.steps) c.loop-name.invariant,
       other,
     ))
-    _ c.in_err-write_name.ensures.refusal)
 
 pub loop-name-preserved : goal.loop-name-preserved
 loop-name-preserved c =
