@@ -5,12 +5,14 @@ use Rattle.cedar_below.specs.declared.validation_mode.ValidationMode.TheVariants
 use Rattle.cedar_declared.specs.PlainSchema.{SchemaEntityType}
 use Rattle.cedar_lookup.specs.KnownAttributes.{AreKnownOfAll, declared_fields, open_record}
 use Rattle.cedar_rules.proofs.JoinLemmas.{upper_is_join}
+use Rattle.cedar_rules.proofs.ReduceLemmas.{reduced_formed, reduced_once}
 use Rattle.cedar_rules.specs.Below.{Below}
 use Rattle.cedar_rules.specs.EntityUnion.{only_name}
 use Rattle.cedar_rules.specs.JoinAnswer.{IsReduceAnswer, JoinAnswer}
 use Rattle.cedar_rules.specs.OwnBound.{HaveOwnBound}
 use Rattle.cedar_rules.specs.Ty.{Ty, never, truth, long, text, any_entity, union_of, any_set, set_of, record_of, extension_of, Fields, end}
 use Rattle.cedar_rules.specs.declared.open_tag.OpenTag.TheVariants.{OpenAttributes, ClosedAttributes}
+use Rattle.cedar_rules.specs.WellFormed.{IsWellFormed}
 
 -- a type above an open record is an open record
 above_open : (fields : Fields) (bound : Ty) → Below Permissive (record_of fields OpenAttributes) bound
@@ -37,7 +39,7 @@ module _ (types : List (PlainName × SchemaEntityType)) where
       → IsReduceAnswer Permissive (record_of fields OpenAttributes) (map (open_record types) members) answer
       → (known : Fields) × (answer ≡ Ok (record_of known OpenAttributes))
   joined_to fields [] answer is = (fields, is)
-  joined_to fields (member ∷ rest) answer (inl (join, right, more)) =
+  joined_to fields (member ∷ rest) answer (inl (join, right, formed, more)) =
       let above = above_open fields join right.0.0.0 in
       let P : Ty → Type 0 = λ start. IsReduceAnswer Permissive start (map (open_record types) rest) answer in
       joined_to above.0 rest answer (subst P above.1 more)
@@ -48,16 +50,32 @@ module _ (types : List (PlainName × SchemaEntityType)) where
       → IsReduceAnswer Permissive never (map (open_record types) members) answer
       → (known : Fields) × (answer ≡ Ok (record_of known OpenAttributes))
   joined_open [] some answer is = absurd (some refl)
-  joined_open (member ∷ rest) some answer (inl (join, right, more)) =
+  joined_open (member ∷ rest) some answer (inl (join, right, formed, more)) =
       let above = above_open (declared_fields types member) join right.0.0.1.0 in
       let P : Ty → Type 0 = λ start. IsReduceAnswer Permissive start (map (open_record types) rest) answer in
       joined_to above.0 rest answer (subst P above.1 more)
   joined_open (member ∷ rest) some answer (inr (given, right, is)) =
       absurd (right.0 (open_record types member, (upper_is_join Permissive never (open_record types member) tt).0.0))
 
-  -- what one entity type declares is known of it
-  pub known_alone : (name : PlainName) → AreKnownOfAll types (name ∷ []) (declared_fields types name)
-  known_alone name = inl (open_record types name, (upper_is_join Permissive never (open_record types name) tt).0, refl)
+  -- what one entity type declares is known of it, where it is well formed
+  pub known_alone : (name : PlainName) → IsWellFormed (open_record types name)
+      → AreKnownOfAll types (name ∷ []) (declared_fields types name)
+  known_alone name formed =
+      inl (open_record types name, (upper_is_join Permissive never (open_record types name) tt).0, formed, refl)
+
+  -- what is known of some entity types is well formed
+  pub known_formed : (members : List PlainName) (known : Fields) → AreKnownOfAll types members known
+      → IsWellFormed (record_of known OpenAttributes)
+  known_formed members known joined =
+      reduced_formed Permissive (map (open_record types) members) (Ok (record_of known OpenAttributes)) joined
+
+  -- and is all that is
+  pub known_once : (members : List PlainName) (known other : Fields) → AreKnownOfAll types members known
+      → AreKnownOfAll types members other → known ≡ other
+  known_once members known other first second =
+      let same = reduced_once Permissive (map (open_record types) members) (record_of other OpenAttributes)
+      (Ok (record_of known OpenAttributes)) second first in
+      cc
 
 -- where there is an only name, there is just it
 pub only_is : (names : List PlainName) (name : PlainName) → Some name ≡ only_name names → names ≡ name ∷ []

@@ -1,24 +1,25 @@
 -- What is known of the attributes of a union of clean types: what the least clean bound of open records has.
-use Rattle.std.proofs.Common.{◌≡◌, ◌↔◌, Bool, true, false, IsTrue, List, [], ◌∷◌, Option, None, Some, Ok, map, ap, refl, sym, subst, ◌∙◌, inl, inr, ⊎_elim, Contains, arith}
+use Rattle.std.proofs.Common.{◌≡◌, Bool, true, false, IsTrue, List, [], ◌∷◌, Option, None, Some, Ok, map, ap, refl, sym, subst, ◌∙◌, inl, inr, ⊎_elim, Contains, arith}
 use Rattle.std.proofs.lemmas.Bool.{false≢true}
 use Rattle.std.specs.List.{AllByRecursion}
 use Rattle.cedar_below.proofs.Lists.{Contains-cons, Contains-cons_cases}
-use Rattle.cedar_below.specs.Lists.{Included}
 use Rattle.cedar_below.specs.PlainName.{PlainName}
 use Rattle.cedar_below.specs.Text.{Text}
 use Rattle.cedar_below.specs.declared.validation_mode.ValidationMode.TheVariants.{Permissive}
 use Rattle.cedar_declared.specs.PlainSchema.{SchemaEntityType}
+use Rattle.cedar_lookup.proofs.JoinedLemmas.{known_formed, known_once}
 use Rattle.cedar_lookup.specs.KnownAttributes.{AreKnownOfAll, declared_fields, open_record}
-use Rattle.cedar_lookup.specs.KnownLaws.{AllDeclareBelow, AllRequire, AreCleanTypes, AreExactlyKnown, IsCommonBound, KnownAttributesAreCommon, LargerUnionsKnowLess}
+use Rattle.cedar_lookup.specs.KnownLaws.{AreCleanTypes, AreExactlyKnown, IsCommonBound}
+use Rattle.cedar_lookup.specs.KnownLaws.{AttributesAreUnique, KnownAttributesAreCommon, LargerUnionsKnowLess}
 use Rattle.cedar_rules.proofs.OwnBoundLemmas.{AreClean-of}
 use Rattle.cedar_rules.proofs.ReduceLemmas.{reduce_least_clean}
 use Rattle.cedar_rules.proofs.SubtypeLaws.{HasBelow-of, HasField-name, HasField-named}
 use Rattle.cedar_rules.proofs.SubtypeLemmas.{found-HasField}
 use Rattle.cedar_rules.specs.Below.{Below, FieldsBelow, HasField}
 use Rattle.cedar_rules.specs.Bound.{IsBound, IsCleanBound, IsLeast}
-use Rattle.cedar_rules.specs.Clean.{AreClean, IsClean}
-use Rattle.cedar_rules.specs.Fields.{IsAscending, field_names}
-use Rattle.cedar_rules.specs.Ty.{Ty, record_of, Fields, end, field, field_at}
+use Rattle.cedar_rules.specs.Clean.{IsClean}
+use Rattle.cedar_rules.specs.Fields.{IsAscending}
+use Rattle.cedar_rules.specs.Ty.{Ty, union_of, record_of, Fields, end, field}
 use Rattle.cedar_rules.specs.declared.open_tag.OpenTag.TheVariants.{OpenAttributes}
 
 -- what holds of all images of some items holds of each
@@ -86,40 +87,48 @@ module _ (types : List (PlainName × SchemaEntityType)) (members : List PlainNam
       (λ member among. let own = common.0 member among in (own.0, own.1, own.2, (λ wrong. absurd (false≢true wrong)), own.3)) in
       (found.0, found.1, found.2, found.4)
 
-  module _ (ascending : IsAscending known) where
-    -- what is known are exactly the common attributes
-    pub known_exactly : AreExactlyKnown types members known
-    known_exactly = record {
-      names = λ name. (
-        λ among. let has = HasField-named known name among in (has.1, known_common name has.0 has.1 has.2),
-        λ some. let found = common_known name some.0 some.1 in HasField-name known name found.0 found.1 found.2,
-      );
-      least = λ name required ty has. (
-        known_common name required ty has,
-        λ bound common.
-            let found = common_known name bound common in
-            let same = only_field known name required found.0 ty found.1 ascending has found.2 in
-            let P : Ty → Type 0 = λ each. Below Permissive each bound in
-            subst P (sym same.1) found.3,
-      );
-      required = λ name required ty has. (
-        λ is member flag own among also.
-            let below = HasBelow-of Permissive (declared_fields types member) known name required ty (member_below member among) has in
-            let same = only_field (declared_fields types member) name below.0 flag below.1 own (clean member among).1 below.2 also in
-            subst IsTrue same.0 (below.3 is),
-        λ all.
-            let common = known_common name required ty has in
-            let found = known_below name true ty common.1
-            (λ member among. let own = common.0 member among in
-            (own.0, own.1, own.2, (λ _. all member own.0 own.1 among own.2), own.3)) in
-            let same = only_field known name required found.0 ty found.1 ascending has found.2 in
-            subst IsTrue (sym same.0) (found.3 refl),
-      );
-    }
+  -- what is known is in the order of its names
+  known_ascends : IsAscending known
+  known_ascends = (known_formed types members known joined).0
+
+  -- what is known are exactly the common attributes
+  pub known_exactly : AreExactlyKnown types members known
+  known_exactly = record {
+    names = λ name. (
+      λ among. let has = HasField-named known name among in (has.1, known_common name has.0 has.1 has.2),
+      λ some. let found = common_known name some.0 some.1 in HasField-name known name found.0 found.1 found.2,
+    );
+    least = λ name required ty has. (
+      known_common name required ty has,
+      λ bound common.
+          let found = common_known name bound common in
+          let same = only_field known name required found.0 ty found.1 known_ascends has found.2 in
+          let P : Ty → Type 0 = λ each. Below Permissive each bound in
+          subst P (sym same.1) found.3,
+    );
+    required = λ name required ty has. (
+      λ is member flag own among also.
+          let below = HasBelow-of Permissive (declared_fields types member) known name required ty (member_below member among) has in
+          let same = only_field (declared_fields types member) name below.0 flag below.1 own (clean member among).1 below.2 also in
+          subst IsTrue same.0 (below.3 is),
+      λ all.
+          let common = known_common name required ty has in
+          let found = known_below name true ty common.1
+          (λ member among. let own = common.0 member among in
+          (own.0, own.1, own.2, (λ _. all member own.0 own.1 among own.2), own.3)) in
+          let same = only_field known name required found.0 ty found.1 known_ascends has found.2 in
+          subst IsTrue (sym same.0) (found.3 refl),
+    );
+  }
 
 -- what is known of a union of clean types are exactly the common attributes
 pub known_is_common : KnownAttributesAreCommon
-known_is_common types members known clean ascending joined = known_exactly types members known clean joined ascending
+known_is_common types members known clean joined = known_exactly types members known clean joined
+
+-- a type has just one list of attributes
+pub attributes_once : AttributesAreUnique
+attributes_once types (union_of members) known other first second = known_once types members known other first second
+attributes_once types ty known other first second = first ∙ sym second
 
 -- a larger union knows less
 pub larger_knows_less : LargerUnionsKnowLess

@@ -1,11 +1,11 @@
 -- What is known of the attributes of a union, where the types of what its members declare are clean.
-use Rattle.std.specs.Prelude.{◌↔◌, Bool, Contains, IsTrue, List}
+use Rattle.std.specs.Prelude.{◌≡◌, ◌↔◌, Bool, Contains, IsTrue, List}
 use Rattle.cedar_below.specs.Lists.{Included}
 use Rattle.cedar_below.specs.PlainName.{PlainName}
 use Rattle.cedar_below.specs.Text.{Text}
 use Rattle.cedar_below.specs.declared.validation_mode.ValidationMode.TheVariants.{Permissive}
 use Rattle.cedar_declared.specs.PlainSchema.{SchemaEntityType}
-use Rattle.cedar_lookup.specs.KnownAttributes.{AreKnownOfAll, declared_fields}
+use Rattle.cedar_lookup.specs.KnownAttributes.{AreAttributesOf, AreKnownOfAll, declared_fields}
 use Rattle.cedar_rules.specs.Below.{Below, FieldsBelow, HasField}
 use Rattle.cedar_rules.specs.Bound.{IsLeast}
 use Rattle.cedar_rules.specs.Clean.{AreClean, IsClean}
@@ -43,12 +43,17 @@ AreCleanTypes types members =
     (member : PlainName) → Contains members member
     → AreClean (declared_fields types member) × IsAscending (declared_fields types member)
 
+-- a law: a type has just one list of attributes
+abbrev pub AttributesAreUnique : Type 0
+AttributesAreUnique =
+    (types : List (PlainName × SchemaEntityType)) (ty : Ty) (known other : Fields)
+    → AreAttributesOf types ty known → AreAttributesOf types ty other → known ≡ other
+
 -- a law: what is known of a union of clean types are exactly the common attributes
 abbrev pub KnownAttributesAreCommon : Type 0
 KnownAttributesAreCommon =
     (types : List (PlainName × SchemaEntityType)) (members : List PlainName) (known : Fields)
-    → AreCleanTypes types members → IsAscending known → AreKnownOfAll types members known
-    → AreExactlyKnown types members known
+    → AreCleanTypes types members → AreKnownOfAll types members known → AreExactlyKnown types members known
 
 -- a law: a larger union knows only what a smaller part of it knows, with types above and flags no stronger
 abbrev pub LargerUnionsKnowLess : Type 0

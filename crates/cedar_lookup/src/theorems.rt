@@ -1,6 +1,11 @@
 //! Laws of known attributes.
 
-ghost use Rattle.cedar_lookup.specs.KnownLaws.{KnownAttributesAreCommon, LargerUnionsKnowLess};
+ghost use Rattle.cedar_lookup.specs.KnownLaws.{AttributesAreUnique, KnownAttributesAreCommon, LargerUnionsKnowLess};
+
+/// A type has just one list of attributes: so all that is said of them is said of the same ones.
+pub fn attributes_are_unique()
+    ensures { AttributesAreUnique }
+{}
 
 /// What is known of a union whose members declare clean types: exactly the attributes that all members declare
 /// with types that have a clean common bound, each with the least of these bounds, and required exactly

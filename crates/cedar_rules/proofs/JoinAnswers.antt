@@ -94,7 +94,7 @@ reduced_from mode start (ty ∷ rest) formed all =
         × IsReduceAnswer mode start (ty ∷ rest) answer × IfOk answer IsWellFormed
     by_answer (Ok join, least, joined) rest_answered =
         let more = rest_answered join joined in
-        (more.0, inl (join, least, more.1), more.2)
+        (more.0, inl (join, least, joined, more.1), more.2)
     by_answer (Err given, none, joined) rest_answered = (Err given, inr (given, none, refl), tt)
 
 -- well-formed types are reduced to some answer

@@ -9,6 +9,7 @@ use Rattle.cedar_rules.specs.Clean.{IsClean}
 use Rattle.cedar_rules.specs.JoinAnswer.{JoinAnswer, IsReduceAnswer, IsAnswerOrMemory}
 use Rattle.cedar_rules.specs.Joining.{AnswersJoinOf, IsGivenOrMemory, IsJoinedInTurn}
 use Rattle.cedar_rules.specs.Ty.{Ty}
+use Rattle.cedar_rules.specs.WellFormed.{IsWellFormed}
 use Rattle.cedar_rules.specs.declared.join_error.JoinError.{JoinError}
 use Rattle.cedar_rules.specs.declared.join_error.JoinError.TheVariants as error
 use Rattle.cedar_rules.specs.declared.join_error.LubHelp.{LubHelp}
@@ -58,12 +59,14 @@ answers_by stands_for P Q (Ok value) forth right = forth (Ok value) right
 answers_by stands_for P Q (Err (error.Help given)) forth right = forth (Err given) right
 answers_by stands_for P Q (Err error.Memory) forth right = tt
 
--- values that are joined in turn stand for types that are reduced to what the answer stands for
-pub joined_reduced : {A : Type 0} (stands_for : A → Ty) (mode : ValidationMode) (start : A) (items : List A) (answer : Result A LubHelp)
+-- values that stand for well-formed types and are joined in turn stand for types that are reduced to what the answer
+-- stands for
+pub joined_reduced : {A : Type 0} (stands_for : A → Ty) (formed : (a : A) → IsWellFormed (stands_for a)) (mode : ValidationMode)
+    (start : A) (items : List A) (answer : Result A LubHelp)
     → IsJoinedInTurn (AnswersJoinOf stands_for mode) start items answer
     → IsReduceAnswer mode (stands_for start) (map stands_for items) (result_map_both stands_for (λ given. given) answer)
-joined_reduced stands_for mode start [] answer is = ap (result_map_both stands_for (λ given. given)) is
-joined_reduced stands_for mode start (item ∷ rest) answer (inl (join, right, more)) =
-    inl (stands_for join, right, joined_reduced stands_for mode join rest answer more)
-joined_reduced stands_for mode start (item ∷ rest) answer (inr (given, right, is)) =
+joined_reduced stands_for formed mode start [] answer is = ap (result_map_both stands_for (λ given. given)) is
+joined_reduced stands_for formed mode start (item ∷ rest) answer (inl (join, right, more)) =
+    inl (stands_for join, right, formed join, joined_reduced stands_for formed mode join rest answer more)
+joined_reduced stands_for formed mode start (item ∷ rest) answer (inr (given, right, is)) =
     inr (given, right, ap (result_map_both stands_for (λ help. help)) is)

@@ -4,6 +4,7 @@ use Rattle.cedar_rules.specs.Bound.{IsLeast}
 use Rattle.cedar_rules.specs.Help.{IsHelp}
 use Rattle.cedar_rules.specs.OwnBound.{HaveOwnBound, IsLeastOwnBound}
 use Rattle.cedar_rules.specs.Ty.{Ty}
+use Rattle.cedar_rules.specs.WellFormed.{IsWellFormed}
 use Rattle.cedar_rules.specs.declared.join_error.JoinError.{JoinError}
 use Rattle.cedar_rules.specs.declared.join_error.JoinError.TheVariants as error
 use Rattle.cedar_rules.specs.declared.join_error.LubHelp.{LubHelp}
@@ -22,11 +23,12 @@ abbrev pub IsJoinAnswer : ValidationMode → Ty → Ty → JoinAnswer → Type 0
 IsJoinAnswer mode a b (Ok join) = IsLeastOwnBound mode a b join
 IsJoinAnswer mode a b (Err given) = ¬ HaveOwnBound mode a b × IsHelp mode a b given
 
--- types are joined in turn from a start: to what the last join gives, or to the help of the first that is refused
+-- types are joined in turn from a start, each join well formed: to what the last one gives, or to the help of the first
+-- that is refused
 abbrev pub IsReduceAnswer : ValidationMode → Ty → List Ty → JoinAnswer → Type 0
 IsReduceAnswer mode start [] answer = answer ≡ Ok start
 IsReduceAnswer mode start (ty ∷ rest) answer =
-    ((join : Ty) × IsJoinAnswer mode start ty (Ok join) × IsReduceAnswer mode join rest answer)
+    ((join : Ty) × IsJoinAnswer mode start ty (Ok join) × IsWellFormed join × IsReduceAnswer mode join rest answer)
     ⊎ ((given : LubHelp) × IsJoinAnswer mode start ty (Err given) × (answer ≡ Err given))
 
 -- the answer of a call is right, by what its value stands for, or it is want of memory

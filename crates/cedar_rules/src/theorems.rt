@@ -19,6 +19,7 @@ ghost use Rattle.cedar_rules.specs.JoinLaws.{JoinsAreCommutative, StrictJoinsAre
 ghost use Rattle.cedar_rules.specs.Order.{truth_cmp, openness_cmp};
 ghost use Rattle.cedar_rules.specs.ReduceLaws.{ReductionsAreAnswered, EmptyIsReducedToNever};
 ghost use Rattle.cedar_rules.specs.ReduceLaws.{CleanAreReducedToLeastClean, CleanAreReducedInAnyOrder};
+ghost use Rattle.cedar_rules.specs.ReduceLaws.{ReductionsAreUnique, ReductionsAreWellFormed, RefusalsAreOfTheFirst};
 ghost use Rattle.cedar_rules.specs.WellFormed.{IsWellFormed};
 ghost use Rattle.cedar_rules.specs.Ty.{Ty};
 
@@ -100,6 +101,14 @@ pub fn reductions_are_least_bounds()
     ensures nothing { EmptyIsReducedToNever }
     ensures of_clean { CleanAreReducedToLeastClean }
     ensures any_order { CleanAreReducedInAnyOrder }
+{}
+
+/// What types are joined to in turn from `Never` is well formed, and their only answer; and where they are
+/// refused, the help is one for what those before the first refused are joined to, and that one.
+pub fn reductions_are_those_of_the_joins_in_turn()
+    ensures formed { ReductionsAreWellFormed }
+    ensures unique { ReductionsAreUnique }
+    ensures refused { RefusalsAreOfTheFirst }
 {}
 
 /// No value has two disjoint types.

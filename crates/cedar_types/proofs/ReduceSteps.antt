@@ -35,7 +35,7 @@ types-reduced mode start all result is =
     answers_by ty_of (IsJoinedInTurn (AnswersJoinOf ty_of mode) start all) (IsReduceAnswer mode never (map ty_of all)) result
     (λ answer right.
     let P : Ty → Type 0 = λ from. IsReduceAnswer mode from (map ty_of all) (result_map_both ty_of (λ given. given) answer) in
-    subst P (ap ty_of is ∙ ty_of-never) (joined_reduced ty_of mode start all answer right))
+    subst P (ap ty_of is ∙ ty_of-never) (joined_reduced ty_of IsWellFormed-type mode start all answer right))
 
 -- what clean types are reduced to is what they are in another order, want of memory aside
 pub reduced_in_any_order : (mode : ValidationMode) (types others : List «Type») (join : «Type») (answer : Result «Type» JoinError)
@@ -44,11 +44,9 @@ pub reduced_in_any_order : (mode : ValidationMode) (types others : List «Type»
     → IsAnswerOrMemory ty_of (IsReduceAnswer mode never (map ty_of others)) answer → answer ≢ Err error.Memory
     → IsOkAnd answer (λ other. ty_of other ≡ ty_of join)
 reduced_in_any_order mode types others join (Ok other) clean forth back right also given =
-    let same = reduce_any_order mode (map ty_of types) (map ty_of others) (ty_of join) (Ok (ty_of other)) clean forth back right also
-    (IsWellFormed-type join) (IsWellFormed-type other) in
+    let same = reduce_any_order mode (map ty_of types) (map ty_of others) (ty_of join) (Ok (ty_of other)) clean forth back right also in
     cc
 reduced_in_any_order mode types others join (Err (error.Help given)) clean forth back right also some =
-    let wrong = reduce_any_order mode (map ty_of types) (map ty_of others) (ty_of join) (Err given) clean forth back right also
-    (IsWellFormed-type join) tt in
+    let wrong = reduce_any_order mode (map ty_of types) (map ty_of others) (ty_of join) (Err given) clean forth back right also in
     absurd cc
 reduced_in_any_order mode types others join (Err error.Memory) clean forth back right also some = absurd (some refl)

@@ -1,20 +1,29 @@
 -- Helps and reductions of sample types.
-use Rattle.std.proofs.Common.{◌≡◌, inl, inr, Bool, true, false, refl, sym, ◌∙◌, [], ◌∷◌, Ok, Err, Contains, codes, arith}
-use Rattle.cedar_below.proofs.Lists.{Contains-cons}
+use Rattle.std.proofs.Common.{◌≡◌, ◌<◌, ℕ, zero, suc, inl, inr, ⊎_elim, Bool, true, false, refl, sym, subst, ◌∙◌, [], ◌∷◌, Ok, Err, Contains, codes, slice_index, arith}
+use Rattle.std.proofs.lemmas.Str.{IsUtf8-from_ascii}
+use Rattle.std.specs.List.Sorted.{IsStrictlySortedBy}
+use Rattle.cedar_below.proofs.Lists.{Contains-cons, Contains-cons_cases}
+use Rattle.cedar_below.specs.IsValue.{IsText}
 use Rattle.cedar_below.specs.Text.{Text}
 use Rattle.cedar_below.specs.declared.validation_mode.ValidationMode.{ValidationMode}
-use Rattle.cedar_below.specs.declared.validation_mode.ValidationMode.TheVariants.{Strict}
+use Rattle.cedar_below.specs.declared.validation_mode.ValidationMode.TheVariants.{Strict, Permissive}
 use Rattle.cedar_rules.proofs.ApartLemmas.{AreApart-truth_text}
 use Rattle.rule_examples.proofs.JoinExamples.{sets_join-apart, records_join-strict}
 use Rattle.cedar_rules.proofs.JoinLemmas.{upper_is_join}
+use Rattle.cedar_rules.proofs.ReduceLemmas.{reduced_once, refused_first}
 use Rattle.cedar_rules.proofs.SubtypeLaws.{HasBelow-of, HasField-named}
-use Rattle.cedar_rules.specs.Below.{HasField}
-use Rattle.cedar_rules.specs.JoinAnswer.{IsJoinAnswer, IsReduceAnswer}
+use Rattle.cedar_rules.specs.Below.{Below, HasField}
+use Rattle.cedar_rules.specs.Help.{IsHelp}
+use Rattle.cedar_rules.specs.JoinAnswer.{IsJoinAnswer, IsReduceAnswer, JoinAnswer}
 use Rattle.cedar_rules.specs.OwnBound.{HaveOwnBound}
-use Rattle.rule_examples.specs.Samples.{bar_and_false, bar_and_text, required_y, optional_y, unit_record, set_of_truths, set_of_longs}
+use Rattle.rule_examples.specs.Samples.{bar_and_false, bar_and_text, required_y, optional_y, text_y, open_y, twice_y, unit_record, set_of_truths, set_of_longs}
 use Rattle.cedar_rules.specs.Ty.{Ty, never, long, text, any_set, record_of, end, field}
+use Rattle.cedar_rules.specs.WellFormed.{IsWellFormed}
 use Rattle.cedar_rules.specs.declared.bool_type.BoolType.TheVariants.{False}
+use Rattle.cedar_rules.specs.declared.join_error.LubHelp.{LubHelp}
 use Rattle.cedar_rules.specs.declared.join_error.LubHelp.TheVariants as help
+use Rattle.cedar_rules.specs.declared.open_tag.OpenTag.{OpenTag}
+use Rattle.cedar_rules.specs.declared.open_tag.OpenTag.TheVariants.{OpenAttributes, ClosedAttributes}
 
 -- a name is among itself alone
 among_itself : (name : Text) → Contains (name ∷ []) name
@@ -76,13 +85,83 @@ reduce-first mode =
     inl (
       any_set,
       (upper_is_join mode never any_set tt).0,
+      tt,
       inl (
         any_set,
         (upper_is_join mode set_of_truths any_set tt).1,
-        inl (any_set, (upper_is_join mode set_of_longs any_set tt).1, refl),
+        tt,
+        inl (any_set, (upper_is_join mode set_of_longs any_set tt).1, tt, refl),
       ),
     )
 
 -- with the any-set last, they are refused
 pub reduce-last : (mode : ValidationMode) → IsReduceAnswer mode never (set_of_truths ∷ set_of_longs ∷ any_set ∷ []) (Err help.None)
-reduce-last mode = inl (set_of_truths, (upper_is_join mode never set_of_truths tt).0, inr (help.None, (sets_join-apart mode, refl), refl))
+reduce-last mode =
+    inl (set_of_truths, (upper_is_join mode never set_of_truths tt).0, tt, inr (help.None, (sets_join-apart mode, refl), refl))
+
+-- the name `y` is a text
+y_is_text : (name : Text) → Contains (codes "y" ∷ []) name → IsText name
+y_is_text name among =
+    ⊎_elim (λ same. subst IsText same (IsUtf8-from_ascii (codes "y") below_128)) (λ none. absurd (omega (arith, none.1)))
+    (Contains-cons_cases (codes "y") [] name among)
+  where
+    below_128 : (i : ℕ) → slice_index (codes "y") i < 128
+    below_128 zero = omega arith
+    below_128 (suc i) = omega arith
+
+-- a record of the name `y` and the whole numbers is well formed
+y_formed : (openness : OpenTag) → IsWellFormed (record_of (field (codes "y") true long end) openness)
+unfolding IsStrictlySortedBy
+y_formed openness = ((tt, tt), (tt, tt), y_is_text)
+
+-- no type is above the whole numbers and the texts, in strict mode
+numbers_or_texts : (bound : Ty) → Below Strict long bound → ¬ Below Strict text bound
+numbers_or_texts long below also = also
+numbers_or_texts bound below also = below
+
+-- the type of the only attribute of a record
+type_of : (name : Text) (flag required : Bool) (own ty : Ty) → HasField (field name flag own end) name required ty → own ≡ ty
+type_of name flag required own ty (inl same) = same.2
+type_of name flag required own ty (inr none) = elim none [ ]
+
+-- a number and a text have no own bound, in strict mode
+unlike_types : ¬ HaveOwnBound Strict required_y text_y
+unlike_types (record_of fields openness, own) =
+    let name = codes "y" in
+    let found = HasField-named fields name (own.0.0.1 name (among_itself name)) in
+    let first = HasBelow-of Strict (field name true long end) fields name found.0 found.1 own.0.0.2 found.2 in
+    let second = HasBelow-of Strict (field name true text end) fields name found.0 found.1 own.0.1.0.2 found.2 in
+    let P : Ty → Type 0 = λ ty. Below Strict ty found.1 in
+    numbers_or_texts found.1 (subst P (sym (type_of name true first.0 long first.1 first.2)) first.4)
+    (subst P (sym (type_of name true second.0 text second.1 second.2)) second.4)
+unlike_types (bound, own) = elim own.0.0 [ ]
+
+-- the help at the only name of both
+only_help : (given : LubHelp) → IsHelp Strict required_y text_y given → given ≡ help.None
+only_help given (inl (unlike, is)) = absurd (unlike refl)
+only_help given (inr (same, inl (lacked, is))) = absurd (lacked (among_itself (codes "y")))
+only_help given (inr (same, inr (inl (flag, of, inl has, inl (joined, flags, is))))) = absurd (flags has.1)
+only_help given (inr (same, inr (inl (flag, of, inl has, inr (apart, is))))) =
+    let P : Ty → Type 0 = λ ty. IsHelp Strict long ty given in
+    subst P (sym has.2) is
+only_help given (inr (same, inr (inl (flag, of, inr none, which)))) = elim none [ ]
+only_help given (inr (same, inr (inr none))) = elim none [ ]
+
+-- a number and a text in a record are refused for their types
+pub reduce-refused : (given : LubHelp) → IsReduceAnswer Strict never (required_y ∷ text_y ∷ []) (Err given) → given ≡ help.None
+reduce-refused given answer =
+    let first : IsReduceAnswer Strict never (required_y ∷ []) (Ok required_y) =
+    inl (required_y, (upper_is_join Strict never required_y tt).0, y_formed ClosedAttributes, refl) in
+    let found = refused_first Strict (required_y ∷ []) [] required_y text_y (Err given) first unlike_types answer in
+    let same : given ≡ found.0 = cc in
+    same ∙ only_help found.0 found.1
+
+-- an open record alone is reduced to itself
+pub reduce-alone : (answer : JoinAnswer) → IsReduceAnswer Permissive never (open_y ∷ []) answer → answer ≡ Ok open_y
+reduce-alone answer reduced =
+    reduced_once Permissive (open_y ∷ []) open_y answer
+    (inl (open_y, (upper_is_join Permissive never open_y tt).0, y_formed OpenAttributes, refl)) reduced
+
+-- and to no record that names an attribute twice
+pub reduce-twice : ¬ IsReduceAnswer Permissive never (open_y ∷ []) (Ok twice_y)
+reduce-twice reduced = let same = reduce-alone (Ok twice_y) reduced in absurd cc

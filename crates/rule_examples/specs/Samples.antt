@@ -68,6 +68,18 @@ required_y = record_of (field (codes "y") true long end) ClosedAttributes
 abbrev pub optional_y : Ty
 optional_y = record_of (field (codes "y") false long end) ClosedAttributes
 
+-- closed `{y: String}`
+abbrev pub text_y : Ty
+text_y = record_of (field (codes "y") true text end) ClosedAttributes
+
+-- open `{y: Long}`
+abbrev pub open_y : Ty
+open_y = record_of (field (codes "y") true long end) OpenAttributes
+
+-- open `{y?: Long, y: Long}`, with a name twice
+abbrev pub twice_y : Ty
+twice_y = record_of (field (codes "y") false long (field (codes "y") true long end)) OpenAttributes
+
 -- closed `{}`
 abbrev pub unit_record : Ty
 unit_record = record_of end ClosedAttributes

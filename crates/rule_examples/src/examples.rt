@@ -14,11 +14,11 @@ ghost use Rattle.cedar_rules.specs.Consistent.{IsConsistent};
 ghost use Rattle.cedar_rules.specs.CoreOf.{core_of};
 ghost use Rattle.cedar_rules.specs.Disjoint.{AreDisjointTypes};
 ghost use Rattle.cedar_rules.specs.InclusionLaws.{ValuesIncluded, ListsNames};
-ghost use Rattle.cedar_rules.specs.JoinAnswer.{IsJoinAnswer, IsReduceAnswer};
+ghost use Rattle.cedar_rules.specs.JoinAnswer.{IsJoinAnswer, IsReduceAnswer, JoinAnswer};
 ghost use Rattle.cedar_rules.specs.OwnBound.{HaveOwnBound, IsLeastOwnBound};
 ghost use Rattle.rule_examples.specs.Samples.{foo_name, ip_type, set_of_truths, set_of_longs, foo_entity, bar_entity, foo_or_bar};
 ghost use Rattle.rule_examples.specs.Samples.{bar_and_false, bar_and_text, open_bar, any_set_and_long, long_and_long, open_t};
-ghost use Rattle.rule_examples.specs.Samples.{required_y, optional_y, unit_record};
+ghost use Rattle.rule_examples.specs.Samples.{required_y, optional_y, text_y, open_y, twice_y, unit_record};
 ghost use Rattle.cedar_rules.specs.Stated.{IsStated};
 ghost use Rattle.cedar_rules.specs.Ty.{never, truth, long, any_set, set_of};
 ghost use Rattle.cedar_rules.specs.TypeText.{ty_text};
@@ -66,6 +66,14 @@ pub fn order_matters_with_the_any_set()
         → IsReduceAnswer mode never (any_set ∷ set_of_truths ∷ set_of_longs ∷ []) (Ok any_set) }
     ensures last { (mode : ValidationMode)
         → IsReduceAnswer mode never (set_of_truths ∷ set_of_longs ∷ any_set ∷ []) (Err help.None) }
+{}
+
+/// What types are reduced to is well formed, and so is each join before a refusal: two records whose only
+/// types don't join are refused for these, and a record that names an attribute twice is no answer.
+pub fn reductions_are_of_well_formed_types()
+    ensures refused { (given : LubHelp) → IsReduceAnswer mode.Strict never (required_y ∷ text_y ∷ []) (Err given) → given ≡ help.None }
+    ensures alone { (answer : JoinAnswer) → IsReduceAnswer mode.Permissive never (open_y ∷ []) answer → answer ≡ Ok open_y }
+    ensures twice { ¬ IsReduceAnswer mode.Permissive never (open_y ∷ []) (Ok twice_y) }
 {}
 
 /// A type is clean where the any-set stands nowhere in it.

@@ -1,16 +1,25 @@
-use Rattle.std.proofs.Common.{◌≡◌, ◌∷◌, [], List, map, sym, subst}
+use Rattle.std.proofs.Common.{◌∷◌, [], List, map, sym, subst}
 use Rattle.std.proofs.lemmas.Result.{IfOk-weaker}
 use Rattle.cedar_below.specs.EntityType.{type_name}
 use Rattle.cedar_below.specs.PlainName.{PlainName}
 use Rattle.cedar_entities.specs.ValidatorEntityType.{plain_entry}
 use Rattle.cedar_lookup.proofs.JoinedLemmas.{known_alone, only_is}
 use Rattle.cedar_lookup.specs.KnownAttributes.{AreAttributesOf, AreKnownOfAll}
-use Rattle.cedar_rules.specs.Ty.{Fields}
+use Rattle.cedar_rules.specs.Ty.{Fields, record_of}
+use Rattle.cedar_rules.specs.WellFormed.{IsWellFormed}
+use Rattle.cedar_rules.specs.declared.open_tag.OpenTag.TheVariants.{OpenAttributes}
 use Rattle.cedar_types.specs.EntityKind.{kind_ty}
 use Rattle.cedar_types.specs.EntityLUB.{lub_names}
+use Rattle.cedar_types.specs.Layers.{IsAscending-fields}
 use Rattle.cedar_types.specs.Meaning.{fields_of}
+use Rattle.cedar_types.specs.WellFormedTypes.{AreTexts-fields, AreWellFormed-fields}
+use Rattle.cedar_types.specs.declared.attributes.Attributes.{Attributes}
 use Rattle.cedar_types.specs.declared.entity_kind.EntityKind.{EntityKind}
 use Rattle.cedar_lookup.proofs.known.known_attributes.Goals as goal
+
+-- attributes stand for an open record that is well formed
+record_formed : (attrs : Attributes) → IsWellFormed (record_of (fields_of attrs) OpenAttributes)
+record_formed attrs = (IsAscending-fields attrs, AreWellFormed-fields attrs, AreTexts-fields attrs)
 
 pub returns-in-Some : goal.returns-in-Some
 returns-in-Some c =
@@ -22,5 +31,6 @@ returns-in-Some c =
     let P : EntityKind → Type 0 = λ kind. AreAttributesOf types (kind_ty kind) (fields_of attrs) in
     let Q : List PlainName → Type 0 = λ names. AreKnownOfAll types names (fields_of attrs) in
     let R : Fields → Type 0 = AreKnownOfAll types (name ∷ []) in
-    subst P (sym c.in-Entity.is) (subst Q (sym only) (subst R (sym declared) (known_alone types name))))
+    let S : Fields → Type 0 = λ fields. IsWellFormed (record_of fields OpenAttributes) in
+    subst P (sym c.in-Entity.is) (subst Q (sym only) (subst R (sym declared) (known_alone types name (subst S declared (record_formed attrs))))))
     c.declared_attributes.ensures
