@@ -2,15 +2,12 @@
 use Rattle.std.proofs.Common.{◌≡◌, List, ◌∷◌, ◌++◌, Contains, Option, sym, subst, ◌∙◌, refl, arith, ap}
 use Rattle.std.proofs.lemmas.List.Elements.{Contains-append_right}
 use Rattle.std.specs.List.{AllByRecursion}
-use Rattle.std.specs.Option.{option_map}
-use Rattle.cedar_below.specs.Name.{plain_name}
 use Rattle.cedar_below.specs.declared.name.Name.{Name}
-use Rattle.cedar_declared.specs.Bag.{Bag}
 use Rattle.cedar_fragments.proofs.ListedSoFar.{ListedSoFar}
 use Rattle.cedar_fragments.specs.DefinitionFault.{IsSound}
+use Rattle.cedar_fragments.specs.DefinitionsInTurn.{entry_declarations}
 use Rattle.cedar_fragments.specs.FragmentDeclarations.{conditional_definition}
 use Rattle.cedar_fragments.specs.declared.namespace.definition.ValidatorNamespaceDef.{ValidatorNamespaceDef}
-use Rattle.cedar_names.specs.Declaration.{raw_declarations}
 use Rattle.cedar_names.specs.declared.json_schema.conditional_name.ConditionalName.{ConditionalName}
 use Rattle.cedar_names.specs.declared.json_schema.fragment.NamespaceDefinition.{NamespaceDefinition}
 use Rattle.cedar_names.specs.declared.json_schema.raw_name.RawName.{RawName}
@@ -18,10 +15,6 @@ use Rattle.cedar_names.specs.declared.json_schema.raw_name.RawName.{RawName}
 -- the entries of a fragment
 abbrev pub Written : Type 0
 Written = List (Option Name × NamespaceDefinition RawName)
-
--- what an entry declares
-abbrev pub entry_declarations : Option Name × NamespaceDefinition RawName → Bag
-entry_declarations entry = raw_declarations (option_map plain_name entry.0) entry.1
 
 -- some entries have given definitions that declare the same, and others are left
 abbrev pub FragmentsSoFar : Written → List (ValidatorNamespaceDef ConditionalName ConditionalName) → Written → Type 0

@@ -7,6 +7,8 @@ pub mod FragmentLemmas
 pub mod FragmentsSoFar
 pub mod InTurn
 pub mod ListedSoFar
+pub mod LocLemmas
+pub mod NamedOfDefinition
 pub mod NamesSoFar
 pub mod OneMore
 pub mod PlacedFragments

@@ -1,8 +1,4 @@
-use Rattle.std.specs.Prelude.{◌≡◌, List, map}
-use Rattle.cedar_declared.specs.Bag.{Bag}
-use Rattle.cedar_fragments.specs.FragmentDeclarations.{definition_declarations}
-use Rattle.cedar_fragments.specs.Located.{fragment_definitions}
-use Rattle.cedar_fragments.specs.declared.namespace.fragment.ValidatorSchemaFragment.{ValidatorSchemaFragment}
+use Rattle.std.specs.Prelude.{◌≡◌}
 use Rattle.cedar_names.specs.Copies.{LocatesAlike, RefersAlike}
 use Rattle.cedar_names.specs.Reference.{Reference}
 use Rattle.cedar_names.specs.TypeLocs.{Locs}
@@ -22,8 +18,3 @@ module _ (N : Type 0) (alike : N → N → Type 0) (A : Type 0) (alike_action : 
   LocatesSame located it copy =
       (locs : N → Locs) (action_locs : A → Locs) → LocatesAlike N alike locs → LocatesAlike A alike_action action_locs
       → located locs action_locs copy ≡ located locs action_locs it
-
--- the declarations of each definition of a fragment, one bag for each in order
-abbrev pub declarations_in_turn : (N : Type 0) (refer : ReferenceType → N → Reference) (A : Type 0)
-    (refer_action : ReferenceType → A → Reference) → ValidatorSchemaFragment N A → List Bag
-declarations_in_turn N refer A refer_action it = map (definition_declarations N refer A refer_action) (fragment_definitions N A it)

@@ -1,18 +1,19 @@
-use Rattle.std.specs.Prelude.{Option, Contains}
+use Rattle.std.specs.Prelude.{List, Option, Contains}
 use Rattle.std.specs.Option.{option_map}
 use Rattle.cedar_below.specs.Name.{plain_name}
 use Rattle.cedar_below.specs.declared.name.Name.{Name}
-use Rattle.cedar_declared.specs.Fault.{Fault}
+use Rattle.cedar_declared.specs.Fault.{Fault, action_attributes}
 use Rattle.cedar_fragments.specs.DefinitionFault.{NamesAllWithAttributes}
-use Rattle.cedar_names.specs.Declaration.{raw_declarations}
+use Rattle.cedar_fragments.specs.DefinitionsInTurn.{entry_declarations}
 use Rattle.cedar_names.specs.declared.json_schema.fragment.Fragment.{Fragment}
 use Rattle.cedar_names.specs.declared.json_schema.fragment.NamespaceDefinition.{NamespaceDefinition}
 use Rattle.cedar_names.specs.declared.json_schema.raw_name.RawName.{RawName}
 
--- of one definition of the fragment: where the refusal names actions with attributes, it names just those of that
--- definition
-abbrev pub NamesAllOfADefinition : Fragment RawName → Fault → Type 0
-NamesAllOfADefinition fragment fault =
-    (entry : Option Name × NamespaceDefinition RawName)
-    × Contains fragment.0.entries entry
-    × NamesAllWithAttributes (raw_declarations (option_map plain_name entry.0) entry.1) (option_map plain_name entry.0) fault
+-- where the refusal names actions with attributes, there is a definition in the fragments of which it names all such
+-- actions, and no others
+abbrev pub NamesAllOfADefinition : List (Fragment RawName) → Fault → Type 0
+NamesAllOfADefinition fragments (action_attributes ids) =
+    (fragment : Fragment RawName) × (entry : Option Name × NamespaceDefinition RawName)
+    × Contains fragments fragment × Contains fragment.0.entries entry
+    × NamesAllWithAttributes (entry_declarations entry) (option_map plain_name entry.0) (action_attributes ids)
+NamesAllOfADefinition fragments _ = Unit {0}

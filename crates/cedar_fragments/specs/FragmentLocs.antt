@@ -19,6 +19,10 @@ use Rattle.cedar_fragments.specs.declared.namespace.fragment.ValidatorSchemaFrag
 use Rattle.cedar_names.specs.TypeLocs.{Locs, type_locs}
 use Rattle.cedar_names.specs.declared.json_schema.type_of.Type.{«Type»}
 
+-- none of the locations in a name
+abbrev pub no_locs : {N : Type 0} → N → Locs
+no_locs name = []
+
 -- over names of some form, where it is given which locations stand in a name
 module _ (N : Type 0) (locs : N → Locs) where
   -- the locations in a common type: that of the declaration, then those in the type

@@ -1,8 +1,8 @@
 //! The names that are defined, and what references resolve to.
 
 pub use all_defs::AllDefs;
-pub use resolve::ResolveName;
 pub(crate) use resolve::resolve_at;
+pub use resolve::{ResolveName, resolve_all};
 
 mod all_defs;
 mod names;

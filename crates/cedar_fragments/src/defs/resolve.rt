@@ -1,15 +1,17 @@
 //! What references resolve to.
 
-ghost use Rattle.std.specs.Prelude.{◌≡◌, ◌↔◌, IsTrue, IfOk, IfErr, OnErr, Contains};
+ghost use Rattle.std.specs.Prelude.{◌≡◌, ◌↔◌, IsTrue, IfOk, IfErr, OnErr, Contains, map};
 ghost use Rattle.cedar_below.specs.InternalName.{name_of};
+ghost use Rattle.cedar_below.specs.Lists.{HoldsInTurn};
 ghost use Rattle.cedar_below.specs.PlainName.{PlainName};
 ghost use Rattle.cedar_declared.specs.Names.{IsDefined, ResolvesTo};
 ghost use Rattle.cedar_declared.specs.Occurrences.{IsFirst};
 ghost use Rattle.cedar_fragments.specs.HeldNames.{held_names};
-ghost use Rattle.cedar_fragments.specs.Refused.{IsRefused};
+ghost use Rattle.cedar_fragments.specs.Refused.{IsRefused, IsRefusedAmong};
 ghost use Rattle.cedar_names.specs.ConditionalExpr.{placed_reference};
 ghost use Rattle.cedar_names.specs.ConditionalName.{conditional_reference};
 ghost use Rattle.cedar_names.specs.PossibleNames.{names_of};
+ghost use Rattle.cedar_names.specs.Reference.{Reference};
 
 use crate::defs::all_defs::AllDefs;
 use cedar_below::{InternalName, NonEmpty};
@@ -74,19 +76,41 @@ pub(crate) fn resolve_at(
 }
 
 /// What names that aren't settled resolve to.
+///
+/// The ghost member says what a name refers to: its possibilities, and the kinds that it permits.
 pub trait ResolveName {
-    /// The full name of what the name stands for, or the refusal of a name that stands for nothing.
-    fn resolve(self, all_defs: &AllDefs) -> Result<InternalName, QualifyError>;
+    ghost reference: { Self → Reference };
+
+    /// The full name of what the name stands for: the first of its possibilities that is defined in a
+    /// kind that it permits. It is refused with `TypeNotDefined`, which holds the reference itself, if
+    /// there is none.
+    fn resolve(self, all_defs: &AllDefs) -> Result<InternalName, QualifyError>
+        ensures resolved { IfOk result (λ name. ResolvesTo (held_names all_defs.now) (reference self) (name_of name)) }
+        ensures refused { IfErr result (IsRefused (held_names all_defs.now) (reference self)) };
 }
 
 impl ResolveName for ConditionalName {
-    /// The first of the possibilities that is defined in a kind that the reference permits. It is
-    /// refused with `TypeNotDefined`, which holds the reference itself, if there is none.
-    fn resolve(self, all_defs: &AllDefs) -> Result<InternalName, QualifyError>
-        ensures resolved { IfOk result (λ name. ResolvesTo (held_names all_defs.now) (conditional_reference self) (name_of name)) }
-        ensures refused { IfErr result (IsRefused (held_names all_defs.now) (conditional_reference self)) }
-    {
+    ghost reference = { conditional_reference };
+
+    fn resolve(self, all_defs: &AllDefs) -> Result<InternalName, QualifyError> {
         let kind = *self.reference_type();
         resolve_at(self, kind, all_defs)
     }
+}
+
+/// The full names of what some names stand for, in order. It is refused with `TypeNotDefined` if one
+/// stands for nothing.
+pub fn resolve_all<N: ResolveName + Drop>(
+    names: Vec<N>,
+    all_defs: &AllDefs,
+) -> Result<Vec<InternalName>, QualifyError>
+    ensures resolved { IfOk result (λ found. HoldsInTurn (ResolvesTo (held_names all_defs.now))
+        (map N.reference names.items) (map name_of found.items)) }
+    ensures refused { IfErr result (IsRefusedAmong (held_names all_defs.now) (Contains (map N.reference names.items))) }
+{
+    let mut resolved = Vec::new(all_defs.alloc);
+    for name in names {
+        resolved.push(name.resolve(all_defs)?)?;
+    }
+    Ok(resolved)
 }

@@ -2,7 +2,8 @@
 
 ghost use Rattle.std.specs.Prelude.{◌≡◌, IfOk};
 ghost use Rattle.std.specs.Option.{option_map};
-ghost use Rattle.cedar_fragments.specs.FragmentCopies.{DeclaresSame, LocatesSame, declarations_in_turn};
+ghost use Rattle.cedar_fragments.specs.DefinitionsInTurn.{declarations_in_turn};
+ghost use Rattle.cedar_fragments.specs.FragmentCopies.{DeclaresSame, LocatesSame};
 ghost use Rattle.cedar_fragments.specs.FragmentDeclarations.{definition_declarations, fragment_declarations};
 ghost use Rattle.cedar_fragments.specs.FragmentLocs.{definition_locs, fragment_locs};
 ghost use Rattle.cedar_fragments.specs.FragmentNamespaces.{fragment_namespaces};

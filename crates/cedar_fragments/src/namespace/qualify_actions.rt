@@ -1,6 +1,7 @@
 //! How actions come to name what is defined.
 
 ghost use Rattle.std.specs.Prelude.{◌≡◌, IfOk, IfErr, OnOk, MatchOption, Some, map, Contains, string_bytes};
+ghost use Rattle.std.specs.List.{flat_map};
 ghost use Rattle.cedar_below.specs.EntityType.{type_name};
 ghost use Rattle.cedar_below.specs.InternalName.{name_of};
 ghost use Rattle.cedar_below.specs.Lists.{HoldsInTurn};
@@ -14,6 +15,7 @@ ghost use Rattle.cedar_declared.specs.Settled.{SettlesReference, SettlesParent, 
 ghost use Rattle.cedar_declared.specs.SettledExpr.{settled_reference};
 ghost use Rattle.cedar_fragments.specs.ActionDeclarations.{fragment_parent, fragment_requests, action_fragment_body, action_fragment_declarations};
 ghost use Rattle.cedar_fragments.specs.FragmentDeclarations.{settled_action_type};
+ghost use Rattle.cedar_fragments.specs.FragmentLocs.{action_fragment_locs, actions_locs, no_locs, parent_locs, requests_locs};
 ghost use Rattle.cedar_fragments.specs.HeldNames.{held_names};
 ghost use Rattle.cedar_fragments.specs.QualifyFault.{HasToResolveFor, IsRequestedIn, IsRequested, IsUnsettled, IsUnsettledIn, IsUnsettledBag, NoneIsReserved};
 ghost use Rattle.cedar_names.specs.ConditionalExpr.{placed_reference};
@@ -77,6 +79,7 @@ fn qualify_parent(
 ) -> Result<ActionParent<EntityType>, SchemaError>
     ensures settled { IfOk result (λ it. SettlesParent (held_names all_defs.now)
         (fragment_parent Conditional placed_reference parent) (fragment_parent ActionEntityType settled_action_type it)) }
+    ensures locs { IfOk result (λ it. parent_locs ActionEntityType no_locs it ≡ parent_locs Conditional no_locs parent) }
     ensures fault { IfErr result (λ error. IsUnsettled (held_names all_defs.now)
         (λ reference. ⊥) (λ it. fragment_parent Conditional placed_reference parent ≡ it) (λ reference. ⊥) (fault_of error)) }
 {
@@ -104,6 +107,8 @@ fn qualify_parents(
 ) -> Result<Vec<ActionParent<EntityType>>, SchemaError>
     ensures settled { IfOk result (λ it. HoldsInTurn (SettlesParent (held_names all_defs.now))
         (map (fragment_parent Conditional placed_reference) parents.items) (map (fragment_parent ActionEntityType settled_action_type) it.items)) }
+    ensures locs { IfOk result (λ it. flat_map (parent_locs ActionEntityType no_locs) it.items
+        ≡ flat_map (parent_locs Conditional no_locs) parents.items) }
     ensures fault { IfErr result (λ error. IsUnsettled (held_names all_defs.now)
         (λ reference. ⊥) (Contains (map (fragment_parent Conditional placed_reference) parents.items)) (λ reference. ⊥) (fault_of error)) }
 {
@@ -142,6 +147,7 @@ fn qualify_requests(
 ) -> Result<ActionRequests<InternalName>, SchemaError>
     ensures settled { IfOk result (λ it. SettlesRequests (held_names all_defs.now)
         (fragment_requests Conditional placed_reference (Some requests)) (fragment_requests Full settled_reference (Some it))) }
+    ensures locs { IfOk result (λ it. requests_locs Full no_locs (Some it) ≡ requests_locs Conditional no_locs (Some requests)) }
     ensures unreserved { OnOk result (NoneIsReserved (held_names all_defs.now)
         (IsPrincipalOrResource (fragment_requests Conditional placed_reference (Some requests)))) }
     ensures fault { IfErr result (λ error. IsUnsettled (held_names all_defs.now)
@@ -175,6 +181,8 @@ impl ActionFragment<ConditionalName, ConditionalName> {
         ensures settled { IfOk result (λ it. SettlesBody (held_names all_defs.now)
             (action (action_fragment_body Conditional placed_reference Conditional placed_reference self))
             (action (action_fragment_body Full settled_reference ActionEntityType settled_action_type it))) }
+        ensures locs { IfOk result (λ it. action_fragment_locs Full no_locs ActionEntityType no_locs it
+            ≡ action_fragment_locs Conditional no_locs Conditional no_locs self) }
         ensures unreserved { OnOk result (NoneIsReserved (held_names all_defs.now)
             (IsRequestedIn (action (action_fragment_body Conditional placed_reference Conditional placed_reference self)))) }
         ensures fault { IfErr result (λ error. IsUnsettledIn (held_names all_defs.now)
@@ -208,6 +216,8 @@ impl ActionsDef<ConditionalName, ConditionalName> {
         ensures settled { IfOk result (λ it. SettlesBag (held_names all_defs.now)
             (action_fragment_declarations Conditional placed_reference Conditional placed_reference self)
             (action_fragment_declarations Full settled_reference ActionEntityType settled_action_type it)) }
+        ensures locs { IfOk result (λ it. actions_locs Full no_locs ActionEntityType no_locs it
+            ≡ actions_locs Conditional no_locs Conditional no_locs self) }
         ensures unreserved { OnOk result (NoneIsReserved (held_names all_defs.now)
             (IsRequested (action_fragment_declarations Conditional placed_reference Conditional placed_reference self))) }
         ensures fault { IfErr result (λ error. IsUnsettledBag (held_names all_defs.now)

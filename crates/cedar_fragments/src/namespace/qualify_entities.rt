@@ -7,6 +7,7 @@ ghost use Rattle.cedar_declared.specs.Counted.{HasToResolve};
 ghost use Rattle.cedar_declared.specs.Mentions.{Refers};
 ghost use Rattle.cedar_declared.specs.Settled.{SettlesTags, SettlesEntityBody, SettlesBag};
 ghost use Rattle.cedar_declared.specs.SettledExpr.{settled_reference, settled_expr};
+ghost use Rattle.cedar_fragments.specs.FragmentLocs.{common_types_locs, entity_fragment_locs, entity_types_locs, no_locs, tags_locs};
 ghost use Rattle.cedar_fragments.specs.HeldNames.{held_names};
 ghost use Rattle.cedar_fragments.specs.QualifyFault.{HasToResolveIn};
 ghost use Rattle.cedar_fragments.specs.Refused.{IsRefusedAmong};
@@ -33,6 +34,7 @@ impl CommonTypeDefs<ConditionalName> {
     ) -> Result<CommonTypeDefs<InternalName>, QualifyError>
         ensures settled { IfOk result (λ it. SettlesBag (held_names all_defs.now)
             (common_type_declarations Conditional placed_reference self) (common_type_declarations Full settled_reference it)) }
+        ensures locs { IfOk result (λ it. common_types_locs Full no_locs it ≡ common_types_locs Conditional no_locs self) }
         ensures refused { IfErr result (IsRefusedAmong (held_names all_defs.now)
             (HasToResolve (common_type_declarations Conditional placed_reference self))) }
     {
@@ -52,6 +54,7 @@ fn qualify_tags(
     all_defs: &AllDefs,
 ) -> Result<Option<Type<InternalName>>, QualifyError>
     ensures settled { IfOk result (λ it. SettlesTags (held_names all_defs.now) (option_map placed_expr tags) (option_map settled_expr it)) }
+    ensures locs { IfOk result (λ it. tags_locs Full no_locs it ≡ tags_locs Conditional no_locs tags) }
     ensures refused { IfErr result (IsRefusedAmong (held_names all_defs.now)
         (λ reference. (expr : Expr) × (option_map placed_expr tags ≡ Some expr) × Refers expr reference)) }
 {
@@ -73,6 +76,7 @@ impl EntityTypeFragment<ConditionalName> {
     ) -> Result<EntityTypeFragment<InternalName>, QualifyError>
         ensures settled { IfOk result (λ it. SettlesEntityBody (held_names all_defs.now)
             (fragment_body Conditional placed_reference self) (fragment_body Full settled_reference it)) }
+        ensures locs { IfOk result (λ it. entity_fragment_locs Full no_locs it ≡ entity_fragment_locs Conditional no_locs self) }
         ensures refused { IfErr result (IsRefusedAmong (held_names all_defs.now)
             (HasToResolveIn (entity_type (fragment_body Conditional placed_reference self)))) }
     {
@@ -109,6 +113,7 @@ impl EntityTypesDef<ConditionalName> {
     ) -> Result<EntityTypesDef<InternalName>, QualifyError>
         ensures settled { IfOk result (λ it. SettlesBag (held_names all_defs.now)
             (entity_type_declarations Conditional placed_reference self) (entity_type_declarations Full settled_reference it)) }
+        ensures locs { IfOk result (λ it. entity_types_locs Full no_locs it ≡ entity_types_locs Conditional no_locs self) }
         ensures refused { IfErr result (IsRefusedAmong (held_names all_defs.now)
             (HasToResolve (entity_type_declarations Conditional placed_reference self))) }
     {

@@ -1,13 +1,17 @@
 //! How types whose names say what they may stand for come to name what is defined.
 
-ghost use Rattle.std.specs.Prelude.{IfOk, IfErr, map, Contains};
+ghost use Rattle.std.specs.Prelude.{◌≡◌, IfOk, IfErr, map, Contains};
 ghost use Rattle.cedar_below.specs.Lists.{HoldsInTurn};
+ghost use Rattle.cedar_below.specs.declared.internal_name.InternalName.{InternalName as Full};
 ghost use Rattle.cedar_declared.specs.Mentions.{Refers};
 ghost use Rattle.cedar_declared.specs.Settled.{Settles, SettlesReference};
 ghost use Rattle.cedar_declared.specs.SettledExpr.{settled_reference, settled_expr, settled_variant, settled_record};
+ghost use Rattle.cedar_fragments.specs.FragmentLocs.{no_locs};
 ghost use Rattle.cedar_fragments.specs.HeldNames.{held_names};
 ghost use Rattle.cedar_fragments.specs.Refused.{IsRefusedAmong};
 ghost use Rattle.cedar_names.specs.ConditionalExpr.{placed_reference, placed_expr, placed_variant, placed_record};
+ghost use Rattle.cedar_names.specs.TypeLocs.{record_locs, type_locs, variant_locs};
+ghost use Rattle.cedar_names.specs.declared.json_schema.conditional_name.ConditionalName.{ConditionalName as Conditional};
 ghost use Rattle.cedar_names.specs.declared.json_schema.reference_type.ReferenceType.TheVariants.{Entity as entity};
 
 use crate::defs::{AllDefs, resolve_at};
@@ -26,6 +30,7 @@ pub(crate) fn qualify_type(
     all_defs: &AllDefs,
 ) -> Result<Type<InternalName>, QualifyError>
     ensures settled { IfOk result (λ it. Settles (held_names all_defs.now) (placed_expr ty) (settled_expr it)) }
+    ensures locs { IfOk result (λ it. type_locs Full no_locs it ≡ type_locs Conditional no_locs ty) }
     ensures refused { IfErr result (IsRefusedAmong (held_names all_defs.now) (Refers (placed_expr ty))) }
 {
     match ty {
@@ -47,6 +52,7 @@ fn qualify_variant(
     all_defs: &AllDefs,
 ) -> Result<TypeVariant<InternalName>, QualifyError>
     ensures settled { IfOk result (λ it. Settles (held_names all_defs.now) (placed_variant ty) (settled_variant it)) }
+    ensures locs { IfOk result (λ it. variant_locs Full no_locs it ≡ variant_locs Conditional no_locs ty) }
     ensures refused { IfErr result (IsRefusedAmong (held_names all_defs.now) (Refers (placed_variant ty))) }
 {
     match ty {
@@ -81,6 +87,7 @@ fn qualify_record(
     all_defs: &AllDefs,
 ) -> Result<RecordType<InternalName>, QualifyError>
     ensures settled { IfOk result (λ it. Settles (held_names all_defs.now) (placed_record record_type) (settled_record it)) }
+    ensures locs { IfOk result (λ it. record_locs Full no_locs it ≡ record_locs Conditional no_locs record_type) }
     ensures refused { IfErr result (IsRefusedAmong (held_names all_defs.now) (Refers (placed_record record_type))) }
 {
     let RecordType {

@@ -3,6 +3,7 @@ use Rattle.std.proofs.lemmas.Result.{err_from_is_err_and}
 use Rattle.cedar_declared.specs.Counted.{IsPrincipalOrResource}
 use Rattle.cedar_declared.specs.Mentions.{Refers}
 use Rattle.cedar_declared.specs.SchemaError.{fault_of, qualify_fault}
+use Rattle.cedar_fragments.proofs.LocLemmas.{kept_beside_names}
 use Rattle.cedar_fragments.proofs.QualifiedLemmas.{refused_wider}
 use Rattle.cedar_fragments.proofs.UnsettledLemmas.{unsettled_wider, refused_unsettled}
 use Rattle.cedar_fragments.specs.ActionDeclarations.{fragment_requests}
@@ -51,3 +52,8 @@ pub returns-clause-unreserved : goal.returns-clause-unreserved
 returns-clause-unreserved c reference name place resolves =
     ⊎_elim (λ among. c.in_ok-principals.ensures.unreserved reference name among resolves)
     (λ among. c.in_ok-resources.ensures.unreserved reference name among resolves) place
+
+pub returns-clause-locs : goal.returns-clause-locs
+returns-clause-locs c =
+    kept_beside_names c.in_ok-principals.principals.items c.in_ok-resources.resources.items c.args.requests.principals.items
+    c.args.requests.resources.items c.in_ok-context.ensures.locs

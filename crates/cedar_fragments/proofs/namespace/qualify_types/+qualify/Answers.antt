@@ -7,7 +7,8 @@ use Rattle.cedar_below.specs.declared.internal_name.InternalName.{InternalName}
 use Rattle.cedar_declared.specs.Mentions.{Refers}
 use Rattle.cedar_declared.specs.Settled.{settles_text, settles_long, settles_truth, settles_set, settles_extension}
 use Rattle.cedar_declared.specs.SettledExpr.{settled_reference, settled_expr}
-use Rattle.cedar_fragments.proofs.InTurn.{RelatedSoFar, related_more, related_all}
+use Rattle.cedar_fragments.proofs.InTurn.{RelatedSoFar, related_none, related_more, related_all}
+use Rattle.cedar_fragments.proofs.LocLemmas.{KeepsAttribute, KeepsType, KeepsVariant, keep_attributes, keeps_attribute, keeps_common, keeps_either, keeps_entity, keeps_extension, keeps_long, keeps_plain, keeps_record, keeps_set, keeps_text, keeps_truth}
 use Rattle.cedar_fragments.proofs.QualifiedLemmas.{SettlesAttribute, Made, refused_wider, refused_one, settled_record_type, refers_record, settles_as, settles_name, refers_name, refers_as}
 use Rattle.cedar_fragments.specs.HeldNames.{held_names}
 use Rattle.cedar_fragments.specs.Refused.{IsRefusedAmong}
@@ -17,7 +18,9 @@ use Rattle.cedar_names.specs.Expr.{set_expr}
 use Rattle.cedar_names.specs.declared.json_schema.conditional_name.ConditionalName.{ConditionalName}
 use Rattle.cedar_names.specs.declared.json_schema.reference_type.ReferenceType.TheVariants.{Common, Entity, CommonOrEntity}
 use Rattle.cedar_names.specs.declared.json_schema.type_of.RecordType.{out-RecordType}
+use Rattle.cedar_names.specs.declared.json_schema.type_of.Type.{«Type», Plain, CommonTypeRef}
 use Rattle.cedar_names.specs.declared.json_schema.type_of.TypeOfAttribute.{TypeOfAttribute, out-TypeOfAttribute}
+use Rattle.cedar_names.specs.declared.json_schema.type_of.TypeVariant.{TypeVariant, String as text, Long, Boolean, Set, Record, Entity as entity, EntityOrCommon, Extension}
 use Rattle.cedar_fragments.proofs.namespace.qualify_types.+qualify.Goals as goal
 
 pub qualify_record-returns-in_err-ty-clause-refused : goal.qualify_record-returns-in_err-ty-clause-refused
@@ -27,8 +30,8 @@ qualify_record-returns-in_err-ty-clause-refused t c =
     let ty = (out-TypeOfAttribute ConditionalName c.in-Some.attribute).ty in
     let refused : IsRefusedAmong names (Refers (placed_record it)) c.in_err-ty.field-0.0 =
     refused_wider names (Refers (placed_expr ty)) (Refers (placed_record it))
-    (refers_record it c.loop-name.invariant.done c.loop-name.name-iterator _ c.in-Some.name c.in-Some.attribute
-    c.loop-name.invariant.split c.in-Some.ensures.steps) c.in_err-ty.field-0.0 c.in_err-ty.ensures.refused in
+    (refers_record it c.loop-name.invariant.0.done c.loop-name.name-iterator _ c.in-Some.name c.in-Some.attribute
+    c.loop-name.invariant.0.split c.in-Some.ensures.steps) c.in_err-ty.field-0.0 c.in_err-ty.ensures.refused in
     let p = err_from_is_err_and c.from_residual.result c.from_residual.ensures.1 in
     rw (p.1, p.2) refused
 
@@ -37,11 +40,15 @@ qualify_record-loop-name-preserved t c =
     let names = held_names c.args.all_defs.now in
     let all = (out-RecordType ConditionalName c.args.record_type).attributes.entries in
     let P : List (String Global × TypeOfAttribute InternalName) → Type 0 = λ made.
-    RelatedSoFar (SettlesAttribute names) all made c.next.new.self in
-    subst P (sym c.in_ok-put.ensures)
-    (related_more (SettlesAttribute names) string_cmp_total all c.loop-name.name-iterator c.next.new.self c.loop-name.attributes.entries
-    c.in-Some.name c.in-Some.attribute _ c.into_iter-name-iterator.ensures.into_iter_gives.5 c.in-Some.ensures.steps
-    (refl, c.in_ok-ty.ensures.settled) c.loop-name.invariant)
+    RelatedSoFar (SettlesAttribute names) all made c.next.new.self × RelatedSoFar KeepsAttribute all made c.next.new.self in
+    subst P (sym c.in_ok-put.ensures) (
+      related_more (SettlesAttribute names) string_cmp_total all c.loop-name.name-iterator c.next.new.self c.loop-name.attributes.entries
+          c.in-Some.name c.in-Some.attribute _ c.into_iter-name-iterator.ensures.into_iter_gives.5 c.in-Some.ensures.steps
+          (refl, c.in_ok-ty.ensures.settled) c.loop-name.invariant.0,
+      related_more KeepsAttribute string_cmp_total all c.loop-name.name-iterator c.next.new.self c.loop-name.attributes.entries
+          c.in-Some.name c.in-Some.attribute _ c.into_iter-name-iterator.ensures.into_iter_gives.5 c.in-Some.ensures.steps
+          (keeps_attribute c.in-Some.attribute _ refl c.in_ok-ty.ensures.locs) c.loop-name.invariant.1,
+    )
 
 pub qualify_record-returns-clause-settled : goal.qualify_record-returns-clause-settled
 qualify_record-returns-clause-settled t c =
@@ -51,7 +58,34 @@ qualify_record-returns-clause-settled t c =
       additional_attributes = (out-RecordType ConditionalName c.args.record_type).additional_attributes;
     } in
     settled_record_type names c.args.record_type it refl
-    (related_all (SettlesAttribute names) _ _ _ c.in-None.ensures.steps.0 c.loop-name.invariant)
+    (related_all (SettlesAttribute names) _ _ _ c.in-None.ensures.steps.0 c.loop-name.invariant.0)
+
+pub qualify_record-loop-name-init : goal.qualify_record-loop-name-init
+qualify_record-loop-name-init t c = (
+  related_none _ _ _ _ (sym c.into_iter-name-iterator.ensures.into_iter_gives.0) c.new-attributes.ensures.empty,
+  related_none _ _ _ _ (sym c.into_iter-name-iterator.ensures.into_iter_gives.0) c.new-attributes.ensures.empty,
+)
+
+pub qualify_record-returns-clause-locs : goal.qualify_record-returns-clause-locs
+qualify_record-returns-clause-locs t c =
+    keep_attributes c.args.record_type (record {
+      attributes = c.loop-name.attributes;
+      additional_attributes = (out-RecordType ConditionalName c.args.record_type).additional_attributes;
+    })
+    (related_all KeepsAttribute _ _ _ c.in-None.ensures.steps.0 c.loop-name.invariant.1)
+
+pub qualify_type-returns-in_ok-ty-in-Plain-clause-locs : goal.qualify_type-returns-in_ok-ty-in-Plain-clause-locs
+qualify_type-returns-in_ok-ty-in-Plain-clause-locs t c =
+    let made = c.in_ok-ty-in-Plain.ty in
+    let P : «Type» ConditionalName → Type 0 = λ it. KeepsType it (Plain made c.in-Plain.loc) in
+    subst P (sym c.in-Plain.is) (keeps_plain c.in-Plain.ty made c.in-Plain.loc c.in_ok-ty-in-Plain.ensures.locs)
+
+pub qualify_type-returns-in_ok-type_name-in-CommonTypeRef-clause-locs :
+    goal.qualify_type-returns-in_ok-type_name-in-CommonTypeRef-clause-locs
+qualify_type-returns-in_ok-type_name-in-CommonTypeRef-clause-locs t c =
+    let made = (c.in_ok-type_name-in-CommonTypeRef).type_name in
+    let P : «Type» ConditionalName → Type 0 = λ it. KeepsType it (CommonTypeRef made c.in-CommonTypeRef.loc) in
+    subst P (sym c.in-CommonTypeRef.is) (keeps_common c.in-CommonTypeRef.type_name made c.in-CommonTypeRef.loc)
 
 pub qualify_type-returns-in_err-ty-in-Plain-clause-refused : goal.qualify_type-returns-in_err-ty-in-Plain-clause-refused
 qualify_type-returns-in_err-ty-in-Plain-clause-refused t c =
@@ -172,3 +206,50 @@ pub qualify_variant-returns-in-Extension-clause-settled : goal.qualify_variant-r
 qualify_variant-returns-in-Extension-clause-settled t c =
     settles_as (held_names c.args.all_defs.now) (ap placed_variant c.in-Extension.is ∙ variant-Extension ConditionalName placed_reference c.in-Extension.name)
     (variant-Extension InternalName settled_reference c.in-Extension.name) (settles_extension _)
+
+pub qualify_variant-returns-in-String-clause-locs : goal.qualify_variant-returns-in-String-clause-locs
+qualify_variant-returns-in-String-clause-locs t c =
+    let P : TypeVariant ConditionalName → Type 0 = λ it. KeepsVariant it text in subst P (sym c.in-String.is) keeps_text
+
+pub qualify_variant-returns-in-Long-clause-locs : goal.qualify_variant-returns-in-Long-clause-locs
+qualify_variant-returns-in-Long-clause-locs t c =
+    let P : TypeVariant ConditionalName → Type 0 = λ it. KeepsVariant it Long in subst P (sym c.in-Long.is) keeps_long
+
+pub qualify_variant-returns-in-Boolean-clause-locs : goal.qualify_variant-returns-in-Boolean-clause-locs
+qualify_variant-returns-in-Boolean-clause-locs t c =
+    let P : TypeVariant ConditionalName → Type 0 = λ it. KeepsVariant it Boolean in subst P (sym c.in-Boolean.is) keeps_truth
+
+pub qualify_variant-returns-in_ok-element-in-Set-2-clause-locs : goal.qualify_variant-returns-in_ok-element-in-Set-2-clause-locs
+qualify_variant-returns-in_ok-element-in-Set-2-clause-locs t c =
+    let made = (c.in_ok-element-in-Set-2).element in
+    let P : TypeVariant ConditionalName → Type 0 = λ it. KeepsVariant it (Set made) in
+    let From : «Type» ConditionalName → Type 0 = λ it. KeepsType it (c.in_ok-element-in-Set).element in
+    let To : «Type» InternalName → Type 0 = KeepsType c.in-Set.element.value in
+    subst P (sym c.in-Set.is) (keeps_set c.in-Set.element made
+    (subst To (sym (c.in_ok-element-in-Set-2).ensures.ok) (subst From c.into_inner.ensures (c.in_ok-element-in-Set).ensures.locs)))
+
+pub qualify_variant-returns-in_ok-record_type-in-Record-clause-locs :
+    goal.qualify_variant-returns-in_ok-record_type-in-Record-clause-locs
+qualify_variant-returns-in_ok-record_type-in-Record-clause-locs t c =
+    let made = (c.in_ok-record_type-in-Record).record_type in
+    let P : TypeVariant ConditionalName → Type 0 = λ it. KeepsVariant it (Record made) in
+    subst P (sym c.in-Record.is) (keeps_record c.in-Record.record_type made (c.in_ok-record_type-in-Record).ensures.locs)
+
+pub qualify_variant-returns-in_ok-name-in-Entity-clause-locs : goal.qualify_variant-returns-in_ok-name-in-Entity-clause-locs
+qualify_variant-returns-in_ok-name-in-Entity-clause-locs t c =
+    let made = (c.in_ok-name-in-Entity).name in
+    let P : TypeVariant ConditionalName → Type 0 = λ it. KeepsVariant it (entity made) in
+    subst P (sym c.in-Entity.is) (keeps_entity c.in-Entity.name made)
+
+pub qualify_variant-returns-in_ok-type_name-in-EntityOrCommon-clause-locs :
+    goal.qualify_variant-returns-in_ok-type_name-in-EntityOrCommon-clause-locs
+qualify_variant-returns-in_ok-type_name-in-EntityOrCommon-clause-locs t c =
+    let made = (c.in_ok-type_name-in-EntityOrCommon).type_name in
+    let P : TypeVariant ConditionalName → Type 0 = λ it. KeepsVariant it (EntityOrCommon made) in
+    subst P (sym c.in-EntityOrCommon.is) (keeps_either c.in-EntityOrCommon.type_name made)
+
+pub qualify_variant-returns-in-Extension-clause-locs : goal.qualify_variant-returns-in-Extension-clause-locs
+qualify_variant-returns-in-Extension-clause-locs t c =
+    let name = c.in-Extension.name in
+    let P : TypeVariant ConditionalName → Type 0 = λ it. KeepsVariant it (Extension name) in
+    subst P (sym c.in-Extension.is) (keeps_extension name)

@@ -1,4 +1,5 @@
 use Rattle.cedar_fragments.proofs.InTurn.{RelatedSoFar}
+use Rattle.cedar_fragments.proofs.LocLemmas.{KeepsAttribute}
 use Rattle.cedar_fragments.proofs.QualifiedLemmas.{SettlesAttribute}
 use Rattle.cedar_fragments.specs.HeldNames.{held_names}
 use Rattle.cedar_names.specs.declared.json_schema.conditional_name.ConditionalName.{ConditionalName}
@@ -9,3 +10,4 @@ abbrev pub invariant-qualify_record-loop-name : goal.invariant-qualify_record-lo
 invariant-qualify_record-loop-name l =
     RelatedSoFar (SettlesAttribute (held_names l.all_defs)) (out-RecordType ConditionalName l.fn.record_type).attributes.entries
     l.attributes.entries l.name-iterator
+    × RelatedSoFar KeepsAttribute (out-RecordType ConditionalName l.fn.record_type).attributes.entries l.attributes.entries l.name-iterator

@@ -1,6 +1,7 @@
-use Rattle.std.proofs.Common.{◌≡◌}
+use Rattle.std.proofs.Common.{◌≡◌, map}
 use Rattle.std.specs.List.{flat_map}
 use Rattle.cedar_fragments.proofs.FragmentsSoFar.{FragmentsSoFar}
+use Rattle.cedar_fragments.specs.DefinitionsInTurn.{entry_namespace, located_namespace}
 use Rattle.cedar_fragments.specs.Located.{definition_common_names, definition_namespaces, entry_common_names, entry_namespaces}
 use Rattle.cedar_names.specs.declared.json_schema.conditional_name.ConditionalName.{ConditionalName}
 use Rattle.cedar_fragments.proofs.namespace.fragment.ValidatorSchemaFragment+ConditionalName+ConditionalName.from_schema_fragment.Given as goal
@@ -10,3 +11,4 @@ invariant-loop-name l =
     FragmentsSoFar l.fn.fragment.0.entries l.definitions.items l.name-iterator
     × (flat_map (definition_common_names ConditionalName ConditionalName) l.definitions.items ≡ flat_map entry_common_names l.yielded)
     × (flat_map (definition_namespaces ConditionalName ConditionalName) l.definitions.items ≡ flat_map entry_namespaces l.yielded)
+    × (map (located_namespace ConditionalName ConditionalName) l.definitions.items ≡ map entry_namespace l.yielded)

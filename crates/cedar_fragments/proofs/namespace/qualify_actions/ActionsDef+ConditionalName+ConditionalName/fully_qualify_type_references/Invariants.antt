@@ -1,3 +1,5 @@
+use Rattle.std.proofs.Common.{◌≡◌}
+use Rattle.std.specs.List.{flat_map}
 use Rattle.std.specs.Vec.Iter.{into_iter_items}
 use Rattle.cedar_below.specs.EntityUID.{uid_of}
 use Rattle.cedar_below.specs.declared.entity_type.EntityType.{EntityType}
@@ -8,6 +10,7 @@ use Rattle.cedar_fragments.proofs.SettledBags.{SettlesUnreserved}
 use Rattle.cedar_fragments.specs.ActionDeclarations.{action_fragment_body}
 use Rattle.cedar_fragments.specs.DeclaredAs.{declared_action}
 use Rattle.cedar_fragments.specs.FragmentDeclarations.{settled_action_type}
+use Rattle.cedar_fragments.specs.FragmentLocs.{action_def_locs, no_locs}
 use Rattle.cedar_fragments.specs.HeldNames.{held_names}
 use Rattle.cedar_names.specs.ConditionalExpr.{placed_reference}
 use Rattle.cedar_names.specs.Declaration.{action}
@@ -20,3 +23,5 @@ invariant-loop-def l =
     (λ def. declared_action (uid_of def.uid) (action (action_fragment_body ConditionalName placed_reference ConditionalName placed_reference def.fragment)))
     (λ def. declared_action (uid_of def.uid) (action (action_fragment_body InternalName settled_reference EntityType settled_action_type def.fragment)))
     l.fn.self.defs.items l.defs.items (into_iter_items l.def-iterator)
+    × (flat_map (action_def_locs InternalName no_locs EntityType no_locs) l.defs.items
+    ≡ flat_map (action_def_locs ConditionalName no_locs ConditionalName no_locs) l.yielded)

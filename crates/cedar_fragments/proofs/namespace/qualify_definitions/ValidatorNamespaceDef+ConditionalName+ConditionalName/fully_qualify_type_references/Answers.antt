@@ -81,3 +81,7 @@ returns-clause-settled c = (whole c).0
 
 pub returns-clause-unreserved : goal.returns-clause-unreserved
 returns-clause-unreserved c = (whole c).1
+
+pub returns-clause-locs : goal.returns-clause-locs
+returns-clause-locs c =
+    λ i. c.in_ok-common_types.ensures.locs i ++ c.in_ok-entity_types.ensures.locs i ++ c.in_ok-actions.ensures.locs i

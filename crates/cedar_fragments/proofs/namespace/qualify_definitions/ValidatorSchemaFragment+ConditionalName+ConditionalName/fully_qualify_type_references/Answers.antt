@@ -1,23 +1,35 @@
-use Rattle.std.proofs.Common.{arith}
+use Rattle.std.proofs.Common.{ap, arith, map}
 use Rattle.std.proofs.lemmas.List.{nil_from_length}
 use Rattle.std.proofs.lemmas.Result.{err_from_is_err_and}
+use Rattle.cedar_below.specs.declared.entity_type.EntityType.{EntityType}
+use Rattle.cedar_below.specs.declared.internal_name.InternalName.{InternalName}
+use Rattle.cedar_declared.proofs.TurnLemmas.{turn_weaker}
 use Rattle.cedar_declared.specs.SchemaError.{fault_of}
+use Rattle.cedar_declared.specs.Settled.{SettlesBag}
 use Rattle.cedar_fragments.proofs.FragmentLemmas.{flat_map-included}
 use Rattle.cedar_fragments.proofs.InTurn.{turn_none, turn_more, turn_all, turn_next}
-use Rattle.cedar_fragments.proofs.SettledBags.{settled_together, unsettled_included}
+use Rattle.cedar_fragments.proofs.OneMore.{one_more}
+use Rattle.cedar_fragments.proofs.SettledBags.{SettlesUnreservedBag, settled_together, unsettled_included}
+use Rattle.cedar_fragments.specs.DefinitionsInTurn.{conditional_in_turn, located_namespace}
 use Rattle.cedar_fragments.specs.FragmentDeclarations.{conditional_definition, settled_definition, conditional_fragment}
+use Rattle.cedar_fragments.specs.FragmentLocs.{definition_locs, no_locs}
 use Rattle.cedar_fragments.specs.HeldNames.{held_names}
 use Rattle.cedar_fragments.specs.QualifyFault.{IsUnsettledBag}
+use Rattle.cedar_names.specs.declared.json_schema.conditional_name.ConditionalName.{ConditionalName}
 use Rattle.cedar_fragments.proofs.namespace.qualify_definitions.ValidatorSchemaFragment+ConditionalName+ConditionalName.fully_qualify_type_references.Goals as goal
 
 pub loop-definition-init : goal.loop-definition-init
-loop-definition-init c = turn_none _ _ _ _ _ _ c.into_iter-definition-iterator.ensures.into_iter_gives.0 c.new-definitions.ensures.items
+loop-definition-init c = (
+  turn_none _ _ _ _ _ _ c.into_iter-definition-iterator.ensures.into_iter_gives.0 c.new-definitions.ensures.items,
+  ap (map (located_namespace InternalName EntityType)) c.new-definitions.ensures.items,
+  ap (map (definition_locs InternalName no_locs EntityType no_locs)) c.new-definitions.ensures.items,
+)
 
 pub returns-in_err-fully_qualify_type_references-clause-fault : goal.returns-in_err-fully_qualify_type_references-clause-fault
 returns-in_err-fully_qualify_type_references-clause-fault c =
     let names = held_names c.args.all_defs.now in
     let items = c.args.self.definitions.items in
-    let among = turn_next _ _ _ _ _ _ _ c.in-Some.definition c.in-Some.ensures.steps.0 c.loop-definition.invariant in
+    let among = turn_next _ _ _ _ _ _ _ c.in-Some.definition c.in-Some.ensures.steps.0 c.loop-definition.invariant.0 in
     let at_fault : IsUnsettledBag names (conditional_fragment c.args.self) (fault_of c.in_err-fully_qualify_type_references.field-0.0) =
     unsettled_included names (conditional_definition c.in-Some.definition) (conditional_fragment c.args.self)
     (flat_map-included conditional_definition items c.in-Some.definition among) _ c.in_err-fully_qualify_type_references.ensures.fault in
@@ -26,21 +38,35 @@ returns-in_err-fully_qualify_type_references-clause-fault c =
 
 pub loop-definition-preserved : goal.loop-definition-preserved
 loop-definition-preserved c =
-    turn_more _ _ _ _ _ _ _ _ c.in-Some.definition c.in_ok-fully_qualify_type_references.field-0 c.in-Some.ensures.steps.0
-    c.in_ok-push.ensures.items
-    (c.in_ok-fully_qualify_type_references.ensures.settled, c.in_ok-fully_qualify_type_references.ensures.unreserved)
-    c.loop-definition.invariant
+    let qualified = c.in_ok-fully_qualify_type_references in (
+      turn_more _ _ _ _ _ _ _ _ c.in-Some.definition qualified.field-0 c.in-Some.ensures.steps.0 c.in_ok-push.ensures.items
+          (qualified.ensures.settled, qualified.ensures.unreserved) c.loop-definition.invariant.0,
+      one_more _ _ c.loop-definition.definitions.items _ c.loop-definition.yielded qualified.field-0 c.in-Some.definition
+          c.in_ok-push.ensures.items c.loop-definition.invariant.1
+          (λ i. record { name = qualified.ensures.name i; def_loc = qualified.ensures.loc i }),
+      one_more (definition_locs InternalName no_locs EntityType no_locs) (definition_locs ConditionalName no_locs ConditionalName no_locs)
+          c.loop-definition.definitions.items _ c.loop-definition.yielded qualified.field-0 c.in-Some.definition
+          c.in_ok-push.ensures.items c.loop-definition.invariant.2 qualified.ensures.locs,
+    )
 
 pub returns-clause-settled : goal.returns-clause-settled
 returns-clause-settled c =
     (settled_together (held_names c.args.all_defs.now) conditional_definition settled_definition c.args.self.definitions.items
     c.loop-definition.definitions.items
     (turn_all _ _ _ _ _ _ (nil_from_length _ (omega (arith, c.in-None.ensures.steps.0, c.loop-definition.definition-iterator.rest.ok.0)))
-    c.loop-definition.invariant)).0
+    c.loop-definition.invariant.0)).0
+
+pub returns-clause-in_turn : goal.returns-clause-in_turn
+returns-clause-in_turn c =
+    let names = held_names c.args.all_defs.now in
+    turn_weaker (SettlesUnreservedBag names) (SettlesBag names) (λ bag settled both. both.0) (conditional_in_turn c.args.self)
+    (map settled_definition c.loop-definition.definitions.items)
+    (turn_all _ _ _ _ _ _ (nil_from_length _ (omega (arith, c.in-None.ensures.steps.0, c.loop-definition.definition-iterator.rest.ok.0)))
+    c.loop-definition.invariant.0)
 
 pub returns-clause-unreserved : goal.returns-clause-unreserved
 returns-clause-unreserved c =
     (settled_together (held_names c.args.all_defs.now) conditional_definition settled_definition c.args.self.definitions.items
     c.loop-definition.definitions.items
     (turn_all _ _ _ _ _ _ (nil_from_length _ (omega (arith, c.in-None.ensures.steps.0, c.loop-definition.definition-iterator.rest.ok.0)))
-    c.loop-definition.invariant)).1
+    c.loop-definition.invariant.0)).1

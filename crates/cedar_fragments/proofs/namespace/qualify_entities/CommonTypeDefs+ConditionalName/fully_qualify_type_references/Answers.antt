@@ -1,14 +1,18 @@
-use Rattle.std.proofs.Common.{refl, inl, arith}
+use Rattle.std.proofs.Common.{◌∷◌, refl, inl, ap, arith}
 use Rattle.std.proofs.lemmas.List.{nil_from_length}
 use Rattle.std.proofs.lemmas.Result.{err_from_is_err_and}
-use Rattle.cedar_below.specs.InternalName.{name_of}
+use Rattle.std.specs.List.{flat_map}
+use Rattle.cedar_below.specs.InternalName.{name_loc, name_of}
+use Rattle.cedar_below.specs.declared.internal_name.InternalName.{InternalName}
 use Rattle.cedar_declared.proofs.OccurrenceLemmas.{Contains-image}
 use Rattle.cedar_declared.specs.Counted.{HasToResolve}
 use Rattle.cedar_declared.specs.Mentions.{Refers}
 use Rattle.cedar_declared.specs.SettledExpr.{settled_expr}
 use Rattle.cedar_fragments.proofs.InTurn.{turn_none, turn_more, turn_all, turn_next}
+use Rattle.cedar_fragments.proofs.OneMore.{flat_one_more}
 use Rattle.cedar_fragments.proofs.QualifiedLemmas.{refused_wider}
 use Rattle.cedar_fragments.proofs.UnsettledLemmas.{to_resolve, settles_declared}
+use Rattle.cedar_fragments.specs.FragmentLocs.{common_type_locs, no_locs}
 use Rattle.cedar_fragments.specs.HeldNames.{held_names}
 use Rattle.cedar_fragments.specs.Refused.{IsRefusedAmong}
 use Rattle.cedar_fragments.specs.TypeDeclarations.{common_type_declarations}
@@ -18,14 +22,17 @@ use Rattle.cedar_names.specs.declared.json_schema.conditional_name.ConditionalNa
 use Rattle.cedar_fragments.proofs.namespace.qualify_entities.CommonTypeDefs+ConditionalName.fully_qualify_type_references.Goals as goal
 
 pub loop-def-init : goal.loop-def-init
-loop-def-init c = turn_none _ _ _ _ _ _ c.into_iter-def-iterator.ensures.into_iter_gives.0 c.new-defs.ensures.items
+loop-def-init c = (
+  turn_none _ _ _ _ _ _ c.into_iter-def-iterator.ensures.into_iter_gives.0 c.new-defs.ensures.items,
+  ap (flat_map (common_type_locs InternalName no_locs)) c.new-defs.ensures.items,
+)
 
 pub returns-in_err-ty-clause-refused : goal.returns-in_err-ty-clause-refused
 returns-in_err-ty-clause-refused c =
     let names = held_names c.args.all_defs.now in
     let bag = common_type_declarations ConditionalName placed_reference c.args.self in
     let among = Contains-image _ c.args.self.defs.items c.in-Some.def
-    (turn_next _ _ _ _ _ _ _ c.in-Some.def c.in-Some.ensures.steps.0 c.loop-def.invariant) in
+    (turn_next _ _ _ _ _ _ _ c.in-Some.def c.in-Some.ensures.steps.0 c.loop-def.invariant.0) in
     let refused : IsRefusedAmong names (HasToResolve bag) c.in_err-ty.field-0.0 =
     refused_wider names (Refers (placed_expr c.in-Some.def.ty)) (HasToResolve bag)
     (λ reference refers. to_resolve bag _ among reference (inl (placed_expr c.in-Some.def.ty, refl, refers))) _ c.in_err-ty.ensures.refused in
@@ -33,11 +40,15 @@ returns-in_err-ty-clause-refused c =
     rw (p.1, p.2) refused
 
 pub loop-def-preserved : goal.loop-def-preserved
-loop-def-preserved c =
-    turn_more _ _ _ _ _ _ _ _ c.in-Some.def _ c.in-Some.ensures.steps.0 c.in_ok-push.ensures.items
-    (settles_declared (held_names c.args.all_defs.now) (name_of c.in-Some.def.name) (common_type (placed_expr c.in-Some.def.ty))
-    (common_type (settled_expr c.in_ok-ty.ty)) c.in_ok-ty.ensures.settled) c.loop-def.invariant
+loop-def-preserved c = (
+  turn_more _ _ _ _ _ _ _ _ c.in-Some.def _ c.in-Some.ensures.steps.0 c.in_ok-push.ensures.items
+      (settles_declared (held_names c.args.all_defs.now) (name_of c.in-Some.def.name) (common_type (placed_expr c.in-Some.def.ty))
+      (common_type (settled_expr c.in_ok-ty.ty)) c.in_ok-ty.ensures.settled) c.loop-def.invariant.0,
+  flat_one_more (common_type_locs InternalName no_locs) (common_type_locs ConditionalName no_locs) c.loop-def.defs.items _
+      c.loop-def.yielded _ c.in-Some.def c.in_ok-push.ensures.items c.loop-def.invariant.1
+      (ap (λ locs. name_loc c.in-Some.def.name ∷ locs) c.in_ok-ty.ensures.locs),
+)
 
 pub returns-clause-settled : goal.returns-clause-settled
 returns-clause-settled c =
-    turn_all _ _ _ _ _ _ (nil_from_length _ (omega (arith, c.in-None.ensures.steps.0, c.loop-def.def-iterator.rest.ok.0))) c.loop-def.invariant
+    turn_all _ _ _ _ _ _ (nil_from_length _ (omega (arith, c.in-None.ensures.steps.0, c.loop-def.def-iterator.rest.ok.0))) c.loop-def.invariant.0

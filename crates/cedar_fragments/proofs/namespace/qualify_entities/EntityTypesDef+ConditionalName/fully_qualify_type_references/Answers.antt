@@ -1,14 +1,17 @@
-use Rattle.std.proofs.Common.{arith}
+use Rattle.std.proofs.Common.{◌∷◌, ap, arith}
 use Rattle.std.proofs.lemmas.List.{nil_from_length}
 use Rattle.std.proofs.lemmas.Result.{err_from_is_err_and}
-use Rattle.cedar_below.specs.EntityType.{type_name}
+use Rattle.std.specs.List.{flat_map}
+use Rattle.cedar_below.specs.EntityType.{type_loc, type_name}
 use Rattle.cedar_below.specs.declared.internal_name.InternalName.{InternalName}
 use Rattle.cedar_declared.proofs.OccurrenceLemmas.{Contains-image}
 use Rattle.cedar_declared.specs.Counted.{HasToResolve}
 use Rattle.cedar_declared.specs.SettledExpr.{settled_reference}
 use Rattle.cedar_fragments.proofs.InTurn.{turn_none, turn_more, turn_all, turn_next}
+use Rattle.cedar_fragments.proofs.OneMore.{flat_one_more}
 use Rattle.cedar_fragments.proofs.QualifiedLemmas.{refused_wider}
 use Rattle.cedar_fragments.proofs.UnsettledLemmas.{to_resolve, settles_declared}
+use Rattle.cedar_fragments.specs.FragmentLocs.{entity_type_locs, no_locs}
 use Rattle.cedar_fragments.specs.HeldNames.{held_names}
 use Rattle.cedar_fragments.specs.QualifyFault.{HasToResolveIn}
 use Rattle.cedar_fragments.specs.Refused.{IsRefusedAmong}
@@ -19,7 +22,10 @@ use Rattle.cedar_names.specs.declared.json_schema.conditional_name.ConditionalNa
 use Rattle.cedar_fragments.proofs.namespace.qualify_entities.EntityTypesDef+ConditionalName.fully_qualify_type_references.Goals as goal
 
 pub loop-def-init : goal.loop-def-init
-loop-def-init c = turn_none _ _ _ _ _ _ c.into_iter-def-iterator.ensures.into_iter_gives.0 c.new-defs.ensures.items
+loop-def-init c = (
+  turn_none _ _ _ _ _ _ c.into_iter-def-iterator.ensures.into_iter_gives.0 c.new-defs.ensures.items,
+  ap (flat_map (entity_type_locs InternalName no_locs)) c.new-defs.ensures.items,
+)
 
 pub returns-in_err-fragment-clause-refused : goal.returns-in_err-fragment-clause-refused
 returns-in_err-fragment-clause-refused c =
@@ -27,19 +33,24 @@ returns-in_err-fragment-clause-refused c =
     let bag = entity_type_declarations ConditionalName placed_reference c.args.self in
     let body = entity_type (fragment_body ConditionalName placed_reference c.in-Some.def.fragment) in
     let among = Contains-image _ c.args.self.defs.items c.in-Some.def
-    (turn_next _ _ _ _ _ _ _ c.in-Some.def c.in-Some.ensures.steps.0 c.loop-def.invariant) in
+    (turn_next _ _ _ _ _ _ _ c.in-Some.def c.in-Some.ensures.steps.0 c.loop-def.invariant.0) in
     let refused : IsRefusedAmong names (HasToResolve bag) c.in_err-fragment.field-0.0 =
     refused_wider names (HasToResolveIn body) (HasToResolve bag) (to_resolve bag _ among) _ c.in_err-fragment.ensures.refused in
     let p = err_from_is_err_and c.from_residual.result c.from_residual.ensures.1 in
     rw (p.1, p.2) refused
 
 pub loop-def-preserved : goal.loop-def-preserved
-loop-def-preserved c =
-    turn_more _ _ _ _ _ _ _ _ c.in-Some.def _ c.in-Some.ensures.steps.0 c.in_ok-push.ensures.items
-    (settles_declared (held_names c.args.all_defs.now) (type_name c.in-Some.def.name)
-    (entity_type (fragment_body ConditionalName placed_reference c.in-Some.def.fragment))
-    (entity_type (fragment_body InternalName settled_reference c.in_ok-fragment.fragment)) c.in_ok-fragment.ensures.settled) c.loop-def.invariant
+loop-def-preserved c = (
+  turn_more _ _ _ _ _ _ _ _ c.in-Some.def _ c.in-Some.ensures.steps.0 c.in_ok-push.ensures.items
+      (settles_declared (held_names c.args.all_defs.now) (type_name c.in-Some.def.name)
+      (entity_type (fragment_body ConditionalName placed_reference c.in-Some.def.fragment))
+      (entity_type (fragment_body InternalName settled_reference c.in_ok-fragment.fragment)) c.in_ok-fragment.ensures.settled)
+      c.loop-def.invariant.0,
+  flat_one_more (entity_type_locs InternalName no_locs) (entity_type_locs ConditionalName no_locs) c.loop-def.defs.items _
+      c.loop-def.yielded _ c.in-Some.def c.in_ok-push.ensures.items c.loop-def.invariant.1
+      (ap (λ locs. type_loc c.in-Some.def.name ∷ locs) c.in_ok-fragment.ensures.locs),
+)
 
 pub returns-clause-settled : goal.returns-clause-settled
 returns-clause-settled c =
-    turn_all _ _ _ _ _ _ (nil_from_length _ (omega (arith, c.in-None.ensures.steps.0, c.loop-def.def-iterator.rest.ok.0))) c.loop-def.invariant
+    turn_all _ _ _ _ _ _ (nil_from_length _ (omega (arith, c.in-None.ensures.steps.0, c.loop-def.def-iterator.rest.ok.0))) c.loop-def.invariant.0

@@ -1,3 +1,5 @@
+use Rattle.std.proofs.Common.{◌≡◌}
+use Rattle.std.specs.List.{flat_map}
 use Rattle.std.specs.Vec.Iter.{into_iter_items}
 use Rattle.cedar_below.specs.EntityType.{type_name}
 use Rattle.cedar_below.specs.declared.internal_name.InternalName.{InternalName}
@@ -5,6 +7,7 @@ use Rattle.cedar_declared.specs.Settled.{SettlesDeclaration}
 use Rattle.cedar_declared.specs.SettledExpr.{settled_reference}
 use Rattle.cedar_fragments.proofs.InTurn.{TurnSoFar}
 use Rattle.cedar_fragments.specs.DeclaredAs.{declared_as}
+use Rattle.cedar_fragments.specs.FragmentLocs.{entity_type_locs, no_locs}
 use Rattle.cedar_fragments.specs.HeldNames.{held_names}
 use Rattle.cedar_fragments.specs.TypeDeclarations.{fragment_body}
 use Rattle.cedar_names.specs.ConditionalExpr.{placed_reference}
@@ -18,3 +21,4 @@ invariant-loop-def l =
     (λ def. declared_as (type_name def.name) (entity_type (fragment_body ConditionalName placed_reference def.fragment)))
     (λ def. declared_as (type_name def.name) (entity_type (fragment_body InternalName settled_reference def.fragment)))
     l.fn.self.defs.items l.defs.items (into_iter_items l.def-iterator)
+    × (flat_map (entity_type_locs InternalName no_locs) l.defs.items ≡ flat_map (entity_type_locs ConditionalName no_locs) l.yielded)

@@ -1,0 +1,11 @@
+use Rattle.std.specs.Vec.Iter.{into_iter_items}
+use Rattle.cedar_below.specs.InternalName.{name_of}
+use Rattle.cedar_declared.specs.Names.{ResolvesTo}
+use Rattle.cedar_fragments.proofs.InTurn.{TurnSoFar}
+use Rattle.cedar_fragments.specs.HeldNames.{held_names}
+use Rattle.cedar_fragments.proofs.defs.resolve.resolve_all.Given as goal
+
+abbrev pub invariant-loop-name : goal.invariant-loop-name
+invariant-loop-name g l =
+    TurnSoFar (ResolvesTo (held_names l.all_defs)) g.N.ResolveName.reference name_of l.fn.names.items l.resolved.items
+    (into_iter_items l.name-iterator)
