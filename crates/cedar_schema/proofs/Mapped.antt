@@ -13,6 +13,11 @@ module _ {T U E D : Type 0} (f : T → U) (g : E → D) where
   IfErr-mapped (Ok x) P holds = tt
   IfErr-mapped (Err e) P holds = holds
 
+  -- and the other way round
+  pub IfErr-unmapped : (r : Result T E) (P : D → Type 0) → IfErr (result_map_both f g r) P → IfErr r (λ e. P (g e))
+  IfErr-unmapped (Ok x) P holds = tt
+  IfErr-unmapped (Err e) P holds = holds
+
   -- what holds where there is a value
   pub OnOk-mapped : (r : Result T E) (P : Type 0) → OnOk r P → OnOk (result_map_both f g r) P
   OnOk-mapped (Ok x) P holds = holds

@@ -9,6 +9,7 @@ ghost use Rattle.cedar_declared.specs.Fault.{want_of_memory};
 ghost use Rattle.cedar_declared.specs.SchemaError.{fault_of};
 ghost use Rattle.cedar_fragments.specs.DefinitionFault.{IsDefinitionFault};
 ghost use Rattle.cedar_fragments.specs.FragmentDeclarations.{conditional_bag};
+ghost use Rattle.cedar_fragments.specs.FragmentFault.{NamesAllOfADefinition};
 ghost use Rattle.cedar_fragments.specs.Located.{fragment_common_names, named_namespaces, raw_common_names, raw_namespaces};
 ghost use Rattle.cedar_laws.specs.EndToEnd.{IsBuiltFrom};
 ghost use Rattle.cedar_located.specs.Located.{ShowsWritten};
@@ -35,6 +36,7 @@ fn conditional_fragments(
         ≡ flat_map raw_namespaces fragments.items) }
     ensures fault { IfErr result (λ error. (fault_of error ≡ want_of_memory)
         ⊎ IsDefinitionFault (raw_bag fragments.items) (fault_of error)) }
+    ensures all_named { IfErr result (λ error. NamesAllOfADefinition fragments.items (fault_of error)) }
 {
     let mut conditional = Vec::new(alloc);
     for fragment in fragments {
@@ -48,7 +50,7 @@ fn conditional_fragments(
 /// [`Extensions::type_names_fit`] tests.
 ///
 /// It is refused exactly where the bag of their declarations is ill-formed, with a fault of it by name,
-/// or where memory is wanting.
+/// or where memory is wanting. A refusal for actions with attributes names all those of one definition.
 pub(crate) fn build_raw(
     alloc: Global,
     fragments: Vec<Fragment<RawName>>,
@@ -56,6 +58,7 @@ pub(crate) fn build_raw(
 ) -> Result<SchemaParts, SchemaError>
     requires { TypeNamesFit (extension_types extensions.now) }
     ensures built { IsBuiltFrom (raw_bag fragments.items) extensions.now (result_map_both parts_schema fault_of result) }
+    ensures all_named { IfErr result (λ error. NamesAllOfADefinition fragments.items (fault_of error)) }
     ensures located { IfOk result (λ parts. ShowsWritten fragments.items parts.located) }
 {
     let fragments = conditional_fragments(alloc, fragments)?;

@@ -72,7 +72,9 @@ impl ValidatorSchema {
     ghost use Rattle.cedar_declared.specs.SchemaError.{fault_of};
     ghost use Rattle.cedar_declared.specs.ValidSchema.{IsSchemaFault, IsValidSchema};
     ghost use Rattle.cedar_entities.specs.declared.entity_type.ValidatorEntityType.{ValidatorEntityType as EntityTypeOfSchema};
+    ghost use Rattle.cedar_fragments.specs.DefinitionFault.{NamesAllWithAttributes};
     ghost use Rattle.cedar_fragments.specs.FragmentDeclarations.{conditional_bag};
+    ghost use Rattle.cedar_fragments.specs.FragmentFault.{NamesAllOfADefinition};
     ghost use Rattle.cedar_fragments.specs.Located.{written_common_names};
     ghost use Rattle.cedar_laws.specs.EndToEnd.{IsBuiltFrom};
     ghost use Rattle.cedar_located.specs.Located.{Shows, ShowsFragments, ShowsWritten, common_entries, namespace_entries};
@@ -155,8 +157,8 @@ impl ValidatorSchema {
     /// The schema that fragments declare over the given extensions, as they are written. For the rest it
     /// is as [`ValidatorSchema::from_schema_fragments`].
     ///
-    /// Beside the refusals of that call, a definition is refused by itself for an action with attributes,
-    /// for an entity type with the id `Action`, and for a reserved name.
+    /// Beside the refusals of that call, a definition is refused by itself for actions with attributes,
+    /// all of which the refusal names, for an entity type with the id `Action`, and for a reserved name.
     pub fn from_raw_fragments(
         alloc: Global,
         fragments: Vec<Fragment<RawName>>,
@@ -164,6 +166,7 @@ impl ValidatorSchema {
     ) -> Result<Self, SchemaError>
         requires { TypeNamesFit (extension_types extensions.now) }
         ensures built { IsBuiltFrom (raw_bag fragments.items) extensions.now (result_map_both schema_of fault_of result) }
+        ensures all_named { IfErr result (λ error. NamesAllOfADefinition fragments.items (fault_of error)) }
         ensures located { IfOk result (λ schema. ShowsWritten fragments.items (located_of schema)) }
     {
         let parts = build_raw(alloc, fragments, extensions)?;
@@ -178,6 +181,7 @@ impl ValidatorSchema {
     ) -> Result<Self, SchemaError>
         requires { TypeNamesFit (extension_types extensions.now) }
         ensures built { IsBuiltFrom (raw_fragment fragment) extensions.now (result_map_both schema_of fault_of result) }
+        ensures all_named { IfErr result (λ error. NamesAllOfADefinition (fragment ∷ []) (fault_of error)) }
         ensures located { IfOk result (λ schema. ShowsWritten (fragment ∷ []) (located_of schema)) }
     {
         let mut fragments = Vec::new(alloc);
@@ -194,6 +198,7 @@ impl ValidatorSchema {
     ) -> Result<Self, SchemaError>
         requires { TypeNamesFit (extension_types extensions.now) }
         ensures built { IsBuiltFrom (raw_declarations None definition) extensions.now (result_map_both schema_of fault_of result) }
+        ensures all_named { IfErr result (λ error. NamesAllWithAttributes (raw_declarations None definition) None (fault_of error)) }
         ensures located { IfOk result (λ schema. Shows (written_common_names None definition.common_types.entries) [] (located_of schema)) }
     {
         let mut definitions = BTreeMap::new(alloc);

@@ -1,14 +1,20 @@
 use Rattle.std.proofs.Common.{List, Err, inl, inr, subst, ⊎_elim}
-use Rattle.std.proofs.lemmas.Result.{err_from_is_err_and, IfOk-weaker}
+use Rattle.std.proofs.lemmas.Result.{err_from_is_err_and, IfErr-weaker, IfOk-weaker}
 use Rattle.std.specs.Result.{result_map_both}
 use Rattle.cedar_declared.specs.Bag.{Bag}
 use Rattle.cedar_declared.specs.SchemaError.{fault_of}
+use Rattle.cedar_fragments.proofs.NamedOfDefinition.{none_named}
+use Rattle.cedar_fragments.proofs.SoundFragments.{fragments_have_no_fault}
+use Rattle.cedar_fragments.specs.FragmentDeclarations.{conditional_bag}
+use Rattle.cedar_fragments.specs.FragmentFault.{NamesAllOfADefinition}
 use Rattle.cedar_fragments.specs.Located.{DefinedNamespace, LocatedName}
 use Rattle.cedar_laws.proofs.BuiltFrom.{built_from}
 use Rattle.cedar_laws.specs.EndToEnd.{IsBuiltFrom}
 use Rattle.cedar_located.specs.Located.{Shows}
 use Rattle.cedar_located.specs.declared.gathering.Located.{Located}
+use Rattle.cedar_names.specs.ConditionalExpr.{placed_reference}
 use Rattle.cedar_names.specs.Declaration.{raw_bag}
+use Rattle.cedar_schema.proofs.Mapped.{IfErr-unmapped}
 use Rattle.cedar_schema.specs.SchemaParts.{parts_schema}
 use Rattle.cedar_schema.proofs.raw.build_raw.Goals as goal
 
@@ -24,6 +30,20 @@ pub returns-clause-built : goal.returns-clause-built
 returns-clause-built c =
     let P : Bag → Type 0 = λ bag. IsBuiltFrom bag c.args.extensions.now (result_map_both parts_schema fault_of c.build.result) in
     subst P c.in_ok-fragments.ensures.bag c.build.ensures.built
+
+pub returns-in_err-fragments-clause-all_named : goal.returns-in_err-fragments-clause-all_named
+returns-in_err-fragments-clause-all_named c =
+    let p = err_from_is_err_and c.from_residual.result c.from_residual.ensures.1 in
+    rw (p.1, p.2) c.in_err-fragments.ensures.all_named
+
+pub returns-clause-all_named : goal.returns-clause-all_named
+returns-clause-all_named c =
+    let fragments = c.in_ok-fragments.fragments.items in
+    IfErr-unmapped parts_schema fault_of c.build.result (NamesAllOfADefinition c.args.fragments.items)
+    (IfErr-weaker (result_map_both parts_schema fault_of c.build.result) _ _
+    (none_named c.args.fragments.items (conditional_bag fragments) c.args.extensions.now
+    (fragments_have_no_fault _ placed_reference _ placed_reference fragments))
+    c.build.ensures.built.fault)
 
 pub returns-clause-located : goal.returns-clause-located
 returns-clause-located c =

@@ -7,9 +7,11 @@ use Rattle.cedar_declared.specs.Fault.{want_of_memory}
 use Rattle.cedar_declared.specs.SchemaError.{fault_of}
 use Rattle.cedar_fragments.proofs.FragmentLemmas.{flat_map-included, flat_map-same, refusal_included}
 use Rattle.cedar_fragments.proofs.ListedSoFar.{ListedSoFar, ListedSoFar-none, ListedSoFar-more, listed_same}
+use Rattle.cedar_fragments.proofs.NamedOfDefinition.{named_among}
 use Rattle.cedar_fragments.proofs.OneMore.{flat_one_more}
 use Rattle.cedar_fragments.specs.DefinitionFault.{IsDefinitionFault}
 use Rattle.cedar_fragments.specs.FragmentDeclarations.{conditional_fragment}
+use Rattle.cedar_fragments.specs.FragmentFault.{NamesAllOfADefinition}
 use Rattle.cedar_fragments.specs.Located.{fragment_common_names, named_namespaces}
 use Rattle.cedar_names.specs.Declaration.{raw_bag, raw_fragment}
 use Rattle.cedar_names.specs.declared.json_schema.conditional_name.ConditionalName.{ConditionalName}
@@ -54,6 +56,16 @@ returns-in_err-fragment-clause-fault c =
     fault c.in_err-fragment.ensures.fault in
     let p = err_from_is_err_and c.from_residual.result c.from_residual.ensures.1 in
     rw (p.1, p.2) at_fault
+
+pub returns-in_err-fragment-clause-all_named : goal.returns-in_err-fragment-clause-all_named
+returns-in_err-fragment-clause-all_named c =
+    let all = c.args.fragments.items in
+    let fragment = c.in-Some.fragment in
+    let among = next_item _ _ _ _ _ _ _ fragment c.in-Some.ensures.steps.0 c.loop-fragment.invariant.0 in
+    let named : NamesAllOfADefinition all (fault_of c.in_err-fragment.field-0.0) =
+    named_among all fragment among _ c.in_err-fragment.ensures.all_named in
+    let p = err_from_is_err_and c.from_residual.result c.from_residual.ensures.1 in
+    rw (p.1, p.2) named
 
 pub returns-clause-bag : goal.returns-clause-bag
 returns-clause-bag c =

@@ -1,11 +1,14 @@
 use Rattle.std.proofs.Common.{◌≡◌, ◌∙◌, ◌∷◌, [], List, IfOk, None, ap, refl, subst}
 use Rattle.std.proofs.lemmas.List.{append-nil}
+use Rattle.std.proofs.lemmas.Result.{IfErr-weaker}
 use Rattle.std.specs.List.{flat_map}
 use Rattle.std.specs.Option.{option_map}
 use Rattle.std.specs.Result.{result_map_both}
 use Rattle.cedar_below.specs.Name.{plain_name}
 use Rattle.cedar_declared.specs.Bag.{Bag}
 use Rattle.cedar_declared.specs.SchemaError.{fault_of}
+use Rattle.cedar_fragments.proofs.NamedOfDefinition.{named_of_only}
+use Rattle.cedar_fragments.specs.DefinitionFault.{NamesAllWithAttributes}
 use Rattle.cedar_fragments.specs.Located.{DefinedNamespace, LocatedName, entry_common_names, entry_namespaces, written_common_names}
 use Rattle.cedar_laws.specs.EndToEnd.{IsBuiltFrom}
 use Rattle.cedar_located.specs.Located.{Shows}
@@ -22,6 +25,15 @@ returns-clause-built c =
     (ap (flat_map (λ entry. raw_declarations (option_map plain_name entry.0) entry.1)) alone
     ∙ append-nil (raw_declarations None c.args.definition))
     c.from_schema_frag.ensures.built
+
+pub returns-clause-all_named : goal.returns-clause-all_named
+returns-clause-all_named c =
+    let alone : c.insert.new.self.entries ≡ (None, c.args.definition) ∷ [] =
+    rw (c.in_ok-insert.ensures.entries, c.new-definitions.ensures.empty) refl in
+    IfErr-weaker c.from_schema_frag.result _
+    (λ error. NamesAllWithAttributes (raw_declarations None c.args.definition) None (fault_of error))
+    (λ error. named_of_only (record { 0 = c.insert.new.self }) (None, c.args.definition) alone (fault_of error))
+    c.from_schema_frag.ensures.all_named
 
 pub returns-clause-located : goal.returns-clause-located
 returns-clause-located c =

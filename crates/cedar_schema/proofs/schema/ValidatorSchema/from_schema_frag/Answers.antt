@@ -1,8 +1,9 @@
-use Rattle.std.proofs.Common.{◌∙◌, ◌++◌, ◌∷◌, [], List, IfOk, ap, subst}
+use Rattle.std.proofs.Common.{◌∙◌, ◌++◌, ◌∷◌, [], List, IfErr, IfOk, ap, subst}
 use Rattle.std.proofs.lemmas.List.{append-nil}
 use Rattle.std.specs.Result.{result_map_both}
 use Rattle.cedar_declared.specs.Bag.{Bag}
 use Rattle.cedar_declared.specs.SchemaError.{fault_of}
+use Rattle.cedar_fragments.specs.FragmentFault.{NamesAllOfADefinition}
 use Rattle.cedar_laws.specs.EndToEnd.{IsBuiltFrom}
 use Rattle.cedar_located.specs.Located.{ShowsWritten}
 use Rattle.cedar_names.specs.Declaration.{raw_bag, raw_fragment}
@@ -18,6 +19,13 @@ returns-clause-built c =
     (ap raw_bag (c.in_ok-push.ensures.items ∙ ap (λ items. items ++ c.args.fragment ∷ []) c.new-fragments.ensures.items)
     ∙ append-nil (raw_fragment c.args.fragment))
     c.from_raw_fragments.ensures.built
+
+pub returns-clause-all_named : goal.returns-clause-all_named
+returns-clause-all_named c =
+    let P : List (Fragment RawName) → Type 0 = λ fragments.
+    IfErr c.from_raw_fragments.result (λ error. NamesAllOfADefinition fragments (fault_of error)) in
+    subst P (c.in_ok-push.ensures.items ∙ ap (λ items. items ++ c.args.fragment ∷ []) c.new-fragments.ensures.items)
+    c.from_raw_fragments.ensures.all_named
 
 pub returns-clause-located : goal.returns-clause-located
 returns-clause-located c =
