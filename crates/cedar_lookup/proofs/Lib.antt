@@ -1,5 +1,5 @@
 mod AllLemmas
 mod DeclaredLemmas
 mod JoinedLemmas
-mod KnownLemmas
+pub mod KnownLemmas
 mod NotLemmas

@@ -2,6 +2,7 @@ mod ClosedTwice
 mod DeclaredParts
 mod GatheredBags
 mod KnownBags
+mod KnownOfBuilt
 mod Mapped
 mod ReadySteps
 pub mod SchemaEquality

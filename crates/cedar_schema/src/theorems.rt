@@ -1,9 +1,12 @@
 //! Laws of schemas: comparisons, and what two calls of the builder answer.
 
-ghost use Rattle.std.specs.Prelude.{◌≡◌, ◌↔◌, IsTrue, Ok, Err};
+ghost use Rattle.std.specs.Prelude.{◌≡◌, ◌↔◌, IsTrue, List, Ok, Err};
 ghost use Rattle.cedar_below.specs.Extensions.{extension_types};
+ghost use Rattle.cedar_below.specs.Lists.{Included};
+ghost use Rattle.cedar_below.specs.PlainName.{PlainName};
 ghost use Rattle.cedar_below.specs.TypeNames.{TypeNamesFit};
 ghost use Rattle.cedar_below.specs.declared.extension.Extensions.{Extensions};
+ghost use Rattle.cedar_below.specs.declared.validation_mode.ValidationMode.TheVariants.{Permissive};
 ghost use Rattle.cedar_declared.specs.Bag.{Bag};
 ghost use Rattle.cedar_declared.specs.ClosedSchema.{ClosesSchema};
 ghost use Rattle.cedar_declared.specs.Counted.{PlacesFit};
@@ -16,6 +19,10 @@ ghost use Rattle.cedar_declared.specs.SameSchema.{SameSchema};
 ghost use Rattle.cedar_declared.specs.ValidSchema.{IsValidSchema};
 ghost use Rattle.cedar_declared.specs.WrittenBack.{IsWritable, IsWrittenBack};
 ghost use Rattle.cedar_laws.specs.EndToEnd.{HasRecordContexts, IsBuiltFrom};
+ghost use Rattle.cedar_lookup.specs.KnownAttributes.{AreKnownOfAll};
+ghost use Rattle.cedar_lookup.specs.KnownLaws.{AreExactlyKnown};
+ghost use Rattle.cedar_rules.specs.Below.{FieldsBelow};
+ghost use Rattle.cedar_rules.specs.Ty.{Fields};
 ghost use Rattle.cedar_schema.specs.ValidatorSchema.{schema_of};
 ghost use Rattle.cedar_schema.specs.declared.schema.ValidatorSchema.{ValidatorSchema};
 
@@ -81,4 +88,18 @@ pub fn written_schemas_declare_what_validation_gives()
     ensures declared { (bag : Bag) (extensions : Extensions) (schema closed : ValidatorSchema)
         → IsValidSchema extensions (schema_of schema) → IsWritable (schema_of schema) → IsWrittenBack (schema_of schema) bag
         → ClosesSchema (schema_of schema) (schema_of closed) → IsDeclaredSchema bag extensions (schema_of closed) }
+{}
+
+/// What is known of a union over a schema that is built from declarations: exactly the attributes that all members
+/// declare with types that have a clean common bound, each with the least of these bounds, and required
+/// exactly where all members require it. A larger union knows only attributes that a part of it knows, with
+/// types above and flags no stronger.
+pub fn known_attributes_of_built_schemas_are_common()
+    ensures exactly { (bag : Bag) (extensions : Extensions) (schema : ValidatorSchema) (members : List PlainName) (known : Fields)
+        → IsBuiltFrom bag extensions (Ok (schema_of schema)) → AreKnownOfAll (schema_of schema).entity_types members known
+        → AreExactlyKnown (schema_of schema).entity_types members known }
+    ensures fewer { (bag : Bag) (extensions : Extensions) (schema : ValidatorSchema) (part members : List PlainName)
+        (less more : Fields) → IsBuiltFrom bag extensions (Ok (schema_of schema)) → Included part members
+        → AreKnownOfAll (schema_of schema).entity_types members less → AreKnownOfAll (schema_of schema).entity_types part more
+        → FieldsBelow Permissive more less }
 {}
