@@ -126,13 +126,23 @@ const REDUCTIONS: &[(&[&str], &str)] = &[
     (&["set-bool", "set-false", "set-true"], "Set<Bool>"),
 ];
 
-/// What the types of some words are reduced to in permissive mode.
-fn reduced(alloc: Global, words: &[&str]) -> Result<String, Fail> {
+/// Lists of types, each with what it is reduced to in strict mode.
+const STRICT_REDUCTIONS: &[(&[&str], &str)] = &[
+    (&["a-long", "a-text"], "None"),
+    (&["a-long", "never", "a-text"], "None"),
+    (&["r1", "r2", "r3"], "None"),
+    (&["r3", "r2"], "RecordWidth"),
+    (&["a-long", "a-long", "unit"], "RecordWidth"),
+    (&["a-long", "a-long-optional"], "AttributeQualifier"),
+    (&["a-long", "never", "a-long"], "{a: Long,}"),
+];
+
+/// What the types of some words are reduced to in a mode.
+fn reduced(alloc: Global, words: &[&str], mode: ValidationMode) -> Result<String, Fail> {
     let mut types = Vec::new(alloc);
     for word in words {
         types.push(sample(alloc, word)?)?;
     }
-    let mode = ValidationMode::Permissive;
     printed(
         alloc,
         Type::reduce_to_least_upper_bound(alloc, &types, mode),
@@ -143,7 +153,12 @@ fn reduced(alloc: Global, words: &[&str]) -> Result<String, Fail> {
 fn types_are_reduced_in_turn(rt: HostRuntime) -> Result<(), Fail> {
     let alloc = rt.alloc();
     for &(words, expected) in REDUCTIONS {
-        same("a reduction", reduced(alloc, words)?.as_str(), expected)?;
+        let answer = reduced(alloc, words, ValidationMode::Permissive)?;
+        same("a permissive reduction", answer.as_str(), expected)?;
+    }
+    for &(words, expected) in STRICT_REDUCTIONS {
+        let answer = reduced(alloc, words, ValidationMode::Strict)?;
+        same("a strict reduction", answer.as_str(), expected)?;
     }
     Ok(())
 }

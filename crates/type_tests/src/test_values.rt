@@ -117,6 +117,7 @@ const RECORDS: &[Record] = &[
     ("unit", CLOSED, &[]),
     ("any-record", OPEN, &[]),
     ("a-long", CLOSED, &[("a", true, "long")]),
+    ("a-text", CLOSED, &[("a", true, "string")]),
     ("a-long-open", OPEN, &[("a", true, "long")]),
     ("a-long-optional", CLOSED, &[("a", false, "long")]),
     ("a-true", CLOSED, &[("a", true, "true")]),
