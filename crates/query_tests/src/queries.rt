@@ -399,16 +399,44 @@ const OF_COMMON: Questions = &[
     ("literal Ghost::x", "None"),
     ("literal Action::view", "Action"),
     ("literal Action::x", "None"),
+    ("known_one baz b", "String"),
+    ("known_one buz,bar d", "?Long"),
+    ("known_one baz,buz b", "None"),
+    ("attributes_of bar::x", "{d: Long,}"),
+    ("attributes_of Ghost::x", "None"),
+    ("attributes_of Action::view", "{}"),
+    ("attributes_of Action::x", "None"),
 ];
 
 /// Entity types with an attribute of each other's type.
 const JOINED: &str = "entity biz {c: e:biz}; entity fiz {c: e:fiz}";
+
+/// Entity types whose attributes are entities, records and truth values.
+const OF_EACH_KIND: &str =
+    "entity U {e: e:V, o?: Bool, r: {b?: Bool}, t: Bool}; entity V {e: e:U, r: {b: Bool}, t: Bool}";
+
+/// What the attributes of those are, looked up.
+const LOOKED_UP: Questions = &[
+    ("look_up U e", "V"),
+    ("look_up U o", "?Bool"),
+    ("look_up U r", "{b?: Bool,}"),
+    ("look_up U t", "Bool"),
+    ("look_up U,V e", "__cedar::internal::Union<U, V>"),
+    ("look_up U,V o", "None"),
+    ("look_up U,V r", "{b?: Bool,}"),
+    ("look_up U,V t", "Bool"),
+];
 
 #[test]
 fn attributes_of_types_are_known(rt: HostRuntime) -> Result<(), Fail> {
     check_answers(rt.alloc(), IN_COMMON, OF_COMMON)?;
     let wanted = "{c: __cedar::internal::Union<biz, fiz>,}";
     check_answers(rt.alloc(), JOINED, &[("known biz,fiz", wanted)])
+}
+
+#[test]
+fn attributes_of_each_kind_are_looked_up(rt: HostRuntime) -> Result<(), Fail> {
+    check_answers(rt.alloc(), OF_EACH_KIND, LOOKED_UP)
 }
 
 /// Declarations with their places, and questions of where things are.

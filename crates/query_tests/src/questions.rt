@@ -15,7 +15,7 @@
 
 ghost use Rattle.std.specs.Iterator.{IsFinite};
 
-use crate::known::{of_literal, of_types};
+use crate::known::{of_literal, of_literal_entity, of_types};
 use crate::places::{common_types, lacking_at, namespaces, place};
 use crate::schemas::shown;
 use cedar_schema::below::{Entity, EntityType, EntityUID, M, ValidationMode};
@@ -319,10 +319,15 @@ pub(crate) fn answer(
         "actions_for" => actions_for(alloc, schema, of),
         "actions_in" => actions_in(alloc, schema, of),
         "literal" => of_literal(alloc, schema, of),
+        "attributes_of" => of_literal_entity(alloc, schema, of),
         "find" | "ancestors" | "types_in" | "is_type" => of_type(alloc, schema, word, of),
-        "known" | "listed" | "look_up" | "may_have" | "may_have_tags" | "are_declared" => {
-            of_types(alloc, schema, word, of)
-        }
+        "known"
+        | "known_one"
+        | "listed"
+        | "look_up"
+        | "may_have"
+        | "may_have_tags"
+        | "are_declared" => of_types(alloc, schema, word, of),
         _ => match word.strip_suffix("_at") {
             Some(thing) => place(alloc, schema, thing, of),
             None => of_action(alloc, schema, word, of),
