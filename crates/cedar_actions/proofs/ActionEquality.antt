@@ -14,11 +14,15 @@ use Rattle.cedar_below.specs.contracts.entity_uid.EntityUIDEq.TheImpl as uid_equ
 use Rattle.cedar_below.specs.contracts.entity_uid.EntityUIDPartialEq.TheImpl as uid_eq
 use Rattle.cedar_below.specs.declared.entity_type.EntityType.{EntityType}
 use Rattle.cedar_declared.specs.SameSchema.{SameActionKind}
+use Rattle.cedar_names.specs.ConditionalName.{conditional_reference}
+use Rattle.cedar_names.specs.contracts.json_schema.conditional_name.ConditionalNameEq.TheImpl as reference_equal
+use Rattle.cedar_names.specs.contracts.json_schema.conditional_name.ConditionalNamePartialEq.TheImpl as reference_eq
+use Rattle.cedar_names.specs.declared.json_schema.conditional_name.ConditionalName.{ConditionalName}
 use Rattle.cedar_types.proofs.EqualityLaws.{none, types-Decides}
-use Rattle.cedar_actions.proofs.SetLemmas.{sets-Decides}
+use Rattle.cedar_actions.proofs.SetLemmas.{reference-Decides, sets-Decides}
 use Rattle.cedar_actions.specs.ActionKind.{plain_kind}
 use Rattle.cedar_actions.specs.ValidatorActionId.{action_of}
-use Rattle.cedar_actions.specs.ValidatorApplySpec.{principal_names, resource_names}
+use Rattle.cedar_actions.specs.ValidatorApplySpec.{principal_names, principal_references, resource_names, resource_references}
 use Rattle.cedar_actions.specs.contracts.action_id.ValidatorActionIdPartialEq.TheImpl as action_eq
 use Rattle.cedar_actions.specs.contracts.action_kind.ValidatorActionKindPartialEq.TheImpl as kind_eq
 use Rattle.cedar_actions.specs.declared.action_id.ValidatorActionId.{ValidatorActionId}
@@ -33,6 +37,15 @@ pub apply_specs-Decides : (a b : ValidatorApplySpec EntityType)
     (SameItems (principal_names a) (principal_names b) × SameItems (resource_names a) (resource_names b))
 apply_specs-Decides a b =
     let same = sets-Decides (entity_type_eq.ghosts).eq type_name entity_type_equal.Laws.laws-law entity_type_eq-same in
+    Decides-and _ _ (same a.principals b.principals) (same a.resources b.resources)
+
+-- apply specs over references are equal exactly where they have the same references
+pub reference_specs-Decides : (a b : ValidatorApplySpec ConditionalName)
+    → Decides (hash_set_eq (reference_eq.ghosts).eq a.principals b.principals
+    && hash_set_eq (reference_eq.ghosts).eq a.resources b.resources)
+    (SameItems (principal_references a) (principal_references b) × SameItems (resource_references a) (resource_references b))
+reference_specs-Decides a b =
+    let same = sets-Decides (reference_eq.ghosts).eq conditional_reference reference_equal.Laws.laws-law reference-Decides in
     Decides-and _ _ (same a.principals b.principals) (same a.resources b.resources)
 
 -- kinds of actions are equal exactly where they are for the same requests

@@ -140,7 +140,7 @@ pub equal-uid : {E : Type 0} (uid shown : EntityUID) (answer : Result EntityUID 
 equal-uid = equal-copy (uid_eq.ghosts).eq uid_of uid_equal.Laws.laws-law entity_uid_eq-same
 
 -- references are equal exactly where they stand for the same
-reference-Decides : (a b : ConditionalName)
+pub reference-Decides : (a b : ConditionalName)
     → Decides ((conditional_name_eq.ghosts).eq a b) (conditional_reference a ≡ conditional_reference b)
 reference-Decides a b =
     Decides-like

@@ -34,9 +34,9 @@ impl ValidatorActionId {
     ghost use Rattle.std.specs.Iterator.{IsFinite, Drains};
     ghost use Rattle.std.specs.Option.{option_copied, option_map};
     ghost use Rattle.cedar_actions.specs.ActionKind.{plain_kind, kind_principals, kind_resources, kind_context};
-    ghost use Rattle.cedar_actions.specs.ValidatorActionId.{action_of, action_loc};
+    ghost use Rattle.cedar_actions.specs.ValidatorActionId.{action_loc, action_of, context_of, lent_context, name_loc, name_type_loc};
     ghost use Rattle.cedar_below.specs.EntityType.{type_name};
-    ghost use Rattle.cedar_below.specs.EntityUID.{uid_of};
+    ghost use Rattle.cedar_below.specs.EntityUID.{uid_loc, uid_of, uid_type_loc};
     ghost use Rattle.cedar_below.specs.Lists.{SameItems};
     ghost use Rattle.cedar_below.specs.declared.entity_type.EntityType.{EntityType};
     ghost use Rattle.cedar_below.specs.declared.entity_uid.EntityUID.{EntityUID};
@@ -54,7 +54,10 @@ impl ValidatorActionId {
     ) -> M<Self>
         requires { (it : D.IntoIter) → D.into_iter_gives descendants it → D.IntoIter.can_next it × IsFinite (D.IntoIter.remaining it) }
         ensures uid { IfOk result (λ action. (action_of action).uid ≡ uid_of name) }
+        ensures name_loc { IfOk result (λ action. name_loc action ≡ uid_loc name) }
+        ensures name_type_loc { IfOk result (λ action. name_type_loc action ≡ uid_type_loc name) }
         ensures kind { IfOk result (λ action. (action_of action).kind ≡ plain_kind kind) }
+        ensures lent { IfOk result (λ action. context_of action ≡ lent_context kind) }
         ensures descendants { IfOk result (λ action. (it : D.IntoIter) × (xs : List EntityUID)
             × D.into_iter_gives descendants it × Drains D.IntoIter.next_gives it xs × SameItems (action_of action).descendants (map uid_of xs)) }
         ensures loc { IfOk result (λ action. action_loc action ≡ loc) }
@@ -88,11 +91,14 @@ impl ValidatorActionId {
         requires resources { (it : R.IntoIter) → R.into_iter_gives resources it → R.IntoIter.can_next it × IsFinite (R.IntoIter.remaining it) }
         requires descendants { (it : D.IntoIter) → D.into_iter_gives descendants it → D.IntoIter.can_next it × IsFinite (D.IntoIter.remaining it) }
         ensures uid { IfOk result (λ action. (action_of action).uid ≡ uid_of name) }
+        ensures name_loc { IfOk result (λ action. name_loc action ≡ uid_loc name) }
+        ensures name_type_loc { IfOk result (λ action. name_type_loc action ≡ uid_type_loc name) }
         ensures principals { IfOk result (λ action. (it : P.IntoIter) × (xs : List EntityType)
             × P.into_iter_gives principals it × Drains P.IntoIter.next_gives it xs × SameItems (kind_principals (action_of action).kind) (map type_name xs)) }
         ensures resources { IfOk result (λ action. (it : R.IntoIter) × (xs : List EntityType)
             × R.into_iter_gives resources it × Drains R.IntoIter.next_gives it xs × SameItems (kind_resources (action_of action).kind) (map type_name xs)) }
         ensures context { IfOk result (λ action. kind_context (action_of action).kind ≡ Some (ty_of context)) }
+        ensures lent { IfOk result (λ action. context_of action ≡ Some context) }
         ensures descendants { IfOk result (λ action. (it : D.IntoIter) × (xs : List EntityUID)
             × D.into_iter_gives descendants it × Drains D.IntoIter.next_gives it xs × SameItems (action_of action).descendants (map uid_of xs)) }
         ensures loc { IfOk result (λ action. action_loc action ≡ loc) }
@@ -116,6 +122,8 @@ impl ValidatorActionId {
     ) -> M<Self>
         requires { (it : D.IntoIter) → D.into_iter_gives descendants it → D.IntoIter.can_next it × IsFinite (D.IntoIter.remaining it) }
         ensures uid { IfOk result (λ action. (action_of action).uid ≡ uid_of name) }
+        ensures name_loc { IfOk result (λ action. name_loc action ≡ uid_loc name) }
+        ensures name_type_loc { IfOk result (λ action. name_type_loc action ≡ uid_type_loc name) }
         ensures kind { IfOk result (λ action. (action_of action).kind ≡ external_action) }
         ensures descendants { IfOk result (λ action. (it : D.IntoIter) × (xs : List EntityUID)
             × D.into_iter_gives descendants it × Drains D.IntoIter.next_gives it xs × SameItems (action_of action).descendants (map uid_of xs)) }
@@ -126,7 +134,9 @@ impl ValidatorActionId {
 
     /// The action's uid.
     pub fn name(&self) -> &EntityUID
-        ensures { uid_of result.now ≡ (action_of self.now).uid }
+        ensures uid { uid_of result.now ≡ (action_of self.now).uid }
+        ensures loc { uid_loc result.now ≡ name_loc self.now }
+        ensures type_loc { uid_type_loc result.now ≡ name_type_loc self.now }
     {
         &self.name
     }
@@ -155,7 +165,8 @@ impl ValidatorActionId {
 
     /// The type of the context of the action's requests. External actions have none.
     pub fn context(&self) -> Option<&Type>
-        ensures { option_map ty_of (option_copied result) ≡ kind_context (action_of self.now).kind }
+        ensures ty { option_map ty_of (option_copied result) ≡ kind_context (action_of self.now).kind }
+        ensures lent { option_copied result ≡ context_of self.now }
     {
         match &self.kind {
             ValidatorActionKind::Defined { context, .. } => Some(context),
@@ -165,7 +176,8 @@ impl ValidatorActionId {
 
     /// The type of the context of the action's requests. External actions have none.
     pub fn context_type(&self) -> Option<&Type>
-        ensures { option_map ty_of (option_copied result) ≡ kind_context (action_of self.now).kind }
+        ensures ty { option_map ty_of (option_copied result) ≡ kind_context (action_of self.now).kind }
+        ensures lent { option_copied result ≡ context_of self.now }
     {
         self.context()
     }
@@ -236,9 +248,11 @@ impl ValidatorActionId {
         }
     }
 
-    /// An equal action with the same location, or want of memory.
+    /// An equal action, located alike, its uid too. Or want of memory.
     pub fn clone(&self) -> M<Self>
         ensures uid { IfOk result (λ copy. (action_of copy).uid ≡ (action_of self.now).uid) }
+        ensures name_loc { IfOk result (λ copy. name_loc copy ≡ name_loc self.now) }
+        ensures name_type_loc { IfOk result (λ copy. name_type_loc copy ≡ name_type_loc self.now) }
         ensures kind { IfOk result (λ copy. SameActionKind (action_of copy).kind (action_of self.now).kind) }
         ensures descendants { IfOk result (λ copy. SameItems (action_of copy).descendants (action_of self.now).descendants) }
         ensures loc { IfOk result (λ copy. action_loc copy ≡ action_loc self.now) }

@@ -2,7 +2,7 @@
 
 ghost use Rattle.std.specs.Prelude.{◌≡◌, ◌↔◌, IsTrue, Contains};
 ghost use Rattle.cedar_actions.specs.ValidatorActionId.{action_of};
-ghost use Rattle.cedar_actions.specs.ValidatorApplySpec.{principal_names, resource_names};
+ghost use Rattle.cedar_actions.specs.ValidatorApplySpec.{principal_names, principal_references, resource_names, resource_references};
 ghost use Rattle.cedar_actions.specs.declared.action_id.ValidatorActionId.{ValidatorActionId};
 ghost use Rattle.cedar_actions.specs.declared.apply_spec.ValidatorApplySpec.{ValidatorApplySpec};
 ghost use Rattle.cedar_below.specs.EntityUID.{uid_of};
@@ -10,16 +10,25 @@ ghost use Rattle.cedar_below.specs.Lists.{SameItems};
 ghost use Rattle.cedar_below.specs.declared.entity_type.EntityType.{EntityType};
 ghost use Rattle.cedar_below.specs.declared.entity_uid.EntityUID.{EntityUID};
 ghost use Rattle.cedar_declared.specs.SameSchema.{SameActionKind};
+ghost use Rattle.cedar_names.specs.declared.json_schema.conditional_name.ConditionalName.{ConditionalName};
 
 use crate::action_id::ValidatorActionId;
 use crate::apply_spec::ValidatorApplySpec;
 use cedar_below::{EntityType, EntityUID};
 use cedar_closure::TCNode;
+use cedar_names::json_schema::ConditionalName;
 
 /// Apply specs are equal exactly where they have the same principals and the same resources.
 pub fn apply_specs_compare_as_sets()
     ensures { (a b : ValidatorApplySpec EntityType) → IsTrue (⟦<ValidatorApplySpec<EntityType> as PartialEq>⟧.eq a b)
         ↔ (SameItems (principal_names a) (principal_names b) × SameItems (resource_names a) (resource_names b)) }
+{}
+
+/// Apply specs over references are equal exactly where they have the same references to principals and the same to
+/// resources, each with what it may stand for.
+pub fn apply_specs_of_references_compare_as_sets()
+    ensures { (a b : ValidatorApplySpec ConditionalName) → IsTrue (⟦<ValidatorApplySpec<ConditionalName> as PartialEq>⟧.eq a b)
+        ↔ (SameItems (principal_references a) (principal_references b) × SameItems (resource_references a) (resource_references b)) }
 {}
 
 /// Actions of schemas are equal exactly where they have one uid, are for the same requests and have

@@ -3,8 +3,8 @@
 ghost use Rattle.std.specs.Prelude.{◌≡◌, map};
 ghost use Rattle.std.specs.List.Sorted.{IsStrictlySortedBy};
 ghost use Rattle.std.specs.Map.Iter.{ShowsInOrder, deref};
-ghost use Rattle.cedar_below.specs.Entity.{entity_uid, entity_attrs, entity_tags, entity_ancestors};
-ghost use Rattle.cedar_below.specs.EntityUID.{uid_of};
+ghost use Rattle.cedar_below.specs.Entity.{entity_ancestors, entity_attrs, entity_tags, entity_uid, entity_uid_loc, entity_uid_type_loc};
+ghost use Rattle.cedar_below.specs.EntityUID.{uid_loc, uid_of, uid_type_loc};
 ghost use Rattle.cedar_below.specs.PlainUid.{uid_cmp};
 
 use crate::entity_uid::EntityUID;
@@ -30,6 +30,8 @@ impl Entity {
         ancestors: BTreeSet<EntityUID>,
     ) -> Self
         ensures uid { entity_uid result ≡ uid_of uid }
+        ensures uid_loc { entity_uid_loc result ≡ uid_loc uid }
+        ensures uid_type_loc { entity_uid_type_loc result ≡ uid_type_loc uid }
         ensures attrs { entity_attrs result ≡ attrs }
         ensures tags { entity_tags result ≡ tags }
         ensures ancestors { entity_ancestors result ≡ map uid_of ancestors.keys }
@@ -44,7 +46,9 @@ impl Entity {
 
     /// The entity's uid.
     pub fn uid(&self) -> &EntityUID
-        ensures { uid_of result.now ≡ entity_uid self.now }
+        ensures uid { uid_of result.now ≡ entity_uid self.now }
+        ensures loc { uid_loc result.now ≡ entity_uid_loc self.now }
+        ensures type_loc { uid_type_loc result.now ≡ entity_uid_type_loc self.now }
     {
         &self.uid
     }

@@ -1,14 +1,18 @@
 -- What stands in a map once an entity type is put under its name.
-use Rattle.std.proofs.Common.{◌≡◌, cond, Option, None, Some, HashMap, sym, subst, ◌∙◌, refl, inl, inr}
+use Rattle.std.proofs.Common.{◌≡◌, Bool, ⊎_elim, cond, Option, None, Some, HashMap, sym, subst, ◌∙◌, refl, inl, inr}
 use Rattle.std.proofs.lemmas.Bool.{cond-true, cond-false, false_from_ne_true}
+use Rattle.std.specs.HashMap.{PutsEntry}
+use Rattle.std.specs.List.Sorted.{IsPermutation}
+use Rattle.std.specs.Map.{remove_entry}
 use Rattle.cedar_below.proofs.Names.{entity_type_eq-same}
-use Rattle.cedar_below.specs.EntityType.{type_name}
+use Rattle.cedar_below.specs.EntityType.{type_loc, type_name}
 use Rattle.cedar_below.specs.contracts.entity_type.EntityTypeEq.TheImpl as entity_type_equal
 use Rattle.cedar_below.specs.contracts.entity_type.EntityTypePartialEq.TheImpl as entity_type_eq
 use Rattle.cedar_below.specs.declared.entity_type.EntityType.{EntityType}
+use Rattle.cedar_closure.proofs.MovingLemmas.{put_again, replaced}
 use Rattle.cedar_closure.proofs.Numbers.{get_alike}
 use Rattle.cedar_declared.specs.EntityTypeKind.{external_kind}
-use Rattle.cedar_entities.specs.ValidatorEntityType.{entity_type_of}
+use Rattle.cedar_entities.specs.ValidatorEntityType.{AreLocatedAsKeys, IsLocatedAsKey, entity_type_of, name_loc}
 use Rattle.cedar_entities.specs.declared.entity_type.ValidatorEntityType.{ValidatorEntityType}
 use Rattle.cedar_built.specs.Nodes.{IsDefinedAt, IsPut, node_at}
 
@@ -60,3 +64,21 @@ module _ {S : Type 0} (before after : HashMap EntityType ValidatorEntityType S) 
   at_its_own key same =
       updated key ∙ cond-true ((entity_type_eq.ghosts).eq name key) (Some it) (node_at before key)
       ((entity_type_eq-same name key).1 (named ∙ sym same))
+
+module _ {S : Type 0} (before without after : HashMap EntityType ValidatorEntityType S) (key : EntityType) (it : ValidatorEntityType) where
+  -- what stands once an entity type is put in the place of what was taken out
+  pub put_after : ((other : EntityType) → node_at without other ≡ cond ((entity_type_eq.ghosts).eq key other) None (node_at before other))
+      → ((other : EntityType) → node_at after other ≡ cond ((entity_type_eq.ghosts).eq key other) (Some it) (node_at without other))
+      → (other : EntityType) → node_at after other ≡ cond ((entity_type_eq.ghosts).eq key other) (Some it) (node_at before other)
+  put_after taken put other =
+      put_again ((entity_type_eq.ghosts).eq key other) (Some it) (node_at before other) (node_at without other) (taken other) (node_at after other)
+      (put other)
+
+  -- each is still located as its key
+  pub put_located : (test : EntityType → Bool) (old : Option ValidatorEntityType) → IsPermutation (remove_entry test before.entries) without.entries
+      → node_at without key ≡ None → old ≡ node_at without key → PutsEntry (entity_type_eq.ghosts).eq without after key it old
+      → (at : type_loc key ≡ name_loc it) → AreLocatedAsKeys before.entries → AreLocatedAsKeys after.entries
+  put_located test old taken absent is put at located entry among =
+      let here : IsLocatedAsKey (key, it) = at in
+      ⊎_elim (λ same. subst IsLocatedAsKey same here) (λ there. located entry there)
+      (replaced (entity_type_eq.ghosts).eq test before without after key it old taken absent is put entry among)

@@ -16,7 +16,7 @@ use Rattle.cedar_entities.specs.declared.entity_type.ValidatorEntityType.{Valida
 use Rattle.cedar_built.specs.Nodes.{node_at}
 
 -- entity types tie where they are equal
-tied : (x y : EntityType) → eq_by_cmp (entity_type_ord.ghosts).cmp x y ≡ (entity_type_eq.ghosts).eq x y
+pub tied : (x y : EntityType) → eq_by_cmp (entity_type_ord.ghosts).cmp x y ≡ (entity_type_eq.ghosts).eq x y
 tied = tests_tied type_name entity_type_eq-same entity_type_ord-Equal
 
 module _ {S : Type 0} (nodes : HashMap EntityType ValidatorEntityType S) (unique : IsUnique ((entity_type_eq.ghosts).eq) nodes)

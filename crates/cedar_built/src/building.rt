@@ -1,6 +1,7 @@
 //! The entity types of a schema.
 
 ghost use Rattle.std.specs.Prelude.{◌≡◌, ◌⊎◌, IfErr, IfOk, OnOk};
+ghost use Rattle.cedar_entities.specs.ValidatorEntityType.{AreLocatedAsKeys};
 ghost use Rattle.cedar_below.specs.declared.extension.Extensions.{Extensions};
 ghost use Rattle.cedar_declared.specs.Bag.{Bag};
 ghost use Rattle.cedar_declared.specs.Fault.{want_of_memory};
@@ -14,6 +15,7 @@ use crate::links::linked_nodes;
 use crate::nodes::gathered_nodes;
 use crate::parents::parent_edges;
 use cedar_below::{EntityType, InternalName};
+use cedar_closure::into_btree_map;
 use cedar_declared::SchemaError;
 use cedar_entities::ValidatorEntityType;
 use cedar_fragments::namespace::EntityTypeFragment;
@@ -35,6 +37,7 @@ pub fn entity_types(
 ) -> Result<BTreeMap<EntityType, ValidatorEntityType>, SchemaError>
     ensures declared { IfOk result (λ types. (bag : Bag) (extensions : Extensions)
         → IsReady bag extensions declared.items known.now → AreDeclaredEntityTypes bag extensions types.entries) }
+    ensures located { IfOk result (λ types. AreLocatedAsKeys types.entries) }
     ensures sound { OnOk result ((bag : Bag) (extensions : Extensions)
         → IsReady bag extensions declared.items known.now → EntityTypesAreSound bag extensions) }
     ensures fault { IfErr result (λ error. (bag : Bag) (extensions : Extensions)
@@ -44,5 +47,5 @@ pub fn entity_types(
     let edges = parent_edges(alloc, &declared)?;
     let nodes = gathered_nodes(alloc, declared, known)?;
     let linked = linked_nodes(alloc, nodes, edges)?;
-    Ok(BTreeMap::from_iter(alloc, linked)?)
+    Ok(into_btree_map(alloc, linked)?)
 }

@@ -9,7 +9,7 @@ ghost use Rattle.cedar_declared.specs.Fault.{duplicate_entity_type, want_of_memo
 ghost use Rattle.cedar_declared.specs.Occurrences.{Twice};
 ghost use Rattle.cedar_declared.specs.SchemaError.{fault_of};
 ghost use Rattle.cedar_declared.specs.Together.{entity_definitions};
-ghost use Rattle.cedar_entities.specs.ValidatorEntityType.{entity_type_of};
+ghost use Rattle.cedar_entities.specs.ValidatorEntityType.{AreLocatedAsKeys, entity_type_of};
 ghost use Rattle.cedar_names.specs.EntityBody.{EntityBody};
 ghost use Rattle.cedar_gathered.specs.Gathered.{gathered_entities};
 ghost use Rattle.cedar_built.specs.Nodes.{AreGathered, IsDefinedAt, IsPut, node_at};
@@ -34,6 +34,7 @@ fn put_type(nodes: &mut Nodes, ty: ValidatorEntityType) -> Result<(), SchemaErro
         → node_at nodes.new key ≡ node_at nodes.old key) }
     ensures put { OnOk result ((key : Key) → type_name key ≡ (entity_type_of ty).name
         → IsPut ty (node_at nodes.old key) (node_at nodes.new key)) }
+    ensures located { OnOk result (AreLocatedAsKeys nodes.old.entries → AreLocatedAsKeys nodes.new.entries) }
     ensures fault { IfErr result (λ error. (fault_of error ≡ want_of_memory)
         ⊎ ((fault_of error ≡ duplicate_entity_type (entity_type_of ty).name)
         × (¬ ((entity_type_of ty).kind ≡ external_kind))
@@ -48,6 +49,8 @@ fn put_type(nodes: &mut Nodes, ty: ValidatorEntityType) -> Result<(), SchemaErro
         }
     }
     let key = ty.name().clone()?;
+    // A map keeps the key that it has, so that of an external declaration goes first.
+    let _external = nodes.remove(&key);
     nodes.insert(key, ty)?;
     Ok(())
 }
@@ -63,6 +66,7 @@ pub(crate) fn gathered_nodes(
     ensures once { OnOk result ((name : PlainName) → ¬ Twice (entry_names (entity_definitions (gathered_entities declared.items))) name) }
     ensures sound { OnOk result ((name : PlainName) (body : EntityBody)
         → Contains (gathered_entities declared.items) (name, body) → IsSoundBody known.now body) }
+    ensures located { IfOk result (λ nodes. AreLocatedAsKeys nodes.entries) }
     ensures fault { IfErr result (λ error. IsGatheringFault known.now (gathered_entities declared.items) (fault_of error)) }
 {
     let mut nodes = HashMap::new(alloc);

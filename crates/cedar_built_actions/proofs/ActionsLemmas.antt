@@ -16,7 +16,7 @@ use Rattle.cedar_declared.proofs.OccurrenceLemmas.{Contains-image}
 use Rattle.cedar_built_actions.specs.Nodes.{node_at}
 
 -- actions tie where they are equal
-tied : (x y : EntityUID) → eq_by_cmp (uid_ord.ghosts).cmp x y ≡ (uid_eq.ghosts).eq x y
+pub tied : (x y : EntityUID) → eq_by_cmp (uid_ord.ghosts).cmp x y ≡ (uid_eq.ghosts).eq x y
 tied = tests_tied uid_of entity_uid_eq-same entity_uid_ord-Equal
 
 module _ {S : Type 0} (nodes : HashMap EntityUID ValidatorActionId S) (unique : IsUnique ((uid_eq.ghosts).eq) nodes)

@@ -1,14 +1,18 @@
 -- What stands in a map once an action is put under its uid.
-use Rattle.std.proofs.Common.{◌≡◌, cond, Option, None, Some, HashMap, sym, subst, ◌∙◌, refl, inl, inr}
+use Rattle.std.proofs.Common.{◌≡◌, Bool, ⊎_elim, cond, Option, None, Some, HashMap, sym, subst, ◌∙◌, refl, inl, inr}
 use Rattle.std.proofs.lemmas.Bool.{cond-true, cond-false, false_from_ne_true}
+use Rattle.std.specs.HashMap.{PutsEntry}
+use Rattle.std.specs.List.Sorted.{IsPermutation}
+use Rattle.std.specs.Map.{remove_entry}
 use Rattle.cedar_below.proofs.Uids.{entity_uid_eq-same}
-use Rattle.cedar_below.specs.EntityUID.{uid_of}
+use Rattle.cedar_below.specs.EntityUID.{uid_loc, uid_of, uid_type_loc}
 use Rattle.cedar_below.specs.contracts.entity_uid.EntityUIDEq.TheImpl as uid_equal
 use Rattle.cedar_below.specs.contracts.entity_uid.EntityUIDPartialEq.TheImpl as uid_eq
 use Rattle.cedar_below.specs.declared.entity_uid.EntityUID.{EntityUID}
+use Rattle.cedar_closure.proofs.MovingLemmas.{put_again, replaced}
 use Rattle.cedar_closure.proofs.Numbers.{get_alike}
 use Rattle.cedar_declared.specs.PlainSchema.{external_action}
-use Rattle.cedar_actions.specs.ValidatorActionId.{action_of}
+use Rattle.cedar_actions.specs.ValidatorActionId.{AreLocatedAsKeys, IsLocatedAsKey, action_of, name_loc, name_type_loc}
 use Rattle.cedar_actions.specs.declared.action_id.ValidatorActionId.{ValidatorActionId}
 use Rattle.cedar_built_actions.specs.Nodes.{IsDefinedAt, IsPut, node_at}
 
@@ -60,3 +64,21 @@ module _ {S : Type 0} (before after : HashMap EntityUID ValidatorActionId S) (ui
   at_its_own key same =
       updated key ∙ cond-true ((uid_eq.ghosts).eq uid key) (Some it) (node_at before key)
       ((entity_uid_eq-same uid key).1 (named ∙ sym same))
+
+module _ {S : Type 0} (before without after : HashMap EntityUID ValidatorActionId S) (key : EntityUID) (it : ValidatorActionId) where
+  -- what stands once an action is put in the place of what was taken out
+  pub put_after : ((other : EntityUID) → node_at without other ≡ cond ((uid_eq.ghosts).eq key other) None (node_at before other))
+      → ((other : EntityUID) → node_at after other ≡ cond ((uid_eq.ghosts).eq key other) (Some it) (node_at without other))
+      → (other : EntityUID) → node_at after other ≡ cond ((uid_eq.ghosts).eq key other) (Some it) (node_at before other)
+  put_after taken put other =
+      put_again ((uid_eq.ghosts).eq key other) (Some it) (node_at before other) (node_at without other) (taken other) (node_at after other)
+      (put other)
+
+  -- each is still located as its key
+  pub put_located : (test : EntityUID → Bool) (old : Option ValidatorActionId) → IsPermutation (remove_entry test before.entries) without.entries
+      → node_at without key ≡ None → old ≡ node_at without key → PutsEntry (uid_eq.ghosts).eq without after key it old
+      → (at : uid_loc key ≡ name_loc it) (ty_at : uid_type_loc key ≡ name_type_loc it) → AreLocatedAsKeys before.entries → AreLocatedAsKeys after.entries
+  put_located test old taken absent is put at ty_at located entry among =
+      let here : IsLocatedAsKey (key, it) = record { uid = at; ty = ty_at } in
+      ⊎_elim (λ same. subst IsLocatedAsKey same here) (λ there. located entry there)
+      (replaced (uid_eq.ghosts).eq test before without after key it old taken absent is put entry among)

@@ -1,6 +1,7 @@
 //! The actions of a schema.
 
 ghost use Rattle.std.specs.Prelude.{◌≡◌, ◌⊎◌, IfErr, IfOk, OnOk};
+ghost use Rattle.cedar_actions.specs.ValidatorActionId.{AreLocatedAsKeys};
 ghost use Rattle.cedar_below.specs.declared.extension.Extensions.{Extensions};
 ghost use Rattle.cedar_declared.specs.Bag.{Bag};
 ghost use Rattle.cedar_declared.specs.Fault.{want_of_memory};
@@ -15,6 +16,7 @@ use crate::nodes::gathered_nodes;
 use crate::parents::parent_edges;
 use cedar_actions::ValidatorActionId;
 use cedar_below::{EntityType, EntityUID, InternalName};
+use cedar_closure::into_btree_map;
 use cedar_declared::SchemaError;
 use cedar_entities::ValidatorEntityType;
 use cedar_fragments::namespace::ActionFragment;
@@ -40,6 +42,7 @@ pub fn actions(
     ensures declared { IfOk result (λ actions. (bag : Bag) (extensions : Extensions)
         → AreActionsOf bag extensions declared.items entity_types.now known.now
         → AreDeclaredActions bag extensions actions.entries) }
+    ensures located { IfOk result (λ actions. AreLocatedAsKeys actions.entries) }
     ensures sound { OnOk result ((bag : Bag) (extensions : Extensions)
         → AreActionsOf bag extensions declared.items entity_types.now known.now → ActionsAreSound bag extensions) }
     ensures fault { IfErr result (λ error. (bag : Bag) (extensions : Extensions)
@@ -49,5 +52,5 @@ pub fn actions(
     let edges = parent_edges(alloc, &declared)?;
     let nodes = gathered_nodes(alloc, declared, entity_types, known)?;
     let linked = linked_nodes(alloc, nodes, edges)?;
-    Ok(BTreeMap::from_iter(alloc, linked)?)
+    Ok(into_btree_map(alloc, linked)?)
 }

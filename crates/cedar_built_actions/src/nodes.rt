@@ -1,7 +1,7 @@
 //! Actions gathered in a map, each under its uid.
 
 ghost use Rattle.std.specs.Prelude.{◌≡◌, ◌⊎◌, Contains, IfErr, IfOk, OnOk};
-ghost use Rattle.cedar_actions.specs.ValidatorActionId.{action_of};
+ghost use Rattle.cedar_actions.specs.ValidatorActionId.{AreLocatedAsKeys, action_of};
 ghost use Rattle.cedar_below.specs.EntityUID.{uid_of};
 ghost use Rattle.cedar_below.specs.PlainUid.{PlainUid};
 ghost use Rattle.cedar_below.specs.declared.entity_uid.EntityUID.{EntityUID as Key};
@@ -34,6 +34,7 @@ fn put_action(nodes: &mut Nodes, action: ValidatorActionId) -> Result<(), Schema
         → node_at nodes.new key ≡ node_at nodes.old key) }
     ensures put { OnOk result ((key : Key) → uid_of key ≡ (action_of action).uid
         → IsPut action (node_at nodes.old key) (node_at nodes.new key)) }
+    ensures located { OnOk result (AreLocatedAsKeys nodes.old.entries → AreLocatedAsKeys nodes.new.entries) }
     ensures fault { IfErr result (λ error. (fault_of error ≡ want_of_memory)
         ⊎ ((fault_of error ≡ duplicate_action (action_of action).uid)
         × (¬ ((action_of action).kind ≡ external_action))
@@ -48,6 +49,8 @@ fn put_action(nodes: &mut Nodes, action: ValidatorActionId) -> Result<(), Schema
         }
     }
     let key = action.name().clone()?;
+    // A map keeps the key that it has, so that of an external declaration goes first.
+    let _external = nodes.remove(&key);
     nodes.insert(key, action)?;
     Ok(())
 }
@@ -66,6 +69,7 @@ pub(crate) fn gathered_nodes(
     ensures sound { OnOk result ((uid : PlainUid) (applies_to : Requests)
         → Contains (requests_in (gathered_actions declared.items)) (uid, applies_to)
         → AreSoundRequests known.now (names_in entity_types.now) applies_to) }
+    ensures located { IfOk result (λ nodes. AreLocatedAsKeys nodes.entries) }
     ensures fault { IfErr result (λ error. IsGatheringFault known.now (names_in entity_types.now)
         (requests_in (gathered_actions declared.items)) (fault_of error)) }
 {

@@ -5,6 +5,7 @@ pub mod Growing
 pub mod KeyedEdges
 pub mod Lists
 pub mod MovedMaps
+pub mod MovingLemmas
 pub mod Numbers
 pub mod OrderProgress
 pub mod OrderSteps

@@ -8,6 +8,7 @@
 
 pub use adding::add_edges;
 pub use closure::{compute_tc, compute_tc_counted};
+pub use moving::{into_btree_map, into_hash_map};
 pub use ordering::{Ordered, topological_order};
 pub use tc_error::TcError;
 pub use tc_node::TCNode;
@@ -15,6 +16,7 @@ pub use tc_node::TCNode;
 mod adding;
 mod closing;
 mod closure;
+mod moving;
 mod numbering;
 mod ordering;
 mod rows;

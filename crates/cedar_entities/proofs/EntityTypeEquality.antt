@@ -18,12 +18,14 @@ use Rattle.cedar_types.proofs.EqualityLaws.{none, types-Decides, attributes-Deci
 use Rattle.cedar_types.proofs.MemberLemmas.{list_any-names}
 use Rattle.cedar_entities.proofs.MemberLemmas.{SameItems-searches}
 use Rattle.cedar_declared.specs.EntityTypeKind.{standard_kind, enumerated_kind, kind_fields, kind_openness, kind_tags}
-use Rattle.cedar_entities.specs.EntityTypeKind.{plain_kind}
+use Rattle.cedar_entities.specs.EntityTypeKind.{plain_kind, plain_standard}
 use Rattle.cedar_types.specs.Meaning.{ty_of}
 use Rattle.cedar_entities.specs.ValidatorEntityType.{PlainEntityType, entity_type_of, descendant_names}
 use Rattle.cedar_below.specs.Lists.{SameItems}
 use Rattle.cedar_entities.specs.contracts.entity_type.ValidatorEntityTypePartialEq.TheImpl as entity_type_eq
+use Rattle.cedar_entities.specs.contracts.entity_type_kind.StandardValidatorEntityTypePartialEq.TheImpl as standard_eq
 use Rattle.cedar_entities.specs.contracts.entity_type_kind.ValidatorEntityTypeKindPartialEq.TheImpl as kind_eq
+use Rattle.cedar_entities.specs.declared.entity_type_kind.StandardValidatorEntityType.{StandardValidatorEntityType}
 use Rattle.cedar_types.specs.contracts.types.TypePartialEq.TheImpl as type_eq
 use Rattle.cedar_entities.specs.declared.entity_type.ValidatorEntityType.{ValidatorEntityType}
 use Rattle.cedar_entities.specs.declared.entity_type_kind.ValidatorEntityTypeKind.{ValidatorEntityTypeKind}
@@ -47,14 +49,18 @@ ids-Decides (x ∷ xs) (y ∷ ys) =
     Decides-like _ (λ both i. both.0 i ∷ both.1 i) (λ e. (cc, cc))
     (Decides-and _ _ (text_eq-Decides (eid_text x) (eid_text y)) (ids-Decides xs ys))
 
--- kinds of entity types are equal exactly where they stand for the same
-pub kinds-Decides : (a b : ValidatorEntityTypeKind) → Decides ((kind_eq.ghosts).eq a b) (plain_kind a ≡ plain_kind b)
-kinds-Decides (variant.Standard a) (variant.Standard b) =
+-- standard entity types are equal exactly where they stand for the same
+pub standard-Decides : (a b : StandardValidatorEntityType) → Decides ((standard_eq.ghosts).eq a b) (plain_standard a ≡ plain_standard b)
+standard-Decides a b =
     Decides-like _
     (λ all i. standard_kind (all.0 i) (all.1.0 i) (all.1.1 i))
     (λ e. (ap kind_fields e, (ap kind_openness e, ap kind_tags e)))
     (Decides-and _ _ (attributes-Decides a.attributes b.attributes)
     (Decides-and _ _ (open_tag-Decides a.open_attributes b.open_attributes) (tags-Decides a.tags b.tags)))
+
+-- kinds of entity types are equal exactly where they stand for the same
+pub kinds-Decides : (a b : ValidatorEntityTypeKind) → Decides ((kind_eq.ghosts).eq a b) (plain_kind a ≡ plain_kind b)
+kinds-Decides (variant.Standard a) (variant.Standard b) = standard-Decides a b
 kinds-Decides (variant.Enum a) (variant.Enum b) = Decides-like _ (ap enumerated_kind) (λ e. cc)
     (ids-Decides (a.head ∷ a.tail.items) (b.head ∷ b.tail.items))
 kinds-Decides variant.External variant.External = (λ _. refl, λ _. refl)

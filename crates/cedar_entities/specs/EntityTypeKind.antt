@@ -9,6 +9,8 @@ use Rattle.cedar_entities.specs.declared.entity_type_kind.StandardValidatorEntit
 use Rattle.cedar_entities.specs.declared.entity_type_kind.ValidatorEntityTypeKind.{ValidatorEntityTypeKind}
 use Rattle.cedar_entities.specs.declared.entity_type_kind.ValidatorEntityTypeKind.TheVariants as variant
 use Rattle.cedar_rules.specs.declared.open_tag.OpenTag.{OpenTag}
+use Rattle.cedar_types.specs.declared.attributes.Attributes.{Attributes}
+use Rattle.cedar_types.specs.declared.types.Type.{«Type»}
 use Rattle.cedar_rules.specs.declared.open_tag.OpenTag.TheVariants.{ClosedAttributes}
 
 -- a standard entity type as plain data
@@ -20,3 +22,11 @@ abbrev pub plain_kind : ValidatorEntityTypeKind → EntityTypeKind
 plain_kind (variant.Standard it) = plain_standard it
 plain_kind (variant.Enum choices) = enumerated_kind (map eid_text (choices.head ∷ choices.tail.items))
 plain_kind variant.External = external_kind
+
+-- the attributes of a standard entity type, with their locations
+abbrev pub standard_attributes : StandardValidatorEntityType → Attributes
+standard_attributes it = it.attributes
+
+-- the type of the tags of a standard entity type
+abbrev pub standard_tags : StandardValidatorEntityType → Option «Type»
+standard_tags it = it.tags

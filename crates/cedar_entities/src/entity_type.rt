@@ -38,13 +38,15 @@ impl ValidatorEntityType {
     ghost use Rattle.std.specs.Iterator.{IsFinite, Drains};
     ghost use Rattle.std.specs.Option.{option_copied, option_map};
     ghost use Rattle.cedar_below.specs.Eid.{eid_text};
-    ghost use Rattle.cedar_below.specs.EntityType.{type_name};
+    ghost use Rattle.cedar_below.specs.EntityType.{type_loc, type_name};
+    ghost use Rattle.cedar_below.specs.Text.{Text};
     ghost use Rattle.cedar_below.specs.declared.entity_type.EntityType.{EntityType};
     ghost use Rattle.cedar_entities.specs.EntityTypeKind.{plain_kind};
     ghost use Rattle.cedar_declared.specs.EntityTypeKind.{standard_kind, enumerated_kind, external_kind, kind_fields, kind_openness, kind_tags};
+    ghost use Rattle.cedar_types.specs.Located.{located, located_at};
     ghost use Rattle.cedar_types.specs.Meaning.{ty_of, attribute_of, fields_of};
     ghost use Rattle.cedar_rules.specs.Ty.{field_at};
-    ghost use Rattle.cedar_entities.specs.ValidatorEntityType.{entity_type_of, descendant_names};
+    ghost use Rattle.cedar_entities.specs.ValidatorEntityType.{attributes_of, descendant_names, entity_type_of, name_loc, tags_of};
     ghost use Rattle.cedar_below.specs.Lists.{SameItems};
 
     /// An entity type of some kind, or want of memory. The descendants have to come to an end.
@@ -57,7 +59,8 @@ impl ValidatorEntityType {
     ) -> M<Self>
         requires { (it : I.IntoIter) → I.into_iter_gives descendants it → I.IntoIter.can_next it × IsFinite (I.IntoIter.remaining it) }
         ensures name { IfOk result (λ ty. (entity_type_of ty).name ≡ type_name name) }
-        ensures kind { IfOk result (λ ty. (entity_type_of ty).kind ≡ plain_kind kind) }
+        ensures name_loc { IfOk result (λ ty. name_loc ty ≡ type_loc name) }
+        ensures kind { IfOk result (λ ty. ty.kind ≡ kind) }
         ensures descendants { IfOk result (λ ty. (it : I.IntoIter) × (xs : List EntityType)
             × I.into_iter_gives descendants it × Drains I.IntoIter.next_gives it xs × SameItems (descendant_names ty) (map type_name xs)) }
         ensures loc { IfOk result (λ ty. ty.loc ≡ loc) }
@@ -85,7 +88,10 @@ impl ValidatorEntityType {
     ) -> M<Self>
         requires { (it : I.IntoIter) → I.into_iter_gives descendants it → I.IntoIter.can_next it × IsFinite (I.IntoIter.remaining it) }
         ensures name { IfOk result (λ ty. (entity_type_of ty).name ≡ type_name name) }
+        ensures name_loc { IfOk result (λ ty. name_loc ty ≡ type_loc name) }
         ensures kind { IfOk result (λ ty. (entity_type_of ty).kind ≡ standard_kind (fields_of attributes) open_attributes (option_map ty_of tags)) }
+        ensures attributes { IfOk result (λ ty. attributes_of ty ≡ attributes) }
+        ensures tags { IfOk result (λ ty. tags_of ty ≡ tags) }
         ensures descendants { IfOk result (λ ty. (it : I.IntoIter) × (xs : List EntityType)
             × I.into_iter_gives descendants it × Drains I.IntoIter.next_gives it xs × SameItems (descendant_names ty) (map type_name xs)) }
         ensures loc { IfOk result (λ ty. ty.loc ≡ loc) }
@@ -106,6 +112,7 @@ impl ValidatorEntityType {
     ) -> M<Self>
         requires { (it : I.IntoIter) → I.into_iter_gives descendants it → I.IntoIter.can_next it × IsFinite (I.IntoIter.remaining it) }
         ensures name { IfOk result (λ ty. (entity_type_of ty).name ≡ type_name name) }
+        ensures name_loc { IfOk result (λ ty. name_loc ty ≡ type_loc name) }
         ensures kind { IfOk result (λ ty. (entity_type_of ty).kind ≡ enumerated_kind (map eid_text (choices.head ∷ choices.tail.items))) }
         ensures descendants { IfOk result (λ ty. (it : I.IntoIter) × (xs : List EntityType)
             × I.into_iter_gives descendants it × Drains I.IntoIter.next_gives it xs × SameItems (descendant_names ty) (map type_name xs)) }
@@ -125,6 +132,7 @@ impl ValidatorEntityType {
     ) -> M<Self>
         requires { (it : I.IntoIter) → I.into_iter_gives descendants it → I.IntoIter.can_next it × IsFinite (I.IntoIter.remaining it) }
         ensures name { IfOk result (λ ty. (entity_type_of ty).name ≡ type_name name) }
+        ensures name_loc { IfOk result (λ ty. name_loc ty ≡ type_loc name) }
         ensures kind { IfOk result (λ ty. (entity_type_of ty).kind ≡ external_kind) }
         ensures descendants { IfOk result (λ ty. (it : I.IntoIter) × (xs : List EntityType)
             × I.into_iter_gives descendants it × Drains I.IntoIter.next_gives it xs × SameItems (descendant_names ty) (map type_name xs)) }
@@ -141,14 +149,16 @@ impl ValidatorEntityType {
 
     /// The entity type's name.
     pub fn name(&self) -> &EntityType
-        ensures { type_name result.now ≡ (entity_type_of self.now).name }
+        ensures name { type_name result.now ≡ (entity_type_of self.now).name }
+        ensures loc { type_loc result.now ≡ name_loc self.now }
     {
         &self.name
     }
 
     /// The declared attributes. Only standard entity types have some.
     pub fn attributes(&self) -> &Attributes
-        ensures { fields_of result.now ≡ kind_fields (entity_type_of self.now).kind }
+        ensures fields { fields_of result.now ≡ kind_fields (entity_type_of self.now).kind }
+        ensures attributes { result.now ≡ attributes_of self.now }
     {
         match &self.kind {
             ValidatorEntityTypeKind::Standard(standard) => standard.attributes(),
@@ -159,7 +169,8 @@ impl ValidatorEntityType {
 
     /// The declared attribute of this name, if there is one.
     pub fn attr(&self, name: &str) -> Option<&AttributeType>
-        ensures { option_map attribute_of (option_copied result) ≡ field_at name.now (kind_fields (entity_type_of self.now).kind) }
+        ensures attribute { option_map attribute_of (option_copied result) ≡ field_at name.now (kind_fields (entity_type_of self.now).kind) }
+        ensures located { option_map located (option_copied result) ≡ located_at name.now (attributes_of self.now) }
     {
         self.attributes().get_attr(name)
     }
@@ -192,7 +203,8 @@ impl ValidatorEntityType {
 
     /// The type of the tags, where entities of this type may have tags.
     pub fn tag_type(&self) -> Option<&Type>
-        ensures { option_map ty_of (option_copied result) ≡ kind_tags (entity_type_of self.now).kind }
+        ensures ty { option_map ty_of (option_copied result) ≡ kind_tags (entity_type_of self.now).kind }
+        ensures tags { option_copied result ≡ tags_of self.now }
     {
         match &self.kind {
             ValidatorEntityTypeKind::Standard(standard) => standard.tag_type(),
@@ -212,9 +224,12 @@ impl ValidatorEntityType {
         Ok(copy)
     }
 
-    /// An equal entity type with the same location, or want of memory.
+    /// An equal entity type, located alike, its name and its attributes too. Or want of memory.
     pub fn clone(&self) -> M<Self>
         ensures entity_type { IfOk result (λ copy. entity_type_of copy ≡ entity_type_of self.now) }
+        ensures name_loc { IfOk result (λ copy. name_loc copy ≡ name_loc self.now) }
+        ensures located { IfOk result (λ copy. (name : Text)
+            → located_at name (attributes_of copy) ≡ located_at name (attributes_of self.now)) }
         ensures descendants { IfOk result (λ copy. SameItems (descendant_names copy) (descendant_names self.now)) }
         ensures loc { IfOk result (λ copy. copy.loc ≡ self.now.loc) }
     {

@@ -2,9 +2,13 @@
 
 ghost use Rattle.std.specs.Prelude.{◌≡◌, IfOk};
 ghost use Rattle.std.specs.Option.{option_copied, option_map};
-ghost use Rattle.cedar_entities.specs.EntityTypeKind.{plain_standard, plain_kind};
+ghost use Rattle.cedar_entities.specs.EntityTypeKind.{plain_standard, plain_kind, standard_attributes, standard_tags};
 ghost use Rattle.cedar_declared.specs.EntityTypeKind.{standard_kind, kind_fields, kind_openness, kind_tags};
+ghost use Rattle.cedar_below.specs.Text.{Text};
+ghost use Rattle.cedar_entities.specs.ValidatorEntityType.{kind_attributes};
 ghost use Rattle.cedar_types.specs.Meaning.{ty_of, fields_of};
+ghost use Rattle.cedar_types.specs.Located.{located_at};
+ghost use Rattle.cedar_types.specs.declared.attributes.Attributes.{Attributes as AttributesOf};
 
 use cedar_below::{Eid, M, NonEmpty};
 use cedar_types::{Attributes, OpenTag, Type};
@@ -31,7 +35,10 @@ pub struct StandardValidatorEntityType {
 impl ValidatorEntityTypeKind {
     /// An equal kind, or want of memory.
     pub fn clone(&self) -> M<Self>
-        ensures { IfOk result (λ copy. plain_kind copy ≡ plain_kind self.now) }
+        ensures kind { IfOk result (λ copy. plain_kind copy ≡ plain_kind self.now) }
+        ensures located { IfOk result (λ copy. (others same : AttributesOf) (name : Text)
+            → located_at name others ≡ located_at name same
+            → located_at name (kind_attributes others copy) ≡ located_at name (kind_attributes same self.now)) }
     {
         Ok(match self {
             ValidatorEntityTypeKind::Standard(standard) => {
@@ -48,7 +55,9 @@ impl ValidatorEntityTypeKind {
 impl StandardValidatorEntityType {
     /// An entity type with these attributes, and with tags of this type.
     pub(crate) fn new(attributes: Attributes, open_attributes: OpenTag, tags: Option<Type>) -> Self
-        ensures { plain_standard result ≡ standard_kind (fields_of attributes) open_attributes (option_map ty_of tags) }
+        ensures standard { plain_standard result ≡ standard_kind (fields_of attributes) open_attributes (option_map ty_of tags) }
+        ensures attributes { standard_attributes result ≡ attributes }
+        ensures tags { standard_tags result ≡ tags }
     {
         StandardValidatorEntityType {
             attributes,
@@ -59,7 +68,8 @@ impl StandardValidatorEntityType {
 
     /// The attributes.
     pub(crate) fn attributes(&self) -> &Attributes
-        ensures { fields_of result.now ≡ kind_fields (plain_standard self.now) }
+        ensures fields { fields_of result.now ≡ kind_fields (plain_standard self.now) }
+        ensures attributes { result.now ≡ standard_attributes self.now }
     {
         &self.attributes
     }
@@ -73,14 +83,17 @@ impl StandardValidatorEntityType {
 
     /// The type of the tags, where entities of this type may have tags.
     pub fn tag_type(&self) -> Option<&Type>
-        ensures { option_map ty_of (option_copied result) ≡ kind_tags (plain_standard self.now) }
+        ensures ty { option_map ty_of (option_copied result) ≡ kind_tags (plain_standard self.now) }
+        ensures tags { option_copied result ≡ standard_tags self.now }
     {
         self.tags.as_ref()
     }
 
     /// An equal entity type, or want of memory.
     pub fn clone(&self) -> M<Self>
-        ensures { IfOk result (λ copy. plain_standard copy ≡ plain_standard self.now) }
+        ensures standard { IfOk result (λ copy. plain_standard copy ≡ plain_standard self.now) }
+        ensures located { IfOk result (λ copy. (name : Text)
+            → located_at name (standard_attributes copy) ≡ located_at name (standard_attributes self.now)) }
     {
         let tags = match &self.tags {
             Some(ty) => Some(ty.clone()?),

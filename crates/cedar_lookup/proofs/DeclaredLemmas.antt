@@ -8,7 +8,7 @@ use Rattle.cedar_below.specs.contracts.entity_type.EntityTypeOrd.TheImpl as type
 use Rattle.cedar_below.specs.declared.entity_type.EntityType.{EntityType}
 use Rattle.cedar_declared.specs.EntityTypeKind.{kind_fields, kind_openness, kind_tags}
 use Rattle.cedar_declared.specs.PlainSchema.{SchemaEntityType}
-use Rattle.cedar_entities.specs.ValidatorEntityType.{entity_type_of, plain_entry}
+use Rattle.cedar_entities.specs.ValidatorEntityType.{plain_entry}
 use Rattle.cedar_entities.specs.declared.entity_type.ValidatorEntityType.{ValidatorEntityType}
 use Rattle.cedar_lookup.specs.KnownAttributes.{declared_fields, type_at}
 use Rattle.cedar_queries.proofs.LookupLemmas.{plain_type, type_found}

@@ -6,6 +6,7 @@ mod KnownOfBuilt
 mod Mapped
 mod ReadySteps
 pub mod SchemaEquality
+mod SchemaKeys
 mod SchemaNames
 mod SettledOver
 mod SurePieces

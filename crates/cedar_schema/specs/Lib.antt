@@ -1,3 +1,4 @@
+pub mod SchemaKeys
 pub mod SchemaParts
 pub mod SettledBag
 pub mod ValidatorSchema

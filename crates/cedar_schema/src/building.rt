@@ -19,6 +19,7 @@ ghost use Rattle.cedar_fragments.specs.HeldNames.{held_names};
 ghost use Rattle.cedar_gathered.specs.Gathered.{settled_bag};
 ghost use Rattle.cedar_laws.specs.EndToEnd.{IsBuiltFrom};
 ghost use Rattle.cedar_located.specs.Located.{ShowsFragments};
+ghost use Rattle.cedar_schema.specs.SchemaKeys.{AreKeysLocated};
 ghost use Rattle.cedar_schema.specs.SchemaParts.{parts_schema};
 ghost use Rattle.cedar_schema.specs.SettledBag.{IsSettledOver};
 
@@ -79,6 +80,7 @@ fn build_settled(
     ensures declared { IfOk result (λ parts. IsSettledOver (settled_bag fragments.items) extensions.now (held_names defs.now)
         → IsDeclaredSchema (settled_bag fragments.items) extensions.now (parts_schema parts)) }
     ensures located { IfOk result (λ parts. parts.located ≡ located) }
+    ensures keys { IfOk result (λ parts. AreKeysLocated parts.entity_types.entries parts.actions.entries) }
     ensures well_formed { OnOk result (IsSettledOver (settled_bag fragments.items) extensions.now (held_names defs.now)
         → ¬ IsIllFormed (settled_bag fragments.items) extensions.now) }
     ensures fault { IfErr result (λ error. IsSettledOver (settled_bag fragments.items) extensions.now (held_names defs.now)
@@ -122,6 +124,7 @@ pub(crate) fn build(
     requires { TypeNamesFit (extension_types extensions.now) }
     ensures built { IsBuiltFrom (conditional_bag fragments.items) extensions.now (result_map_both parts_schema fault_of result) }
     ensures located { IfOk result (λ parts. ShowsFragments fragments.items parts.located) }
+    ensures keys { IfOk result (λ parts. AreKeysLocated parts.entity_types.entries parts.actions.entries) }
 {
     let located = located_in(alloc, &fragments)?;
     let Settled { fragments, defs } = settle(alloc, fragments, extensions)?;

@@ -19,16 +19,18 @@ impl ValidatorSchema {
     ghost use Rattle.std.specs.List.Sorted.{IsPermutation, IsStrictlySortedBy};
     ghost use Rattle.std.specs.Option.{option_copied, option_map};
     ghost use Rattle.cedar_actions.specs.ActionKind.{kind_principals, kind_resources};
+    ghost use Rattle.cedar_actions.specs.ValidatorActionId as action;
     ghost use Rattle.cedar_actions.specs.ValidatorActionId.{action_of};
     ghost use Rattle.cedar_below.specs.Entities.{entities_of};
-    ghost use Rattle.cedar_below.specs.EntityType.{type_name};
-    ghost use Rattle.cedar_below.specs.EntityUID.{uid_of};
+    ghost use Rattle.cedar_below.specs.EntityType.{type_loc, type_name};
+    ghost use Rattle.cedar_below.specs.EntityUID.{uid_loc, uid_of, uid_type_loc};
     ghost use Rattle.cedar_below.specs.PlainName.{name_cmp};
     ghost use Rattle.cedar_below.specs.PlainUid.{uid_cmp};
     ghost use Rattle.cedar_declared.specs.ActionEntities.{AreActionEntities};
     ghost use Rattle.cedar_declared.specs.Environments.{AreEnvironmentsOf};
     ghost use Rattle.cedar_derived.specs.ActionEntities.{schema_with};
     ghost use Rattle.cedar_entities.specs.RequestEnv.{owned_environment};
+    ghost use Rattle.cedar_entities.specs.ValidatorEntityType as types;
     ghost use Rattle.cedar_entities.specs.ValidatorEntityType.{entity_type_of};
     ghost use Rattle.cedar_queries.specs.GivesLeaf.{pending_types};
     ghost use Rattle.cedar_queries.specs.Leaves.{leaves_of, schema_leaves};
@@ -58,6 +60,7 @@ impl ValidatorSchema {
     /// The names of the entity types, in order, each once.
     pub fn entity_type_names(&self) -> btree_map::Keys<'_, EntityType, ValidatorEntityType>
         ensures names { result ≡ map (λ entry. entry.0) (schema_entries self.now) }
+        ensures located { map type_loc result ≡ map (λ entry. types.name_loc entry.1) (schema_entries self.now) }
         ensures in_order { IsStrictlySortedBy name_cmp (map type_name result) }
     {
         self.entity_types.keys()
@@ -81,6 +84,8 @@ impl ValidatorSchema {
     /// The uids of the actions, external ones too, in order, each once.
     pub fn actions(&self) -> btree_map::Keys<'_, EntityUID, ValidatorActionId>
         ensures uids { result ≡ map (λ entry. entry.0) (action_entries self.now) }
+        ensures located { map uid_loc result ≡ map (λ entry. action.name_loc entry.1) (action_entries self.now) }
+        ensures types_located { map uid_type_loc result ≡ map (λ entry. action.name_type_loc entry.1) (action_entries self.now) }
         ensures in_order { IsStrictlySortedBy uid_cmp (map uid_of result) }
     {
         self.actions.keys()

@@ -15,6 +15,7 @@ ghost use Rattle.cedar_laws.specs.EndToEnd.{IsBuiltFrom};
 ghost use Rattle.cedar_located.specs.Located.{ShowsWritten};
 ghost use Rattle.cedar_names.specs.Declaration.{raw_bag};
 ghost use Rattle.cedar_names.specs.declared.json_schema.conditional_name.ConditionalName.{ConditionalName as Conditional};
+ghost use Rattle.cedar_schema.specs.SchemaKeys.{AreKeysLocated};
 ghost use Rattle.cedar_schema.specs.SchemaParts.{parts_schema};
 
 use crate::building::{SchemaParts, build};
@@ -60,6 +61,7 @@ pub(crate) fn build_raw(
     ensures built { IsBuiltFrom (raw_bag fragments.items) extensions.now (result_map_both parts_schema fault_of result) }
     ensures all_named { IfErr result (λ error. NamesAllOfADefinition fragments.items (fault_of error)) }
     ensures located { IfOk result (λ parts. ShowsWritten fragments.items parts.located) }
+    ensures keys { IfOk result (λ parts. AreKeysLocated parts.entity_types.entries parts.actions.entries) }
 {
     let fragments = conditional_fragments(alloc, fragments)?;
     build(alloc, fragments, extensions)

@@ -1,11 +1,13 @@
 //! Schemas, and how one is built from fragments.
 
 ghost use Rattle.std.specs.Prelude.{map};
+ghost use Rattle.cedar_actions.specs.ValidatorActionId as action;
 ghost use Rattle.cedar_below.specs.Entities.{entities_of};
 ghost use Rattle.cedar_declared.specs.ActionEntities.{AreActionEntities};
 ghost use Rattle.cedar_declared.specs.Environments.{AreEnvironmentsOf};
 ghost use Rattle.cedar_derived.specs.ActionEntities.{schema_with};
 ghost use Rattle.cedar_entities.specs.RequestEnv.{owned_environment};
+ghost use Rattle.cedar_entities.specs.ValidatorEntityType as types;
 ghost use Rattle.cedar_entities.specs.ValidatorEntityType.{plain_entry};
 ghost use Rattle.cedar_laws.specs.EndToEnd.{IsInOrder, StandsUnderItsNames};
 
@@ -31,7 +33,8 @@ use std::collections::BTreeMap;
 /// further: the entities of the actions, and the environments of requests. A schema that was built from
 /// fragments also shows their common types and namespaces, with where these were written.
 ///
-/// Equality ignores locations, and what is shown of fragments.
+/// An entity type or an action is located where it is defined, or else where an external declaration of it
+/// stands, and so is whatever lends its name. Equality ignores locations, and what is shown of fragments.
 #[derive(Drop)]
 #[derive_where(Debug, PartialEq, Eq)]
 pub struct ValidatorSchema {
@@ -52,6 +55,8 @@ pub struct ValidatorSchema {
         (schema_with (map plain_entry entity_types.entries) actions.entries (entities_of action_entities)) ∥₁ },
     ghost under_names: { ∥ StandsUnderItsNames
         (schema_with (map plain_entry entity_types.entries) actions.entries (entities_of action_entities)) ∥₁ },
+    ghost types_located: { types.AreLocatedAsKeys entity_types.entries },
+    ghost actions_located: { action.AreLocatedAsKeys actions.entries },
 }
 
 impl ValidatorSchema {
@@ -84,6 +89,7 @@ impl ValidatorSchema {
     ghost use Rattle.cedar_schema.specs.ValidatorSchema.{action_entries, action_of_uid, entity_type_named, located_of, schema_entries, schema_of};
     ghost use Rattle.cedar_validated.specs.Copies.{IsActionCopied, IsTypeCopied};
     ghost use Rattle.cedar_validated.specs.LastNamed.{last_named, last_of_uid};
+    ghost use Rattle.cedar_schema.specs.SchemaKeys.{AreKeysLocated};
     ghost use Rattle.cedar_schema.specs.SchemaParts.{parts_schema};
 
     /// The schema that declares nothing.
@@ -109,6 +115,7 @@ impl ValidatorSchema {
     fn from_parts(alloc: Global, parts: SchemaParts) -> M<Self>
         requires entities { AreActionEntities (parts_schema parts) }
         requires under_names { StandsUnderItsNames (parts_schema parts) }
+        requires keys { AreKeysLocated parts.entity_types.entries parts.actions.entries }
         ensures schema { IfOk result (λ schema. schema_of schema ≡ parts_schema parts) }
         ensures entity_types { IfOk result (λ schema. schema_entries schema ≡ parts.entity_types.entries) }
         ensures actions { IfOk result (λ schema. action_entries schema ≡ parts.actions.entries) }
@@ -149,6 +156,7 @@ impl ValidatorSchema {
         requires { TypeNamesFit (extension_types extensions.now) }
         ensures built { IsBuiltFrom (conditional_bag fragments.items) extensions.now (result_map_both schema_of fault_of result) }
         ensures located { IfOk result (λ schema. ShowsFragments fragments.items (located_of schema)) }
+        ensures keys { IfOk result (λ schema. AreKeysLocated (schema_entries schema) (action_entries schema)) }
     {
         let parts = build(alloc, fragments, extensions)?;
         Ok(ValidatorSchema::from_parts(alloc, parts)?)
@@ -168,6 +176,7 @@ impl ValidatorSchema {
         ensures built { IsBuiltFrom (raw_bag fragments.items) extensions.now (result_map_both schema_of fault_of result) }
         ensures all_named { IfErr result (λ error. NamesAllOfADefinition fragments.items (fault_of error)) }
         ensures located { IfOk result (λ schema. ShowsWritten fragments.items (located_of schema)) }
+        ensures keys { IfOk result (λ schema. AreKeysLocated (schema_entries schema) (action_entries schema)) }
     {
         let parts = build_raw(alloc, fragments, extensions)?;
         Ok(ValidatorSchema::from_parts(alloc, parts)?)
@@ -183,6 +192,7 @@ impl ValidatorSchema {
         ensures built { IsBuiltFrom (raw_fragment fragment) extensions.now (result_map_both schema_of fault_of result) }
         ensures all_named { IfErr result (λ error. NamesAllOfADefinition (fragment ∷ []) (fault_of error)) }
         ensures located { IfOk result (λ schema. ShowsWritten (fragment ∷ []) (located_of schema)) }
+        ensures keys { IfOk result (λ schema. AreKeysLocated (schema_entries schema) (action_entries schema)) }
     {
         let mut fragments = Vec::new(alloc);
         fragments.push(fragment)?;
@@ -200,6 +210,7 @@ impl ValidatorSchema {
         ensures built { IsBuiltFrom (raw_declarations None definition) extensions.now (result_map_both schema_of fault_of result) }
         ensures all_named { IfErr result (λ error. NamesAllWithAttributes (raw_declarations None definition) None (fault_of error)) }
         ensures located { IfOk result (λ schema. Shows (written_common_names None definition.common_types.entries) [] (located_of schema)) }
+        ensures keys { IfOk result (λ schema. AreKeysLocated (schema_entries schema) (action_entries schema)) }
     {
         let mut definitions = BTreeMap::new(alloc);
         definitions.insert(None, definition)?;
@@ -226,6 +237,7 @@ impl ValidatorSchema {
             × ((uid : Uid) → action_of_uid schema (uid_of uid) ≡ last_of_uid (uid_of uid) xs)) }
         ensures common_types { IfOk result (λ schema. common_entries (located_of schema) ≡ []) }
         ensures namespaces { IfOk result (λ schema. namespace_entries (located_of schema) ≡ []) }
+        ensures keys { IfOk result (λ schema. AreKeysLocated (schema_entries schema) (action_entries schema)) }
     {
         let entity_types = types_by_name(alloc, Vec::from_iter(alloc, entity_types)?)?;
         let actions = actions_by_uid(alloc, Vec::from_iter(alloc, actions)?)?;
@@ -256,6 +268,7 @@ impl ValidatorSchema {
         ensures valid { OnOk result (IsValidSchema extensions.now (schema_of self)) }
         ensures closed { IfOk result (λ schema. ClosesSchema (schema_of self) (schema_of schema)) }
         ensures located { IfOk result (λ schema. located_of schema ≡ located_of self) }
+        ensures keys { IfOk result (λ schema. AreKeysLocated (schema_entries schema) (action_entries schema)) }
     {
         let Validated {
             entity_types,
@@ -280,6 +293,7 @@ impl ValidatorSchema {
             ≡ map shown_common_type (common_entries (located_of self.now))) }
         ensures namespaces { IfOk result (λ copy. map shown_entry (namespace_entries (located_of copy))
             ≡ map shown_entry (namespace_entries (located_of self.now))) }
+        ensures keys { IfOk result (λ schema. AreKeysLocated (schema_entries schema) (action_entries schema)) }
     {
         let alloc = *self.environments.allocator();
         let actions = copied_actions(&self.actions)?;

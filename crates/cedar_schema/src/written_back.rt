@@ -15,8 +15,8 @@ impl ValidatorSchema {
 
     /// The fragment that declares the schema again: one declaration for each entity type and each action, with a
     /// definition for each namespace that has one. Common types are written out, names are written in full,
-    /// parents are all that have the name among their descendants, an action has an `appliesTo` part exactly if it is
-    /// defined, and nothing has a location.
+    /// parents are all that have the name among their descendants, and an action has an `appliesTo` part exactly if it
+    /// is defined.
     ///
     /// It answers `Unwritable` exactly where no fragment would say the same: a type is none that a schema can
     /// write (`True`, `False`, `Never`, the any-set, any entity, a union of two entity types, an open record, an

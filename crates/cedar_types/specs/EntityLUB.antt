@@ -1,4 +1,4 @@
-use Rattle.std.specs.Prelude.{List, map}
+use Rattle.std.specs.Prelude.{List, [], ◌∷◌, Option, None, Some, map}
 use Rattle.cedar_below.specs.EntityType.{type_name}
 use Rattle.cedar_below.specs.PlainName.{PlainName}
 use Rattle.cedar_below.specs.declared.entity_type.EntityType.{EntityType}
@@ -8,6 +8,12 @@ use Rattle.cedar_types.specs.declared.entity_lub.EntityLUB.{EntityLUB}
 -- a union's entity types, in order
 abbrev pub lub_types : EntityLUB → List EntityType
 lub_types lub = lub.elements.items
+
+-- the only one of some entity types
+abbrev pub only_type : List EntityType → Option EntityType
+only_type [] = None
+only_type (ty ∷ []) = Some ty
+only_type (ty ∷ other ∷ rest) = None
 
 -- the names of a union's entity types, in order
 abbrev pub lub_names : EntityLUB → List PlainName

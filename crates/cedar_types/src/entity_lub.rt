@@ -67,12 +67,13 @@ impl EntityLUB {
     ghost use Rattle.cedar_below.specs.PlainName.{name_cmp};
     ghost use Rattle.std.specs.declared.cmp.Ordering.TheVariants.{Less};
     ghost use Rattle.cedar_below.specs.declared.entity_type.EntityType.{EntityType};
-    ghost use Rattle.cedar_types.specs.EntityLUB.{lub_types, lub_names};
+    ghost use Rattle.cedar_types.specs.EntityLUB.{lub_names, lub_types, only_type};
     ghost use Rattle.cedar_rules.specs.EntityUnion.{only_name, AreDisjoint, IsUnionOf};
 
     /// The union of a single entity type, or want of memory.
     pub fn single_entity(alloc: Global, ty: EntityType) -> M<Self>
-        ensures { IfOk result (λ lub. lub_names lub ≡ type_name ty ∷ []) }
+        ensures names { IfOk result (λ lub. lub_names lub ≡ type_name ty ∷ []) }
+        ensures types { IfOk result (λ lub. lub_types lub ≡ ty ∷ []) }
     {
         let mut elements = Vec::with_capacity(alloc, 1)?;
         elements.push(ty)?;
@@ -81,7 +82,8 @@ impl EntityLUB {
 
     /// The entity type of the union, where there is only one.
     pub fn get_single_entity(&self) -> Option<&EntityType>
-        ensures { option_map type_name (option_copied result) ≡ only_name (lub_names self.now) }
+        ensures name { option_map type_name (option_copied result) ≡ only_name (lub_names self.now) }
+        ensures ty { option_copied result ≡ only_type (lub_types self.now) }
     {
         match self.elements.as_slice() {
             [ty] => Some(ty),
@@ -91,7 +93,8 @@ impl EntityLUB {
 
     /// The entity type of the union, where there is only one.
     pub fn into_single_entity(self) -> Option<EntityType>
-        ensures { option_map type_name result ≡ only_name (lub_names self) }
+        ensures name { option_map type_name result ≡ only_name (lub_names self) }
+        ensures ty { result ≡ only_type (lub_types self) }
     {
         let mut elements = self.elements;
         if elements.len() == 1 {

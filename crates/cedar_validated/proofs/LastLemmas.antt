@@ -1,15 +1,17 @@
 -- The last of some items that passes a test, as items are put behind the others.
-use Rattle.std.proofs.Common.{◌≡◌, ◌++◌, Bool, true, false, cond, List, [], ◌∷◌, None, Some, refl, ap, sym, ◌∙◌}
-use Rattle.std.specs.BTreeMap.{BTreeMap, get, is_at}
+use Rattle.std.proofs.Common.{◌≡◌, ◌++◌, Bool, true, false, cond, List, [], ◌∷◌, None, Some, refl, ap, sym, subst, ◌∙◌, ⊎_elim}
+use Rattle.std.specs.BTreeMap.{BTreeMap, get, insert_entry, is_at}
 use Rattle.std.specs.Bool.{one_answer}
+use Rattle.std.specs.Map.{remove_entry}
 use Rattle.std.specs.Ordering.{is_eq}
 use Rattle.std.specs.Option.{option_or}
+use Rattle.cedar_actions.specs.ValidatorActionId as actions
 use Rattle.cedar_actions.specs.ValidatorActionId.{action_of}
 use Rattle.cedar_actions.specs.declared.action_id.ValidatorActionId.{ValidatorActionId}
 use Rattle.cedar_below.proofs.Names.{entity_type_ord-name_cmp}
 use Rattle.cedar_below.proofs.Uids.{entity_uid_ord-uid_cmp}
-use Rattle.cedar_below.specs.EntityType.{type_name}
-use Rattle.cedar_below.specs.EntityUID.{uid_of}
+use Rattle.cedar_below.specs.EntityType.{type_loc, type_name}
+use Rattle.cedar_below.specs.EntityUID.{uid_loc, uid_of, uid_type_loc}
 use Rattle.cedar_below.specs.PlainName.{PlainName, name_cmp}
 use Rattle.cedar_below.specs.PlainUid.{PlainUid, uid_cmp}
 use Rattle.cedar_below.specs.contracts.entity_type.EntityTypeOrd.TheImpl as type_ord
@@ -17,6 +19,8 @@ use Rattle.cedar_below.specs.contracts.entity_uid.EntityUIDOrd.TheImpl as uid_or
 use Rattle.cedar_below.specs.declared.entity_type.EntityType.{EntityType}
 use Rattle.cedar_below.specs.declared.entity_uid.EntityUID.{EntityUID}
 use Rattle.cedar_declared.proofs.OccurrenceLemmas.{name_test, uid_test}
+use Rattle.cedar_closure.proofs.MovingLemmas.{replaced_in_order}
+use Rattle.cedar_entities.specs.ValidatorEntityType as types
 use Rattle.cedar_entities.specs.ValidatorEntityType.{entity_type_of}
 use Rattle.cedar_entities.specs.declared.entity_type.ValidatorEntityType.{ValidatorEntityType}
 use Rattle.cedar_validated.specs.LastNamed.{last_named, last_of_uid, last_that}
@@ -74,3 +78,23 @@ action_put old new key it items own puts so_far uid =
     puts uid
     ∙ ((λ i. cond (test i) (Some it) (so_far uid i))
     ∙ sym (last_more (λ each. is_eq (uid_cmp (uid_of uid) (action_of each).uid)) items it))
+
+-- where an entity type is put under a key that was written where its name was, each is still located as its key
+pub types_located : (old without new : BTreeMap EntityType ValidatorEntityType) (key : EntityType) (it : ValidatorEntityType)
+    (test : EntityType → Bool) → without.entries ≡ remove_entry test old.entries → get ((type_ord.ghosts).cmp) without key ≡ None
+    → new.entries ≡ insert_entry ((type_ord.ghosts).cmp) without.entries key it → type_loc key ≡ types.name_loc it
+    → types.AreLocatedAsKeys old.entries → types.AreLocatedAsKeys new.entries
+types_located old without new key it test taken absent put at located entry among =
+    let here : types.IsLocatedAsKey (key, it) = at in
+    ⊎_elim (λ same. subst types.IsLocatedAsKey same here) (λ there. located entry there)
+    (replaced_in_order ((type_ord.ghosts).cmp) test old without new key it taken absent put entry among)
+
+-- the same of an action
+pub actions_located : (old without new : BTreeMap EntityUID ValidatorActionId) (key : EntityUID) (it : ValidatorActionId)
+    (test : EntityUID → Bool) → without.entries ≡ remove_entry test old.entries → get ((uid_ord.ghosts).cmp) without key ≡ None
+    → new.entries ≡ insert_entry ((uid_ord.ghosts).cmp) without.entries key it → uid_loc key ≡ actions.name_loc it
+    → uid_type_loc key ≡ actions.name_type_loc it → actions.AreLocatedAsKeys old.entries → actions.AreLocatedAsKeys new.entries
+actions_located old without new key it test taken absent put at ty_at located entry among =
+    let here : actions.IsLocatedAsKey (key, it) = record { uid = at; ty = ty_at } in
+    ⊎_elim (λ same. subst actions.IsLocatedAsKey same here) (λ there. located entry there)
+    (replaced_in_order ((uid_ord.ghosts).cmp) test old without new key it taken absent put entry among)

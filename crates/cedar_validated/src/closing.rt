@@ -1,6 +1,7 @@
 //! Descendants, closed.
 
 ghost use Rattle.std.specs.Prelude.{◌≡◌, ◌⊎◌, IfErr, IfOk, List, OnOk, map};
+ghost use Rattle.cedar_actions.specs.ValidatorActionId as action_specs;
 ghost use Rattle.cedar_actions.specs.ValidatorActionId.{plain_action_entry};
 ghost use Rattle.cedar_actions.specs.declared.action_id.ValidatorActionId.{ValidatorActionId as Action};
 ghost use Rattle.cedar_below.specs.Chain.{Chain};
@@ -13,6 +14,7 @@ ghost use Rattle.cedar_declared.specs.ClosedSchema.{ClosesAction, ClosesType};
 ghost use Rattle.cedar_declared.specs.Fault.{action_cycle, want_of_memory};
 ghost use Rattle.cedar_declared.specs.SchemaError.{fault_of};
 ghost use Rattle.cedar_declared.specs.ValidSchema.{ListsDescendantAction};
+ghost use Rattle.cedar_entities.specs.ValidatorEntityType as type_specs;
 ghost use Rattle.cedar_entities.specs.ValidatorEntityType.{plain_entry};
 ghost use Rattle.cedar_entities.specs.declared.entity_type.ValidatorEntityType.{ValidatorEntityType as Node};
 ghost use Rattle.cedar_validated.specs.Parts.{graph_fault, plain_schema};
@@ -20,22 +22,22 @@ ghost use Rattle.cedar_validated.specs.Parts.{graph_fault, plain_schema};
 use crate::parts::{Actions, Types};
 use cedar_actions::ValidatorActionId;
 use cedar_below::{EntityType, EntityUID, M, Memory};
-use cedar_closure::{TcError, compute_tc};
+use cedar_closure::{TcError, compute_tc, into_btree_map, into_hash_map};
 use cedar_declared::SchemaError;
 use cedar_entities::ValidatorEntityType;
 use std::alloc::Global;
-use std::collections::{BTreeMap, HashMap};
 
 /// The entity types with their descendants closed: each with just those that one or more steps of the
 /// listed ones reach. A step to what isn't an entity type of them leads no further.
 pub(crate) fn closed_types(alloc: Global, types: Types) -> M<Types>
-    ensures { IfOk result (λ closed. (actions : List (Uid × Action)) (entities : List Entity)
+    ensures located { IfOk result (λ closed. type_specs.AreLocatedAsKeys types.entries → type_specs.AreLocatedAsKeys closed.entries) }
+    ensures closed { IfOk result (λ closed. (actions : List (Uid × Action)) (entities : List Entity)
         → HoldsInTurn (ClosesType (plain_schema types.entries actions entities))
         (map plain_entry types.entries) (map plain_entry closed.entries)) }
 {
-    let mut nodes: HashMap<EntityType, ValidatorEntityType> = HashMap::from_iter(alloc, types)?;
+    let mut nodes = into_hash_map(alloc, types)?;
     match compute_tc::<EntityType, ValidatorEntityType>(alloc, &mut nodes, false) {
-        Ok(()) => Ok(BTreeMap::from_iter(alloc, nodes)?),
+        Ok(()) => Ok(into_btree_map(alloc, nodes)?),
         Err(_refused) => Err(Memory),
     }
 }
@@ -53,6 +55,8 @@ fn refusal(refused: TcError<EntityUID>) -> SchemaError
 /// The actions with their descendants closed in the same way. An action that leads back to itself is
 /// refused.
 pub(crate) fn closed_actions(alloc: Global, actions: Actions) -> Result<Actions, SchemaError>
+    ensures located { IfOk result (λ closed. action_specs.AreLocatedAsKeys actions.entries
+        → action_specs.AreLocatedAsKeys closed.entries) }
     ensures closed { IfOk result (λ closed. (types : List (Name × Node)) (entities : List Entity)
         → HoldsInTurn (ClosesAction (plain_schema types actions.entries entities))
         (map plain_action_entry actions.entries) (map plain_action_entry closed.entries)) }
@@ -62,9 +66,9 @@ pub(crate) fn closed_actions(alloc: Global, actions: Actions) -> Result<Actions,
         ⊎ ((uid : PlainUid) × (fault_of error ≡ action_cycle uid)
         × Chain (ListsDescendantAction (plain_schema types actions.entries entities)) uid uid)) }
 {
-    let mut nodes: HashMap<EntityUID, ValidatorActionId> = HashMap::from_iter(alloc, actions)?;
+    let mut nodes = into_hash_map(alloc, actions)?;
     match compute_tc::<EntityUID, ValidatorActionId>(alloc, &mut nodes, true) {
-        Ok(()) => Ok(BTreeMap::from_iter(alloc, nodes)?),
+        Ok(()) => Ok(into_btree_map(alloc, nodes)?),
         Err(refused) => Err(refusal(refused)),
     }
 }

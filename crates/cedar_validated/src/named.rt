@@ -10,6 +10,8 @@ ghost use Rattle.cedar_below.specs.PlainName.{name_cmp};
 ghost use Rattle.cedar_below.specs.PlainUid.{uid_cmp};
 ghost use Rattle.cedar_below.specs.declared.entity_type.EntityType.{EntityType as Name};
 ghost use Rattle.cedar_below.specs.declared.entity_uid.EntityUID.{EntityUID as Uid};
+ghost use Rattle.cedar_actions.specs.ValidatorActionId as action_specs;
+ghost use Rattle.cedar_entities.specs.ValidatorEntityType as type_specs;
 ghost use Rattle.cedar_entities.specs.ValidatorEntityType.{entity_type_of};
 ghost use Rattle.cedar_entities.specs.declared.entity_type.ValidatorEntityType.{ValidatorEntityType as EntityTypeOfSchema};
 ghost use Rattle.cedar_validated.specs.LastNamed.{last_named, last_of_uid};
@@ -27,10 +29,14 @@ pub fn types_by_name(alloc: Global, types: Vec<ValidatorEntityType>) -> M<Types>
         ≡ last_named (type_name name) types.items) }
     ensures under_names { IfOk result (λ named. (it : Name × EntityTypeOfSchema) → Contains named.entries it
         → (entity_type_of it.1).name ≡ type_name it.0) }
+    ensures located { IfOk result (λ named. type_specs.AreLocatedAsKeys named.entries) }
 {
     let mut named = BTreeMap::new(alloc);
     for ty in types {
-        named.insert(ty.name().clone()?, ty)?;
+        let name = ty.name().clone()?;
+        // A map keeps the key that it has, so that of an earlier one goes first.
+        let _earlier = named.remove(&name);
+        named.insert(name, ty)?;
     }
     // That the names are in order, so that each stands once, is known from their iterator.
     let _names = named.keys();
@@ -43,10 +49,14 @@ pub fn actions_by_uid(alloc: Global, actions: Vec<ValidatorActionId>) -> M<Actio
         ≡ last_of_uid (uid_of uid) actions.items) }
     ensures under_uids { IfOk result (λ named. (it : Uid × ActionOfSchema) → Contains named.entries it
         → (action_of it.1).uid ≡ uid_of it.0) }
+    ensures located { IfOk result (λ named. action_specs.AreLocatedAsKeys named.entries) }
 {
     let mut named = BTreeMap::new(alloc);
     for action in actions {
-        named.insert(action.name().clone()?, action)?;
+        let uid = action.name().clone()?;
+        // A map keeps the key that it has, so that of an earlier one goes first.
+        let _earlier = named.remove(&uid);
+        named.insert(uid, action)?;
     }
     // That the uids are in order, so that each stands once, is known from their iterator.
     let _uids = named.keys();

@@ -1,12 +1,14 @@
 //! A schema that was put together by hand, checked.
 
 ghost use Rattle.std.specs.Prelude.{◌≡◌, ◌⊎◌, IfErr, IfOk, List, OnOk};
+ghost use Rattle.cedar_actions.specs.ValidatorActionId as action_specs;
 ghost use Rattle.cedar_below.specs.Entities.{entities_of};
 ghost use Rattle.cedar_below.specs.declared.entity.Entity.{Entity};
 ghost use Rattle.cedar_declared.specs.ClosedSchema.{ClosesSchema};
 ghost use Rattle.cedar_declared.specs.Fault.{want_of_memory};
 ghost use Rattle.cedar_declared.specs.SchemaError.{fault_of};
 ghost use Rattle.cedar_declared.specs.ValidSchema.{IsSchemaFault, IsValidSchema};
+ghost use Rattle.cedar_entities.specs.ValidatorEntityType as type_specs;
 ghost use Rattle.cedar_validated.specs.Parts.{IsClosed, IsRefusal, plain_parts, plain_schema};
 ghost use Rattle.cedar_validated.specs.Sound.{AreMentionsSound, AreNamesSound};
 
@@ -102,6 +104,10 @@ pub fn validate(
         ⊎ IsSchemaFault extensions.now (plain_schema entity_types.entries actions.entries entities) (fault_of error)) }
     ensures valid { OnOk result ((entities : List Entity)
         → IsValidSchema extensions.now (plain_schema entity_types.entries actions.entries entities)) }
+    ensures types_located { IfOk result (λ it. type_specs.AreLocatedAsKeys entity_types.entries
+        → type_specs.AreLocatedAsKeys it.entity_types.entries) }
+    ensures actions_located { IfOk result (λ it. action_specs.AreLocatedAsKeys actions.entries
+        → action_specs.AreLocatedAsKeys it.actions.entries) }
     ensures closed { IfOk result (λ it. (entities : List Entity)
         → ClosesSchema (plain_schema entity_types.entries actions.entries entities)
         (plain_schema it.entity_types.entries it.actions.entries (entities_of it.action_entities))) }

@@ -5,7 +5,7 @@ use crate::refusals::refusal_text;
 use cedar_actions::ValidatorApplySpec;
 use cedar_below::{EntityType, InternalName};
 use cedar_declared::SchemaError;
-use cedar_fragments::defs::{AllDefs, ResolveName};
+use cedar_fragments::defs::{AllDefs, ResolveName, resolve_all};
 use cedar_names::json_schema::{ConditionalName, QualifyError, ReferenceType};
 use shorthand::checked::same;
 use shorthand::names::{internal_name, raw};
@@ -73,6 +73,26 @@ fn references_resolve_to_the_first_that_is_permitted(rt: HostRuntime) -> Result<
         same(written, shown(alloc, found)?.as_str(), expected)?;
     }
     Ok(())
+}
+
+/// What references of one kind that are written in the namespace `N` resolve to, with a blank before each.
+fn all_resolved(alloc: Global, written: &[&str], kind: ReferenceType) -> Result<String, Fail> {
+    let all_defs = AllDefs::new(alloc, &fragments_of(alloc, DEFINED)?)?;
+    let mut references = Vec::new(alloc);
+    for name in written {
+        references.push(reference(alloc, name, kind)?)?;
+    }
+    let mut text = String::new(alloc);
+    for name in &resolve_all(references, &all_defs)? {
+        text = format!(in alloc; "{text} {name}")?;
+    }
+    Ok(text)
+}
+
+#[test]
+fn several_references_resolve_in_turn(rt: HostRuntime) -> Result<(), Fail> {
+    let names = all_resolved(rt.alloc(), &["Only", "T", "Both"], ReferenceType::Entity)?;
+    same("entity types", names.as_str(), " Only T N::Both")
 }
 
 #[test]

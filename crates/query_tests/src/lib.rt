@@ -6,6 +6,8 @@ mod known;
 #[cfg(test)]
 mod large;
 #[cfg(test)]
+mod lent;
+#[cfg(test)]
 mod places;
 #[cfg(test)]
 mod queries;

@@ -20,7 +20,7 @@ use std::alloc::Global;
 use std::test::Fail;
 
 /// The number of the text of a place, or 0.
-fn number_of(loc: Option<Loc>) -> u32 {
+pub(crate) fn number_of(loc: Option<Loc>) -> u32 {
     loc.map_or(0, |loc| loc.source)
 }
 

@@ -567,6 +567,48 @@ fn places_are_those_of_the_definition(rt: HostRuntime) -> Result<(), Fail> {
     check_all(rt.alloc(), LINKED)
 }
 
+/// An external declaration beside the definition, in either order, and where the names were written that are lent.
+const LENT: &[&str] = &[
+    "external entity U@1; external action view@3@4 | entity U@11; entity V@12 in U; action view@13@14 P V R U; \
+     action edit@15@16 in view",
+    "entity U@11; entity V@12 in U; action view@13@14 P V R U; action edit@15@16 in view | external entity U@1; \
+     external action view@3@4",
+];
+
+/// Questions of those names, and where the definitions are.
+const OF_LENT: Questions = &[
+    ("lent names", "11;12;"),
+    ("lent uids", "16;14;"),
+    ("lent_above V", "11;"),
+    ("lent groups", "14;"),
+    ("lent lacks", ""),
+    ("lent entities", "16;14;"),
+    ("lent environments", "14;"),
+];
+
+#[test]
+fn names_are_lent_as_their_definitions_are_located(rt: HostRuntime) -> Result<(), Fail> {
+    for text in LENT {
+        check_kept(rt.alloc(), text, OF_LENT)?;
+    }
+    Ok(())
+}
+
+/// External declarations alone, and where the names were written that are lent of them.
+const LENT_EXTERNAL: &str =
+    "external entity U@1; external action view@3@4; action edit@5@6 in view";
+
+#[test]
+fn names_of_external_declarations_are_lent(rt: HostRuntime) -> Result<(), Fail> {
+    let wanted = &[
+        ("lent names", "1;"),
+        ("lent uids", "6;4;"),
+        ("lent lacks", "1;4;"),
+        ("lent groups", "4;"),
+    ];
+    check_kept(rt.alloc(), LENT_EXTERNAL, wanted)
+}
+
 /// Two external declarations, in either order.
 const EXTERNAL: &[&str] = &[
     "external entity U@1; external action view@3@3 | external entity U@11; external action view@13@13",

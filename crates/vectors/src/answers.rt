@@ -95,6 +95,21 @@ fn check_comes_back(alloc: Global, row: &Row) -> Result<(), Fail> {
     }
 }
 
+/// Compares the answer for the fragments of a text as they are written, in every order and in no other split.
+pub(crate) fn check_as_written(
+    alloc: Global,
+    name: &str,
+    text: &str,
+    allowed: &str,
+) -> Result<(), Fail> {
+    let row = Row {
+        name,
+        allowed,
+        first: None,
+    };
+    check_orders(alloc, &row, &written(alloc, text)?)
+}
+
 /// Compares the answer for a text in every split that is tried and in every order: as it is written,
 /// with a fragment for each declaration, and with one fragment for all. The schemas are equal too, and
 /// validation gives an equal one back, as does building what it is written back as.

@@ -1,7 +1,7 @@
 //! Declarations that are refused, with what the refusal carries. Where more than one answer is right,
 //! ` or ` stands between them.
 
-use crate::answers::check_row;
+use crate::answers::{check_as_written, check_row};
 use std::test::Fail;
 
 /// References that resolve to nothing, or to something else.
@@ -369,11 +369,19 @@ const FORMS: &[(&str, &str, &str)] = &[
         "external action a attributes | action a",
         "refused: UnsupportedFeature ActionAttributes a",
     ),
+];
+
+/// Actions with attributes, of which a refusal names all those of one definition.
+const OF_ONE_DEFINITION: &[(&str, &str, &str)] = &[
     (
         "two actions with attributes",
         "action b attributes; action a attributes; action c",
-        "refused: UnsupportedFeature ActionAttributes a b or refused: UnsupportedFeature ActionAttributes a or \
-         refused: UnsupportedFeature ActionAttributes b",
+        "refused: UnsupportedFeature ActionAttributes a b",
+    ),
+    (
+        "actions with attributes in two fragments",
+        "action b attributes; action a attributes | action c attributes",
+        "refused: UnsupportedFeature ActionAttributes a b or refused: UnsupportedFeature ActionAttributes c",
     ),
 ];
 
@@ -447,6 +455,14 @@ fn wrong_chains_are_refused(rt: HostRuntime) -> Result<(), Fail> {
 fn forms_out_of_place_are_refused(rt: HostRuntime) -> Result<(), Fail> {
     for (row, text, answers) in FORMS {
         check_row(rt.alloc(), row, text, answers)?;
+    }
+    Ok(())
+}
+
+#[test]
+fn actions_with_attributes_are_named_by_definition(rt: HostRuntime) -> Result<(), Fail> {
+    for (row, text, answers) in OF_ONE_DEFINITION {
+        check_as_written(rt.alloc(), row, text, answers)?;
     }
     Ok(())
 }

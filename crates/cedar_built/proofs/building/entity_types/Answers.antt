@@ -1,13 +1,13 @@
 use Rattle.std.proofs.Common.{◌≡◌, ◌⊎◌, List, map, subst, ap, ◌∙◌, Contains}
 use Rattle.std.proofs.lemmas.Result.{err_from_is_err_and}
-use Rattle.std.specs.BTreeMap.{IsFromIterResult}
 use Rattle.cedar_below.specs.EntityType.{type_name}
 use Rattle.cedar_below.specs.contracts.entity_type.EntityTypeOrd.TheImpl as entity_type_ord
+use Rattle.cedar_entities.specs.ValidatorEntityType.{IsLocatedAsKey}
 use Rattle.cedar_below.specs.PlainName.{PlainName}
 use Rattle.cedar_below.specs.declared.entity_type.EntityType.{EntityType}
 use Rattle.cedar_below.specs.declared.extension.Extensions.{Extensions}
 use Rattle.cedar_below.specs.declared.internal_name.InternalName.{InternalName}
-use Rattle.cedar_closure.proofs.MovedMaps.{given_all}
+use Rattle.cedar_closure.proofs.MovedMaps.{moved_each}
 use Rattle.cedar_declared.specs.Bag.{Bag}
 use Rattle.cedar_declared.specs.Fault.{want_of_memory}
 use Rattle.cedar_declared.specs.IllFormed.{IsFault}
@@ -15,7 +15,7 @@ use Rattle.cedar_declared.specs.SchemaError.{fault_of}
 use Rattle.cedar_entities.specs.declared.entity_type.ValidatorEntityType.{ValidatorEntityType}
 use Rattle.cedar_fragments.specs.declared.namespace.entity_types.EntityTypeFragment.{EntityTypeFragment}
 use Rattle.cedar_built.proofs.ReadyLemmas.{certain, declared_at, gathered_apart, gathering_fault, linking_fault, parent_fault, stands_after}
-use Rattle.cedar_built.proofs.TypesLemmas.{entry_at_node, node_has_entry}
+use Rattle.cedar_built.proofs.TypesLemmas.{entry_at_node, node_has_entry, tied}
 use Rattle.cedar_gathered.specs.Gathered.{gathered_entities}
 use Rattle.cedar_built.specs.Ready.{IsReady}
 use Rattle.cedar_built.specs.Steps.{IsParentFault, parents_in, plain_edge}
@@ -28,11 +28,9 @@ returns-clause-declared c = λ bag extensions ready.
     let before = c.in_ok-nodes.nodes in
     let edges = c.in_ok-edges.edges.items in
     let after = c.in_ok-linked.linked in
-    let types = c.in_ok-from_iter.field-0 in
-    let ran = c.in_ok-from_iter.ensures.ran in
-    let all : ran.1 ≡ after.entries = given_all after.entries ran.0 ran.1 ran.2.0 ran.3 in
-    let P : List (EntityType × ValidatorEntityType) → Type 0 = λ entries. IsFromIterResult ((entity_type_ord.ghosts).cmp) entries types in
-    let made : P after.entries = subst P all ran.4 in
+    let types = c.in_ok-into_btree_map.field-0 in
+    let made = c.in_ok-into_btree_map.ensures.moved in
+    let unique = c.in_ok-into_btree_map.ensures.unique in
     let gathered = c.in_ok-nodes.ensures.gathered in
     let once = c.in_ok-nodes.ensures.once in
     let are : map plain_edge edges ≡ parents_in (gathered_entities declared) =
@@ -41,10 +39,10 @@ returns-clause-declared c = λ bag extensions ready.
     let Q : PlainName → Type 0 = Contains (map (λ (it : EntityType × ValidatorEntityType). type_name it.0) types.entries) in
     record {
       each = λ ty it among. declared_at bag extensions declared known ready before gathered once edges are after linked ty it
-          (entry_at_node after ran.2.4 types made ty it among);
+          (entry_at_node after unique types made ty it among);
       complete = λ name among.
           let found = stands_after bag extensions declared known ready before gathered once edges are after linked name among in
-          subst Q found.1 (node_has_entry after ran.2.4 types made found.0 found.2);
+          subst Q found.1 (node_has_entry after unique types made found.0 found.2);
     }
 
 pub returns-clause-sound : goal.returns-clause-sound
@@ -96,3 +94,9 @@ returns-in_err-linked-clause-fault c =
     λ bag extensions ready. linking_fault bag extensions declared known ready before gathered c.in_ok-nodes.ensures.once edges are fault refused in
     let p = err_from_is_err_and c.from_residual-in_err-linked.result c.from_residual-in_err-linked.ensures.1 in
     rw (p.1, p.2) at_fault
+
+pub returns-clause-located : goal.returns-clause-located
+returns-clause-located c =
+    let after = c.in_ok-linked.linked in
+    moved_each (entity_type_ord.ghosts).cmp tied after c.in_ok-into_btree_map.ensures.unique c.in_ok-into_btree_map.field-0
+    c.in_ok-into_btree_map.ensures.entries IsLocatedAsKey (c.in_ok-linked.ensures.located c.in_ok-nodes.ensures.located)

@@ -1,9 +1,12 @@
-use Rattle.std.proofs.Common.{◌≡◌, ◌∙◌}
-use Rattle.cedar_below.specs.EntityType.{type_name}
+use Rattle.std.proofs.Common.{◌≡◌, ◌∙◌, ap}
+use Rattle.cedar_below.specs.EntityType.{type_loc, type_name}
+use Rattle.cedar_below.specs.contracts.entity_type.EntityTypeEq.TheImpl as entity_type_equal
 use Rattle.cedar_below.specs.contracts.entity_type.EntityTypePartialEq.TheImpl as entity_type_eq
 use Rattle.cedar_closure.proofs.AddedEdges.{alike_onwards, alike_weaker, chains_in}
+use Rattle.cedar_below.specs.declared.entity_type.EntityType.{EntityType}
+use Rattle.cedar_closure.proofs.MovedMaps.{each_alike_twice}
 use Rattle.cedar_entities.specs.EntityTypeKind.{plain_kind}
-use Rattle.cedar_entities.specs.ValidatorEntityType.{entity_type_of}
+use Rattle.cedar_entities.specs.ValidatorEntityType.{IsLocatedAsKey, entity_type_of}
 use Rattle.cedar_entities.specs.declared.entity_type.ValidatorEntityType.{ValidatorEntityType}
 use Rattle.cedar_built.specs.Nodes.{has_descendant, node_at}
 use Rattle.cedar_built.proofs.links.link.Goals as goal
@@ -28,3 +31,12 @@ returns-in-Ok-clause-leads c = λ none stands upper lower.
       λ leads. chains.0 (c.compute_tc.ensures.sound upper lower leads),
       λ chain. c.in-Ok.ensures.complete upper lower (chains.1 chain),
     )
+
+pub returns-in-Ok-clause-located : goal.returns-in-Ok-clause-located
+returns-in-Ok-clause-located c = λ located.
+    let Alike : ValidatorEntityType → ValidatorEntityType → Type 0 = λ a b. (a.name ≡ b.name) × (a.kind ≡ b.kind) × (a.loc ≡ b.loc) in
+    let Located : EntityType → ValidatorEntityType → Type 0 = λ key node. IsLocatedAsKey (key, node) in
+    each_alike_twice entity_type_equal.Laws.laws-law Alike Located
+    (λ key a b alike located. located ∙ ap type_loc alike.0)
+    c.args.nodes.now c.add_edges.new.nodes c.compute_tc.new.nodes c.keys-keys.ensures.unique c.in_ok-add_edges.ensures.keys
+    c.compute_tc.ensures.keys c.in_ok-add_edges.ensures.alike c.compute_tc.ensures.alike located

@@ -2,6 +2,8 @@ use Rattle.std.proofs.Common.{arith, ap, inl, ⊎_elim}
 use Rattle.std.proofs.lemmas.List.{nil_from_length}
 use Rattle.std.proofs.lemmas.Result.{err_from_is_err_and}
 use Rattle.cedar_below.specs.EntityType.{type_name}
+use Rattle.cedar_entities.specs.ValidatorEntityType.{IsLocatedAsKey}
+use Rattle.cedar_closure.proofs.MovedMaps.{empty_lacks}
 use Rattle.cedar_declared.specs.SchemaError.{fault_of}
 use Rattle.cedar_declared.specs.SettledExpr.{settled_reference}
 use Rattle.cedar_fragments.specs.TypeDeclarations.{fragment_body}
@@ -12,23 +14,27 @@ use Rattle.cedar_built.specs.Steps.{IsGatheringFault}
 use Rattle.cedar_built.proofs.nodes.gathered_nodes.Goals as goal
 
 pub loop-name-init : goal.loop-name-init
-loop-name-init c =
-    gathered_none c.args.known.now (gathered_entities c.args.declared.items) _ _ c.new-nodes.ensures.empty
-    (ap gathered_entities c.into_iter-name-iterator.ensures.into_iter_gives.0)
+loop-name-init c = (
+  gathered_none c.args.known.now (gathered_entities c.args.declared.items) _ _ c.new-nodes.ensures.empty
+      (ap gathered_entities c.into_iter-name-iterator.ensures.into_iter_gives.0),
+  λ entry among. empty_lacks IsLocatedAsKey _ c.new-nodes.ensures.empty entry among,
+)
 
 pub loop-name-preserved : goal.loop-name-preserved
-loop-name-preserved c =
-    gathered_more c.args.known.now (gathered_entities c.args.declared.items) c.loop-name.nodes c.put_type.new.nodes _ _ c.in-Some.name
-    (fragment_body InternalName settled_reference c.in-Some.fragment) c.in_ok-ty.ty
-    (ap gathered_entities c.in-Some.ensures.steps.0) c.loop-name.invariant c.in_ok-ty.ensures.written_out c.in_ok-ty.ensures.sound
-    c.in_ok-put_type.ensures.other c.in_ok-put_type.ensures.put
+loop-name-preserved c = (
+  gathered_more c.args.known.now (gathered_entities c.args.declared.items) c.loop-name.nodes c.put_type.new.nodes _ _ c.in-Some.name
+      (fragment_body InternalName settled_reference c.in-Some.fragment) c.in_ok-ty.ty
+      (ap gathered_entities c.in-Some.ensures.steps.0) c.loop-name.invariant.0 c.in_ok-ty.ensures.written_out c.in_ok-ty.ensures.sound
+      c.in_ok-put_type.ensures.other c.in_ok-put_type.ensures.put,
+  c.in_ok-put_type.ensures.located c.loop-name.invariant.1,
+)
 
 pub returns-in_err-ty-clause-fault : goal.returns-in_err-ty-clause-fault
 returns-in_err-ty-clause-fault c =
     let at_fault : IsGatheringFault c.args.known.now (gathered_entities c.args.declared.items) (fault_of c.in_err-ty.field-0.0) =
     next_fault c.args.known.now (gathered_entities c.args.declared.items) c.loop-name.nodes _ _ (type_name c.in-Some.name)
     (fragment_body InternalName settled_reference c.in-Some.fragment) (fault_of c.in_err-ty.field-0.0)
-    (ap gathered_entities c.in-Some.ensures.steps.0) c.loop-name.invariant c.in_err-ty.ensures.fault in
+    (ap gathered_entities c.in-Some.ensures.steps.0) c.loop-name.invariant.0 c.in_err-ty.ensures.fault in
     let p = err_from_is_err_and c.from_residual.result c.from_residual.ensures.1 in
     rw (p.1, p.2) at_fault
 
@@ -40,7 +46,7 @@ returns-in_err-put_type-clause-fault c =
     (λ twice.
     twice_fault c.args.known.now (gathered_entities c.args.declared.items) c.loop-name.nodes c.loop-name.nodes _ _ c.in-Some.name
     (fragment_body InternalName settled_reference c.in-Some.fragment) c.in_ok-ty.ty (ap gathered_entities c.in-Some.ensures.steps.0)
-    c.loop-name.invariant c.in_ok-ty.ensures.written_out _ twice.0 twice.2.0 twice.2.1 twice.2.2 twice.1)
+    c.loop-name.invariant.0 c.in_ok-ty.ensures.written_out _ twice.0 twice.2.0 twice.2.1 twice.2.2 twice.1)
     c.in_err-put_type.ensures.fault in
     let p = err_from_is_err_and c.from_residual-in_err-put_type.result c.from_residual-in_err-put_type.ensures.1 in
     rw (p.1, p.2) at_fault
@@ -49,4 +55,4 @@ pub returns-clause-sound : goal.returns-clause-sound
 returns-clause-sound c =
     gathered_sound c.args.known.now (gathered_entities c.args.declared.items) c.loop-name.nodes _
     (ap gathered_entities (nil_from_length _ (omega (arith, c.in-None.ensures.steps.0, c.loop-name.name-iterator.rest.ok.0))))
-    c.loop-name.invariant
+    c.loop-name.invariant.0

@@ -1,19 +1,19 @@
-use Rattle.std.proofs.Common.{◌≡◌, ◌⊎◌, List, map, subst, ap, ◌∙◌, Contains}
+use Rattle.std.proofs.Common.{◌≡◌, ◌⊎◌, map, subst, ap, ◌∙◌, Contains}
 use Rattle.std.proofs.lemmas.Result.{err_from_is_err_and}
-use Rattle.std.specs.BTreeMap.{IsFromIterResult}
 use Rattle.cedar_actions.specs.declared.action_id.ValidatorActionId.{ValidatorActionId}
 use Rattle.cedar_below.specs.EntityUID.{uid_of}
 use Rattle.cedar_below.specs.PlainUid.{PlainUid}
 use Rattle.cedar_below.specs.contracts.entity_uid.EntityUIDOrd.TheImpl as uid_ord
+use Rattle.cedar_actions.specs.ValidatorActionId.{IsLocatedAsKey}
 use Rattle.cedar_below.specs.declared.entity_uid.EntityUID.{EntityUID}
 use Rattle.cedar_below.specs.declared.extension.Extensions.{Extensions}
-use Rattle.cedar_closure.proofs.MovedMaps.{given_all}
+use Rattle.cedar_closure.proofs.MovedMaps.{moved_each}
 use Rattle.cedar_declared.specs.Bag.{Bag}
 use Rattle.cedar_declared.specs.Fault.{want_of_memory}
 use Rattle.cedar_declared.specs.IllFormed.{IsFault}
 use Rattle.cedar_declared.specs.SchemaError.{fault_of}
 use Rattle.cedar_gathered.specs.Gathered.{gathered_actions}
-use Rattle.cedar_built_actions.proofs.ActionsLemmas.{entry_at_node, node_has_entry}
+use Rattle.cedar_built_actions.proofs.ActionsLemmas.{entry_at_node, node_has_entry, tied}
 use Rattle.cedar_built_actions.proofs.ReadyLemmas.{certain, declared_at, gathering_fault, linking_fault, ready_to_link, stands_after}
 use Rattle.cedar_built_actions.specs.Ready.{AreActionsOf}
 use Rattle.cedar_built_actions.specs.Steps.{parents_in, plain_edge}
@@ -27,11 +27,9 @@ returns-clause-declared c = λ bag extensions ready.
     let before = c.in_ok-nodes.nodes in
     let edges = c.in_ok-edges.edges.items in
     let after = c.in_ok-linked.linked in
-    let actions = c.in_ok-from_iter.field-0 in
-    let ran = c.in_ok-from_iter.ensures.ran in
-    let all : ran.1 ≡ after.entries = given_all after.entries ran.0 ran.1 ran.2.0 ran.3 in
-    let P : List (EntityUID × ValidatorActionId) → Type 0 = λ entries. IsFromIterResult ((uid_ord.ghosts).cmp) entries actions in
-    let made : P after.entries = subst P all ran.4 in
+    let actions = c.in_ok-into_btree_map.field-0 in
+    let made = c.in_ok-into_btree_map.ensures.moved in
+    let unique = c.in_ok-into_btree_map.ensures.unique in
     let gathered = c.in_ok-nodes.ensures.gathered in
     let once = c.in_ok-nodes.ensures.once in
     let are : map plain_edge edges ≡ parents_in (gathered_actions declared) =
@@ -42,10 +40,10 @@ returns-clause-declared c = λ bag extensions ready.
     record {
       each = λ uid it among.
           declared_at bag extensions declared types known ready before gathered once edges are after linked uid it
-          (entry_at_node after ran.2.4 actions made uid it among);
+          (entry_at_node after unique actions made uid it among);
       complete = λ uid among.
           let found = stands_after bag extensions declared types known ready before gathered once edges are after linked uid among in
-          subst Q found.1 (node_has_entry after ran.2.4 actions made found.0 found.2);
+          subst Q found.1 (node_has_entry after unique actions made found.0 found.2);
     }
 
 pub returns-clause-sound : goal.returns-clause-sound
@@ -94,3 +92,9 @@ returns-in_err-linked-clause-fault c =
     (c.in_err-linked.ensures.fault (ready_to_link bag extensions declared types known ready before gathered once edges are)) in
     let p = err_from_is_err_and c.from_residual-in_err-linked.result c.from_residual-in_err-linked.ensures.1 in
     rw (p.1, p.2) at_fault
+
+pub returns-clause-located : goal.returns-clause-located
+returns-clause-located c =
+    let after = c.in_ok-linked.linked in
+    moved_each (uid_ord.ghosts).cmp tied after c.in_ok-into_btree_map.ensures.unique c.in_ok-into_btree_map.field-0
+    c.in_ok-into_btree_map.ensures.entries IsLocatedAsKey (c.in_ok-linked.ensures.located c.in_ok-nodes.ensures.located)

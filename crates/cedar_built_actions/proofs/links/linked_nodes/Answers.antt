@@ -1,12 +1,14 @@
 use Rattle.std.proofs.Common.{◌≡◌, ◌∙◌, true, refl, inr, ap, subst}
 use Rattle.cedar_actions.specs.ActionKind.{plain_kind}
-use Rattle.cedar_actions.specs.ValidatorActionId.{action_of}
+use Rattle.cedar_actions.specs.ValidatorActionId.{IsLocatedAsKey, action_of}
 use Rattle.cedar_actions.specs.declared.action_id.ValidatorActionId.{ValidatorActionId}
 use Rattle.cedar_below.specs.Chain.{Chain}
-use Rattle.cedar_below.specs.EntityUID.{uid_of}
+use Rattle.cedar_below.specs.EntityUID.{uid_loc, uid_of, uid_type_loc}
+use Rattle.cedar_below.specs.contracts.entity_uid.EntityUIDEq.TheImpl as uid_equal
 use Rattle.cedar_below.specs.contracts.entity_uid.EntityUIDPartialEq.TheImpl as uid_eq
 use Rattle.cedar_below.specs.declared.entity_uid.EntityUID.{EntityUID}
 use Rattle.cedar_closure.proofs.AddedEdges.{alike_onwards, alike_weaker, chains_in}
+use Rattle.cedar_closure.proofs.MovedMaps.{each_alike_twice}
 use Rattle.cedar_closure.specs.TcError.{IsRefusal}
 use Rattle.cedar_closure.specs.declared.tc_error.TcError.{TcError}
 use Rattle.cedar_built_actions.specs.Nodes.{LeadsTo, has_descendant, node_at}
@@ -43,3 +45,12 @@ returns-in-Err-HasCycle-clause-fault c = λ ready.
     let uid = c.in-Err-HasCycle.uid in
     let P : TcError EntityUID → Type 0 = IsRefusal (Chain (LeadsTo added)) true in
     inr (uid, refl, (chains uid uid).0 (subst P c.in-Err-HasCycle.field-0-is c.in-Err-HasCycle.ensures.fault).1)
+
+pub returns-in-Ok-clause-located : goal.returns-in-Ok-clause-located
+returns-in-Ok-clause-located c = λ located.
+    let Alike : ValidatorActionId → ValidatorActionId → Type 0 = λ a b. (a.name ≡ b.name) × (a.kind ≡ b.kind) × (a.loc ≡ b.loc) in
+    let Located : EntityUID → ValidatorActionId → Type 0 = λ key node. IsLocatedAsKey (key, node) in
+    each_alike_twice uid_equal.Laws.laws-law Alike Located
+    (λ key a b alike located. record { uid = located.uid ∙ ap uid_loc alike.0; ty = located.ty ∙ ap uid_type_loc alike.0 })
+    c.args.nodes c.add_edges.new.nodes c.compute_tc.new.nodes c.keys-keys.ensures.unique c.in_ok-add_edges.ensures.keys
+    c.compute_tc.ensures.keys c.in_ok-add_edges.ensures.alike c.compute_tc.ensures.alike located

@@ -3,6 +3,8 @@ use Rattle.std.proofs.lemmas.List.{nil_from_length}
 use Rattle.std.proofs.lemmas.Result.{err_from_is_err_and}
 use Rattle.cedar_below.specs.EntityUID.{uid_of}
 use Rattle.cedar_below.specs.declared.internal_name.InternalName.{InternalName}
+use Rattle.cedar_actions.specs.ValidatorActionId.{IsLocatedAsKey}
+use Rattle.cedar_closure.proofs.MovedMaps.{empty_lacks}
 use Rattle.cedar_declared.specs.SchemaError.{fault_of}
 use Rattle.cedar_declared.specs.SettledExpr.{settled_reference}
 use Rattle.cedar_fragments.specs.ActionDeclarations.{fragment_requests}
@@ -12,18 +14,22 @@ use Rattle.cedar_built_actions.specs.Steps.{IsGatheringFault, names_in, requests
 use Rattle.cedar_built_actions.proofs.nodes.gathered_nodes.Goals as goal
 
 pub loop-uid-init : goal.loop-uid-init
-loop-uid-init c =
-    gathered_none c.args.known.now (names_in c.args.entity_types.now) (requests_in (gathered_actions c.args.declared.items)) _ _
-    c.new-nodes.ensures.empty
-    (ap (λ items. requests_in (gathered_actions items)) c.into_iter-uid-iterator.ensures.into_iter_gives.0)
+loop-uid-init c = (
+  gathered_none c.args.known.now (names_in c.args.entity_types.now) (requests_in (gathered_actions c.args.declared.items)) _ _
+      c.new-nodes.ensures.empty
+      (ap (λ items. requests_in (gathered_actions items)) c.into_iter-uid-iterator.ensures.into_iter_gives.0),
+  λ entry among. empty_lacks IsLocatedAsKey _ c.new-nodes.ensures.empty entry among,
+)
 
 pub loop-uid-preserved : goal.loop-uid-preserved
-loop-uid-preserved c =
-    gathered_more c.args.known.now (names_in c.args.entity_types.now) (requests_in (gathered_actions c.args.declared.items))
-    c.loop-uid.nodes c.put_action.new.nodes _ _ c.in-Some.uid
-    (fragment_requests InternalName settled_reference c.in-Some.fragment.requests) c.in_ok-action.action
-    (ap (λ items. requests_in (gathered_actions items)) c.in-Some.ensures.steps.0) c.loop-uid.invariant
-    c.in_ok-action.ensures.written_out c.in_ok-action.ensures.sound c.in_ok-put_action.ensures.other c.in_ok-put_action.ensures.put
+loop-uid-preserved c = (
+  gathered_more c.args.known.now (names_in c.args.entity_types.now) (requests_in (gathered_actions c.args.declared.items))
+      c.loop-uid.nodes c.put_action.new.nodes _ _ c.in-Some.uid
+      (fragment_requests InternalName settled_reference c.in-Some.fragment.requests) c.in_ok-action.action
+      (ap (λ items. requests_in (gathered_actions items)) c.in-Some.ensures.steps.0) c.loop-uid.invariant.0
+      c.in_ok-action.ensures.written_out c.in_ok-action.ensures.sound c.in_ok-put_action.ensures.other c.in_ok-put_action.ensures.put,
+  c.in_ok-put_action.ensures.located c.loop-uid.invariant.1,
+)
 
 pub returns-in_err-action-clause-fault : goal.returns-in_err-action-clause-fault
 returns-in_err-action-clause-fault c =
@@ -32,7 +38,7 @@ returns-in_err-action-clause-fault c =
     let at_fault : IsGatheringFault c.args.known.now types entries (fault_of c.in_err-action.field-0.0) =
     next_fault c.args.known.now types entries c.loop-uid.nodes _ _ (uid_of c.in-Some.uid)
     (fragment_requests InternalName settled_reference c.in-Some.fragment.requests) (fault_of c.in_err-action.field-0.0)
-    (ap (λ items. requests_in (gathered_actions items)) c.in-Some.ensures.steps.0) c.loop-uid.invariant c.in_err-action.ensures.fault in
+    (ap (λ items. requests_in (gathered_actions items)) c.in-Some.ensures.steps.0) c.loop-uid.invariant.0 c.in_err-action.ensures.fault in
     let p = err_from_is_err_and c.from_residual.result c.from_residual.ensures.1 in
     rw (p.1, p.2) at_fault
 
@@ -47,7 +53,7 @@ returns-in_err-put_action-clause-fault c =
     twice_fault c.args.known.now types entries c.loop-uid.nodes c.loop-uid.nodes _ _ c.in-Some.uid
     (fragment_requests InternalName settled_reference c.in-Some.fragment.requests) c.in_ok-action.action
     (ap (λ items. requests_in (gathered_actions items)) c.in-Some.ensures.steps.0)
-    c.loop-uid.invariant c.in_ok-action.ensures.written_out _ twice.0 twice.2.0 twice.2.1 twice.2.2 twice.1)
+    c.loop-uid.invariant.0 c.in_ok-action.ensures.written_out _ twice.0 twice.2.0 twice.2.1 twice.2.2 twice.1)
     c.in_err-put_action.ensures.fault in
     let p = err_from_is_err_and c.from_residual-in_err-put_action.result c.from_residual-in_err-put_action.ensures.1 in
     rw (p.1, p.2) at_fault
@@ -58,4 +64,4 @@ returns-clause-sound c =
     c.loop-uid.nodes _
     (ap (λ items. requests_in (gathered_actions items))
     (nil_from_length _ (omega (arith, c.in-None.ensures.steps.0, c.loop-uid.uid-iterator.rest.ok.0))))
-    c.loop-uid.invariant
+    c.loop-uid.invariant.0

@@ -23,7 +23,7 @@ loop-uid-preserved-in-Some-context c =
     let kind = (action_of c.in-Some.action.now).kind in
     let typed : ty_of c.in_ok-context.context.value ≡ ty_of c.in-Some-context.context.now =
     ap ty_of c.in_ok-context.ensures.ok ∙ c.in_ok-clone.ensures.same in
-    let all = with_context uid kind (ty_of c.in_ok-context.context.value) (ap Some typed ∙ c.in-Some-context.ensures) in
+    let all = with_context uid kind (ty_of c.in_ok-context.context.value) (ap Some typed ∙ c.in-Some-context.ensures.ty) in
     let P : List Environment → Type 0 = λ items. (it : Environment) → ¬ Twice items it in
     given_more environments_under under [] (map plain_action_entry c.args.actions.now.entries) (λ it. it.action) of_action _ _ _ _
     (plain_action_entry (c.in-Some.uid.now, c.in-Some.action.now))
@@ -38,7 +38,7 @@ loop-uid-preserved c =
     given_nothing environments_under under [] (map plain_action_entry c.args.actions.now.entries) (λ it. it.action) of_action _ _ _
     (plain_action_entry (c.in-Some.uid.now, c.in-Some.action.now))
     (ap (map plain_action_entry) c.in-Some.ensures.steps)
-    (without_context uid kind c.in_default.ensures)
+    (without_context uid kind c.in_default.ensures.ty)
     c.loop-uid.invariant
 
 pub returns : goal.returns

@@ -12,7 +12,7 @@ returns-in-Some c =
     let declared = declared_fields (map plain_entry c.args.types.now.entries) (type_name c.args.ty.now) in
     let found = fields_found c.args.types.now c.args.ty.now (Some c.in-Some.entity_type.now) (sym c.in-Some.ensures.value) in
     IfOk-weaker c.clone.result _ (λ attrs. fields_of attrs ≡ declared)
-    (λ attrs same. same ∙ (c.attributes.ensures ∙ sym found)) c.clone.ensures.attributes
+    (λ attrs same. same ∙ (c.attributes.ensures.fields ∙ sym found)) c.clone.ensures.attributes
 
 pub returns-in-None : goal.returns-in-None
 returns-in-None c =

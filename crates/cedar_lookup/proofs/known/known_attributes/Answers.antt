@@ -25,7 +25,7 @@ pub returns-in-Some : goal.returns-in-Some
 returns-in-Some c =
     let types = map plain_entry c.args.types.now.entries in
     let name = type_name c.in-Some.ty.now in
-    let only = only_is (lub_names c.in-Entity.lub) name c.in-Some.ensures in
+    let only = only_is (lub_names c.in-Entity.lub) name c.in-Some.ensures.name in
     IfOk-weaker c.declared_attributes.result _ (λ attrs. AreAttributesOf types (kind_ty c.args.kind.now) (fields_of attrs))
     (λ attrs declared.
     let P : EntityKind → Type 0 = λ kind. AreAttributesOf types (kind_ty kind) (fields_of attrs) in

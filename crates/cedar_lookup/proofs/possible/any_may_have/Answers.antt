@@ -1,4 +1,4 @@
-use Rattle.std.proofs.Common.{◌≡◌, ◌↔◌, Any, List, ap, map, refl, sym, subst, ◌∙◌}
+use Rattle.std.proofs.Common.{◌↔◌, Any, List, ap, map, refl, sym, subst, ◌∙◌}
 use Rattle.std.proofs.lemmas.Bool.{false≢true}
 use Rattle.std.specs.Slice.Iter.{iter_rest}
 use Rattle.cedar_below.specs.EntityType.{type_name}

@@ -1,4 +1,4 @@
-use Rattle.std.proofs.Common.{◌≡◌, Option, None, Some, is_some, sym, ◌∙◌}
+use Rattle.std.proofs.Common.{None, Some, sym, ◌∙◌}
 use Rattle.std.proofs.lemmas.Bool.{false≢true}
 use Rattle.cedar_lookup.proofs.DeclaredLemmas.{some_shown, tags_found}
 use Rattle.cedar_types.specs.Meaning.{ty_of}
@@ -7,7 +7,7 @@ use Rattle.cedar_lookup.proofs.possible.has_tags.Goals as goal
 pub returns-in-Some : goal.returns-in-Some
 returns-in-Some c =
     let tags = tags_found c.args.types.now c.args.ty.now (Some c.in-Some.entity_type.now) (sym c.in-Some.ensures.value) in
-    some_shown ty_of c.tag_type.result _ c.is_some.result c.is_some.ensures (c.tag_type.ensures ∙ sym tags)
+    some_shown ty_of c.tag_type.result _ c.is_some.result c.is_some.ensures (c.tag_type.ensures.ty ∙ sym tags)
 
 pub returns-in-None : goal.returns-in-None
 returns-in-None c =

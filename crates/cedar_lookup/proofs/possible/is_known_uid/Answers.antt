@@ -1,6 +1,5 @@
-use Rattle.std.proofs.Common.{◌≡◌, inl, inr, ⊎_elim, subst, sym, ◌∙◌, Contains, map}
+use Rattle.std.proofs.Common.{inl, inr, ⊎_elim, subst, sym, ◌∙◌, map}
 use Rattle.std.proofs.lemmas.Bool.{false≢true}
-use Rattle.cedar_below.specs.EntityType.{type_name}
 use Rattle.cedar_below.specs.EntityUID.{uid_of}
 use Rattle.cedar_below.specs.PlainName.{IsActionType, PlainName}
 use Rattle.cedar_entities.specs.ValidatorEntityType.{plain_entry}

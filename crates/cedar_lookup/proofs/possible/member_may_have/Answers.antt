@@ -1,7 +1,5 @@
-use Rattle.std.proofs.Common.{◌≡◌, List, None, Some, map, inl, inr, ⊎_elim, refl, sym, subst, ◌∙◌, Contains, arith}
+use Rattle.std.proofs.Common.{None, Some, inl, inr, ⊎_elim, sym, subst, ◌∙◌, Contains, arith}
 use Rattle.std.proofs.lemmas.Bool.{false≢true}
-use Rattle.cedar_below.specs.EntityType.{type_name}
-use Rattle.cedar_below.specs.Text.{Text}
 use Rattle.cedar_lookup.proofs.DeclaredLemmas.{fields_found, openness_found}
 use Rattle.cedar_lookup.proofs.NotLemmas.{not_false, not_true}
 use Rattle.cedar_rules.proofs.InclusionLemmas.{found-Decides}
@@ -23,7 +21,7 @@ returns-else-is_open_type c =
     let openness = openness_found c.args.types.now c.args.member.now (Some c.in-Some.ty.now) (sym c.in-Some.ensures.value) in
     let fields = fields_found c.args.types.now c.args.member.now (Some c.in-Some.ty.now) (sym c.in-Some.ensures.value) in
     let P : Fields → Type 0 = λ each. Contains (field_names each) c.args.name.now in
-    let shown = found-Decides attribute_of c.attr.result c.args.name.now _ c.attr.ensures in (
+    let shown = found-Decides attribute_of c.attr.result c.args.name.now _ c.attr.ensures.attribute in (
       λ found. inr (subst P (sym fields) (shown.0 (sym c.is_some.ensures ∙ found))),
       ⊎_elim
           (λ both. absurd (false≢true (sym c.if-is_open_type.false

@@ -13,4 +13,4 @@ returns-in_err-get c =
 pub returns : goal.returns
 returns c =
     let found = action_shown c.args.actions.now c.args.uid.now (Some c.in_ok-get.field-0.now) (sym c.in_ok-get.ensures.value) in
-    c.context.ensures ∙ sym (ap (option_and_then (λ (it : SchemaAction). kind_context it.kind)) found)
+    c.context.ensures.ty ∙ sym (ap (option_and_then (λ (it : SchemaAction). kind_context it.kind)) found)

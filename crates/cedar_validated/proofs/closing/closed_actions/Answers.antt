@@ -1,46 +1,39 @@
-use Rattle.std.proofs.Common.{◌≡◌, List, refl, subst}
-use Rattle.std.specs.HashMap.{IsFromIterResult}
-use Rattle.std.specs.BTreeMap as tree
+use Rattle.std.proofs.Common.{refl, ap, ◌∙◌}
+use Rattle.cedar_actions.specs.ValidatorActionId.{IsLocatedAsKey}
 use Rattle.cedar_actions.specs.declared.action_id.ValidatorActionId.{ValidatorActionId}
+use Rattle.cedar_below.specs.EntityUID.{uid_loc, uid_type_loc}
 use Rattle.cedar_below.specs.declared.entity_uid.EntityUID.{EntityUID}
+use Rattle.cedar_closure.proofs.MovedMaps.{each_alike, hashed_each, moved_each}
 use Rattle.cedar_declared.specs.SchemaError.{fault_of}
 use Rattle.cedar_validated.proofs.ActionGraph.{actions_closed, graph, no_cycle, refused_fault}
-use Rattle.cedar_closure.proofs.MovedMaps.{given_all}
 use Rattle.cedar_validated.proofs.closing.closed_actions.Goals as goal
 
-abbrev Items : Type 0
-Items = List (EntityUID × ValidatorActionId)
+pub returns-in_ok-into_btree_map-in-Ok-clause-closed : goal.returns-in_ok-into_btree_map-in-Ok-clause-closed
+returns-in_ok-into_btree_map-in-Ok-clause-closed c = λ types entities.
+    actions_closed c.args.actions.entries c.in_ok-nodes.ensures.ordered c.in_ok-nodes.nodes c.in_ok-nodes.ensures.moved
+    c.compute_tc.new.nodes c.compute_tc.ensures.alike c.compute_tc.ensures.sound c.in-Ok.ensures.complete
+    c.in_ok-into_btree_map-in-Ok.ensures.unique c.in_ok-into_btree_map-in-Ok.field-0 c.in_ok-into_btree_map-in-Ok.ensures.moved types
+    entities
 
-pub returns-in_ok-from_iter-in-Ok-clause-closed : goal.returns-in_ok-from_iter-in-Ok-clause-closed
-returns-in_ok-from_iter-in-Ok-clause-closed c = λ types entities.
-    let actions = c.args.actions.entries in
+pub returns-in_ok-into_btree_map-in-Ok-clause-acyclic : goal.returns-in_ok-into_btree_map-in-Ok-clause-acyclic
+returns-in_ok-into_btree_map-in-Ok-clause-acyclic c = λ types entities uid.
+    no_cycle c.args.actions.entries c.in_ok-nodes.ensures.ordered c.in_ok-nodes.nodes c.in_ok-nodes.ensures.moved types entities
+    (c.in-Ok.ensures.acyclic refl) uid
+
+pub returns-in_ok-into_btree_map-in-Ok-clause-located : goal.returns-in_ok-into_btree_map-in-Ok-clause-located
+returns-in_ok-into_btree_map-in-Ok-clause-located c = λ located.
     let before = c.in_ok-nodes.nodes in
     let after = c.compute_tc.new.nodes in
-    let closed = c.in_ok-from_iter-in-Ok.field-0 in
-    let first = c.in_ok-nodes.ensures.ran in
-    let last = c.in_ok-from_iter-in-Ok.ensures.ran in
-    let all : first.1 ≡ actions = given_all actions first.0 first.1 first.2.0 first.3 in
-    let also : last.1 ≡ after.entries = given_all after.entries last.0 last.1 last.2.0 last.3 in
-    let P : Items → Type 0 = λ entries. IsFromIterResult graph.eq entries before in
-    let Q : Items → Type 0 = λ entries. tree.IsFromIterResult graph.cmp entries closed in
-    actions_closed actions first.2.5 before (subst P all first.4) after c.compute_tc.ensures.alike c.compute_tc.ensures.sound
-    c.in-Ok.ensures.complete last.2.4 closed (subst Q also last.4) types entities
-
-pub returns-in_ok-from_iter-in-Ok-clause-acyclic : goal.returns-in_ok-from_iter-in-Ok-clause-acyclic
-returns-in_ok-from_iter-in-Ok-clause-acyclic c = λ types entities uid.
-    let actions = c.args.actions.entries in
-    let before = c.in_ok-nodes.nodes in
-    let first = c.in_ok-nodes.ensures.ran in
-    let all : first.1 ≡ actions = given_all actions first.0 first.1 first.2.0 first.3 in
-    let P : Items → Type 0 = λ entries. IsFromIterResult graph.eq entries before in
-    no_cycle actions first.2.5 before (subst P all first.4) types entities (c.in-Ok.ensures.acyclic refl) uid
+    let At : EntityUID → ValidatorActionId → Type 0 = λ key node. IsLocatedAsKey (key, node) in
+    moved_each graph.cmp graph.tied after c.in_ok-into_btree_map-in-Ok.ensures.unique c.in_ok-into_btree_map-in-Ok.field-0
+    c.in_ok-into_btree_map-in-Ok.ensures.entries IsLocatedAsKey
+    (each_alike graph.laws graph.is_alike At
+    (λ key a b alike at. record { uid = at.uid ∙ ap uid_loc alike.0; ty = at.ty ∙ ap uid_type_loc alike.0 })
+    before after c.in_ok-nodes.ensures.moved.1 c.compute_tc.ensures.keys c.compute_tc.ensures.alike
+    (hashed_each graph.cmp graph.tied c.args.actions c.in_ok-nodes.ensures.ordered before c.in_ok-nodes.ensures.entries IsLocatedAsKey
+    located))
 
 pub returns-in-Err-clause-fault : goal.returns-in-Err-clause-fault
 returns-in-Err-clause-fault c = λ types entities.
-    let actions = c.args.actions.entries in
-    let before = c.in_ok-nodes.nodes in
-    let first = c.in_ok-nodes.ensures.ran in
-    let all : first.1 ≡ actions = given_all actions first.0 first.1 first.2.0 first.3 in
-    let P : Items → Type 0 = λ entries. IsFromIterResult graph.eq entries before in
-    refused_fault actions first.2.5 before (subst P all first.4) types entities c.in-Err.refused (fault_of c.refusal.result)
-    c.refusal.ensures c.in-Err.ensures.fault
+    refused_fault c.args.actions.entries c.in_ok-nodes.ensures.ordered c.in_ok-nodes.nodes c.in_ok-nodes.ensures.moved types entities
+    c.in-Err.refused (fault_of c.refusal.result) c.refusal.ensures c.in-Err.ensures.fault

@@ -1,6 +1,6 @@
 use Rattle.std.proofs.Common.{ap, subst, ◌∙◌}
 use Rattle.std.proofs.lemmas.Result.{IfOk-weaker}
-use Rattle.cedar_actions.specs.ValidatorActionId.{action_loc, action_of}
+use Rattle.cedar_actions.specs.ValidatorActionId.{action_loc, action_of, name_loc, name_type_loc}
 use Rattle.cedar_actions.specs.declared.action_id.ValidatorActionId.{ValidatorActionId}
 use Rattle.cedar_below.proofs.Uids.{entity_uid_ord-Equal}
 use Rattle.cedar_below.specs.EntityUID.{uid_loc, uid_of, uid_type_loc}
@@ -28,12 +28,14 @@ returns c =
       same = record {
         key = ran.0.says.met.0 ∙ ap uid_of ran.0.shows;
         uid = ran.1.says.met.0 ∙ ap (λ each. (action_of each).uid) ran.1.shows;
-        kind = subst Kind ran.1.shows ran.1.says.met.1.0;
-        descendants = subst Below ran.1.shows ran.1.says.met.1.1.0;
+        kind = subst Kind ran.1.shows ran.1.says.met.1.1.1.0;
+        descendants = subst Below ran.1.shows ran.1.says.met.1.1.1.1.0;
       };
       key_loc = ran.0.says.met.1.0 ∙ ap uid_loc ran.0.shows;
       key_type_loc = ran.0.says.met.1.1 ∙ ap uid_type_loc ran.0.shows;
-      loc = ran.1.says.met.1.1.1 ∙ ap action_loc ran.1.shows;
+      name_loc = ran.1.says.met.1.0 ∙ ap name_loc ran.1.shows;
+      name_type_loc = ran.1.says.met.1.1.0 ∙ ap name_type_loc ran.1.shows;
+      loc = ran.1.says.met.1.1.1.1.1 ∙ ap action_loc ran.1.shows;
     })
     c.args.actions.now.entries copies.entries turn)
     c.copied_entries.ensures

@@ -6,8 +6,9 @@ use Rattle.cedar_below.specs.Lists.{SameItems}
 use Rattle.cedar_below.specs.contracts.entity_type.EntityTypeOrd.TheImpl as entity_type_ord
 use Rattle.cedar_copied.proofs.ShownLemmas.{copy_ties}
 use Rattle.cedar_declared.proofs.TurnLemmas.{turn_weaker}
-use Rattle.cedar_entities.specs.ValidatorEntityType.{PlainEntityType, descendant_names, entity_type_of}
+use Rattle.cedar_entities.specs.ValidatorEntityType.{PlainEntityType, attributes_of, descendant_names, entity_type_of, name_loc}
 use Rattle.cedar_entities.specs.declared.entity_type.ValidatorEntityType.{ValidatorEntityType}
+use Rattle.cedar_types.specs.Located.{located_at}
 use Rattle.cedar_validated.specs.Copies.{IsTypeCopied}
 use Rattle.cedar_validated.proofs.copies.copied_types.Goals as goal
 
@@ -28,10 +29,12 @@ returns c =
         key = ran.0.says.met.0 ∙ ap type_name ran.0.shows;
         name = ap (λ (each : PlainEntityType). each.name) same;
         kind = ap (λ (each : PlainEntityType). each.kind) same;
-        descendants = subst P ran.1.shows ran.1.says.met.1.0;
+        descendants = subst P ran.1.shows ran.1.says.met.1.1.1.0;
       };
       key_loc = ran.0.says.met.1 ∙ ap type_loc ran.0.shows;
-      loc = ran.1.says.met.1.1 ∙ ap (λ each. each.loc) ran.1.shows;
+      name_loc = ran.1.says.met.1.0 ∙ ap name_loc ran.1.shows;
+      attributes = λ name. ran.1.says.met.1.1.0 name ∙ ap (λ each. located_at name (attributes_of each)) ran.1.shows;
+      loc = ran.1.says.met.1.1.1.1 ∙ ap (λ each. each.loc) ran.1.shows;
     })
     c.args.types.now.entries copies.entries turn)
     c.copied_entries.ensures

@@ -12,11 +12,11 @@ returns-in-Some-clause-sound c =
     let kind = (action_of c.args.action.now).kind in
     let P : Ty → Type 0 = IsKnownThroughout c.args.known.now in
     on_ok c.check_type.result c.check_type.ensures.sound
-    (λ sound of is. subst P (context_is kind (ty_of c.in-Some.context.now) of c.in-Some.ensures is) sound)
+    (λ sound of is. subst P (context_is kind (ty_of c.in-Some.context.now) of c.in-Some.ensures.ty is) sound)
 
 pub returns-in-Some-clause-fault : goal.returns-in-Some-clause-fault
 returns-in-Some-clause-fault c =
     let kind = (action_of c.args.action.now).kind in
     let context = ty_of c.in-Some.context.now in
     on_err c.check_type.result c.check_type.ensures.fault
-    (λ error why. inr (context, context_of kind context c.in-Some.ensures, why))
+    (λ error why. inr (context, context_of kind context c.in-Some.ensures.ty, why))

@@ -19,7 +19,7 @@ returns-in_err-check_attributes-clause-fault c =
     let fault = fault_of c.in_err-check_attributes.field-0.0 in
     let P : Fields → Type 0 = λ fields. IsUnknownIn known (record_of fields ClosedAttributes) fault in
     let at_fault : (fault ≡ want_of_memory) ⊎ ((of : Ty) × IsTypeOfKind kind of × IsUnknownIn known of fault) =
-    attributes_fault known kind fault (subst P c.attributes.ensures c.in_err-check_attributes.ensures.fault) in
+    attributes_fault known kind fault (subst P c.attributes.ensures.fields c.in_err-check_attributes.ensures.fault) in
     let p = err_from_is_err_and c.from_residual.result c.from_residual.ensures.1 in
     rw (p.1, p.2) at_fault
 
@@ -30,8 +30,8 @@ returns-in-Some-clause-sound c =
     let P : Fields → Type 0 = λ fields. IsKnownThroughout known (record_of fields ClosedAttributes) in
     let Q : Ty → Type 0 = IsKnownThroughout known in
     on_ok c.check_type.result c.check_type.ensures.sound
-    (λ sound. kind_known known kind (subst P c.attributes.ensures c.in_ok-check_attributes.ensures.sound)
-    (λ tags is. let both : Some (ty_of c.in-Some.tags.now) ≡ Some tags = c.in-Some.ensures ∙ is in
+    (λ sound. kind_known known kind (subst P c.attributes.ensures.fields c.in_ok-check_attributes.ensures.sound)
+    (λ tags is. let both : Some (ty_of c.in-Some.tags.now) ≡ Some tags = c.in-Some.ensures.ty ∙ is in
     let same : ty_of c.in-Some.tags.now ≡ tags = cc in subst Q same sound))
 
 pub returns-in-Some-clause-fault : goal.returns-in-Some-clause-fault
@@ -39,4 +39,4 @@ returns-in-Some-clause-fault c =
     let kind = (entity_type_of c.args.ty.now).kind in
     let tags = ty_of c.in-Some.tags.now in
     on_err c.check_type.result c.check_type.ensures.fault
-    (λ error why. inr (tags, tags_of_kind kind tags (sym c.in-Some.ensures), why))
+    (λ error why. inr (tags, tags_of_kind kind tags (sym c.in-Some.ensures.ty), why))

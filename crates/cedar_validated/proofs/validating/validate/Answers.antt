@@ -32,7 +32,7 @@ returns-in_err-check_parts-clause-fault c =
     let at_fault : (entities : List Entity) → (fault ≡ want_of_memory)
     ⊎ IsSchemaFault extensions (plain_schema types actions entities) fault =
     λ entities. fault_before types c.in_ok-closed_types.field-0.entries actions c.in_ok-closed_actions.field-0.entries entities
-    (c.in_ok-closed_types.ensures actions entities) (c.in_ok-closed_actions.ensures.closed types entities) extensions fault
+    (c.in_ok-closed_types.ensures.closed actions entities) (c.in_ok-closed_actions.ensures.closed types entities) extensions fault
     c.in_err-check_parts.ensures.fault in
     let p = err_from_is_err_and c.from_residual-in_err-check_parts.result c.from_residual-in_err-check_parts.ensures.1 in
     rw (p.1, p.2) at_fault
@@ -42,7 +42,7 @@ returns-clause-valid c = λ entities.
     let types = c.args.entity_types.entries in
     let actions = c.args.actions.entries in
     valid_before types c.in_ok-closed_types.field-0.entries actions c.in_ok-closed_actions.field-0.entries entities
-    (c.in_ok-closed_types.ensures actions entities) (c.in_ok-closed_actions.ensures.closed types entities) c.args.extensions.now
+    (c.in_ok-closed_types.ensures.closed actions entities) (c.in_ok-closed_actions.ensures.closed types entities) c.args.extensions.now
     (c.in_ok-closed_actions.ensures.acyclic types entities) c.in_ok-check_parts.ensures.valid
 
 pub returns-clause-closed : goal.returns-clause-closed
@@ -50,6 +50,6 @@ returns-clause-closed c = λ entities.
     let types = c.args.entity_types.entries in
     let actions = c.args.actions.entries in
     closes_before types c.in_ok-closed_types.field-0.entries actions c.in_ok-closed_actions.field-0.entries entities
-    (c.in_ok-closed_types.ensures actions entities) (c.in_ok-closed_actions.ensures.closed types entities)
+    (c.in_ok-closed_types.ensures.closed actions entities) (c.in_ok-closed_actions.ensures.closed types entities)
     (entities_of c.in_ok-action_entities.action_entities)
     (c.in_ok-action_entities.ensures (map plain_entry c.in_ok-closed_types.field-0.entries))

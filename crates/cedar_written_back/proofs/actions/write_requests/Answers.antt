@@ -27,7 +27,7 @@ pub returns-clause-written : goal.returns-clause-written
 returns-clause-written c =
     let namespace = plain_namespace c.args.namespace.now in
     defined_written namespace (action_of c.args.action.now).kind c.in_ok-principal_types.principal_types.items c.in_ok-resource_types.resource_types.items
-    (ty_of c.in-Some.context.now) _ (sym c.in-Some.ensures) (c.in_ok-principal_types.ensures.names ∙ c.principals.ensures.names)
+    (ty_of c.in-Some.context.now) _ (sym c.in-Some.ensures.ty) (c.in_ok-principal_types.ensures.names ∙ c.principals.ensures.names)
     (c.in_ok-resource_types.ensures.names ∙ c.resources.ensures.names)
     (c.in_ok-context.ensures.written ∙ ap Some (sym (c.plain.ensures namespace)))
 
@@ -35,7 +35,7 @@ pub returns-clause-sound : goal.returns-clause-sound
 returns-clause-sound c =
     let names = known_names c.args.known.now in
     let namespace = plain_namespace c.args.namespace.now in
-    sound_action namespace names (action_of c.args.action.now).kind (ty_of c.in-Some.context.now) (sym c.in-Some.ensures) c.in_ok-context.ensures.sound
+    sound_action namespace names (action_of c.args.action.now).kind (ty_of c.in-Some.context.now) (sym c.in-Some.ensures.ty) c.in_ok-context.ensures.sound
     (λ name among.
     let P : List PlainName → Type 0 = λ items. Contains items name in
     c.in_ok-principal_types.ensures.no_other name (subst P (sym c.principals.ensures.names) among))

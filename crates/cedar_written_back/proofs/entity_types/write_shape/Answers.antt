@@ -7,5 +7,5 @@ use Rattle.cedar_written_back.proofs.entity_types.write_shape.Goals as goal
 pub returns-in_ok-write_record-in-ClosedAttributes-clause-written : goal.returns-in_ok-write_record-in-ClosedAttributes-clause-written
 returns-in_ok-write_record-in-ClosedAttributes-clause-written c =
     let namespace = plain_namespace c.args.namespace.now in
-    (λ i. type_written namespace (record_of (sym c.attributes.ensures i) (sym c.in-ClosedAttributes.ensures i)))
+    (λ i. type_written namespace (record_of (sym c.attributes.ensures.fields i) (sym c.in-ClosedAttributes.ensures i)))
     ∙ (c.in_ok-write_record-in-ClosedAttributes.ensures.written ∙ ap Some (sym (c.plain.ensures namespace)))

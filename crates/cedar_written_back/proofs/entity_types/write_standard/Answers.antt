@@ -22,5 +22,5 @@ returns-clause-written c =
     let P : Option Ty → Type 0 = λ tags. AreTagsWritten namespace tags (option_map (raw_expr namespace) c.in_ok-tags.tags) in (
       written_names namespace c.args.parents.items,
       c.in_ok-shape.ensures.written,
-      subst P c.tag_type.ensures c.in_ok-tags.ensures.written,
+      subst P c.tag_type.ensures.ty c.in_ok-tags.ensures.written,
     )

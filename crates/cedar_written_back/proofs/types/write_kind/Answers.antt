@@ -15,7 +15,7 @@ returns-in_err-write_name-in-Some-clause-refusal c =
     let names = known_names c.args.known.now in
     let namespace = plain_namespace c.args.namespace.now in
     let name = type_name c.in-Some.ty.now in
-    let only : only_name (lub_names c.in-Entity.union) ≡ Some name = sym c.in-Some.ensures in
+    let only : only_name (lub_names c.in-Entity.union) ≡ Some name = sym c.in-Some.ensures.name in
     let P : Ty → Type 0 = IsSoundType names namespace in
     refusal_passed _ _ c.from_residual.ensures.1 c.in_err-write_name-in-Some.ensures.refusal
     (λ other sound. other ((sound-union names namespace (lub_names c.in-Entity.union) name only).0 (subst P
@@ -26,7 +26,7 @@ returns-in_ok-write_name-in-Some-clause-sound c =
     let names = known_names c.args.known.now in
     let namespace = plain_namespace c.args.namespace.now in
     let name = type_name c.in-Some.ty.now in
-    let only : only_name (lub_names c.in-Entity.union) ≡ Some name = sym c.in-Some.ensures in
+    let only : only_name (lub_names c.in-Entity.union) ≡ Some name = sym c.in-Some.ensures.name in
     let P : Ty → Type 0 = IsSoundType names namespace in
     subst P (sym (ap kind_ty c.in-Entity.is))
     ((sound-union names namespace (lub_names c.in-Entity.union) name only).1 c.in_ok-write_name-in-Some.ensures.no_other)

@@ -4,10 +4,10 @@ use Rattle.cedar_declared.specs.EntityTypeKind.{kind_fields}
 use Rattle.cedar_entities.proofs.MemberLemmas.{end-nameless}
 use Rattle.cedar_entities.proofs.entity_type.ValidatorEntityType.attributes.Goals as goal
 
-pub returns-in-Enum : goal.returns-in-Enum
-returns-in-Enum c =
+pub returns-in-Enum-clause-fields : goal.returns-in-Enum-clause-fields
+returns-in-Enum-clause-fields c =
     end-nameless _ c.args.self.now.without_attributes ∙ sym (ap (λ kind. kind_fields (plain_kind kind)) c.in-Enum.is)
 
-pub returns-in-External : goal.returns-in-External
-returns-in-External c =
+pub returns-in-External-clause-fields : goal.returns-in-External-clause-fields
+returns-in-External-clause-fields c =
     end-nameless _ c.args.self.now.without_attributes ∙ sym (ap (λ kind. kind_fields (plain_kind kind)) c.in-External.is)

@@ -9,9 +9,10 @@ use Rattle.cedar_laws.proofs.MereLemmas.{known_entities}
 use Rattle.cedar_laws.proofs.SameEntities.{same_entities}
 use Rattle.cedar_actions.specs.ValidatorActionId.{plain_action_entry}
 use Rattle.cedar_schema.proofs.SchemaNames.{known_names, same_under_names}
+use Rattle.cedar_schema.proofs.SchemaKeys.{keys_given}
 use Rattle.cedar_schema.proofs.schema.ValidatorSchema.clone.Goals as goal
 use Rattle.cedar_schema.specs.ValidatorSchema.{schema_of}
-use Rattle.cedar_validated.proofs.CopyLemmas.{actions_same, types_same}
+use Rattle.cedar_validated.proofs.CopyLemmas.{action_copies_located, actions_same, type_copies_located, types_same}
 
 pub from_parts-requires-clause-entities : goal.from_parts-requires-clause-entities
 from_parts-requires-clause-entities c = c.in_ok-action_entities.ensures (map plain_entry c.in_ok-copied_types.field-0.entries)
@@ -41,3 +42,16 @@ returns-clause-schema c =
     } in
     let P : PlainSchema → Type 0 = λ schema. SameSchema schema (schema_of self) in
     IfOk-weaker c.from_parts.result _ _ (λ copy is. subst P (sym is) same) c.from_parts.ensures.schema
+
+pub returns-clause-keys : goal.returns-clause-keys
+returns-clause-keys c = keys_given _ c.from_parts.result c.from_parts.ensures.schema
+
+pub from_parts-requires-clause-keys : goal.from_parts-requires-clause-keys
+from_parts-requires-clause-keys c =
+    let self = c.args.self.now in
+    record {
+      of_types = type_copies_located self.entity_types.entries c.in_ok-copied_types.field-0.entries c.in_ok-copied_types.ensures
+          self.types_located;
+      of_actions = action_copies_located self.actions.entries c.in_ok-actions.actions.entries c.in_ok-actions.ensures
+          self.actions_located;
+    }

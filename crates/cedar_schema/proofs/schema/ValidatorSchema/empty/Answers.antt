@@ -1,5 +1,8 @@
 use Rattle.std.proofs.lemmas.Grind.{merely}
+use Rattle.cedar_actions.specs.ValidatorActionId as actions
 use Rattle.cedar_below.specs.Entities.{entities_of}
+use Rattle.cedar_closure.proofs.MovedMaps.{empty_lacks}
+use Rattle.cedar_entities.specs.ValidatorEntityType as types
 use Rattle.cedar_schema.proofs.SchemaNames.{schema_in_order}
 use Rattle.cedar_schema.proofs.schema.ValidatorSchema.empty.Goals as goal
 
@@ -7,3 +10,9 @@ pub invariant_of-result-clause-in_order : goal.invariant_of-result-clause-in_ord
 invariant_of-result-clause-in_order c =
     merely (schema_in_order c.new.result.entries c.new-2.result.entries (entities_of c.new-action_entities.result)
     c.new.ensures.ordered c.new-2.ensures.ordered)
+
+pub invariant_of-result-clause-types_located : goal.invariant_of-result-clause-types_located
+invariant_of-result-clause-types_located c = empty_lacks types.IsLocatedAsKey c.new.result.entries c.new.ensures.empty
+
+pub invariant_of-result-clause-actions_located : goal.invariant_of-result-clause-actions_located
+invariant_of-result-clause-actions_located c = empty_lacks actions.IsLocatedAsKey c.new-2.result.entries c.new-2.ensures.empty

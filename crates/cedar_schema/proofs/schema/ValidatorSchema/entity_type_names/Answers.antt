@@ -1,12 +1,20 @@
-use Rattle.std.proofs.Common.{List, map, subst, sym}
+use Rattle.std.proofs.Common.{List, ap, map, subst, sym, ◌∙◌}
 use Rattle.std.specs.List.Sorted.{IsStrictlySortedBy}
-use Rattle.cedar_below.specs.EntityType.{type_name}
+use Rattle.cedar_below.specs.EntityType.{type_loc, type_name}
 use Rattle.cedar_below.specs.PlainName.{name_cmp}
 use Rattle.cedar_below.specs.declared.entity_type.EntityType.{EntityType}
+use Rattle.cedar_entities.specs.ValidatorEntityType.{name_loc}
+use Rattle.cedar_schema.proofs.SchemaKeys.{agreed_on}
 use Rattle.cedar_schema.proofs.SchemaNames.{type_keys_ascend}
+use Rattle.cedar_schema.specs.ValidatorSchema.{schema_entries}
 use Rattle.cedar_schema.proofs.schema.ValidatorSchema.entity_type_names.Goals as goal
 
 pub returns-clause-in_order : goal.returns-clause-in_order
 returns-clause-in_order c =
     let P : List EntityType → Type 0 = λ names. IsStrictlySortedBy name_cmp (map type_name names) in
     subst P (sym c.keys.ensures.rest) (type_keys_ascend c.args.self.now)
+
+pub returns-clause-located : goal.returns-clause-located
+returns-clause-located c =
+    ap (map type_loc) c.keys.ensures.rest
+    ∙ agreed_on (λ entry. entry.0) type_loc (λ entry. name_loc entry.1) (schema_entries c.args.self.now) c.args.self.now.types_located

@@ -13,4 +13,6 @@ invariant_of-result c = record {
   in_order = merely (schema_in_order c.args.parts.entity_types.entries c.args.parts.actions.entries
       (entities_of c.args.parts.action_entities) c.keys-names.ensures.ordered c.keys-uids.ensures.ordered);
   under_names = merely c.requires.under_names;
+  types_located = c.requires.keys.of_types;
+  actions_located = c.requires.keys.of_actions;
 }

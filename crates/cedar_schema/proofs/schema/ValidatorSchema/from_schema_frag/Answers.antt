@@ -9,6 +9,7 @@ use Rattle.cedar_located.specs.Located.{ShowsWritten}
 use Rattle.cedar_names.specs.Declaration.{raw_bag, raw_fragment}
 use Rattle.cedar_names.specs.declared.json_schema.fragment.Fragment.{Fragment}
 use Rattle.cedar_names.specs.declared.json_schema.raw_name.RawName.{RawName}
+use Rattle.cedar_schema.proofs.SchemaKeys.{keys_given}
 use Rattle.cedar_schema.proofs.schema.ValidatorSchema.from_schema_frag.Goals as goal
 use Rattle.cedar_schema.specs.ValidatorSchema.{located_of, schema_of}
 
@@ -33,3 +34,6 @@ returns-clause-located c =
     IfOk c.from_raw_fragments.result (λ schema. ShowsWritten fragments (located_of schema)) in
     subst P (c.in_ok-push.ensures.items ∙ ap (λ items. items ++ c.args.fragment ∷ []) c.new-fragments.ensures.items)
     c.from_raw_fragments.ensures.located
+
+pub returns-clause-keys : goal.returns-clause-keys
+returns-clause-keys c = keys_given _ c.from_raw_fragments.result c.from_raw_fragments.ensures.located

@@ -10,6 +10,7 @@ use Rattle.cedar_below.specs.PlainUid.{uid_cmp}
 use Rattle.cedar_entities.specs.ValidatorEntityType.{plain_entry}
 use Rattle.cedar_located.specs.Located.{common_entries, namespace_entries}
 use Rattle.cedar_validated.specs.LastNamed.{last_named, last_of_uid}
+use Rattle.cedar_schema.proofs.SchemaKeys.{keys_given}
 use Rattle.cedar_schema.proofs.SchemaNames.{schema_under_names}
 use Rattle.cedar_schema.proofs.schema.ValidatorSchema.new.Goals as goal
 
@@ -56,4 +57,11 @@ returns g c =
       namespaces =
           IfOk-weaker c.from_parts.result _ _ (λ schema same. ap namespace_entries same ∙ c.nothing.ensures.namespaces)
           c.from_parts.ensures.located;
+      keys = keys_given _ c.from_parts.result c.from_parts.ensures.located;
     }
+
+pub from_parts-requires-clause-keys : goal.from_parts-requires-clause-keys
+from_parts-requires-clause-keys g c = record {
+  of_types = c.in_ok-entity_types.ensures.located;
+  of_actions = c.in_ok-actions.ensures.located;
+}

@@ -23,3 +23,9 @@ pub returns-clause-closed : goal.returns-clause-closed
 returns-clause-closed c =
     let P : PlainSchema → Type 0 = ClosesSchema (schema_of c.args.self) in
     subst P (sym c.in_ok-from_parts.ensures.schema) (c.in_ok-entity_types.ensures.closed (entities_of c.args.self.action_entities))
+
+pub from_parts-requires-clause-keys : goal.from_parts-requires-clause-keys
+from_parts-requires-clause-keys c = record {
+  of_types = c.in_ok-entity_types.ensures.types_located c.args.self.types_located;
+  of_actions = c.in_ok-entity_types.ensures.actions_located c.args.self.actions_located;
+}
