@@ -284,7 +284,8 @@ impl ValidatorSchema {
         Ok(ValidatorSchema::from_parts(alloc, parts)?)
     }
 
-    /// An equal schema with the same locations, which shows the same of its fragments, or want of memory.
+    /// An equal schema, which shows the same of its fragments, or want of memory. Its entity types and actions,
+    /// their names and their attributes are located alike.
     pub fn clone(&self) -> M<Self>
         ensures schema { IfOk result (λ copy. SameSchema (schema_of copy) (schema_of self.now)) }
         ensures entity_types { IfOk result (λ copy. HoldsInTurn IsTypeCopied (schema_entries self.now) (schema_entries copy)) }
