@@ -47,7 +47,7 @@ fn schema_piece_named(name: &str) -> Option<Piece>
         "environments" => Some(Piece::Environments),
         "known-attributes" => Some(Piece::KnownAttributes),
         "validate" => Some(Piece::Validate),
-        "write-back" => Some(Piece::WriteBack),
+        "write-back" => Some(Piece::ConvertBack),
         _ => None,
     }
 }

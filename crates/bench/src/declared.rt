@@ -13,7 +13,7 @@ use std::alloc::Global;
 use std::collections::BTreeMap;
 use std::ops::Range;
 
-/// A type that is written out.
+/// A type that is elaborated.
 fn plain(ty: TypeVariant<RawName>) -> Type<RawName> {
     Type::Plain { ty, loc: None }
 }

@@ -55,8 +55,8 @@ pub(crate) enum Piece {
     KnownAttributes,
     /// A schema of as many entity types and actions that was put together by hand, validated.
     Validate,
-    /// A schema of as many entity types and actions, written back as a fragment.
-    WriteBack,
+    /// A schema of as many entity types and actions, converted back as a fragment.
+    ConvertBack,
 }
 
 /// All pieces, in the order in which they are measured.
@@ -87,7 +87,7 @@ pub(crate) const PIECES: [Piece; 27] = [
     Piece::Environments,
     Piece::KnownAttributes,
     Piece::Validate,
-    Piece::WriteBack,
+    Piece::ConvertBack,
 ];
 
 /// How large a piece of work is, and how often a run does it.
@@ -148,7 +148,7 @@ impl Piece {
             Piece::Environments => "environments",
             Piece::KnownAttributes => "known-attributes",
             Piece::Validate => "validate",
-            Piece::WriteBack => "write-back",
+            Piece::ConvertBack => "write-back",
         }
     }
 
@@ -176,7 +176,7 @@ impl Piece {
                 (1000, 1000),
             ]),
             Piece::UnionJoins => sizes([(30, 1000), (100, 100), (300, 10)]),
-            Piece::BuildWhole | Piece::BuildSplit | Piece::Validate | Piece::WriteBack => sizes([
+            Piece::BuildWhole | Piece::BuildSplit | Piece::Validate | Piece::ConvertBack => sizes([
                 (100, 50),
                 (1000, 5),
                 (5000, 1),

@@ -49,13 +49,13 @@ pub(crate) enum OfTwo {
 pub(crate) enum OfSchema {
     /// The environments of its requests.
     Environments,
-    /// The fragment that it is written back as.
-    WriteBack,
+    /// The fragment that it is converted back as.
+    ConvertBack,
 }
 
-/// What is lent to the work, which may be done on it again.
+/// What is borrowed by the work, which may be done on it again.
 #[derive(Drop)]
-pub(crate) enum Lent {
+pub(crate) enum Borrowed {
     /// A type, of which something is asked.
     One(OfOne, Type),
     /// Two types, of which something is asked.
@@ -89,7 +89,7 @@ pub(crate) enum Given {
 #[derive(Drop)]
 pub(crate) enum Prepared {
     /// Lent to it.
-    Lent(Lent),
+    Borrowed(Borrowed),
     /// Given to it.
     Given(Given),
 }
@@ -101,17 +101,17 @@ pub(crate) fn no_extensions(alloc: Global) -> Extensions
     Extensions::new(Vec::new(alloc), BTreeMap::new(alloc))
 }
 
-/// What is lent to a piece of work.
-fn on_lent(lent: Lent) -> Result<Prepared, Stop> {
-    Ok(Prepared::Lent(lent))
+/// What is borrowed by a piece of work.
+fn on_borrowed(borrowed: Borrowed) -> Result<Prepared, Stop> {
+    Ok(Prepared::Borrowed(borrowed))
 }
 
 /// A record, of which something is asked.
 fn record_alone(alloc: Global, question: OfOne, count: usize) -> Result<Prepared, Stop> {
-    on_lent(Lent::One(question, closed_record(alloc, 0..count)?))
+    on_borrowed(Borrowed::One(question, closed_record(alloc, 0..count)?))
 }
 
-/// Two equal records, of which something is asked that is settled at their last attributes.
+/// Two equal records, of which something is asked that is resolved at their last attributes.
 fn equal_records(
     alloc: Global,
     question: OfTwo,
@@ -120,31 +120,31 @@ fn equal_records(
 ) -> Result<Prepared, Stop> {
     let one = record(alloc, 0..count, Type::primitive_long(), openness)?;
     let other = record(alloc, 0..count, Type::primitive_long(), openness)?;
-    on_lent(Lent::Two(question, one, other))
+    on_borrowed(Borrowed::Two(question, one, other))
 }
 
 /// Look-up of the last attribute of as many.
 fn look_up(alloc: Global, count: usize) -> Result<Prepared, Stop> {
     let name = numbered(alloc, "attribute", count.saturating_sub(1))?;
-    on_lent(Lent::LookUp(attributes(alloc, 0..count)?, name))
+    on_borrowed(Borrowed::LookUp(attributes(alloc, 0..count)?, name))
 }
 
 /// Membership of a value with all attributes.
 fn membership(alloc: Global, count: usize) -> Result<Prepared, Stop> {
     let ty = closed_record(alloc, 0..count)?;
-    on_lent(Lent::Membership(ty, record_value(alloc, 0..count)?))
+    on_borrowed(Borrowed::Membership(ty, record_value(alloc, 0..count)?))
 }
 
 /// Two unions, of which something is asked, from some number on in the second.
 fn unions(alloc: Global, question: OfTwo, count: usize, from: usize) -> Result<Prepared, Stop> {
     let one = union(alloc, 0..count)?;
     let other = union(alloc, from..count.saturating_add(from))?;
-    on_lent(Lent::Two(question, one, other))
+    on_borrowed(Borrowed::Two(question, one, other))
 }
 
 /// The join of some entity types, one after another.
 fn joins(alloc: Global, count: usize) -> Result<Prepared, Stop> {
-    on_lent(Lent::Joins(entities(alloc, 0..count)?))
+    on_borrowed(Borrowed::Joins(entities(alloc, 0..count)?))
 }
 
 /// The join of two closed records of unlike attributes, from some number on in the second.
@@ -153,13 +153,13 @@ fn join(alloc: Global, count: usize, from: usize, mode: ValidationMode) -> Resul
     let numbers = from..count.saturating_add(from);
     let one = record(alloc, 0..count, Type::singleton_boolean(true), closed)?;
     let other = record(alloc, numbers, Type::singleton_boolean(false), closed)?;
-    on_lent(Lent::Two(OfTwo::Join(mode), one, other))
+    on_borrowed(Borrowed::Two(OfTwo::Join(mode), one, other))
 }
 
 /// A value of one record that isn't one of another, whose last attributes are unlike.
 fn separation(alloc: Global, count: usize) -> Result<Prepared, Stop> {
     let one = closed_record(alloc, 0..count)?;
-    on_lent(Lent::Two(OfTwo::Separation, one, record_with_text(alloc, count)?))
+    on_borrowed(Borrowed::Two(OfTwo::Separation, one, record_with_text(alloc, count)?))
 }
 
 /// The schema that is built from fragments.
@@ -182,13 +182,13 @@ fn put_together(
 /// The environments of an action that applies to each pair of as many entity types.
 fn environments(alloc: Global, count: usize) -> Result<Prepared, Stop> {
     let schema = built(alloc, applying_to_all(alloc, count)?)?;
-    on_lent(Lent::Schema(OfSchema::Environments, schema))
+    on_borrowed(Borrowed::Schema(OfSchema::Environments, schema))
 }
 
-/// A schema of as many entity types and actions, to be written back.
-fn written_back(alloc: Global, count: usize) -> Result<Prepared, Stop> {
+/// A schema of as many entity types and actions, to be converted back.
+fn converted_back(alloc: Global, count: usize) -> Result<Prepared, Stop> {
     let schema = built(alloc, whole(alloc, count)?)?;
-    on_lent(Lent::Schema(OfSchema::WriteBack, schema))
+    on_borrowed(Borrowed::Schema(OfSchema::ConvertBack, schema))
 }
 
 /// The last entity type and the last action of a schema, to be looked up.
@@ -196,14 +196,14 @@ fn schema_look_up(alloc: Global, count: usize) -> Result<Prepared, Stop> {
     let last = count.saturating_sub(1);
     let (ty, action) = (entity_type(alloc, last)?, uid(alloc, last)?);
     let schema = built(alloc, whole(alloc, count)?)?;
-    on_lent(Lent::Declared(schema, ty, action))
+    on_borrowed(Borrowed::Declared(schema, ty, action))
 }
 
 /// A union of as many entity types, each of which has one attribute more than the one before it.
 fn known_attributes(alloc: Global, count: usize) -> Result<Prepared, Stop> {
     let ty = union(alloc, 0..count)?;
     let schema = put_together(alloc, growing_types(alloc, count)?, Vec::new(alloc))?;
-    on_lent(Lent::KnownAttributes(schema, ty))
+    on_borrowed(Borrowed::KnownAttributes(schema, ty))
 }
 
 /// Fragments that are built.
@@ -258,6 +258,6 @@ pub(crate) fn prepare(alloc: Global, piece: Piece, count: usize) -> Result<Prepa
         Piece::Environments => environments(alloc, count),
         Piece::KnownAttributes => known_attributes(alloc, count),
         Piece::Validate => validate(alloc, count),
-        Piece::WriteBack => written_back(alloc, count),
+        Piece::ConvertBack => converted_back(alloc, count),
     }
 }

@@ -6,7 +6,7 @@ ghost use Rattle.bench.specs.Words.{IsCommand};
 use crate::command::{Command, command_of};
 use crate::measured::{Least, table, tenths_of};
 use crate::piece::{PIECES, Piece, Sized};
-use crate::prepared::{Given, Lent, Prepared, prepare};
+use crate::prepared::{Borrowed, Given, Prepared, prepare};
 use crate::stop::Stop;
 use std::alloc::Global;
 use std::hint::black_box;
@@ -28,7 +28,7 @@ const SECOND: u128 = 1_000_000_000;
 fn computed(alloc: Global, piece: Piece) -> Result<String, Stop> {
     let [Sized { size, .. }, ..] = piece.sizes();
     let computed = match prepare(alloc, piece, size)? {
-        Prepared::Lent(lent) => lent.work(alloc)?,
+        Prepared::Borrowed(borrowed) => borrowed.work(alloc)?,
         Prepared::Given(given) => given.work(alloc)?,
     };
     let name = piece.name();
@@ -45,16 +45,16 @@ fn once<O: Write>(alloc: Global, out: &mut O) -> Result<(), Stop> {
     Ok(())
 }
 
-/// The nanoseconds of doing work on what is lent, some times over.
-fn time_of_lent<C: Clock>(
+/// The nanoseconds of doing work on what is borrowed, some times over.
+fn time_of_borrowed<C: Clock>(
     clock: &C,
     alloc: Global,
-    lent: &Lent,
+    borrowed: &Borrowed,
     operations: u32,
 ) -> Result<u128, Stop> {
     let start = Instant::now(clock)?;
     for _ in 0..operations {
-        black_box(lent.work(alloc)?);
+        black_box(borrowed.work(alloc)?);
     }
     Ok(start.elapsed(clock)?.as_nanos())
 }
@@ -77,7 +77,12 @@ fn time_of_run<C: Clock>(
     let mut spent = 0u128;
     for _ in 0..sized.operations {
         match prepare(alloc, piece, sized.size)? {
-            Prepared::Lent(lent) => return time_of_lent(clock, alloc, &lent, sized.operations),
+            Prepared::Borrowed(borrowed) => return time_of_borrowed(
+                clock,
+                alloc,
+                &borrowed,
+                sized.operations,
+            ),
             Prepared::Given(given) => {
                 spent = spent.saturating_add(time_of_given(clock, alloc, given)?);
             }
@@ -174,9 +179,9 @@ fn carry_out<C: Clock, O: Write, E: Write>(
     }
 }
 
-/// The status that goes with why the program stopped, of which `err` gets a line: 1 where what was made
-/// ready was refused, 3 for want of memory, and 4 where the clock or a writer refused. A failed write to
-/// `err` is ignored.
+/// The status that goes with why the program stopped, of which `err` gets a line: 1 where what was
+/// made ready was refused, 3 where memory ran out, and 4 where the clock or a writer refused. A
+/// failed write to `err` is ignored.
 fn stopped<E: Write>(stop: Stop, err: &mut E) -> u8
     ensures { (result ≡ 1) ⊎ ((result ≡ 3) ⊎ (result ≡ 4)) }
 {
@@ -194,7 +199,7 @@ fn stopped<E: Write>(stop: Stop, err: &mut E) -> u8
 /// - 0: what was asked for is printed on `out`.
 /// - 1: what was made ready was refused; `err` has the line `refused`.
 /// - 2: the words give no command; `err` has the line on usage.
-/// - 3: memory was wanting; `err` has the line `memory`.
+/// - 3: memory ran out; `err` has the line `memory`.
 /// - 4: the clock couldn't be read, or `out` couldn't be written; `err` has the line `system`.
 ///
 /// A failed write to `err` is ignored.
@@ -217,8 +222,8 @@ pub fn run<C: Clock, O: Write, E: Write>(
     }
 }
 
-/// Answers the status where the words couldn't be read: 3 for want of memory, and 2 for a word that is
-/// no text. A failed write to `err` is ignored.
+/// Answers the status where the words couldn't be read: 3 where memory ran out, and 2 for a word
+/// that is no text. A failed write to `err` is ignored.
 pub fn unread<E: Write>(error: &io::Error, err: &mut E) -> u8
     ensures { (result ≡ 2) ⊎ (result ≡ 3) }
 {

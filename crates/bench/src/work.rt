@@ -1,7 +1,7 @@
 //! The work of each piece, done once.
 
 use crate::graphs::Graph;
-use crate::prepared::{Given, Lent, OfOne, OfSchema, OfTwo, built, no_extensions};
+use crate::prepared::{Borrowed, Given, OfOne, OfSchema, OfTwo, built, no_extensions};
 use crate::stop::Stop;
 use cedar_schema::below::{ValidationMode, Value};
 use cedar_schema::json_schema::{Fragment, RawName};
@@ -110,26 +110,26 @@ impl OfSchema {
     fn work(self, alloc: Global, schema: &ValidatorSchema) -> Result<usize, Stop> {
         match self {
             OfSchema::Environments => Ok(environments(schema)),
-            OfSchema::WriteBack => Ok(declarations(&schema.to_json_schema(alloc)?)),
+            OfSchema::ConvertBack => Ok(declarations(&schema.to_json_schema(alloc)?)),
         }
     }
 }
 
-impl Lent {
+impl Borrowed {
     /// Does the work once, and answers what it computed: 1 or 0 for yes or no, the length of a text, or how
     /// many names were compared, attributes or members are listed, or environments or declarations there are.
     pub(crate) fn work(&self, alloc: Global) -> Result<usize, Stop> {
         match self {
-            Lent::One(question, ty) => question.work(alloc, ty),
-            Lent::Two(question, one, other) => question.work(alloc, one, other),
-            Lent::LookUp(attributes, name) => Ok(attributes.get_attr_counted(name).1 as usize),
-            Lent::Membership(ty, value) => Ok(has_type(alloc, ty, value)),
-            Lent::Joins(types) => joined(alloc, types),
-            Lent::Schema(question, schema) => question.work(alloc, schema),
-            Lent::Declared(schema, ty, uid) => Ok(usize::from(
+            Borrowed::One(question, ty) => question.work(alloc, ty),
+            Borrowed::Two(question, one, other) => question.work(alloc, one, other),
+            Borrowed::LookUp(attributes, name) => Ok(attributes.get_attr_counted(name).1 as usize),
+            Borrowed::Membership(ty, value) => Ok(has_type(alloc, ty, value)),
+            Borrowed::Joins(types) => joined(alloc, types),
+            Borrowed::Schema(question, schema) => question.work(alloc, schema),
+            Borrowed::Declared(schema, ty, uid) => Ok(usize::from(
                 schema.get_entity_type(ty).is_some() && schema.get_action_id(uid).is_some(),
             )),
-            Lent::KnownAttributes(schema, ty) => {
+            Borrowed::KnownAttributes(schema, ty) => {
                 Ok(ty.all_attributes(alloc, schema)?.keys().count())
             }
         }

@@ -1,5 +1,6 @@
 pub mod Chains
 pub mod Collected
+mod EntryLemmas
 pub mod FittingNames
 pub mod Ids
 pub mod Inclusion
@@ -8,7 +9,9 @@ pub mod Lookups
 pub mod Names
 pub mod Ordered
 pub mod PlainNames
+pub mod ShownLemmas
 pub mod Texts
 pub mod TreeLemmas
+mod TurnLemmas
 pub mod Uids
 pub mod ValueLemmas

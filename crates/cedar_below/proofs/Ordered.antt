@@ -39,7 +39,7 @@ pub AllByRecursion-middle : {K : Type 0} (P : K → Type 0) (front : List K) (x 
 AllByRecursion-middle P [] x back h = h.0
 AllByRecursion-middle P (y ∷ front) x back h = AllByRecursion-middle P front x back h.1
 
--- in a list that ascends, an item is above each of those before it
+-- in a sorted list without duplicates, an item is above each of those before it
 pub above_front : {K : Type 0} {R : K → K → Ordering} → IsTotalOrder R → (front : List K) (x : K) (back : List K)
     → IsStrictlySortedBy R (front ++ x ∷ back) → AllByRecursion (λ y. R x y ≡ Greater) front
 unfolding IsStrictlySortedBy

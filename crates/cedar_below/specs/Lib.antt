@@ -7,6 +7,7 @@ pub mod Entity
 pub mod EntityType
 pub mod EntityUID
 pub mod Extensions
+pub mod FeedsVariant
 pub mod Fits
 pub mod Id
 pub mod Identifier

@@ -8,8 +8,8 @@ Included {A = A} lower upper = (x : A) → Contains lower x → Contains upper x
 abbrev pub SameItems : {A : Type 0} → List A → List A → Type 0
 SameItems {A = A} items others = (item : A) → Contains items item ↔ Contains others item
 
--- the lists are of one length, and a relation holds between their items in turn
-abbrev pub HoldsInTurn : {A B : Type 0} → (A → B → Type 0) → List A → List B → Type 0
-HoldsInTurn R [] [] = Unit {0}
-HoldsInTurn R (first ∷ rest) (other ∷ others) = R first other × HoldsInTurn R rest others
-HoldsInTurn R _ _ = ⊥
+-- the lists are of one length, and a relation holds between their items pairwise
+abbrev pub HoldsPairwise : {A B : Type 0} → (A → B → Type 0) → List A → List B → Type 0
+HoldsPairwise R [] [] = Unit {0}
+HoldsPairwise R (first ∷ rest) (other ∷ others) = R first other × HoldsPairwise R rest others
+HoldsPairwise R _ _ = ⊥

@@ -17,7 +17,7 @@ impl Eid {
         self.0.as_str()
     }
 
-    /// An equal id, or want of memory.
+    /// An equal id.
     pub fn clone(&self) -> M<Self>
         ensures { IfOk result (λ copy. eid_text copy ≡ eid_text self.now) }
     {

@@ -1,10 +1,12 @@
 //! Names of entity types.
 
-ghost use Rattle.std.specs.Prelude.{◌≡◌, ◌↔◌, IsTrue, IfOk};
+ghost use Rattle.std.specs.Prelude.{◌≡◌, ◌↔◌, IsTrue, IfErr, IfOk, OnOk};
 ghost use Rattle.cedar_below.specs.EntityType.{type_name, type_loc};
+ghost use Rattle.cedar_below.specs.InternalName.{name_of, name_loc};
 ghost use Rattle.cedar_below.specs.Name.{plain_name, plain_loc};
 ghost use Rattle.cedar_below.specs.PlainName.{IsActionType, IsReserved};
 
+use crate::internal_name::InternalName;
 use crate::loc::Loc;
 use crate::memory::M;
 use crate::name::Name;
@@ -24,6 +26,22 @@ impl EntityType {
         ensures loc { type_loc result ≡ plain_loc name }
     {
         EntityType(name)
+    }
+
+    /// The entity type of a name with its location; or the name back, where it is reserved.
+    pub fn from_internal(name: InternalName) -> Result<Self, InternalName>
+        ensures name { IfOk result (λ ty. type_name ty ≡ name_of name) }
+        ensures loc { IfOk result (λ ty. type_loc ty ≡ name_loc name) }
+        ensures unreserved { OnOk result (¬ IsReserved (name_of name)) }
+        ensures refused { IfErr result (λ given. (given ≡ name) × IsReserved (name_of name)) }
+    {
+        if name.is_reserved() {
+            return Err(name);
+        }
+        match Name::new(name) {
+            Some(name) => Ok(EntityType(name)),
+            None => unreachable!(),
+        }
     }
 
     /// The entity type's name.
@@ -56,7 +74,7 @@ impl EntityType {
         self.0.basename().as_str() == ACTION
     }
 
-    /// An equal entity type with the same location, or want of memory.
+    /// An equal entity type with the same location.
     pub fn clone(&self) -> M<Self>
         ensures name { IfOk result (λ copy. type_name copy ≡ type_name self.now) }
         ensures loc { IfOk result (λ copy. type_loc copy ≡ type_loc self.now) }

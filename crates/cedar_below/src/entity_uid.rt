@@ -63,7 +63,7 @@ impl EntityUID {
         self.ty.is_action()
     }
 
-    /// An equal uid with the same locations, its own and its type's, or want of memory.
+    /// An equal uid with the same locations, its own and its type's.
     pub fn clone(&self) -> M<Self>
         ensures uid { IfOk result (λ copy. uid_of copy ≡ uid_of self.now) }
         ensures loc { IfOk result (λ copy. uid_loc copy ≡ uid_loc self.now) }

@@ -86,7 +86,7 @@ impl Id {
         self.text.as_str() == RESERVED
     }
 
-    /// An equal identifier, or want of memory.
+    /// An equal identifier.
     pub fn clone(&self) -> M<Self>
         ensures { IfOk result (λ copy. id_text copy ≡ id_text self.now) }
     {

@@ -23,7 +23,7 @@ pub struct InternalName {
     loc: Option<Loc>,
 }
 
-/// Equal identifiers in the same order, or want of memory.
+/// Equal identifiers in the same order.
 fn clone_path(path: &Vec<Id>) -> M<Vec<Id>>
     ensures { IfOk result (λ copy. map id_text copy.items ≡ map id_text path.now.items) }
 {
@@ -91,7 +91,7 @@ impl InternalName {
         self.id.is_reserved() || has_reserved(&self.path)
     }
 
-    /// An equal name with the same location, or want of memory.
+    /// An equal name with the same location.
     pub fn clone(&self) -> M<Self>
         ensures name { IfOk result (λ copy. name_of copy ≡ name_of self.now) }
         ensures loc { IfOk result (λ copy. name_loc copy ≡ name_loc self.now) }

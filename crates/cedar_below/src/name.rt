@@ -66,7 +66,7 @@ impl Name {
         self.name.is_unqualified()
     }
 
-    /// Whether the names are the same, whatever their locations.
+    /// Whether the names are the same, ignoring locations.
     pub fn is_same(&self, other: &Name) -> bool
         ensures { IsTrue result ↔ (plain_name self.now ≡ plain_name other.now) }
     {
@@ -90,7 +90,7 @@ impl Name {
         self.name
     }
 
-    /// An equal name with the same location, or want of memory.
+    /// An equal name with the same location.
     pub fn clone(&self) -> M<Self>
         ensures name { IfOk result (λ copy. plain_name copy ≡ plain_name self.now) }
         ensures loc { IfOk result (λ copy. plain_loc copy ≡ plain_loc self.now) }

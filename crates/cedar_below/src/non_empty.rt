@@ -16,7 +16,7 @@ pub struct NonEmpty<T> {
     pub tail: Vec<T>,
 }
 
-/// Equal ids in the same order, or want of memory.
+/// Equal ids in the same order.
 fn clone_ids(ids: &Vec<Eid>) -> M<Vec<Eid>>
     ensures { IfOk result (λ copy. map eid_text copy.items ≡ map eid_text ids.now.items) }
 {
@@ -28,7 +28,7 @@ fn clone_ids(ids: &Vec<Eid>) -> M<Vec<Eid>>
 }
 
 impl NonEmpty<Eid> {
-    /// Equal ids in the same order, or want of memory.
+    /// Equal ids in the same order.
     pub fn clone(&self) -> M<Self>
         ensures { IfOk result (λ copy. map eid_text (items_of copy) ≡ map eid_text (items_of self.now)) }
     {

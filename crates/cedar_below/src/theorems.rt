@@ -46,7 +46,7 @@ pub fn eids_compare_by_text()
     ensures hash { (a b : Eid) → eid_text a ≡ eid_text b → ⟦<Eid as Hash>⟧.hash_input a ≡ ⟦<Eid as Hash>⟧.hash_input b }
 {}
 
-/// Names that may be reserved are compared by what they stand for, whatever their locations.
+/// Names that may be reserved are compared by what they stand for, ignoring locations.
 pub fn internal_names_compare_by_name()
     ensures equality { (a b : InternalName) → IsTrue (⟦<InternalName as PartialEq>⟧.eq a b) ↔ (name_of a ≡ name_of b) }
     ensures order { (a b : InternalName) → ⟦<InternalName as Ord>⟧.cmp a b ≡ name_cmp (name_of a) (name_of b) }
@@ -54,14 +54,14 @@ pub fn internal_names_compare_by_name()
         → ⟦<InternalName as Hash>⟧.hash_input a ≡ ⟦<InternalName as Hash>⟧.hash_input b }
 {}
 
-/// Names are compared by what they stand for, whatever their locations.
+/// Names are compared by what they stand for, ignoring locations.
 pub fn names_compare_by_name()
     ensures equality { (a b : Name) → IsTrue (⟦<Name as PartialEq>⟧.eq a b) ↔ (plain_name a ≡ plain_name b) }
     ensures order { (a b : Name) → ⟦<Name as Ord>⟧.cmp a b ≡ name_cmp (plain_name a) (plain_name b) }
     ensures hash { (a b : Name) → plain_name a ≡ plain_name b → ⟦<Name as Hash>⟧.hash_input a ≡ ⟦<Name as Hash>⟧.hash_input b }
 {}
 
-/// Entity types are compared by their names, whatever their locations.
+/// Entity types are compared by their names, ignoring locations.
 pub fn entity_types_compare_by_name()
     ensures equality { (a b : EntityType) → IsTrue (⟦<EntityType as PartialEq>⟧.eq a b) ↔ (type_name a ≡ type_name b) }
     ensures order { (a b : EntityType) → ⟦<EntityType as Ord>⟧.cmp a b ≡ name_cmp (type_name a) (type_name b) }
@@ -69,7 +69,7 @@ pub fn entity_types_compare_by_name()
         → ⟦<EntityType as Hash>⟧.hash_input a ≡ ⟦<EntityType as Hash>⟧.hash_input b }
 {}
 
-/// Uids are compared by what they stand for, whatever their locations.
+/// Uids are compared by what they stand for, ignoring locations.
 pub fn uids_compare_by_type_and_id()
     ensures equality { (a b : EntityUID) → IsTrue (⟦<EntityUID as PartialEq>⟧.eq a b) ↔ (uid_of a ≡ uid_of b) }
     ensures order { (a b : EntityUID) → ⟦<EntityUID as Ord>⟧.cmp a b ≡ uid_cmp (uid_of a) (uid_of b) }

@@ -36,7 +36,7 @@ fn are_fit(names: &[Name]) -> bool
     names.iter().all(|name| is_fit(name))
 }
 
-/// Whether no two names of the list are the same, whatever their locations.
+/// Whether no two names of the list are the same, ignoring locations.
 fn are_distinct(names: &[Name]) -> bool
     ensures { IsTrue result ↔ AllPairs (λ a b. a ≢ b) (map plain_name names.now) }
 {

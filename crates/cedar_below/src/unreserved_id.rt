@@ -54,7 +54,7 @@ impl UnreservedId {
         self.id
     }
 
-    /// An equal identifier, or want of memory.
+    /// An equal identifier.
     pub fn clone(&self) -> M<Self>
         ensures { IfOk result (λ copy. unreserved_id_text copy ≡ unreserved_id_text self.now) }
     {

@@ -15,17 +15,17 @@ use Rattle.std.proofs.lemmas.Simd.{map-map}
 use Rattle.std.specs.Map.{keys_of}
 use Rattle.std.specs.String.{string_cmp}
 use Rattle.cedar_below.proofs.Ordered.{IsStrictlySortedBy-map}
-use Rattle.cedar_declared.specs.Fault.{Fault, action_attributes, want_of_memory}
+use Rattle.cedar_declarations.specs.Fault.{Fault, action_attributes, out_of_memory}
 use Rattle.cedar_fragments.specs.DefinitionFault.{IsDefinitionFault, NamesAllWithAttributes, NamesNoAttributes}
 use Rattle.cedar_below.proofs.Lists.{Contains-cons, Contains-cons_cases, Contains-preimage}
 use Rattle.cedar_below.specs.PlainName.{PlainName}
 use Rattle.cedar_below.specs.Text.{Text, text_cmp}
-use Rattle.cedar_declared.proofs.OccurrenceLemmas.{Contains-image}
-use Rattle.cedar_declared.specs.IllFormed.{HasAttributes}
+use Rattle.cedar_declarations.proofs.OccurrenceLemmas.{Contains-image}
+use Rattle.cedar_declarations.specs.IllFormed.{HasAttributes}
 use Rattle.cedar_fragments.specs.WithAttributes.{id_where, with_attributes}
 use Rattle.cedar_names.specs.ActionBody.{ActionBody, action_body}
 use Rattle.cedar_below.specs.declared.unreserved_id.UnreservedId.{UnreservedId}
-use Rattle.cedar_declared.specs.Bag.{Bag}
+use Rattle.cedar_declarations.specs.Bag.{Bag}
 use Rattle.cedar_names.specs.Declaration.{Declaration, Body, common_type, entity_type, action, common_declarations, entity_declarations, action_declarations}
 use Rattle.cedar_names.specs.EntityBody.{EntityBody}
 use Rattle.cedar_names.specs.Expr.{Expr}
@@ -194,7 +194,7 @@ ids_of_map entries ids ordered listed =
 -- the fault of actions with attributes
 pub attributes_fault : (namespace : Option PlainName) (entries : Actions) (ids : List (String Global))
     → map string_bytes ids ≡ with_attributes entries → IsStrictlySortedBy text_cmp (map string_bytes ids) → length ids ≢ 0
-    → (action_attributes (map string_bytes ids) ≡ want_of_memory)
+    → (action_attributes (map string_bytes ids) ≡ out_of_memory)
     ⊎ IsDefinitionFault (action_declarations RawName (raw_reference namespace) namespace entries) (action_attributes (map string_bytes ids))
 attributes_fault namespace entries ids listed ordered some =
     let P : Text → List Text → Type 0 = λ id each. Contains each id in

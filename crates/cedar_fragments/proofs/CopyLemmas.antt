@@ -3,14 +3,14 @@ use Rattle.std.proofs.Common.{◌≡◌, ◌++◌, List, [], ◌∷◌, Option, 
 use Rattle.std.specs.List.{flat_map}
 use Rattle.std.specs.Option.{option_map}
 use Rattle.cedar_below.specs.InternalName.{name_of}
-use Rattle.cedar_below.specs.Lists.{HoldsInTurn}
+use Rattle.cedar_below.specs.Lists.{HoldsPairwise}
 use Rattle.cedar_below.specs.declared.internal_name.InternalName.{InternalName}
-use Rattle.cedar_copied.proofs.ShownLemmas.{same_shown}
+use Rattle.cedar_below.proofs.ShownLemmas.{same_shown}
 use Rattle.cedar_fragments.specs.Located.{LocatedName, located_name}
-use Rattle.cedar_declared.specs.Settled.{reference_to_one}
-use Rattle.cedar_declared.specs.SettledExpr.{settled_reference}
-use Rattle.cedar_fragments.specs.FragmentDeclarations.{settled_action_type}
-use Rattle.cedar_names.specs.ConditionalExpr.{own_reference, placed_reference}
+use Rattle.cedar_declarations.specs.Resolved.{reference_to_one}
+use Rattle.cedar_declarations.specs.ResolvedExpr.{resolved_reference}
+use Rattle.cedar_fragments.specs.FragmentDeclarations.{resolved_action_type}
+use Rattle.cedar_names.specs.ConditionalExpr.{own_reference, positional_reference}
 use Rattle.cedar_names.specs.Copies.{AlikeConditional, AlikeEntity, AlikeFull, LocatesAlike, RefersAlike}
 use Rattle.cedar_names.specs.declared.json_schema.conditional_name.ConditionalName.{ConditionalName}
 use Rattle.cedar_below.specs.declared.entity_type.EntityType.{EntityType}
@@ -23,20 +23,20 @@ pub own_alike : RefersAlike ConditionalName AlikeConditional own_reference
 own_alike kind name copy alike = λ i. record { possibilities = alike.possibilities i; kind = alike.reference_type i }
 
 -- of the kinds that their places permit
-pub placed_alike : RefersAlike ConditionalName AlikeConditional placed_reference
-placed_alike kind name copy alike = λ i. record { possibilities = alike.possibilities i; kind = kind }
+pub positional_alike : RefersAlike ConditionalName AlikeConditional positional_reference
+positional_alike kind name copy alike = λ i. record { possibilities = alike.possibilities i; kind = kind }
 
 -- by full names
-pub settled_alike : RefersAlike InternalName AlikeFull settled_reference
-settled_alike kind name copy alike = ap (reference_to_one kind) alike.name
+pub resolved_alike : RefersAlike InternalName AlikeFull resolved_reference
+resolved_alike kind name copy alike = ap (reference_to_one kind) alike.name
 
 -- and by the types of actions
-pub action_type_alike : RefersAlike EntityType AlikeEntity settled_action_type
+pub action_type_alike : RefersAlike EntityType AlikeEntity resolved_action_type
 action_type_alike kind name copy alike = ap (reference_to_one kind) alike.name
 
--- what holds of two lists in turn follows in turn
-pub turn_weaker : {A : Type 0} (R S : A → A → Type 0) → ((x y : A) → R x y → S x y) → (xs ys : List A) → HoldsInTurn R xs ys
-    → HoldsInTurn S xs ys
+-- what holds of two lists pairwise follows in turn
+pub turn_weaker : {A : Type 0} (R S : A → A → Type 0) → ((x y : A) → R x y → S x y) → (xs ys : List A) → HoldsPairwise R xs ys
+    → HoldsPairwise S xs ys
 turn_weaker R S follows [] [] turn = tt
 turn_weaker R S follows [] (y ∷ ys) turn = absurd turn
 turn_weaker R S follows (x ∷ xs) [] turn = absurd turn
@@ -44,21 +44,21 @@ turn_weaker R S follows (x ∷ xs) (y ∷ ys) turn = (follows x y turn.0, turn_w
 
 -- lists show the same one after another where each item shows the same as that of the other in turn
 pub same_flat : {A P : Type 0} (R : A → A → Type 0) (shown : A → List P) → ((x y : A) → R x y → shown y ≡ shown x) → (xs ys : List A)
-    → HoldsInTurn R xs ys → flat_map shown ys ≡ flat_map shown xs
+    → HoldsPairwise R xs ys → flat_map shown ys ≡ flat_map shown xs
 same_flat R shown same [] [] turn = refl
 same_flat R shown same [] (y ∷ ys) turn = absurd turn
 same_flat R shown same (x ∷ xs) [] turn = absurd turn
 same_flat R shown same (x ∷ xs) (y ∷ ys) turn = λ i. same x y turn.0 i ++ same_flat R shown same xs ys turn.1 i
 
 module _ (N : Type 0) (alike : N → N → Type 0) where
-  -- names that are alike in turn refer to the same
+  -- names that are alike pairwise refer to the same
   pub refer_same : (refer : ReferenceType → N → Reference) → RefersAlike N alike refer → (kind : ReferenceType)
-      → (names copies : List N) → HoldsInTurn alike names copies → map (refer kind) copies ≡ map (refer kind) names
+      → (names copies : List N) → HoldsPairwise alike names copies → map (refer kind) copies ≡ map (refer kind) names
   refer_same refer fair kind = same_shown alike (refer kind) (fair kind)
 
   -- and the same locations stand in them
   pub locate_same : (locs : N → Locs) → LocatesAlike N alike locs
-      → (names copies : List N) → HoldsInTurn alike names copies → flat_map locs copies ≡ flat_map locs names
+      → (names copies : List N) → HoldsPairwise alike names copies → flat_map locs copies ≡ flat_map locs names
   locate_same locs fair = same_flat alike locs fair
 
 -- a namespace of the same name at the same location has the same name

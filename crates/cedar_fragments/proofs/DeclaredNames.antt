@@ -8,7 +8,7 @@ use Rattle.cedar_below.specs.EntityUID.{uid_of}
 use Rattle.cedar_below.specs.InternalName.{name_of}
 use Rattle.cedar_below.specs.PlainName.{PlainName, IsActionType}
 use Rattle.cedar_below.specs.PlainUid.{PlainUid}
-use Rattle.cedar_declared.specs.Bag.{Bag, common_in, entity_in, action_in, declared_name, declared_uid}
+use Rattle.cedar_declarations.specs.Bag.{Bag, common_in, entity_in, action_in, declared_name, declared_uid}
 use Rattle.cedar_fragments.proofs.DeclaredAsLemmas.{path_within-namespace_of}
 use Rattle.cedar_fragments.specs.ActionDeclarations.{action_fragment_body, action_fragment_declaration, action_fragment_declarations}
 use Rattle.cedar_fragments.specs.DeclaredAs.{declared_as, declared_action}
@@ -19,7 +19,7 @@ use Rattle.cedar_fragments.specs.declared.namespace.definition.ValidatorNamespac
 use Rattle.cedar_fragments.specs.declared.namespace.fragment.ValidatorSchemaFragment.{ValidatorSchemaFragment}
 use Rattle.cedar_names.specs.Declaration.{Declaration, Body, common_type, entity_type, action}
 use Rattle.cedar_names.specs.Reference.{Reference}
-use Rattle.cedar_names.specs.WrittenExpr.{written_type}
+use Rattle.cedar_names.specs.TypeExpr.{type_expr}
 use Rattle.cedar_names.specs.declared.json_schema.reference_type.ReferenceType.{ReferenceType}
 
 -- what is declared under a name has that name
@@ -86,7 +86,7 @@ module _ (N : Type 0) (refer : ReferenceType → N → Reference) (A : Type 0) (
       (action_fragment_declarations N refer A refer_action it.actions)
       ∙ ((λ i.
       each_read common_name (common_type_declaration N refer) (λ def. name_of def.name)
-      (λ def. ap (λ name. name ∷ []) (name_declared (name_of def.name) (common_type (written_type N refer def.ty)))) it.common_types.defs.items i
+      (λ def. ap (λ name. name ∷ []) (name_declared (name_of def.name) (common_type (type_expr N refer def.ty)))) it.common_types.defs.items i
       ++ none_read common_name (entity_type_declaration N refer) (λ def. refl) it.entity_types.defs.items i
       ++ none_read common_name (action_fragment_declaration N refer A refer_action) (λ def. refl) it.actions.defs.items i)
       ∙ (append-nil _ ∙ append-nil _))

@@ -4,7 +4,7 @@ use Rattle.std.proofs.lemmas.List.{append-nil}
 use Rattle.cedar_below.specs.EntityType.{type_name}
 use Rattle.cedar_below.specs.EntityUID.{uid_of}
 use Rattle.cedar_below.specs.InternalName.{name_of}
-use Rattle.cedar_declared.specs.Bag.{common_in, entity_in, action_in, declared_name, declared_uid, declared_common, declared_entities, declared_actions}
+use Rattle.cedar_declarations.specs.Bag.{common_in, entity_in, action_in, declared_name, declared_uid, declared_common, declared_entities, declared_actions}
 use Rattle.cedar_fragments.proofs.DeclaredNames.{name_declared, uid_declared, each_read, none_read, three_read}
 use Rattle.cedar_fragments.specs.ActionDeclarations.{action_fragment_body, action_fragment_declaration, action_fragment_declarations}
 use Rattle.cedar_fragments.specs.TypeDeclarations.{fragment_body, common_type_declaration, common_type_declarations, entity_type_declaration, entity_type_declarations}
@@ -16,17 +16,17 @@ use Rattle.cedar_fragments.specs.declared.namespace.entity_type_def.EntityTypeDe
 use Rattle.cedar_fragments.specs.declared.namespace.entity_types.EntityTypesDef.{EntityTypesDef}
 use Rattle.cedar_names.specs.Declaration.{Declaration, common_type, entity_type, action}
 use Rattle.cedar_names.specs.Reference.{Reference}
-use Rattle.cedar_names.specs.WrittenExpr.{written_type}
+use Rattle.cedar_names.specs.TypeExpr.{type_expr}
 use Rattle.cedar_names.specs.declared.json_schema.reference_type.ReferenceType.{ReferenceType}
 
 module _ (N : Type 0) (refer : ReferenceType → N → Reference) where
   -- common types declare each its full name and its definition
   pub common_declared : (defs : List (CommonTypeDef N))
-      → declared_common (map (common_type_declaration N refer) defs) ≡ map (λ def. (name_of def.name, written_type N refer def.ty)) defs
+      → declared_common (map (common_type_declaration N refer) defs) ≡ map (λ def. (name_of def.name, type_expr N refer def.ty)) defs
   common_declared defs =
       each_read (λ it. common_in (declared_name it) it.body) (common_type_declaration N refer)
-      (λ def. (name_of def.name, written_type N refer def.ty))
-      (λ def. ap (λ name. (name, written_type N refer def.ty) ∷ []) (name_declared (name_of def.name) (common_type (written_type N refer def.ty)))) defs
+      (λ def. (name_of def.name, type_expr N refer def.ty))
+      (λ def. ap (λ name. (name, type_expr N refer def.ty) ∷ []) (name_declared (name_of def.name) (common_type (type_expr N refer def.ty)))) defs
 
   -- entity types declare each its full name and what is declared of it
   pub entities_declared : (defs : List (EntityTypeDef N))

@@ -4,15 +4,15 @@ use Rattle.std.proofs.lemmas.List.Elements.{Contains-append_left, Contains-appen
 use Rattle.std.specs.List.{AllByRecursion, flat_map}
 use Rattle.cedar_below.proofs.Lists.{Contains-cons_cases}
 use Rattle.cedar_below.specs.Lists.{Included}
-use Rattle.cedar_declared.specs.Bag.{Bag}
-use Rattle.cedar_declared.specs.Fault.{Fault, want_of_memory}
+use Rattle.cedar_declarations.specs.Bag.{Bag}
+use Rattle.cedar_declarations.specs.Fault.{Fault, out_of_memory}
 use Rattle.cedar_fragments.proofs.SoundLemmas.{AllByRecursion-append, fault_included}
 use Rattle.cedar_fragments.specs.DefinitionFault.{IsDefinitionFault}
 use Rattle.cedar_names.specs.Declaration.{Declaration}
 
 -- the refusal of some declarations is that of all of them
 pub refusal_included : (part whole : Bag) → Included part whole → (fault : Fault)
-    → (fault ≡ want_of_memory) ⊎ IsDefinitionFault part fault → (fault ≡ want_of_memory) ⊎ IsDefinitionFault whole fault
+    → (fault ≡ out_of_memory) ⊎ IsDefinitionFault part fault → (fault ≡ out_of_memory) ⊎ IsDefinitionFault whole fault
 refusal_included part whole included fault =
     ⊎_elim (λ memory. inl memory) (λ at_fault. inr (fault_included part whole included fault at_fault))
 

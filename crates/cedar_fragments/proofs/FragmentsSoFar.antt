@@ -5,7 +5,7 @@ use Rattle.std.specs.List.{AllByRecursion}
 use Rattle.cedar_below.specs.declared.name.Name.{Name}
 use Rattle.cedar_fragments.proofs.ListedSoFar.{ListedSoFar}
 use Rattle.cedar_fragments.specs.DefinitionFault.{IsSound}
-use Rattle.cedar_fragments.specs.DefinitionsInTurn.{entry_declarations}
+use Rattle.cedar_fragments.specs.DefinitionsPairwise.{entry_declarations}
 use Rattle.cedar_fragments.specs.FragmentDeclarations.{conditional_definition}
 use Rattle.cedar_fragments.specs.declared.namespace.definition.ValidatorNamespaceDef.{ValidatorNamespaceDef}
 use Rattle.cedar_names.specs.declared.json_schema.conditional_name.ConditionalName.{ConditionalName}

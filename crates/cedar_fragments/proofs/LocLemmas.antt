@@ -1,15 +1,15 @@
--- Locations that stay where names come to be settled.
+-- Locations that stay where names come to be resolved.
 use Rattle.std.proofs.Common.{◌≡◌, Option, List, [], ◌∷◌, ◌++◌, ap, sym, ◌∙◌, refl, rules}
 use Rattle.std.proofs.lemmas.List.Folds.{flat_map-map}
 use Rattle.std.specs.List.{flat_map}
 use Rattle.std.specs.declared.alloc.Global.{Global}
 use Rattle.std.specs.declared.boxed.Box.{Box}
 use Rattle.std.specs.declared.string.String.{String}
-use Rattle.cedar_below.specs.Lists.{HoldsInTurn}
+use Rattle.cedar_below.specs.Lists.{HoldsPairwise}
 use Rattle.cedar_below.specs.declared.internal_name.InternalName.{InternalName}
 use Rattle.cedar_below.specs.declared.loc.Loc.{Loc}
 use Rattle.cedar_below.specs.declared.unreserved_id.UnreservedId.{UnreservedId}
-use Rattle.cedar_fragments.proofs.InTurn.{SameKey}
+use Rattle.cedar_fragments.proofs.Pairwise.{SameKey}
 use Rattle.cedar_fragments.specs.FragmentLocs.{no_locs}
 use Rattle.cedar_names.specs.TypeLocs.{Locs, attribute_locs, attribute_locs_step, record_locs, record_locs_step, type_locs, type_locs_step, variant_locs, variant_locs_step}
 use Rattle.cedar_names.specs.declared.json_schema.conditional_name.ConditionalName.{ConditionalName}
@@ -34,7 +34,7 @@ kept_beside_names made others names more same =
 abbrev pub KeepsType : «Type» ConditionalName → «Type» InternalName → Type 0
 KeepsType ty made = type_locs InternalName no_locs made ≡ type_locs ConditionalName no_locs ty
 
--- a type that is written out does
+-- a type variant does
 abbrev pub KeepsVariant : TypeVariant ConditionalName → TypeVariant InternalName → Type 0
 KeepsVariant ty made = variant_locs InternalName no_locs made ≡ variant_locs ConditionalName no_locs ty
 
@@ -42,7 +42,7 @@ KeepsVariant ty made = variant_locs InternalName no_locs made ≡ variant_locs C
 abbrev pub KeepsAttribute : TypeOfAttribute ConditionalName → TypeOfAttribute InternalName → Type 0
 KeepsAttribute it made = attribute_locs InternalName no_locs made ≡ attribute_locs ConditionalName no_locs it
 
--- a type that is written out keeps them at its location
+-- a type variant keeps them at its location
 pub keeps_plain : (ty : TypeVariant ConditionalName) (made : TypeVariant InternalName) (loc : Option Loc) → KeepsVariant ty made
     → KeepsType (Plain ty loc) (Plain made loc)
 keeps_plain ty made loc kept =
@@ -65,7 +65,7 @@ keeps_set element made kept =
     let there : variant_locs ConditionalName no_locs (Set element) ≡ type_locs ConditionalName no_locs element.value = search (rules, the_lemmas) in
     here ∙ (kept ∙ sym there)
 
--- a record type that is written out keeps those of the record type
+-- the variant of a record type keeps those of the record type
 pub keeps_record : (it : RecordType ConditionalName) (made : RecordType InternalName)
     → record_locs InternalName no_locs made ≡ record_locs ConditionalName no_locs it → KeepsVariant (Record it) (Record made)
 keeps_record it made kept =
@@ -115,24 +115,24 @@ abbrev attributes_locs : (N : Type 0) → List (String Global × TypeOfAttribute
 attributes_locs N entries = flat_map (λ entry. attribute_locs N no_locs entry.1) entries
 
 -- attributes keep them in turn
-keep_in_turn : (all : List (String Global × TypeOfAttribute ConditionalName)) (made : List (String Global × TypeOfAttribute InternalName))
-    → HoldsInTurn (SameKey KeepsAttribute) all made → attributes_locs InternalName made ≡ attributes_locs ConditionalName all
-keep_in_turn [] [] turn = refl
-keep_in_turn [] (other ∷ made) turn = absurd turn
-keep_in_turn (entry ∷ all) [] turn = absurd turn
-keep_in_turn (entry ∷ all) (other ∷ made) turn = λ i. turn.0.1 i ++ keep_in_turn all made turn.1 i
+keep_pairwise : (all : List (String Global × TypeOfAttribute ConditionalName)) (made : List (String Global × TypeOfAttribute InternalName))
+    → HoldsPairwise (SameKey KeepsAttribute) all made → attributes_locs InternalName made ≡ attributes_locs ConditionalName all
+keep_pairwise [] [] turn = refl
+keep_pairwise [] (other ∷ made) turn = absurd turn
+keep_pairwise (entry ∷ all) [] turn = absurd turn
+keep_pairwise (entry ∷ all) (other ∷ made) turn = λ i. turn.0.1 i ++ keep_pairwise all made turn.1 i
 
 -- a record type that is made of such attributes keeps them
 pub keep_attributes : (written : RecordType ConditionalName)
     (it : layer.RecordType-F InternalName («Type» InternalName) (TypeVariant InternalName) (RecordType InternalName) (TypeOfAttribute InternalName))
-    → HoldsInTurn (SameKey KeepsAttribute) (out-RecordType ConditionalName written).attributes.entries it.attributes.entries
+    → HoldsPairwise (SameKey KeepsAttribute) (out-RecordType ConditionalName written).attributes.entries it.attributes.entries
     → record_locs InternalName no_locs (roll-RecordType InternalName it) ≡ record_locs ConditionalName no_locs written
 keep_attributes written it turn =
     let all = (out-RecordType ConditionalName written).attributes.entries in
     fold-roll-RecordType InternalName Locs Locs Locs Locs (type_locs_step InternalName no_locs) (variant_locs_step InternalName no_locs)
     (record_locs_step InternalName no_locs) (attribute_locs_step InternalName no_locs) it
     ∙ (flat_map-map (λ entry. entry.1) (λ entry. (entry.0, attribute_locs InternalName no_locs entry.1)) it.attributes.entries
-    ∙ (keep_in_turn all it.attributes.entries turn
+    ∙ (keep_pairwise all it.attributes.entries turn
     ∙ sym (fold_out-RecordType ConditionalName Locs Locs Locs Locs (type_locs_step ConditionalName no_locs) (variant_locs_step ConditionalName no_locs)
     (record_locs_step ConditionalName no_locs) (attribute_locs_step ConditionalName no_locs) written
     ∙ flat_map-map (λ entry. entry.1) (λ entry. (entry.0, attribute_locs ConditionalName no_locs entry.1)) all)))

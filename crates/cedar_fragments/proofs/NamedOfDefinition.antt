@@ -6,11 +6,11 @@ use Rattle.cedar_below.specs.Lists.{Included}
 use Rattle.cedar_below.specs.Name.{plain_name}
 use Rattle.cedar_below.specs.declared.extension.Extensions.{Extensions}
 use Rattle.cedar_below.specs.declared.name.Name.{Name}
-use Rattle.cedar_declared.specs.Bag.{Bag}
-use Rattle.cedar_declared.specs.Fault.{Fault, action_attributes, want_of_memory}
-use Rattle.cedar_declared.specs.IllFormed.{IsFault}
+use Rattle.cedar_declarations.specs.Bag.{Bag}
+use Rattle.cedar_declarations.specs.Fault.{Fault, action_attributes, out_of_memory}
+use Rattle.cedar_declarations.specs.IllFormed.{IsFault}
 use Rattle.cedar_fragments.specs.DefinitionFault.{HasNoDefinitionFault, NamesAllWithAttributes}
-use Rattle.cedar_fragments.specs.DefinitionsInTurn.{entry_declarations}
+use Rattle.cedar_fragments.specs.DefinitionsPairwise.{entry_declarations}
 use Rattle.cedar_fragments.specs.FragmentFault.{NamesAllOfADefinition}
 use Rattle.cedar_names.specs.declared.json_schema.fragment.Fragment.{Fragment}
 use Rattle.cedar_names.specs.declared.json_schema.fragment.NamespaceDefinition.{NamespaceDefinition}
@@ -33,7 +33,7 @@ named_included part whole included _ named = tt
 
 -- a fault of a bag that has none of a definition names no actions with attributes
 pub none_named : (fragments : List (Fragment RawName)) (bag : Bag) (extensions : Extensions) → HasNoDefinitionFault bag
-    → (fault : Fault) → (fault ≡ want_of_memory) ⊎ IsFault bag extensions fault → NamesAllOfADefinition fragments fault
+    → (fault : Fault) → (fault ≡ out_of_memory) ⊎ IsFault bag extensions fault → NamesAllOfADefinition fragments fault
 none_named fragments bag extensions none (action_attributes ids) =
     ⊎_elim (λ memory. cc) (λ at_fault. absurd (none extensions (action_attributes ids) tt at_fault))
 none_named fragments bag extensions none _ = λ either. tt

@@ -1,10 +1,10 @@
--- The references of fragments fit their places.
+-- The references of fragments fit their positions.
 use Rattle.std.proofs.Common.{◌≡◌, List, ◌++◌, Option, None, Some, map, ap, sym, subst, ⊎_elim, ◌∙◌, arith, Contains}
 use Rattle.std.proofs.lemmas.List.Elements.{Contains-append_cases}
 use Rattle.std.specs.List.{flat_map}
 use Rattle.cedar_below.proofs.Lists.{Contains-preimage}
-use Rattle.cedar_declared.proofs.OccurrenceLemmas.{Contains-flat_map}
-use Rattle.cedar_declared.specs.Counted.{IsEntityPlace, IsPrincipalOrResource, PlacesFit, entity_parents}
+use Rattle.cedar_declarations.proofs.OccurrenceLemmas.{Contains-flat_map}
+use Rattle.cedar_declarations.specs.Counted.{IsEntityTypePosition, IsPrincipalOrResource, PositionsFit, entity_parents}
 use Rattle.cedar_fragments.specs.ActionDeclarations.{action_fragment_declaration, action_fragment_declarations, fragment_requests}
 use Rattle.cedar_fragments.specs.FragmentDeclarations.{definition_declarations, fragment_declarations}
 use Rattle.cedar_fragments.specs.TypeDeclarations.{common_type_declaration, common_type_declarations, entity_type_declaration, entity_type_declarations, fragment_body}
@@ -43,9 +43,9 @@ module _ (N : Type 0) (refer : ReferenceType → N → Reference) (fits : (name 
   module _ (A : Type 0) (refer_action : ReferenceType → A → Reference) where
     -- the references of a definition do
     definition_fits : (definition : ValidatorNamespaceDef N A) (it : Declaration) (reference : Reference)
-        → Contains (definition_declarations N refer A refer_action definition) it → IsEntityPlace it.body reference → reference.kind ≡ Entity
+        → Contains (definition_declarations N refer A refer_action definition) it → IsEntityTypePosition it.body reference → reference.kind ≡ Entity
     definition_fits definition it reference among place =
-        let P : Declaration → Type 0 = λ each. IsEntityPlace each.body reference in
+        let P : Declaration → Type 0 = λ each. IsEntityTypePosition each.body reference in
         let common = common_type_declarations N refer definition.common_types in
         let entities = entity_type_declarations N refer definition.entity_types in
         let actions = action_fragment_declarations N refer A refer_action definition.actions in
@@ -62,7 +62,7 @@ module _ (N : Type 0) (refer : ReferenceType → N → Reference) (fits : (name 
 
     -- the references of some fragments do
     pub fragments_fit : (fragments : List (ValidatorSchemaFragment N A))
-        → PlacesFit (flat_map (fragment_declarations N refer A refer_action) fragments)
+        → PositionsFit (flat_map (fragment_declarations N refer A refer_action) fragments)
     fragments_fit fragments reference placed =
         let fragment = Contains-flat_map (fragment_declarations N refer A refer_action) fragments placed.0 placed.1 in
         let definition = Contains-flat_map (definition_declarations N refer A refer_action) fragment.0.definitions.items placed.0 fragment.2 in

@@ -2,7 +2,7 @@
 use Rattle.std.proofs.Common.{◌≡◌, ℕ, ◌+◌, ◌<◌, ◌≤◌, List, [], ◌∷◌, ◌++◌, map, ap, sym, subst, ◌∙◌, refl, inl, inr, length, get_or, take, drop, Contains, drop-cons, suc}
 use Rattle.std.proofs.lemmas.List.{get_or_default, map-append, map_more, take_all, take-append-drop}
 use Rattle.std.specs.List.{AllByRecursion}
-use Rattle.cedar_declared.specs.Occurrences.{IsFirst}
+use Rattle.cedar_declarations.specs.Occurrences.{IsFirst}
 use Rattle.cedar_fragments.proofs.SoundLemmas.{AllByRecursion-at, AllByRecursion-append}
 
 module _ {A B : Type 0} (P : B → Type 0) (f : A → B) where

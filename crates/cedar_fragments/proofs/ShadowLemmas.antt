@@ -20,8 +20,8 @@ use Rattle.cedar_below.specs.PlainName.{PlainName, IsUnqualified}
 use Rattle.cedar_below.specs.PlainUid.{PlainUid}
 use Rattle.cedar_below.specs.Text.{Text, text_cmp}
 use Rattle.cedar_below.specs.declared.entity_uid.EntityUID.{EntityUID}
-use Rattle.cedar_declared.proofs.OccurrenceLemmas.{Contains-image}
-use Rattle.cedar_declared.specs.Shadowing.{ShadowsType, ShadowsAction}
+use Rattle.cedar_declarations.proofs.OccurrenceLemmas.{Contains-image}
+use Rattle.cedar_declarations.specs.Shadowing.{ShadowsType, ShadowsAction}
 use Rattle.cedar_fragments.proofs.SetLemmas.{only, is_eq-Equal}
 use Rattle.cedar_fragments.specs.ShadowedNames.{IsPlainAction}
 

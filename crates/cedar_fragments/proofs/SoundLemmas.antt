@@ -8,11 +8,11 @@ use Rattle.cedar_below.specs.Lists.{Included}
 use Rattle.cedar_below.specs.PlainName.{PlainName, IsActionType, action_word}
 use Rattle.cedar_below.specs.PlainUid.{PlainUid}
 use Rattle.cedar_below.specs.Text.{Text}
-use Rattle.cedar_declared.proofs.DeclarationLemmas.{entity_declaration, action_declaration, declares_entity, declares_action}
-use Rattle.cedar_declared.proofs.OccurrenceLemmas.{Contains-image}
-use Rattle.cedar_declared.specs.Bag.{Bag, declared_name, declared_uid, declared_entities, declared_actions, action_uids}
-use Rattle.cedar_declared.specs.Fault.{Fault, action_attributes, action_entity_type, reserved_name, want_of_memory}
-use Rattle.cedar_declared.specs.IllFormed.{HasAttributes}
+use Rattle.cedar_declarations.proofs.DeclarationLemmas.{entity_declaration, action_declaration, declares_entity, declares_action}
+use Rattle.cedar_declarations.proofs.OccurrenceLemmas.{Contains-image}
+use Rattle.cedar_declarations.specs.Bag.{Bag, declared_name, declared_uid, declared_entities, declared_actions, action_uids}
+use Rattle.cedar_declarations.specs.Fault.{Fault, action_attributes, action_entity_type, reserved_name, out_of_memory}
+use Rattle.cedar_declarations.specs.IllFormed.{HasAttributes}
 use Rattle.cedar_fragments.specs.DefinitionFault.{IsDefinitionFault, HasNoDefinitionFault, NamesNoAttributes, GivesNoCause, IsSound}
 use Rattle.cedar_names.specs.ActionBody.{ActionBody}
 use Rattle.cedar_names.specs.Declaration.{Declaration, Body, entity_type, action, common_declarations}
@@ -135,10 +135,10 @@ fault_included part whole included _ at_fault = absurd at_fault.0
 -- the refusal of the name of an entity type is a fault of the declarations among which it is
 pub fault_of_entity : (bag : Bag) (namespace : Option PlainName) (id : Text) (body : EntityBody) (fault : Fault)
     → Contains bag (record { namespace = namespace; id = id; body = entity_type body })
-    → (fault ≡ want_of_memory)
+    → (fault ≡ out_of_memory)
     ⊎ (((fault ≡ action_entity_type (name_within namespace id)) × IsActionType (name_within namespace id))
     ⊎ ((fault ≡ reserved_name (name_within namespace id)) × Contains (path_within namespace) reserved_word))
-    → (fault ≡ want_of_memory) ⊎ IsDefinitionFault bag fault
+    → (fault ≡ out_of_memory) ⊎ IsDefinitionFault bag fault
 fault_of_entity bag namespace id body fault among refused =
     let it : Declaration = record { namespace = namespace; id = id; body = entity_type body } in
     let declared : Contains (declared_entities bag) (declared_name it, body) = declares_entity bag it body among refl in
@@ -153,9 +153,9 @@ fault_of_entity bag namespace id body fault among refused =
 -- the refusal of the uid of an action is a fault of the declarations among which it is
 pub fault_of_action : (bag : Bag) (namespace : Option PlainName) (id : Text) (body : ActionBody) (fault : Fault)
     → Contains bag (record { namespace = namespace; id = id; body = action body })
-    → (fault ≡ want_of_memory)
+    → (fault ≡ out_of_memory)
     ⊎ ((fault ≡ reserved_name (name_within namespace action_word)) × Contains (path_within namespace) reserved_word)
-    → (fault ≡ want_of_memory) ⊎ IsDefinitionFault bag fault
+    → (fault ≡ out_of_memory) ⊎ IsDefinitionFault bag fault
 fault_of_action bag namespace id body fault among refused =
     let it : Declaration = record { namespace = namespace; id = id; body = action body } in
     let declared : Contains (declared_actions bag) (declared_uid it, body) = declares_action bag it body among refl in
@@ -172,7 +172,7 @@ fault_of_action bag namespace id body fault among refused =
 
 -- the refusal of the name of an entity type names no actions
 pub name_names_none : (name : PlainName) (A B : Type 0) (fault : Fault)
-    → (fault ≡ want_of_memory) ⊎ (((fault ≡ action_entity_type name) × A) ⊎ ((fault ≡ reserved_name name) × B))
+    → (fault ≡ out_of_memory) ⊎ (((fault ≡ action_entity_type name) × A) ⊎ ((fault ≡ reserved_name name) × B))
     → NamesNoAttributes fault
 name_names_none name A B fault refused =
     ⊎_elim (λ memory. subst NamesNoAttributes (sym memory) tt)

@@ -9,7 +9,7 @@ use Rattle.cedar_fragments.specs.declared.namespace.actions.ActionsDef.{ActionsD
 use Rattle.cedar_names.specs.ActionBody.{ActionBody, Requests, requests, elsewhere}
 use Rattle.cedar_names.specs.Declaration.{Declaration, action}
 use Rattle.cedar_names.specs.Reference.{Reference, ActionReference}
-use Rattle.cedar_names.specs.WrittenExpr.{written_type}
+use Rattle.cedar_names.specs.TypeExpr.{type_expr}
 use Rattle.cedar_names.specs.declared.json_schema.reference_type.ReferenceType.{ReferenceType}
 use Rattle.cedar_names.specs.declared.json_schema.reference_type.ReferenceType.TheVariants.{Entity}
 
@@ -19,7 +19,7 @@ module _ (N : Type 0) (refer : ReferenceType → N → Reference) where
   abbrev pub fragment_requests : Option (ActionRequests N) → Requests
   fragment_requests None = elsewhere
   fragment_requests (Some it) =
-      requests (map (refer Entity) it.principals.items) (map (refer Entity) it.resources.items) (written_type N refer it.context)
+      requests (map (refer Entity) it.principals.items) (map (refer Entity) it.resources.items) (type_expr N refer it.context)
 
   -- a parent of an action
   abbrev pub fragment_parent : ActionParent N → ActionReference

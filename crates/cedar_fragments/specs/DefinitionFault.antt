@@ -3,9 +3,9 @@ use Rattle.cedar_below.specs.Identifier.{reserved_word}
 use Rattle.cedar_below.specs.PlainName.{PlainName, IsActionType}
 use Rattle.cedar_below.specs.Text.{Text}
 use Rattle.cedar_below.specs.declared.extension.Extensions.{Extensions}
-use Rattle.cedar_declared.specs.Bag.{Bag, declared_name, declared_uid}
-use Rattle.cedar_declared.specs.Fault.{Fault, action_attributes, action_entity_type, reserved_name}
-use Rattle.cedar_declared.specs.IllFormed.{IsFault, HasAttributes}
+use Rattle.cedar_declarations.specs.Bag.{Bag, declared_name, declared_uid}
+use Rattle.cedar_declarations.specs.Fault.{Fault, action_attributes, action_entity_type, reserved_name}
+use Rattle.cedar_declarations.specs.IllFormed.{IsFault, HasAttributes}
 use Rattle.cedar_names.specs.Declaration.{Declaration, Body, common_type, entity_type, action}
 
 -- a refusal that a definition gives cause for whatever else is declared: actions with attributes, an entity type with

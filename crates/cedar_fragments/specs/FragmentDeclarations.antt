@@ -6,14 +6,14 @@ use Rattle.cedar_below.specs.InternalName.{name_of}
 use Rattle.cedar_below.specs.PlainName.{PlainName}
 use Rattle.cedar_below.specs.declared.entity_type.EntityType.{EntityType}
 use Rattle.cedar_below.specs.declared.internal_name.InternalName.{InternalName}
-use Rattle.cedar_declared.specs.Bag.{Bag}
-use Rattle.cedar_declared.specs.Settled.{reference_to_one}
-use Rattle.cedar_declared.specs.SettledExpr.{settled_reference}
+use Rattle.cedar_declarations.specs.Bag.{Bag}
+use Rattle.cedar_declarations.specs.Resolved.{reference_to_one}
+use Rattle.cedar_declarations.specs.ResolvedExpr.{resolved_reference}
 use Rattle.cedar_fragments.specs.ActionDeclarations.{action_fragment_declarations}
 use Rattle.cedar_fragments.specs.TypeDeclarations.{common_type_declarations, entity_type_declarations}
 use Rattle.cedar_fragments.specs.declared.namespace.definition.ValidatorNamespaceDef.{ValidatorNamespaceDef}
 use Rattle.cedar_fragments.specs.declared.namespace.fragment.ValidatorSchemaFragment.{ValidatorSchemaFragment}
-use Rattle.cedar_names.specs.ConditionalExpr.{placed_reference}
+use Rattle.cedar_names.specs.ConditionalExpr.{positional_reference}
 use Rattle.cedar_names.specs.Reference.{Reference}
 use Rattle.cedar_names.specs.declared.json_schema.conditional_name.ConditionalName.{ConditionalName}
 use Rattle.cedar_names.specs.declared.json_schema.reference_type.ReferenceType.{ReferenceType}
@@ -34,26 +34,26 @@ module _ (N : Type 0) (refer : ReferenceType → N → Reference) (A : Type 0) (
 abbrev pub definition_namespace : (N A : Type 0) → ValidatorNamespaceDef N A → Option PlainName
 definition_namespace N A it = option_map name_of it.namespace
 
--- the declarations of a definition whose names say what they may stand for
+-- the declarations of a definition over conditional names
 abbrev pub conditional_definition : ValidatorNamespaceDef ConditionalName ConditionalName → Bag
-conditional_definition = definition_declarations ConditionalName placed_reference ConditionalName placed_reference
+conditional_definition = definition_declarations ConditionalName positional_reference ConditionalName positional_reference
 
--- the declarations of a fragment whose names say what they may stand for
+-- the declarations of a fragment over conditional names
 abbrev pub conditional_fragment : ValidatorSchemaFragment ConditionalName ConditionalName → Bag
-conditional_fragment = fragment_declarations ConditionalName placed_reference ConditionalName placed_reference
+conditional_fragment = fragment_declarations ConditionalName positional_reference ConditionalName positional_reference
 
--- the bag of declarations of some fragments whose names say what they may stand for
+-- the bag of declarations of some fragments over conditional names
 abbrev pub conditional_bag : List (ValidatorSchemaFragment ConditionalName ConditionalName) → Bag
 conditional_bag fragments = flat_map conditional_fragment fragments
 
--- what the type of an action's parent refers to that is settled: what is defined under it alone
-abbrev pub settled_action_type : ReferenceType → EntityType → Reference
-settled_action_type kind ty = reference_to_one kind (type_name ty)
+-- what the type of an action's parent refers to that is resolved: what is defined under it alone
+abbrev pub resolved_action_type : ReferenceType → EntityType → Reference
+resolved_action_type kind ty = reference_to_one kind (type_name ty)
 
 -- the declarations of a definition over full names
-abbrev pub settled_definition : ValidatorNamespaceDef InternalName EntityType → Bag
-settled_definition = definition_declarations InternalName settled_reference EntityType settled_action_type
+abbrev pub resolved_definition : ValidatorNamespaceDef InternalName EntityType → Bag
+resolved_definition = definition_declarations InternalName resolved_reference EntityType resolved_action_type
 
 -- the declarations of a fragment over full names
-abbrev pub settled_fragment : ValidatorSchemaFragment InternalName EntityType → Bag
-settled_fragment = fragment_declarations InternalName settled_reference EntityType settled_action_type
+abbrev pub resolved_fragment : ValidatorSchemaFragment InternalName EntityType → Bag
+resolved_fragment = fragment_declarations InternalName resolved_reference EntityType resolved_action_type

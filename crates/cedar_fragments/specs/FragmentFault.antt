@@ -2,9 +2,9 @@ use Rattle.std.specs.Prelude.{List, Option, Contains}
 use Rattle.std.specs.Option.{option_map}
 use Rattle.cedar_below.specs.Name.{plain_name}
 use Rattle.cedar_below.specs.declared.name.Name.{Name}
-use Rattle.cedar_declared.specs.Fault.{Fault, action_attributes}
+use Rattle.cedar_declarations.specs.Fault.{Fault, action_attributes}
 use Rattle.cedar_fragments.specs.DefinitionFault.{NamesAllWithAttributes}
-use Rattle.cedar_fragments.specs.DefinitionsInTurn.{entry_declarations}
+use Rattle.cedar_fragments.specs.DefinitionsPairwise.{entry_declarations}
 use Rattle.cedar_names.specs.declared.json_schema.fragment.Fragment.{Fragment}
 use Rattle.cedar_names.specs.declared.json_schema.fragment.NamespaceDefinition.{NamespaceDefinition}
 use Rattle.cedar_names.specs.declared.json_schema.raw_name.RawName.{RawName}

@@ -3,7 +3,7 @@ use Rattle.cedar_below.specs.PlainName.{PlainName}
 use Rattle.cedar_below.specs.UnreservedId.{unreserved_id_text}
 use Rattle.cedar_below.specs.declared.unreserved_id.UnreservedId.{UnreservedId}
 use Rattle.cedar_fragments.specs.DeclaredAs.{declared_as}
-use Rattle.cedar_names.specs.ConditionalExpr.{placed_expr}
+use Rattle.cedar_names.specs.ConditionalExpr.{positional_expr}
 use Rattle.cedar_names.specs.Declaration.{Declaration, common_type}
 use Rattle.cedar_names.specs.Reference.{name_within}
 use Rattle.cedar_names.specs.declared.json_schema.conditional_name.ConditionalName.{ConditionalName}
@@ -12,7 +12,7 @@ use Rattle.cedar_names.specs.declared.json_schema.type_of.Type.{«Type»}
 -- what a common type of the id declares in a namespace, None being the empty one
 abbrev pub given_common_type : Option PlainName → UnreservedId × «Type» ConditionalName → Declaration
 given_common_type namespace entry =
-    declared_as (name_within namespace (unreserved_id_text entry.0)) (common_type (placed_expr entry.1))
+    declared_as (name_within namespace (unreserved_id_text entry.0)) (common_type (positional_expr entry.1))
 
 -- what some common types declare in a namespace, in their order
 abbrev pub given_common_types : Option PlainName → List (UnreservedId × «Type» ConditionalName) → List Declaration

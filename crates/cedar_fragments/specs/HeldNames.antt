@@ -6,8 +6,8 @@ use Rattle.cedar_below.specs.InternalName.{name_of}
 use Rattle.cedar_below.specs.Lists.{SameItems}
 use Rattle.cedar_below.specs.PlainName.{PlainName}
 use Rattle.cedar_below.specs.PlainUid.{PlainUid}
-use Rattle.cedar_declared.specs.Bag.{Bag, declared_common, declared_entities, action_uids}
-use Rattle.cedar_declared.specs.Names.{Names}
+use Rattle.cedar_declarations.specs.Bag.{Bag, declared_common, declared_entities, action_uids}
+use Rattle.cedar_declarations.specs.Names.{Names}
 use Rattle.cedar_fragments.specs.declared.defs.all_defs.AllDefs.{AllDefs}
 use Rattle.cedar_fragments.specs.declared.namespace.actions.ActionsDef.{ActionsDef}
 use Rattle.cedar_fragments.specs.declared.namespace.common_types.CommonTypeDefs.{CommonTypeDefs}
@@ -18,9 +18,9 @@ use Rattle.cedar_fragments.specs.declared.namespace.fragment.ValidatorSchemaFrag
 -- the names that are held: of common types, of entity types, and the uids of actions
 abbrev pub held_names : AllDefs → Names
 held_names it = record {
-  common = map name_of it.common_types.keys;
-  entities = map name_of it.entity_types.keys;
-  actions = map uid_of it.actions.keys;
+  common = map name_of it.common_defs.keys;
+  entities = map name_of it.entity_defs.keys;
+  actions = map uid_of it.action_defs.keys;
 }
 
 -- the names of some common types

@@ -1,7 +1,7 @@
 pub mod ActionDeclarations
 pub mod DeclaredAs
 pub mod DefinitionFault
-pub mod DefinitionsInTurn
+pub mod DefinitionsPairwise
 pub mod FragmentCopies
 pub mod FragmentDeclarations
 pub mod FragmentFault

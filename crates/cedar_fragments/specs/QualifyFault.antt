@@ -1,20 +1,20 @@
 use Rattle.std.specs.Prelude.{◌≡◌, ◌≢◌, ◌⊎◌, [], Some, Option, Contains}
 use Rattle.cedar_below.specs.PlainName.{PlainName, IsReserved}
 use Rattle.cedar_below.specs.Text.{Text}
-use Rattle.cedar_declared.specs.Bag.{Bag}
-use Rattle.cedar_declared.specs.Counted.{CountsIn, CountsInRequests, HasToResolve, IsEntityPlace, IsPrincipalOrResource}
-use Rattle.cedar_declared.specs.Fault.{Fault, type_not_defined, action_not_defined, reserved_name, want_of_memory}
-use Rattle.cedar_declared.specs.Mentions.{Refers}
-use Rattle.cedar_declared.specs.Names.{Names, ResolvesTo, IsUnresolved, NamesNoAction}
+use Rattle.cedar_declarations.specs.Bag.{Bag}
+use Rattle.cedar_declarations.specs.Counted.{CountsIn, CountsInRequests, HasToResolve, IsEntityTypePosition, IsPrincipalOrResource}
+use Rattle.cedar_declarations.specs.Fault.{Fault, type_not_defined, action_not_defined, reserved_name, out_of_memory}
+use Rattle.cedar_declarations.specs.Mentions.{Refers}
+use Rattle.cedar_declarations.specs.Names.{Names, ResolvesTo, IsUnresolved, NamesNoAction}
 use Rattle.cedar_names.specs.ActionBody.{Requests}
 use Rattle.cedar_names.specs.Declaration.{Declaration, Body, action}
 use Rattle.cedar_names.specs.Expr.{Expr}
 use Rattle.cedar_names.specs.Reference.{Reference, ActionReference}
 
--- the reference has to name something: it stands in an expression that counts in what is declared, or at a place of an
--- entity type
+-- the reference has to name something: it stands in an expression that counts in what is declared, or at the position
+-- of an entity type
 abbrev pub HasToResolveIn : Body → Reference → Type 0
-HasToResolveIn body reference = ((expr : Expr) × CountsIn body expr × Refers expr reference) ⊎ IsEntityPlace body reference
+HasToResolveIn body reference = ((expr : Expr) × CountsIn body expr × Refers expr reference) ⊎ IsEntityTypePosition body reference
 
 -- the reference has to name something in requests: it stands in their context, or is to a principal or a resource
 abbrev pub HasToResolveFor : Requests → Reference → Type 0
@@ -42,31 +42,31 @@ IsRequested bag reference = (it : Declaration) × Contains bag it × IsRequested
 -- over the names that are defined, and over what has to resolve: references, parents of actions, and principals and
 -- resources
 module _ (names : Names) (HasTo : Reference → Type 0) (IsParent : ActionReference → Type 0) (IsOfRequest : Reference → Type 0) where
-  -- the refusal names what can't be settled: references that name nothing, parents of actions that name nothing, or a
-  -- reserved name that a principal or a resource resolves to; or memory was wanting
-  abbrev pub IsUnsettled : Fault → Type 0
-  IsUnsettled (type_not_defined references) =
+  -- the refusal names what can't be resolved: references that name nothing, parents of actions that name nothing, or a
+  -- reserved name that a principal or a resource resolves to; or memory ran out
+  abbrev pub IsUnresolvable : Fault → Type 0
+  IsUnresolvable (type_not_defined references) =
       (references ≢ [])
       × ((reference : Reference) → Contains references reference → HasTo reference × IsUnresolved names reference)
-  IsUnsettled (action_not_defined actions) =
+  IsUnresolvable (action_not_defined actions) =
       (actions ≢ [])
       × ((carried : Text × Option Reference) → Contains actions carried
       → (parent : ActionReference) × IsParent parent × (carried ≡ (parent.id, Some parent.ty))
       × NamesNoAction names.actions parent)
-  IsUnsettled (reserved_name name) =
+  IsUnresolvable (reserved_name name) =
       (reference : Reference) × IsOfRequest reference × ResolvesTo names reference name × IsReserved name
-  IsUnsettled want_of_memory = Unit {0}
-  IsUnsettled _ = ⊥
+  IsUnresolvable out_of_memory = Unit {0}
+  IsUnresolvable _ = ⊥
 
 -- over the names that are defined, none of some principals and resources resolves to a reserved name
 abbrev pub NoneIsReserved : Names → (Reference → Type 0) → Type 0
 NoneIsReserved names IsOfRequest =
     (reference : Reference) (name : PlainName) → IsOfRequest reference → ResolvesTo names reference name → ¬ IsReserved name
 
--- the refusal names what can't be settled in what is declared
-abbrev pub IsUnsettledIn : Names → Body → Fault → Type 0
-IsUnsettledIn names body = IsUnsettled names (HasToResolveIn body) (IsParentIn body) (IsRequestedIn body)
+-- the refusal names what can't be resolved in what is declared
+abbrev pub IsUnresolvableIn : Names → Body → Fault → Type 0
+IsUnresolvableIn names body = IsUnresolvable names (HasToResolveIn body) (IsParentIn body) (IsRequestedIn body)
 
--- the refusal names what can't be settled in a bag
-abbrev pub IsUnsettledBag : Names → Bag → Fault → Type 0
-IsUnsettledBag names bag = IsUnsettled names (HasToResolve bag) (IsAnyParent bag) (IsRequested bag)
+-- the refusal names what can't be resolved in a bag
+abbrev pub IsUnresolvableBag : Names → Bag → Fault → Type 0
+IsUnresolvableBag names bag = IsUnresolvable names (HasToResolve bag) (IsAnyParent bag) (IsRequested bag)

@@ -1,20 +1,20 @@
 use Rattle.std.specs.Prelude.{◌≡◌, [], ◌∷◌, map, Contains}
 use Rattle.cedar_below.specs.NonEmpty.{items_of}
-use Rattle.cedar_declared.specs.Names.{Names, IsUnresolved}
+use Rattle.cedar_declarations.specs.Names.{Names, IsUnresolved}
 use Rattle.cedar_names.specs.ConditionalName.{conditional_reference}
 use Rattle.cedar_names.specs.Reference.{Reference}
 use Rattle.cedar_names.specs.declared.json_schema.qualify_error.QualifyError.{QualifyError}
 use Rattle.cedar_names.specs.declared.json_schema.qualify_error.QualifyError.TheVariants as error
 
--- the reference is refused, over the names that are defined: it names nothing, and the refusal holds it alone; or memory
--- was wanting
+-- the reference is refused, over the names that are defined: it names nothing, and the refusal holds it alone; or
+-- memory ran out
 abbrev pub IsRefused : Names → Reference → QualifyError → Type 0
 IsRefused names reference (error.TypeNotDefined it) =
     IsUnresolved names reference × (map conditional_reference (items_of it.undefined_types) ≡ reference ∷ [])
 IsRefused names reference (error.Memory refused) = Unit {0}
 
--- some references are refused, over the names that are defined: each that the refusal holds is one of those that have to
--- resolve, and names nothing; or memory was wanting
+-- some references are refused, over the names that are defined: each that the refusal holds is one of those that have
+-- to resolve, and names nothing; or memory ran out
 abbrev pub IsRefusedAmong : Names → (Reference → Type 0) → QualifyError → Type 0
 IsRefusedAmong names HasTo (error.TypeNotDefined it) =
     (reference : Reference) → Contains (map conditional_reference (items_of it.undefined_types)) reference

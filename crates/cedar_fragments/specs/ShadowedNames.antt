@@ -2,9 +2,9 @@ use Rattle.std.specs.Prelude.{◌≡◌, List, ◌++◌, Contains}
 use Rattle.cedar_below.specs.PlainName.{PlainName, IsUnqualified}
 use Rattle.cedar_below.specs.PlainUid.{PlainUid}
 use Rattle.cedar_below.specs.Text.{Text}
-use Rattle.cedar_declared.specs.Fault.{Fault, type_shadowing, action_shadowing}
-use Rattle.cedar_declared.specs.Names.{Names}
-use Rattle.cedar_declared.specs.Shadowing.{ShadowsType, ShadowsAction}
+use Rattle.cedar_declarations.specs.Fault.{Fault, type_shadowing, action_shadowing}
+use Rattle.cedar_declarations.specs.Names.{Names}
+use Rattle.cedar_declarations.specs.Shadowing.{ShadowsType, ShadowsAction}
 
 -- the names of types, common and entity
 abbrev pub type_names : Names → List PlainName

@@ -14,7 +14,7 @@ use Rattle.cedar_fragments.specs.declared.namespace.entity_types.EntityTypesDef.
 use Rattle.cedar_names.specs.Declaration.{Declaration, common_type, entity_type}
 use Rattle.cedar_names.specs.EntityBody.{EntityBody, standard, enumerated, external}
 use Rattle.cedar_names.specs.Reference.{Reference}
-use Rattle.cedar_names.specs.WrittenExpr.{written_type}
+use Rattle.cedar_names.specs.TypeExpr.{type_expr}
 use Rattle.cedar_names.specs.declared.json_schema.reference_type.ReferenceType.{ReferenceType}
 use Rattle.cedar_names.specs.declared.json_schema.reference_type.ReferenceType.TheVariants.{Entity}
 
@@ -22,7 +22,7 @@ use Rattle.cedar_names.specs.declared.json_schema.reference_type.ReferenceType.T
 module _ (N : Type 0) (refer : ReferenceType → N → Reference) where
   -- the declaration of a common type
   abbrev pub common_type_declaration : CommonTypeDef N → Declaration
-  common_type_declaration def = declared_as (name_of def.name) (common_type (written_type N refer def.ty))
+  common_type_declaration def = declared_as (name_of def.name) (common_type (type_expr N refer def.ty))
 
   -- the declarations of the common types
   abbrev pub common_type_declarations : CommonTypeDefs N → List Declaration
@@ -31,7 +31,7 @@ module _ (N : Type 0) (refer : ReferenceType → N → Reference) where
   -- what is declared of an entity type
   abbrev pub fragment_body : EntityTypeFragment N → EntityBody
   fragment_body (variant.Standard attributes parents tags) =
-      standard (map (refer Entity) parents.items) (written_type N refer attributes.0) (option_map (written_type N refer) tags)
+      standard (map (refer Entity) parents.items) (type_expr N refer attributes.0) (option_map (type_expr N refer) tags)
   fragment_body (variant.Enum choices) = enumerated (map eid_text (items_of choices))
   fragment_body (variant.External parents) = external (map (refer Entity) parents.items)
 

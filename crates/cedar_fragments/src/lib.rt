@@ -1,7 +1,6 @@
-//! Namespaces and fragments whose names are on the way to being settled.
+//! Namespaces and fragments whose names are on the way to being resolved.
 #![tactic(auto)]
 
 pub mod defs;
-mod maps;
 pub mod namespace;
 pub mod theorems;

@@ -1,6 +1,6 @@
 //! Fragments and the definitions of their namespaces, with what their names may stand for.
 //!
-//! The parameter `N` is the form of a reference to a type: a name that isn't settled yet, or the
+//! The parameter `N` is the form of a reference to a type: a name that isn't resolved yet, or the
 //! full name of what it names. The parameter `A` is the same of the type of an action's parent.
 
 pub use action_def::ActionDef;

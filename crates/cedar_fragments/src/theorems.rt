@@ -2,16 +2,16 @@
 
 ghost use Rattle.std.specs.Prelude.{◌≡◌, List};
 ghost use Rattle.std.specs.List.{flat_map};
-ghost use Rattle.cedar_declared.specs.Counted.{PlacesFit};
+ghost use Rattle.cedar_declarations.specs.Counted.{PositionsFit};
 ghost use Rattle.cedar_fragments.specs.DefinitionFault.{HasNoDefinitionFault};
 ghost use Rattle.cedar_below.specs.declared.entity_type.EntityType.{EntityType as ActionEntityType};
 ghost use Rattle.cedar_below.specs.declared.internal_name.InternalName.{InternalName as Full};
-ghost use Rattle.cedar_declared.specs.SettledExpr.{settled_reference};
+ghost use Rattle.cedar_declarations.specs.ResolvedExpr.{resolved_reference};
 ghost use Rattle.cedar_fragments.specs.FragmentCopies.{DeclaresSame};
-ghost use Rattle.cedar_fragments.specs.FragmentDeclarations.{conditional_bag, conditional_fragment, fragment_declarations, settled_action_type, settled_fragment};
+ghost use Rattle.cedar_fragments.specs.FragmentDeclarations.{conditional_bag, conditional_fragment, fragment_declarations, resolved_action_type, resolved_fragment};
 ghost use Rattle.cedar_fragments.specs.HeldNames.{declared_names, AreTheDeclaredNames};
 ghost use Rattle.cedar_fragments.specs.declared.namespace.fragment.ValidatorSchemaFragment.{ValidatorSchemaFragment};
-ghost use Rattle.cedar_names.specs.ConditionalExpr.{own_reference, placed_reference};
+ghost use Rattle.cedar_names.specs.ConditionalExpr.{own_reference, positional_reference};
 ghost use Rattle.cedar_names.specs.Copies.{RefersAlike};
 ghost use Rattle.cedar_names.specs.Reference.{Reference};
 ghost use Rattle.cedar_names.specs.declared.json_schema.conditional_name.ConditionalName.{ConditionalName as Conditional};
@@ -36,30 +36,30 @@ pub fn fragments_have_no_definition_fault<N, A>()
         → HasNoDefinitionFault (flat_map (fragment_declarations N refer A refer_action) fragments) }
 {}
 
-/// The references of fragments whose names say what they may stand for fit their places: each at the place of an
+/// The references of fragments over conditional names fit their positions: each at the place of an
 /// entity type refers to one.
-pub fn references_fit_their_places()
-    ensures { (fragments : List (ValidatorSchemaFragment Conditional Conditional)) → PlacesFit (conditional_bag fragments) }
+pub fn references_fit_their_positions()
+    ensures { (fragments : List (ValidatorSchemaFragment Conditional Conditional)) → PositionsFit (conditional_bag fragments) }
 {}
 
 /// Alike names refer to the same, as bags and types read them: conditional names, of the kinds that they
 /// say themselves or that their places permit, full names, and the types of actions.
 pub fn alike_names_refer_to_the_same()
     ensures own { RefersAlike Conditional ⟦<ConditionalName as FragmentName>⟧.is_alike own_reference }
-    ensures placed { RefersAlike Conditional ⟦<ConditionalName as FragmentName>⟧.is_alike placed_reference }
-    ensures settled { RefersAlike Full ⟦<InternalName as FragmentName>⟧.is_alike settled_reference }
-    ensures action_types { RefersAlike ActionEntityType ⟦<EntityType as FragmentName>⟧.is_alike settled_action_type }
+    ensures placed { RefersAlike Conditional ⟦<ConditionalName as FragmentName>⟧.is_alike positional_reference }
+    ensures resolved { RefersAlike Full ⟦<InternalName as FragmentName>⟧.is_alike resolved_reference }
+    ensures action_types { RefersAlike ActionEntityType ⟦<EntityType as FragmentName>⟧.is_alike resolved_action_type }
 {}
 
-/// A fragment that declares the same as another whatever alike names refer to, as a copy does, has the
-/// same bag, before names are settled and after.
+/// A fragment that declares the same as another whatever alike names refer to, as a copy does, has
+/// the same bag, before names are resolved and after.
 pub fn copies_have_the_same_bag()
     ensures conditional { (fragment copy : ValidatorSchemaFragment Conditional Conditional)
         → DeclaresSame Conditional ⟦<ConditionalName as FragmentName>⟧.is_alike Conditional ⟦<ConditionalName as FragmentName>⟧.is_alike
         (λ (refer : ReferenceType → Conditional → Reference). fragment_declarations Conditional refer Conditional) fragment copy
         → conditional_fragment copy ≡ conditional_fragment fragment }
-    ensures settled { (fragment copy : ValidatorSchemaFragment Full ActionEntityType)
+    ensures resolved { (fragment copy : ValidatorSchemaFragment Full ActionEntityType)
         → DeclaresSame Full ⟦<InternalName as FragmentName>⟧.is_alike ActionEntityType ⟦<EntityType as FragmentName>⟧.is_alike
         (λ (refer : ReferenceType → Full → Reference). fragment_declarations Full refer ActionEntityType) fragment copy
-        → settled_fragment copy ≡ settled_fragment fragment }
+        → resolved_fragment copy ≡ resolved_fragment fragment }
 {}

@@ -12,15 +12,15 @@ use Rattle.std.specs.declared.boxed.Box.{Box}
 use Rattle.std.specs.declared.cmp.Ordering.TheVariants.{Greater}
 use Rattle.std.specs.declared.string.String.{String}
 use Rattle.cedar_below.proofs.Ordered.{above_front, insert_entry-end}
-use Rattle.cedar_below.specs.Lists.{HoldsInTurn}
+use Rattle.cedar_below.specs.Lists.{HoldsPairwise}
 use Rattle.cedar_below.specs.Text.{text_cmp}
 use Rattle.cedar_below.specs.declared.loc.Loc.{Loc}
-use Rattle.cedar_names.proofs.ExprLemmas.{written_attribute-parts, written_record-entries, written_record-made}
+use Rattle.cedar_names.proofs.ExprLemmas.{flag_and_expr-parts, record_type_expr-entries, record_type_expr-made}
 use Rattle.cedar_names.proofs.VariantLemmas.{type-Plain, variant-Set}
 use Rattle.cedar_names.specs.Copies.{IsAttributeCopy, IsRecordCopy, IsTypeCopy, IsVariantCopy}
 use Rattle.cedar_names.specs.Expr.{members_from, record_expr, set_expr}
 use Rattle.cedar_names.specs.TypeLocs.{Locs, attribute_locs, attribute_locs_step, record_locs, record_locs_step, type_locs, type_locs_step, variant_locs, variant_locs_step}
-use Rattle.cedar_names.specs.WrittenExpr.{written_attribute}
+use Rattle.cedar_names.specs.TypeExpr.{flag_and_expr}
 use Rattle.cedar_names.specs.declared.json_schema.type_of.RecordType.{RecordType, fold-roll-RecordType, fold_out-RecordType, out-RecordType, roll-RecordType}
 use Rattle.cedar_names.specs.declared.json_schema.type_of.Type.{«Type», Plain, the_lemmas}
 use Rattle.cedar_names.specs.declared.json_schema.type_of.Type.TheOpen as layer
@@ -40,7 +40,7 @@ module _ (N : Type 0) (locs : N → Locs) where
   locs-Set : (element : Box («Type» N) Global) → variant_locs N locs (Set element) ≡ type_locs N locs element.value
   locs-Set element = search (rules, the_lemmas)
 
-  -- a type that is written out has its own location first
+  -- a type variant has its own location first
   locs-Plain : (ty : TypeVariant N) (loc : Option Loc) → type_locs N locs (Plain ty loc) ≡ loc ∷ variant_locs N locs ty
   locs-Plain ty loc = search (rules, the_lemmas)
 
@@ -78,7 +78,7 @@ module _ (N : Type 0) (alike : N → N → Type 0) where
     λ locs fair. locs-Set N locs copy ∙ (same.1 locs fair ∙ sym (locs-Set N locs element)),
   )
 
-  -- what is written out as a copy at the same location is a copy
+  -- a variant that is a copy at the same location is a copy
   pub copied_plain : (ty copy : TypeVariant N) (loc : Option Loc) → IsVariantCopy N alike ty copy
       → IsTypeCopy N alike (Plain ty loc) (Plain copy loc)
   copied_plain ty copy loc same = (
@@ -91,8 +91,8 @@ module _ (N : Type 0) (alike : N → N → Type 0) where
       → (out-TypeOfAttribute N copy).loc ≡ (out-TypeOfAttribute N it).loc
       → IsTypeCopy N alike (out-TypeOfAttribute N it).ty (out-TypeOfAttribute N copy).ty → IsAttributeCopy N alike it copy
   copied_attribute it copy required loc same = (
-    λ refer fair. written_attribute-parts N refer copy
-        ∙ ((λ i. (required i, same.0 refer fair i)) ∙ sym (written_attribute-parts N refer it)),
+    λ refer fair. flag_and_expr-parts N refer copy
+        ∙ ((λ i. (required i, same.0 refer fair i)) ∙ sym (flag_and_expr-parts N refer it)),
     λ locs fair. locs-attribute N locs copy ∙ ((λ i. loc i ∷ same.1 locs fair i) ∙ sym (locs-attribute N locs it)),
   )
 
@@ -104,23 +104,23 @@ module _ (N : Type 0) (alike : N → N → Type 0) where
   pub record CopiedSoFar (all made left : Entries N) : Type 0 where
     pub done : Entries N
     pub split : all ≡ done ++ left
-    pub turn : HoldsInTurn IsEntryCopy done made
+    pub turn : HoldsPairwise IsEntryCopy done made
 
   -- at first none is copied
   pub copied_none : (all made left : Entries N) → all ≡ left → made ≡ [] → CopiedSoFar all made left
   copied_none all made left same nothing =
-      record { done = []; split = same; turn = subst (HoldsInTurn IsEntryCopy []) (sym nothing) tt }
+      record { done = []; split = same; turn = subst (HoldsPairwise IsEntryCopy []) (sym nothing) tt }
 
   -- one more is copied with those that are
-  turn_more : (done made : Entries N) (entry copy : String Global × TypeOfAttribute N) → HoldsInTurn IsEntryCopy done made
-      → IsEntryCopy entry copy → HoldsInTurn IsEntryCopy (done ++ entry ∷ []) (made ++ copy ∷ [])
+  turn_more : (done made : Entries N) (entry copy : String Global × TypeOfAttribute N) → HoldsPairwise IsEntryCopy done made
+      → IsEntryCopy entry copy → HoldsPairwise IsEntryCopy (done ++ entry ∷ []) (made ++ copy ∷ [])
   turn_more [] [] entry copy turn one = (one, tt)
   turn_more [] (other ∷ made) entry copy turn one = absurd turn
   turn_more (first ∷ done) [] entry copy turn one = absurd turn
   turn_more (first ∷ done) (other ∷ made) entry copy turn one = (turn.0, turn_more done made entry copy turn.1 one)
 
   -- the copy of a name that is above others is above their copies
-  above_copies : (done made : Entries N) (key copy : String Global) → string_bytes copy ≡ string_bytes key → HoldsInTurn IsEntryCopy done made
+  above_copies : (done made : Entries N) (key copy : String Global) → string_bytes copy ≡ string_bytes key → HoldsPairwise IsEntryCopy done made
       → AllByRecursion (λ other. string_cmp key other ≡ Greater) (keys_of done)
       → AllByRecursion (λ other. string_cmp copy other ≡ Greater) (keys_of made)
   above_copies [] [] key copy same turn above = tt
@@ -146,20 +146,20 @@ module _ (N : Type 0) (alike : N → N → Type 0) where
       record {
         done = so_far.done ++ (key, attribute) ∷ [];
         split = split ∙ sym (append_assoc so_far.done ((key, attribute) ∷ []) rest);
-        turn = subst (HoldsInTurn IsEntryCopy (so_far.done ++ (key, attribute) ∷ [])) behind
+        turn = subst (HoldsPairwise IsEntryCopy (so_far.done ++ (key, attribute) ∷ [])) behind
             (turn_more so_far.done made (key, attribute) (name, copy) so_far.turn (same, one));
       }
 
   -- where none is left, all are copied
-  copied_entries : (all made left : Entries N) → left ≡ [] → CopiedSoFar all made left → HoldsInTurn IsEntryCopy all made
+  copied_entries : (all made left : Entries N) → left ≡ [] → CopiedSoFar all made left → HoldsPairwise IsEntryCopy all made
   copied_entries all made left nothing so_far =
-      let P : Entries N → Type 0 = λ entries. HoldsInTurn IsEntryCopy entries made in
+      let P : Entries N → Type 0 = λ entries. HoldsPairwise IsEntryCopy entries made in
       subst P (sym (so_far.split ∙ (ap (λ others. so_far.done ++ others) nothing ∙ append-nil so_far.done))) so_far.turn
 
-  -- copied attributes show the same in turn, and have the same locations
+  -- copied attributes show pairwise the same, and have the same locations
   same_shown : {X : Type 0} (shown : String Global × TypeOfAttribute N → X)
       → ((entry copy : String Global × TypeOfAttribute N) → IsEntryCopy entry copy → shown copy ≡ shown entry)
-      → (all made : Entries N) → HoldsInTurn IsEntryCopy all made → map shown made ≡ map shown all
+      → (all made : Entries N) → HoldsPairwise IsEntryCopy all made → map shown made ≡ map shown all
   same_shown shown same [] [] turn = refl
   same_shown shown same [] (copy ∷ made) turn = absurd turn
   same_shown shown same (entry ∷ all) [] turn = absurd turn
@@ -167,7 +167,7 @@ module _ (N : Type 0) (alike : N → N → Type 0) where
 
   same_locs : (locs : N → Locs) → ((entry copy : String Global × TypeOfAttribute N) → IsEntryCopy entry copy
       → attribute_locs N locs copy.1 ≡ attribute_locs N locs entry.1)
-      → (all made : Entries N) → HoldsInTurn IsEntryCopy all made → entry_locs N locs made ≡ entry_locs N locs all
+      → (all made : Entries N) → HoldsPairwise IsEntryCopy all made → entry_locs N locs made ≡ entry_locs N locs all
   same_locs locs same [] [] turn = refl
   same_locs locs same [] (copy ∷ made) turn = absurd turn
   same_locs locs same (entry ∷ all) [] turn = absurd turn
@@ -182,10 +182,10 @@ module _ (N : Type 0) (alike : N → N → Type 0) where
       let all = (out-RecordType N written).attributes.entries in
       let made = it.attributes.entries in
       let turn = copied_entries all made left nothing so_far in (
-        λ refer fair. written_record-made N refer it
-            ∙ ((λ i. record_expr (members_from (same_shown (λ entry. (string_bytes entry.0, written_attribute N refer entry.1))
+        λ refer fair. record_type_expr-made N refer it
+            ∙ ((λ i. record_expr (members_from (same_shown (λ entry. (string_bytes entry.0, flag_and_expr N refer entry.1))
             (λ entry copy one j. (one.0 j, one.1.0 refer fair j)) all made turn i)) (additional i))
-            ∙ sym (written_record-entries N refer written)),
+            ∙ sym (record_type_expr-entries N refer written)),
         λ locs fair. locs-made N locs it
             ∙ (same_locs locs (λ entry copy one. one.1.1 locs fair) all made turn ∙ sym (locs-entries N locs written)),
       )

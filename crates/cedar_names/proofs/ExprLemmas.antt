@@ -6,7 +6,7 @@ use Rattle.cedar_names.specs.Expr.{Expr, record_expr, members_from}
 use Rattle.cedar_names.specs.PlainMembers.{plain_members}
 use Rattle.cedar_names.specs.RawExpr.{raw_reference, raw_expr, raw_record, raw_attribute}
 use Rattle.cedar_names.specs.Reference.{Reference}
-use Rattle.cedar_names.specs.WrittenExpr.{type_step, variant_step, record_step, attribute_step, written_type, written_record, written_attribute}
+use Rattle.cedar_names.specs.TypeExpr.{type_step, variant_step, record_step, attribute_step, type_expr, record_type_expr, flag_and_expr}
 use Rattle.cedar_names.specs.declared.json_schema.raw_name.RawName.{RawName}
 use Rattle.cedar_names.specs.declared.json_schema.reference_type.ReferenceType.{ReferenceType}
 use Rattle.cedar_names.specs.declared.json_schema.type_of.RecordType.{RecordType, out-RecordType, roll-RecordType, fold_out-RecordType, fold-roll-RecordType}
@@ -17,28 +17,28 @@ use Rattle.cedar_names.specs.declared.json_schema.type_of.TypeOfAttribute.{TypeO
 
 module _ (N : Type 0) (refer : ReferenceType → N → Reference) where
   -- a record type stands for what its entries do
-  pub written_record-entries : (it : RecordType N)
-      → written_record N refer it
-      ≡ record_expr (members_from (map (λ entry. (string_bytes entry.0, written_attribute N refer entry.1)) (out-RecordType N it).attributes.entries))
+  pub record_type_expr-entries : (it : RecordType N)
+      → record_type_expr N refer it
+      ≡ record_expr (members_from (map (λ entry. (string_bytes entry.0, flag_and_expr N refer entry.1)) (out-RecordType N it).attributes.entries))
       (out-RecordType N it).additional_attributes
-  written_record-entries it =
+  record_type_expr-entries it =
       fold_out-RecordType N Expr Expr Expr (Bool × Expr) (type_step N refer) (variant_step N refer) (record_step N refer)
       (attribute_step N refer) it
       ∙ ap (λ members. record_expr (members_from members) (out-RecordType N it).additional_attributes) (map-map _ _ _)
 
   -- an attribute stands for whether it is required, and for its type
-  pub written_attribute-parts : (it : TypeOfAttribute N)
-      → written_attribute N refer it ≡ ((out-TypeOfAttribute N it).required, written_type N refer (out-TypeOfAttribute N it).ty)
-  written_attribute-parts it =
+  pub flag_and_expr-parts : (it : TypeOfAttribute N)
+      → flag_and_expr N refer it ≡ ((out-TypeOfAttribute N it).required, type_expr N refer (out-TypeOfAttribute N it).ty)
+  flag_and_expr-parts it =
       fold_out-TypeOfAttribute N Expr Expr Expr (Bool × Expr) (type_step N refer) (variant_step N refer) (record_step N refer)
       (attribute_step N refer) it
 
   -- a record type that is made of entries stands for what they do
-  pub written_record-made : (it : layer.RecordType-F N («Type» N) (TypeVariant N) (RecordType N) (TypeOfAttribute N))
-      → written_record N refer (roll-RecordType N it)
-      ≡ record_expr (members_from (map (λ entry. (string_bytes entry.0, written_attribute N refer entry.1)) it.attributes.entries))
+  pub record_type_expr-made : (it : layer.RecordType-F N («Type» N) (TypeVariant N) (RecordType N) (TypeOfAttribute N))
+      → record_type_expr N refer (roll-RecordType N it)
+      ≡ record_expr (members_from (map (λ entry. (string_bytes entry.0, flag_and_expr N refer entry.1)) it.attributes.entries))
       it.additional_attributes
-  written_record-made it =
+  record_type_expr-made it =
       fold-roll-RecordType N Expr Expr Expr (Bool × Expr) (type_step N refer) (variant_step N refer) (record_step N refer)
       (attribute_step N refer) it
       ∙ ap (λ members. record_expr (members_from members) it.additional_attributes) (map-map _ _ _)
@@ -48,9 +48,9 @@ pub raw_record-entries : (namespace : Option PlainName) (it : RecordType RawName
     → raw_record namespace it
     ≡ record_expr (members_from (plain_members namespace (out-RecordType RawName it).attributes.entries))
     (out-RecordType RawName it).additional_attributes
-raw_record-entries namespace = written_record-entries RawName (raw_reference namespace)
+raw_record-entries namespace = record_type_expr-entries RawName (raw_reference namespace)
 
 -- an attribute that is written in a namespace stands for whether it is required, and for its type
 pub raw_attribute-parts : (namespace : Option PlainName) (it : TypeOfAttribute RawName)
     → raw_attribute namespace it ≡ ((out-TypeOfAttribute RawName it).required, raw_expr namespace (out-TypeOfAttribute RawName it).ty)
-raw_attribute-parts namespace = written_attribute-parts RawName (raw_reference namespace)
+raw_attribute-parts namespace = flag_and_expr-parts RawName (raw_reference namespace)

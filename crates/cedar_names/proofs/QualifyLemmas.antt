@@ -6,8 +6,8 @@ use Rattle.std.specs.declared.string.String.{String}
 use Rattle.cedar_below.specs.PlainName.{PlainName}
 use Rattle.cedar_below.specs.Text.{Text}
 use Rattle.cedar_names.proofs.Converted.{seen_by}
-use Rattle.cedar_names.proofs.ExprLemmas.{written_record-made, written_attribute-parts, raw_record-entries, raw_attribute-parts}
-use Rattle.cedar_names.specs.ConditionalExpr.{own_reference, placed_reference, conditional_expr, conditional_record, conditional_attribute, placed_expr, placed_record, placed_attribute}
+use Rattle.cedar_names.proofs.ExprLemmas.{record_type_expr-made, flag_and_expr-parts, raw_record-entries, raw_attribute-parts}
+use Rattle.cedar_names.specs.ConditionalExpr.{own_reference, positional_reference, conditional_expr, conditional_record, conditional_attribute, positional_expr, positional_record, positional_attribute}
 use Rattle.cedar_names.specs.Expr.{Expr, members_from, record_expr}
 use Rattle.cedar_names.specs.RawExpr.{raw_expr, raw_record, raw_attribute}
 use Rattle.cedar_names.specs.declared.json_schema.conditional_name.ConditionalName.{ConditionalName}
@@ -20,7 +20,7 @@ use Rattle.cedar_names.specs.declared.json_schema.type_of.TypeOfAttribute.{TypeO
 
 -- what an attribute stands for, by what its references say themselves and by what their places permit
 abbrev pub both_ways : TypeOfAttribute ConditionalName → (Bool × Expr) × (Bool × Expr)
-both_ways attribute = (conditional_attribute attribute, placed_attribute attribute)
+both_ways attribute = (conditional_attribute attribute, positional_attribute attribute)
 
 -- what a written attribute stands for, to be compared with both
 abbrev pub written_both_ways : Option PlainName → TypeOfAttribute RawName → (Bool × Expr) × (Bool × Expr)
@@ -30,14 +30,14 @@ written_both_ways namespace attribute = (raw_attribute namespace attribute, raw_
 pub same_both_ways : (namespace : Option PlainName) (written : TypeOfAttribute RawName) (it : TypeOfAttribute ConditionalName)
     → (out-TypeOfAttribute ConditionalName it).required ≡ (out-TypeOfAttribute RawName written).required
     → conditional_expr (out-TypeOfAttribute ConditionalName it).ty ≡ raw_expr namespace (out-TypeOfAttribute RawName written).ty
-    → placed_expr (out-TypeOfAttribute ConditionalName it).ty ≡ raw_expr namespace (out-TypeOfAttribute RawName written).ty
+    → positional_expr (out-TypeOfAttribute ConditionalName it).ty ≡ raw_expr namespace (out-TypeOfAttribute RawName written).ty
     → both_ways it ≡ written_both_ways namespace written
 same_both_ways namespace written it required own placed =
     let owned : conditional_attribute it ≡ raw_attribute namespace written =
-    written_attribute-parts ConditionalName own_reference it
+    flag_and_expr-parts ConditionalName own_reference it
     ∙ ((λ i. (required i, own i)) ∙ sym (raw_attribute-parts namespace written)) in
-    let places : placed_attribute it ≡ raw_attribute namespace written =
-    written_attribute-parts ConditionalName placed_reference it
+    let places : positional_attribute it ≡ raw_attribute namespace written =
+    flag_and_expr-parts ConditionalName positional_reference it
     ∙ ((λ i. (required i, placed i)) ∙ sym (raw_attribute-parts namespace written)) in
     (λ i. (owned i, places i))
 
@@ -61,18 +61,18 @@ own_record namespace written it additional same =
     let members : map (λ entry. (string_bytes entry.0, conditional_attribute entry.1)) it.attributes.entries
     ≡ map (λ entry. (string_bytes entry.0, raw_attribute namespace entry.1)) (out-RecordType RawName written).attributes.entries =
     sym (map-map _ _ _) ∙ (ap plain same ∙ map-map _ _ _) in
-    written_record-made ConditionalName own_reference it
+    record_type_expr-made ConditionalName own_reference it
     ∙ ((λ i. record_expr (members_from (members i)) (additional i)) ∙ sym (raw_record-entries namespace written))
 
--- also where each reference is of the kind that its place permits
-pub placed_in_record : (namespace : Option PlainName) (written : RecordType RawName) (it : Made)
+-- also where each reference is of the kind that its position permits
+pub positional_in_record : (namespace : Option PlainName) (written : RecordType RawName) (it : Made)
     → it.additional_attributes ≡ (out-RecordType RawName written).additional_attributes
-    → Same namespace it written → placed_record (roll-RecordType ConditionalName it) ≡ raw_record namespace written
-placed_in_record namespace written it additional same =
+    → Same namespace it written → positional_record (roll-RecordType ConditionalName it) ≡ raw_record namespace written
+positional_in_record namespace written it additional same =
     let plain : List (String Global × ((Bool × Expr) × (Bool × Expr))) → List (Text × (Bool × Expr)) =
     map (λ entry. (string_bytes entry.0, entry.1.1)) in
-    let members : map (λ entry. (string_bytes entry.0, placed_attribute entry.1)) it.attributes.entries
+    let members : map (λ entry. (string_bytes entry.0, positional_attribute entry.1)) it.attributes.entries
     ≡ map (λ entry. (string_bytes entry.0, raw_attribute namespace entry.1)) (out-RecordType RawName written).attributes.entries =
     sym (map-map _ _ _) ∙ (ap plain same ∙ map-map _ _ _) in
-    written_record-made ConditionalName placed_reference it
+    record_type_expr-made ConditionalName positional_reference it
     ∙ ((λ i. record_expr (members_from (members i)) (additional i)) ∙ sym (raw_record-entries namespace written))

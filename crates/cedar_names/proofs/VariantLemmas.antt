@@ -10,7 +10,7 @@ use Rattle.cedar_names.specs.Expr.{text_expr, long_expr, truth_expr, set_expr, n
 use Rattle.cedar_names.specs.RawExpr.{raw_reference, raw_expr, raw_variant, raw_record}
 use Rattle.cedar_names.specs.RawName.{raw_name}
 use Rattle.cedar_names.specs.Reference.{Reference, reference_to}
-use Rattle.cedar_names.specs.WrittenExpr.{written_type, written_variant, written_record}
+use Rattle.cedar_names.specs.TypeExpr.{type_expr, variant_expr, record_type_expr}
 use Rattle.cedar_names.specs.declared.json_schema.raw_name.RawName.{RawName}
 use Rattle.cedar_names.specs.declared.json_schema.reference_type.ReferenceType.{ReferenceType}
 use Rattle.cedar_names.specs.declared.json_schema.reference_type.ReferenceType.TheVariants.{Common as common, Entity as entity, CommonOrEntity as common_or_entity}
@@ -20,43 +20,43 @@ use Rattle.cedar_names.specs.declared.json_schema.type_of.TypeVariant.{TypeVaria
 
 module _ (N : Type 0) (refer : ReferenceType → N → Reference) where
   -- what the type of texts stands for
-  pub variant-String : written_variant N refer String ≡ text_expr
+  pub variant-String : variant_expr N refer String ≡ text_expr
   variant-String = search (rules, the_lemmas)
 
   -- what the type of whole numbers stands for
-  pub variant-Long : written_variant N refer Long ≡ long_expr
+  pub variant-Long : variant_expr N refer Long ≡ long_expr
   variant-Long = search (rules, the_lemmas)
 
   -- what the type of truth values stands for
-  pub variant-Boolean : written_variant N refer Boolean ≡ truth_expr
+  pub variant-Boolean : variant_expr N refer Boolean ≡ truth_expr
   variant-Boolean = search (rules, the_lemmas)
 
   -- what a set type stands for
-  pub variant-Set : (element : Box («Type» N) Global) → written_variant N refer (Set element) ≡ set_expr (written_type N refer element.value)
+  pub variant-Set : (element : Box («Type» N) Global) → variant_expr N refer (Set element) ≡ set_expr (type_expr N refer element.value)
   variant-Set element = search (rules, the_lemmas)
 
   -- what a record type stands for
-  pub variant-Record : (it : RecordType N) → written_variant N refer (Record it) ≡ written_record N refer it
+  pub variant-Record : (it : RecordType N) → variant_expr N refer (Record it) ≡ record_type_expr N refer it
   variant-Record it = search (rules, the_lemmas)
 
   -- what an entity type stands for
-  pub variant-Entity : (name : N) → written_variant N refer (Entity name) ≡ named (refer entity name)
+  pub variant-Entity : (name : N) → variant_expr N refer (Entity name) ≡ named (refer entity name)
   variant-Entity name = search (rules, the_lemmas)
 
   -- what a name of either stands for
-  pub variant-EntityOrCommon : (name : N) → written_variant N refer (EntityOrCommon name) ≡ named (refer common_or_entity name)
+  pub variant-EntityOrCommon : (name : N) → variant_expr N refer (EntityOrCommon name) ≡ named (refer common_or_entity name)
   variant-EntityOrCommon name = search (rules, the_lemmas)
 
   -- what an extension type stands for
-  pub variant-Extension : (name : UnreservedId) → written_variant N refer (Extension name) ≡ extension_expr (unreserved_id_text name)
+  pub variant-Extension : (name : UnreservedId) → variant_expr N refer (Extension name) ≡ extension_expr (unreserved_id_text name)
   variant-Extension name = search (rules, the_lemmas)
 
-  -- what a type that is written out stands for
-  pub type-Plain : (ty : TypeVariant N) (loc : Option Loc) → written_type N refer (Plain ty loc) ≡ written_variant N refer ty
+  -- what a type variant stands for
+  pub type-Plain : (ty : TypeVariant N) (loc : Option Loc) → type_expr N refer (Plain ty loc) ≡ variant_expr N refer ty
   type-Plain ty loc = search (rules, the_lemmas)
 
   -- what a reference to a common type stands for
-  pub type-CommonTypeRef : (name : N) (loc : Option Loc) → written_type N refer (CommonTypeRef name loc) ≡ named (refer common name)
+  pub type-CommonTypeRef : (name : N) (loc : Option Loc) → type_expr N refer (CommonTypeRef name loc) ≡ named (refer common name)
   type-CommonTypeRef name loc = search (rules, the_lemmas)
 
 -- what the written type of texts stands for
@@ -86,7 +86,7 @@ pub raw_variant-Entity : (namespace : Option PlainName) (name : RawName)
     → raw_variant namespace (Entity name) ≡ named (reference_to namespace entity (raw_name name))
 raw_variant-Entity namespace = variant-Entity RawName (raw_reference namespace)
 
--- what a type that is written out stands for
+-- what a type variant stands for
 pub raw_expr-Plain : (namespace : Option PlainName) (ty : TypeVariant RawName) (loc : Option Loc)
     → raw_expr namespace (Plain ty loc) ≡ raw_variant namespace ty
 raw_expr-Plain namespace = type-Plain RawName (raw_reference namespace)

@@ -5,7 +5,7 @@ use Rattle.std.specs.declared.vec.Vec.{Vec}
 use Rattle.cedar_below.specs.PlainName.{PlainName, action_word}
 use Rattle.cedar_names.specs.Expr.{Expr, record_expr, no_member}
 use Rattle.cedar_names.specs.Reference.{Reference, ActionReference, reference_to}
-use Rattle.cedar_names.specs.WrittenExpr.{written_type}
+use Rattle.cedar_names.specs.TypeExpr.{type_expr}
 use Rattle.cedar_names.specs.declared.json_schema.action_type.ActionEntityUID.{ActionEntityUID}
 use Rattle.cedar_names.specs.declared.json_schema.action_type.ActionType.{ActionType}
 use Rattle.cedar_names.specs.declared.json_schema.action_type.ApplySpec.{ApplySpec}
@@ -50,7 +50,7 @@ module _ (N : Type 0) (refer : ReferenceType → N → Reference) (namespace : O
   applies_to None = requests [] [] (record_expr no_member false)
   applies_to (Some it) =
       requests (map (refer Entity) it.principal_types.items) (map (refer Entity) it.resource_types.items)
-      (written_type N refer it.context.0)
+      (type_expr N refer it.context.0)
 
   -- the requests that a declaration gives by whether it is external
   abbrev pub requests_by : Bool → Option (ApplySpec N) → Requests

@@ -6,7 +6,7 @@ use Rattle.cedar_below.specs.declared.internal_name.InternalName.{InternalName}
 use Rattle.cedar_names.specs.ConditionalName.{possibilities_of, possibility_locs, reference_type_of}
 use Rattle.cedar_names.specs.Reference.{Reference}
 use Rattle.cedar_names.specs.TypeLocs.{Locs, type_locs, variant_locs, record_locs, attribute_locs}
-use Rattle.cedar_names.specs.WrittenExpr.{written_type, written_variant, written_record, written_attribute}
+use Rattle.cedar_names.specs.TypeExpr.{type_expr, variant_expr, record_type_expr, flag_and_expr}
 use Rattle.cedar_names.specs.declared.json_schema.conditional_name.ConditionalName.{ConditionalName}
 use Rattle.cedar_names.specs.declared.json_schema.reference_type.ReferenceType.{ReferenceType}
 use Rattle.cedar_names.specs.declared.json_schema.type_of.RecordType.{RecordType}
@@ -47,17 +47,17 @@ module _ (N : Type 0) (alike : N → N → Type 0) where
   -- a type is a copy of another: it stands for the same, and the same locations stand in it, whatever alike names both
   -- refer to and are located at
   abbrev pub IsTypeCopy : «Type» N → «Type» N → Type 0
-  IsTypeCopy it copy = ShowsSame RefersAlike (written_type N) it copy × ShowsSame LocatesAlike (type_locs N) it copy
+  IsTypeCopy it copy = ShowsSame RefersAlike (type_expr N) it copy × ShowsSame LocatesAlike (type_locs N) it copy
 
-  -- the same of a type that is written out
+  -- the same of a type variant
   abbrev pub IsVariantCopy : TypeVariant N → TypeVariant N → Type 0
-  IsVariantCopy it copy = ShowsSame RefersAlike (written_variant N) it copy × ShowsSame LocatesAlike (variant_locs N) it copy
+  IsVariantCopy it copy = ShowsSame RefersAlike (variant_expr N) it copy × ShowsSame LocatesAlike (variant_locs N) it copy
 
   -- the same of a record type
   abbrev pub IsRecordCopy : RecordType N → RecordType N → Type 0
-  IsRecordCopy it copy = ShowsSame RefersAlike (written_record N) it copy × ShowsSame LocatesAlike (record_locs N) it copy
+  IsRecordCopy it copy = ShowsSame RefersAlike (record_type_expr N) it copy × ShowsSame LocatesAlike (record_locs N) it copy
 
   -- the same of an attribute
   abbrev pub IsAttributeCopy : TypeOfAttribute N → TypeOfAttribute N → Type 0
   IsAttributeCopy it copy =
-      ShowsSame RefersAlike (written_attribute N) it copy × ShowsSame LocatesAlike (attribute_locs N) it copy
+      ShowsSame RefersAlike (flag_and_expr N) it copy × ShowsSame LocatesAlike (attribute_locs N) it copy

@@ -14,7 +14,7 @@ use Rattle.cedar_names.specs.EntityBody.{EntityBody, entity_body}
 use Rattle.cedar_names.specs.Expr.{Expr}
 use Rattle.cedar_names.specs.RawExpr.{raw_reference}
 use Rattle.cedar_names.specs.Reference.{Reference}
-use Rattle.cedar_names.specs.WrittenExpr.{written_type}
+use Rattle.cedar_names.specs.TypeExpr.{type_expr}
 use Rattle.cedar_names.specs.declared.json_schema.action_type.ActionType.{ActionType}
 use Rattle.cedar_names.specs.declared.json_schema.common_type_id.CommonTypeId.{CommonTypeId}
 use Rattle.cedar_names.specs.declared.json_schema.entity_type.EntityType.{EntityType}
@@ -44,7 +44,7 @@ module _ (N : Type 0) (refer : ReferenceType → N → Reference) (namespace : O
       map (λ entry. record {
         namespace = namespace;
         id = common_type_text entry.0;
-        body = common_type (written_type N refer entry.1.ty);
+        body = common_type (type_expr N refer entry.1.ty);
       }) entries
 
   -- the declarations of some entity types

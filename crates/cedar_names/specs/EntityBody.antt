@@ -6,7 +6,7 @@ use Rattle.cedar_below.specs.Text.{Text}
 use Rattle.cedar_names.specs.Expr.{Expr}
 use Rattle.cedar_names.specs.RawExpr.{raw_reference}
 use Rattle.cedar_names.specs.Reference.{Reference}
-use Rattle.cedar_names.specs.WrittenExpr.{written_type}
+use Rattle.cedar_names.specs.TypeExpr.{type_expr}
 use Rattle.cedar_names.specs.declared.json_schema.entity_type.EntityType.{EntityType}
 use Rattle.cedar_names.specs.declared.json_schema.entity_type.EntityTypeKind.{EntityTypeKind}
 use Rattle.cedar_names.specs.declared.json_schema.entity_type.EntityTypeKind.TheVariants as variant
@@ -26,7 +26,7 @@ module _ (N : Type 0) (refer : ReferenceType → N → Reference) where
   -- what a declaration says by its kind and by whether it is external; external choices are ignored
   abbrev pub kind_body : EntityTypeKind N → Bool → EntityBody
   kind_body (variant.Standard it) false = standard (map (refer Entity) it.member_of_types.items)
-      (written_type N refer it.shape.0) (option_map (written_type N refer) it.tags)
+      (type_expr N refer it.shape.0) (option_map (type_expr N refer) it.tags)
   kind_body (variant.Standard it) true = external (map (refer Entity) it.member_of_types.items)
   kind_body (variant.Enum choices) false = enumerated (map eid_text (choices.head ∷ choices.tail.items))
   kind_body (variant.Enum choices) true = external []

@@ -13,5 +13,5 @@ pub mod RawExpr
 pub mod RawName
 pub mod Reference
 pub mod ReservedTypeWord
+pub mod TypeExpr
 pub mod TypeLocs
-pub mod WrittenExpr

@@ -5,6 +5,6 @@ use Rattle.cedar_below.specs.declared.internal_name.InternalName.{InternalName}
 use Rattle.cedar_below.specs.InternalName.{name_of}
 use Rattle.cedar_below.specs.PlainName.{PlainName}
 
--- the name of a namespace that is lent; None is the empty namespace
+-- the name of a namespace that is borrowed; None is the empty namespace
 abbrev pub namespace_name : Option (Bor InternalName) → Option PlainName
 namespace_name namespace = option_map (λ name. name_of name.now) namespace

@@ -3,7 +3,7 @@ use Rattle.cedar_below.specs.PlainName.{PlainName}
 use Rattle.cedar_names.specs.Expr.{Expr}
 use Rattle.cedar_names.specs.RawName.{raw_name}
 use Rattle.cedar_names.specs.Reference.{Reference, reference_to}
-use Rattle.cedar_names.specs.WrittenExpr.{written_type, written_variant, written_record, written_attribute}
+use Rattle.cedar_names.specs.TypeExpr.{type_expr, variant_expr, record_type_expr, flag_and_expr}
 use Rattle.cedar_names.specs.declared.json_schema.raw_name.RawName.{RawName}
 use Rattle.cedar_names.specs.declared.json_schema.reference_type.ReferenceType.{ReferenceType}
 use Rattle.cedar_names.specs.declared.json_schema.type_of.Type.{«Type»}
@@ -18,16 +18,16 @@ module _ (namespace : Option PlainName) where
 
   -- what a type stands for that is written in the namespace
   abbrev pub raw_expr : «Type» RawName → Expr
-  raw_expr = written_type RawName raw_reference
+  raw_expr = type_expr RawName raw_reference
 
-  -- what a type stands for that is written out in the namespace
+  -- what a type variant stands for in the namespace
   abbrev pub raw_variant : TypeVariant RawName → Expr
-  raw_variant = written_variant RawName raw_reference
+  raw_variant = variant_expr RawName raw_reference
 
   -- what a record type stands for that is written in the namespace
   abbrev pub raw_record : RecordType RawName → Expr
-  raw_record = written_record RawName raw_reference
+  raw_record = record_type_expr RawName raw_reference
 
   -- what an attribute stands for that is written in the namespace: whether it is required, and its type
   abbrev pub raw_attribute : TypeOfAttribute RawName → Bool × Expr
-  raw_attribute = written_attribute RawName raw_reference
+  raw_attribute = flag_and_expr RawName raw_reference

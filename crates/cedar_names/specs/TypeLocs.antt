@@ -18,7 +18,7 @@ module _ (N : Type 0) (locs : N → Locs) where
   type_locs_step (layer.Plain ty loc) = loc ∷ ty
   type_locs_step (layer.CommonTypeRef name loc) = loc ∷ locs name
 
-  -- one layer of a type that is written out
+  -- one layer of a type variant
   abbrev pub variant_locs_step : layer.TypeVariant-F N Locs Locs Locs Locs → Locs
   variant_locs_step layer.String = []
   variant_locs_step layer.Long = []
@@ -41,7 +41,7 @@ module _ (N : Type 0) (locs : N → Locs) where
   abbrev pub type_locs : «Type» N → Locs
   type_locs = fold-Type N Locs Locs Locs Locs type_locs_step variant_locs_step record_locs_step attribute_locs_step
 
-  -- the locations in a type that is written out
+  -- the locations in a type variant
   abbrev pub variant_locs : TypeVariant N → Locs
   variant_locs = fold-TypeVariant N Locs Locs Locs Locs type_locs_step variant_locs_step record_locs_step attribute_locs_step
 

@@ -3,11 +3,13 @@
 ghost use Rattle.std.specs.Prelude.{◌≡◌, ◌↔◌, IsTrue};
 ghost use Rattle.std.specs.Cmp.Lexicographic.{slice_cmp};
 ghost use Rattle.std.specs.Ordering.{nat_cmp};
+ghost use Rattle.cedar_below.specs.FeedsVariant.{FeedsVariantFirst};
 ghost use Rattle.cedar_names.specs.CommonTypeId.{common_type_text};
 ghost use Rattle.cedar_names.specs.ConditionalName.{possibilities_of, reference_type_of};
 ghost use Rattle.cedar_names.specs.RawName.{raw_name};
+ghost use Rattle.cedar_names.specs.declared.json_schema.reference_type.ReferenceType.{ReferenceType};
 
-use crate::json_schema::{CommonTypeId, ConditionalName, RawName};
+use crate::json_schema::{CommonTypeId, ConditionalName, RawName, ReferenceType};
 use std::hash::Hash;
 
 /// Base names of common types are compared by their texts.
@@ -20,7 +22,7 @@ pub fn common_type_ids_compare_by_text()
         → ⟦<CommonTypeId as Hash>⟧.hash_input a ≡ ⟦<CommonTypeId as Hash>⟧.hash_input b }
 {}
 
-/// Raw names are compared by what they stand for, whatever their locations.
+/// Raw names are compared by what they stand for, ignoring locations.
 pub fn raw_names_compare_by_name()
     ensures equality { (a b : RawName) → IsTrue (⟦<RawName as PartialEq>⟧.eq a b)
         ↔ (raw_name a ≡ raw_name b) }
@@ -29,11 +31,16 @@ pub fn raw_names_compare_by_name()
 {}
 
 /// Conditional names are compared by their possibilities in order and their reference type,
-/// whatever the locations.
+/// ignoring locations.
 pub fn conditional_names_compare_by_possibilities()
     ensures equality { (a b : ConditionalName) → IsTrue (⟦<ConditionalName as PartialEq>⟧.eq a b)
         ↔ ((possibilities_of a ≡ possibilities_of b) × (reference_type_of a ≡ reference_type_of b)) }
     ensures hash { (a b : ConditionalName) → possibilities_of a ≡ possibilities_of b
         → reference_type_of a ≡ reference_type_of b
         → ⟦<ConditionalName as Hash>⟧.hash_input a ≡ ⟦<ConditionalName as Hash>⟧.hash_input b }
+{}
+
+/// The hash of a reference type is fed the variant: unlike reference types feed unlike first items.
+pub fn reference_types_feed_their_variant()
+    ensures { FeedsVariantFirst (λ (kind : ReferenceType). kind) ⟦<ReferenceType as Hash>⟧.hash_input }
 {}

@@ -4,14 +4,14 @@ use Rattle.std.proofs.lemmas.List.{append-nil, append_assoc, map-append}
 use Rattle.std.specs.Borrow.{Bor}
 use Rattle.std.specs.List.{flat_map}
 use Rattle.std.specs.Option.{option_to_list}
-use Rattle.cedar_actions.specs.ActionKind.{kind_context}
-use Rattle.cedar_actions.specs.ValidatorActionId.{action_of}
-use Rattle.cedar_actions.specs.declared.action_id.ValidatorActionId.{ValidatorActionId}
-use Rattle.cedar_declared.specs.EntityTypeKind.{kind_fields, kind_tags}
-use Rattle.cedar_entities.specs.ValidatorEntityType.{entity_type_of}
-use Rattle.cedar_entities.specs.declared.entity_type.ValidatorEntityType.{ValidatorEntityType}
+use Rattle.cedar_schema_elements.specs.ActionKind.{kind_context}
+use Rattle.cedar_schema_elements.specs.ValidatorActionId.{action_of}
+use Rattle.cedar_schema_elements.specs.declared.action_id.ValidatorActionId.{ValidatorActionId}
+use Rattle.cedar_declarations.specs.EntityTypeKind.{kind_fields, kind_tags}
+use Rattle.cedar_schema_elements.specs.ValidatorEntityType.{entity_type_of}
+use Rattle.cedar_schema_elements.specs.declared.entity_type.ValidatorEntityType.{ValidatorEntityType}
 use Rattle.cedar_queries.specs.Leaves.{IsLeaf, field_types, inner_types, leaves, leaves_of, leaves_of_fields, part_count, parts, parts_of_fields, shown_types}
-use Rattle.cedar_rules.specs.Ty.{Ty, never, truth, long, text, any_entity, union_of, any_set, set_of, record_of, extension_of, Fields, end, field}
+use Rattle.cedar_type_rules.specs.Ty.{Ty, never, truth, long, text, any_entity, union_of, any_set, set_of, record_of, extension_of, Fields, end, field}
 use Rattle.cedar_types.specs.Meaning.{ty_of}
 use Rattle.cedar_types.specs.declared.types.Type.{«Type»}
 
@@ -99,7 +99,7 @@ parts-some (union_of names) = omega arith
 parts-some any_set = omega arith
 parts-some (extension_of name) = omega arith
 
--- one more type that is lent
+-- one more type that is borrowed
 pub shown-push : (all before : List (Bor «Type»)) (one : Bor «Type») → all ≡ before ++ one ∷ []
     → shown_types all ≡ shown_types before ++ ty_of one.now ∷ []
 shown-push all before one is = ap shown_types is ∙ map-append (λ ty. ty_of ty.now) before (one ∷ [])

@@ -6,8 +6,8 @@ use Rattle.std.specs.List.{list_any}
 use Rattle.std.specs.Map.{lookup}
 use Rattle.std.specs.Option.{option_map, unwrap_or}
 use Rattle.std.specs.Ordering.{is_eq}
-use Rattle.cedar_actions.specs.ValidatorActionId.{action_of, plain_action_entry}
-use Rattle.cedar_actions.specs.declared.action_id.ValidatorActionId.{ValidatorActionId}
+use Rattle.cedar_schema_elements.specs.ValidatorActionId.{action_of, plain_action_entry}
+use Rattle.cedar_schema_elements.specs.declared.action_id.ValidatorActionId.{ValidatorActionId}
 use Rattle.cedar_below.proofs.Names.{entity_type_ord-name_cmp}
 use Rattle.cedar_below.proofs.Uids.{entity_uid_ord-uid_cmp}
 use Rattle.cedar_below.specs.EntityType.{type_name}
@@ -18,12 +18,12 @@ use Rattle.cedar_below.specs.contracts.entity_type.EntityTypeOrd.TheImpl as type
 use Rattle.cedar_below.specs.contracts.entity_uid.EntityUIDOrd.TheImpl as uid_ord
 use Rattle.cedar_below.specs.declared.entity_type.EntityType.{EntityType}
 use Rattle.cedar_below.specs.declared.entity_uid.EntityUID.{EntityUID}
-use Rattle.cedar_declared.proofs.OccurrenceLemmas.{any_of, name_test, some_of, uid_test}
-use Rattle.cedar_declared.specs.PlainSchema.{SchemaAction, SchemaEntityType}
-use Rattle.cedar_entities.specs.ValidatorEntityType.{descendant_names, entity_type_of, plain_entry}
+use Rattle.cedar_declarations.proofs.OccurrenceLemmas.{any_of, name_test, some_of, uid_test}
+use Rattle.cedar_declarations.specs.PlainSchema.{SchemaAction, SchemaEntityType}
+use Rattle.cedar_schema_elements.specs.ValidatorEntityType.{descendant_names, entity_type_of, plain_entry}
 use Rattle.cedar_queries.specs.Hierarchy.{action_descendants, descendants_of}
 use Rattle.cedar_queries.specs.RequestTypes.{action_at}
-use Rattle.cedar_entities.specs.declared.entity_type.ValidatorEntityType.{ValidatorEntityType}
+use Rattle.cedar_schema_elements.specs.declared.entity_type.ValidatorEntityType.{ValidatorEntityType}
 
 -- an entity type as plain data
 abbrev pub plain_type : ValidatorEntityType → SchemaEntityType

@@ -3,7 +3,7 @@ use Rattle.std.proofs.Common.{◌≡◌, ◌↔◌, Bool, IsTrue, List, refl, sy
 use Rattle.std.specs.Bool.{Decides, one_answer}
 use Rattle.std.specs.Ordering.{is_eq}
 use Rattle.cedar_below.specs.PlainName.{PlainName, name_cmp}
-use Rattle.cedar_declared.proofs.OccurrenceLemmas.{any_of, name_test, some_of}
+use Rattle.cedar_declarations.proofs.OccurrenceLemmas.{any_of, name_test, some_of}
 use Rattle.cedar_queries.specs.Hierarchy.{has_name}
 
 -- a name is one of some exactly where they contain it

@@ -2,18 +2,18 @@
 use Rattle.std.proofs.Common.{◌≡◌, List, map, ap, sym, ◌∙◌}
 use Rattle.std.proofs.lemmas.List.Folds.{flat_map-map}
 use Rattle.std.specs.List.{flat_map}
-use Rattle.cedar_actions.specs.ValidatorActionId.{action_of, plain_action_entry}
-use Rattle.cedar_actions.specs.declared.action_id.ValidatorActionId.{ValidatorActionId}
+use Rattle.cedar_schema_elements.specs.ValidatorActionId.{action_of, plain_action_entry}
+use Rattle.cedar_schema_elements.specs.declared.action_id.ValidatorActionId.{ValidatorActionId}
 use Rattle.cedar_below.specs.declared.entity_uid.EntityUID.{EntityUID}
 use Rattle.cedar_queries.specs.Role.{types_in_role}
 use Rattle.cedar_queries.specs.declared.requests.Role.{Role}
 
 -- those of the actions alone are those of the actions under their uids
-pub types_in_turn : (role : Role) (entries : List (EntityUID × ValidatorActionId)) (actions : List ValidatorActionId)
+pub types_pairwise : (role : Role) (entries : List (EntityUID × ValidatorActionId)) (actions : List ValidatorActionId)
     → actions ≡ map (λ entry. entry.1) entries
     → flat_map (λ it. types_in_role role (action_of it).kind) actions
     ≡ flat_map (λ it. types_in_role role it.1.kind) (map plain_action_entry entries)
-types_in_turn role entries actions are =
+types_pairwise role entries actions are =
     ap (flat_map (λ it. types_in_role role (action_of it).kind)) are
     ∙ (flat_map-map (λ it. types_in_role role (action_of it).kind) (λ (entry : EntityUID × ValidatorActionId). entry.1) entries
     ∙ sym (flat_map-map (λ it. types_in_role role it.1.kind) plain_action_entry entries))

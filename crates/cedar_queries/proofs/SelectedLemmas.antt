@@ -30,7 +30,7 @@ module _ {K V : Type 0} (cmp : K → K → Ordering) (test : V → Bool) where
       elim (test entry.1) as (λ b. AllByRecursion (λ other. cmp key other ≡ Less) (map (λ it. it.0) (cond b (entry ∷ kept) kept)))
       [ true ↦ (below.0, others) | false ↦ others ]
 
-  -- the keys of entries that pass a test ascend where those of all entries do
+  -- the keys of entries that pass a test are sorted where those of all entries do
   pub keys_where-ascend : (entries : List (K × V)) → IsStrictlySortedBy cmp (map (λ it. it.0) entries)
       → IsStrictlySortedBy cmp (keys_where test entries)
   unfolding IsStrictlySortedBy

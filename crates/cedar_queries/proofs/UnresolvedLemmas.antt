@@ -1,14 +1,14 @@
 -- What is declared elsewhere, as plain data.
 use Rattle.std.proofs.Common.{◌≡◌, ◌++◌, List, map, ap, sym, ◌∙◌}
 use Rattle.std.proofs.lemmas.Simd.{map-map}
-use Rattle.cedar_actions.specs.ValidatorActionId.{action_of, plain_action_entry}
-use Rattle.cedar_actions.specs.declared.action_id.ValidatorActionId.{ValidatorActionId}
+use Rattle.cedar_schema_elements.specs.ValidatorActionId.{action_of, plain_action_entry}
+use Rattle.cedar_schema_elements.specs.declared.action_id.ValidatorActionId.{ValidatorActionId}
 use Rattle.cedar_below.specs.EntityType.{type_name}
 use Rattle.cedar_below.specs.EntityUID.{uid_of}
 use Rattle.cedar_below.specs.declared.entity_type.EntityType.{EntityType}
 use Rattle.cedar_below.specs.declared.entity_uid.EntityUID.{EntityUID}
-use Rattle.cedar_entities.specs.ValidatorEntityType.{entity_type_of, plain_entry}
-use Rattle.cedar_entities.specs.declared.entity_type.ValidatorEntityType.{ValidatorEntityType}
+use Rattle.cedar_schema_elements.specs.ValidatorEntityType.{entity_type_of, plain_entry}
+use Rattle.cedar_schema_elements.specs.declared.entity_type.ValidatorEntityType.{ValidatorEntityType}
 use Rattle.cedar_queries.proofs.LookupLemmas.{plain_type}
 use Rattle.cedar_queries.proofs.SelectedLemmas.{keys_where-map}
 use Rattle.cedar_queries.specs.Selected.{keys_where}

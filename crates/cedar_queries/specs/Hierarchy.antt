@@ -6,7 +6,7 @@ use Rattle.std.specs.Option.{option_map, unwrap_or}
 use Rattle.std.specs.Ordering.{is_eq}
 use Rattle.cedar_below.specs.PlainName.{IsActionType, PlainName, name_cmp}
 use Rattle.cedar_below.specs.PlainUid.{PlainUid, uid_cmp}
-use Rattle.cedar_declared.specs.PlainSchema.{SchemaAction, SchemaEntityType}
+use Rattle.cedar_declarations.specs.PlainSchema.{SchemaAction, SchemaEntityType}
 use Rattle.cedar_queries.specs.Selected.{keys_where}
 
 -- whether the name is one of some

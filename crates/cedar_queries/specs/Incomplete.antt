@@ -5,7 +5,7 @@ use Rattle.cedar_below.specs.EntityType.{type_name}
 use Rattle.cedar_below.specs.EntityUID.{uid_of}
 use Rattle.cedar_below.specs.PlainName.{PlainName, name_cmp}
 use Rattle.cedar_below.specs.PlainUid.{PlainUid, uid_cmp}
-use Rattle.cedar_declared.specs.PlainSchema.{SchemaAction, SchemaEntityType}
+use Rattle.cedar_declarations.specs.PlainSchema.{SchemaAction, SchemaEntityType}
 use Rattle.cedar_queries.specs.Unresolved.{external_actions, external_types, unresolved}
 use Rattle.cedar_queries.specs.declared.completeness.CompleteError.{CompleteError}
 use Rattle.cedar_queries.specs.declared.completeness.CompleteError.TheVariants as variant
@@ -20,7 +20,7 @@ pub record CarriesUnresolved (declared : List (PlainName × SchemaEntityType)) (
   pub actions : IsPermutation (external_actions known) (map uid_of error.actions.items)
   pub actions_in_order : IsSorted uid_cmp (map uid_of error.actions.items)
 
--- want of memory aside, the error says what is external
+-- memory aside, the error says what is external
 abbrev pub IsIncomplete : List (PlainName × SchemaEntityType) → List (PlainUid × SchemaAction) → CompleteError → Type 0
 IsIncomplete types actions (variant.Incomplete error) = CarriesUnresolved types actions error
 IsIncomplete types actions (variant.Memory memory) = Unit {0}

@@ -2,12 +2,12 @@ use Rattle.std.specs.Prelude.{ℕ, ◌+◌, List, [], ◌∷◌, ◌++◌, map}
 use Rattle.std.specs.Borrow.{Bor}
 use Rattle.std.specs.List.{flat_map}
 use Rattle.std.specs.Option.{option_to_list}
-use Rattle.cedar_actions.specs.ActionKind.{kind_context}
+use Rattle.cedar_schema_elements.specs.ActionKind.{kind_context}
 use Rattle.cedar_below.specs.PlainName.{PlainName}
 use Rattle.cedar_below.specs.PlainUid.{PlainUid}
-use Rattle.cedar_declared.specs.EntityTypeKind.{kind_fields, kind_tags}
-use Rattle.cedar_declared.specs.PlainSchema.{SchemaAction, SchemaEntityType}
-use Rattle.cedar_rules.specs.Ty.{Ty, set_of, record_of, Fields, end, field}
+use Rattle.cedar_declarations.specs.EntityTypeKind.{kind_fields, kind_tags}
+use Rattle.cedar_declarations.specs.PlainSchema.{SchemaAction, SchemaEntityType}
+use Rattle.cedar_type_rules.specs.Ty.{Ty, set_of, record_of, Fields, end, field}
 use Rattle.cedar_types.specs.Meaning.{ty_of}
 use Rattle.cedar_types.specs.declared.types.Type.{«Type»}
 
@@ -56,7 +56,7 @@ inner_types (set_of ty) = ty ∷ []
 inner_types (record_of fields openness) = field_types fields
 inner_types _ = []
 
--- what types that are lent stand for
+-- what types that are borrowed stand for
 abbrev pub shown_types : List (Bor «Type») → List Ty
 shown_types types = map (λ ty. ty_of ty.now) types
 

@@ -1,7 +1,10 @@
 pub mod GivesLeaf
 pub mod Hierarchy
 pub mod Incomplete
+pub mod KnownAttributes
+pub mod KnownLaws
 pub mod Leaves
+pub mod Possible
 pub mod RequestEnvs
 pub mod RequestTypes
 pub mod Role

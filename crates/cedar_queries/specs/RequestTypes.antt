@@ -4,11 +4,11 @@ use Rattle.std.specs.List.{flat_map}
 use Rattle.std.specs.Map.{lookup}
 use Rattle.std.specs.Option.{option_and_then}
 use Rattle.std.specs.Ordering.{is_eq}
-use Rattle.cedar_actions.specs.ActionKind.{kind_context, kind_principals, kind_resources}
+use Rattle.cedar_schema_elements.specs.ActionKind.{kind_context, kind_principals, kind_resources}
 use Rattle.cedar_below.specs.PlainName.{PlainName}
 use Rattle.cedar_below.specs.PlainUid.{PlainUid, uid_cmp}
-use Rattle.cedar_declared.specs.PlainSchema.{SchemaAction}
-use Rattle.cedar_rules.specs.Ty.{Ty}
+use Rattle.cedar_declarations.specs.PlainSchema.{SchemaAction}
+use Rattle.cedar_type_rules.specs.Ty.{Ty}
 use Rattle.cedar_queries.specs.Hierarchy.{has_name}
 use Rattle.cedar_queries.specs.Selected.{keys_where}
 

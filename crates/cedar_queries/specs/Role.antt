@@ -1,8 +1,8 @@
 -- What entity types are to requests.
 use Rattle.std.specs.Prelude.{List}
-use Rattle.cedar_actions.specs.ActionKind.{kind_principals, kind_resources}
+use Rattle.cedar_schema_elements.specs.ActionKind.{kind_principals, kind_resources}
 use Rattle.cedar_below.specs.PlainName.{PlainName}
-use Rattle.cedar_declared.specs.PlainSchema.{ActionKind}
+use Rattle.cedar_declarations.specs.PlainSchema.{ActionKind}
 use Rattle.cedar_queries.specs.declared.requests.Role.{Role}
 use Rattle.cedar_queries.specs.declared.requests.Role.TheVariants as role
 

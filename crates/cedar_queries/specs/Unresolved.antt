@@ -4,8 +4,8 @@ use Rattle.cedar_below.specs.EntityType.{type_name}
 use Rattle.cedar_below.specs.EntityUID.{uid_of}
 use Rattle.cedar_below.specs.PlainName.{PlainName}
 use Rattle.cedar_below.specs.PlainUid.{PlainUid}
-use Rattle.cedar_declared.specs.EntityTypeKind.{EntityTypeKind, standard_kind, enumerated_kind, external_kind}
-use Rattle.cedar_declared.specs.PlainSchema.{ActionKind, defined_action, external_action, SchemaAction, SchemaEntityType}
+use Rattle.cedar_declarations.specs.EntityTypeKind.{EntityTypeKind, standard_kind, enumerated_kind, external_kind}
+use Rattle.cedar_declarations.specs.PlainSchema.{ActionKind, defined_action, external_action, SchemaAction, SchemaEntityType}
 use Rattle.cedar_queries.specs.Selected.{keys_where}
 use Rattle.cedar_queries.specs.declared.unresolved.UnresolvedDeclaration.{UnresolvedDeclaration}
 use Rattle.cedar_queries.specs.declared.unresolved.UnresolvedDeclaration.TheVariants as variant

@@ -2,12 +2,12 @@
 
 ghost use Rattle.std.specs.Prelude.{◌≡◌, ◌≢◌, [], IfErr, IfOk, OnOk, map};
 ghost use Rattle.std.specs.List.Sorted.{IsPermutation, IsSorted};
-ghost use Rattle.cedar_actions.specs.ValidatorActionId.{plain_action_entry};
+ghost use Rattle.cedar_schema_elements.specs.ValidatorActionId.{plain_action_entry};
 ghost use Rattle.cedar_below.specs.EntityType.{type_name};
 ghost use Rattle.cedar_below.specs.EntityUID.{uid_of};
 ghost use Rattle.cedar_below.specs.PlainName.{name_cmp};
 ghost use Rattle.cedar_below.specs.PlainUid.{uid_cmp};
-ghost use Rattle.cedar_entities.specs.ValidatorEntityType.{plain_entry};
+ghost use Rattle.cedar_schema_elements.specs.ValidatorEntityType.{plain_entry};
 ghost use Rattle.cedar_queries.specs.Incomplete.{IsIncomplete};
 ghost use Rattle.cedar_queries.specs.Unresolved.{external_actions, external_types, unresolved};
 
@@ -39,7 +39,7 @@ pub enum CompleteError {
     /// It isn't.
     #[error(transparent)]
     Incomplete(IncompleteSchemaError),
-    /// Want of memory.
+    /// Out of memory.
     #[error(transparent)]
     Memory(Memory),
 }
@@ -54,7 +54,7 @@ impl From<Memory> for CompleteError {
     }
 }
 
-/// References to the names of the external entity types, or want of memory.
+/// References to the names of the external entity types.
 fn external_names(alloc: Global, types: &EntityTypes) -> M<Vec<&EntityType>>
     ensures { IfOk result (λ names. map (λ name. type_name name.now) names.items ≡ external_types (map plain_entry types.now.entries)) }
 {
@@ -65,7 +65,7 @@ fn external_names(alloc: Global, types: &EntityTypes) -> M<Vec<&EntityType>>
     Ok(names)
 }
 
-/// References to the uids of the external actions, or want of memory.
+/// References to the uids of the external actions.
 fn external_uids(alloc: Global, actions: &Actions) -> M<Vec<&EntityUID>>
     ensures { IfOk result (λ uids. map (λ uid. uid_of uid.now) uids.items ≡ external_actions (map plain_action_entry actions.now.entries)) }
 {
@@ -76,7 +76,7 @@ fn external_uids(alloc: Global, actions: &Actions) -> M<Vec<&EntityUID>>
     Ok(uids)
 }
 
-/// The same references in the order of what they refer to, or want of memory.
+/// The same references in the order of what they refer to.
 fn in_order<'a, T: Ord>(references: Vec<&'a T>) -> M<Vec<&'a T>>
     ensures permutation { IfOk result (λ sorted. IsPermutation references.entry.items sorted.items) }
     ensures sorted { IfOk result (λ sorted. IsSorted (λ a b. T.cmp a.now b.now) sorted.items) }
@@ -85,7 +85,7 @@ fn in_order<'a, T: Ord>(references: Vec<&'a T>) -> M<Vec<&'a T>>
     Ok(references.into_iter().sorted(alloc)?.collect_vec(alloc)?)
 }
 
-/// The names of the external entity types, in order, or want of memory.
+/// The names of the external entity types, in order.
 fn external_types(alloc: Global, types: &EntityTypes) -> M<Vec<EntityType>>
     ensures names { IfOk result (λ names. IsPermutation (external_types (map plain_entry types.now.entries)) (map type_name names.items)) }
     ensures sorted { IfOk result (λ names. IsSorted name_cmp (map type_name names.items)) }
@@ -97,7 +97,7 @@ fn external_types(alloc: Global, types: &EntityTypes) -> M<Vec<EntityType>>
     Ok(names)
 }
 
-/// The uids of the external actions, in order, or want of memory.
+/// The uids of the external actions, in order.
 fn external_actions(alloc: Global, actions: &Actions) -> M<Vec<EntityUID>>
     ensures uids { IfOk result (λ uids. IsPermutation (external_actions (map plain_action_entry actions.now.entries)) (map uid_of uids.items)) }
     ensures sorted { IfOk result (λ uids. IsSorted uid_cmp (map uid_of uids.items)) }
@@ -117,7 +117,7 @@ fn first_loc(types: &EntityTypes, actions: &Actions) -> Option<Loc> {
     }
 }
 
-/// That nothing is declared elsewhere; else what is, in order. Or want of memory.
+/// That nothing is declared elsewhere; else what is, in order. Or out of memory.
 pub fn check_complete(
     alloc: Global,
     types: &EntityTypes,

@@ -2,17 +2,16 @@
 
 ghost use Rattle.std.specs.Prelude.{◌≡◌, ◌≢◌, ◌↔◌, ◌++◌, ◌∷◌, [], Contains, IfOk, IfSome, IsSome, IsTrue, All, AllPairs, Any, OnOk, map};
 ghost use Rattle.std.specs.List.{flat_map};
-ghost use Rattle.cedar_actions.specs.ValidatorActionId.{action_of, plain_action_entry};
+ghost use Rattle.cedar_schema_elements.specs.ValidatorActionId.{action_of, plain_action_entry};
 ghost use Rattle.cedar_below.specs.EntityType.{type_name};
 ghost use Rattle.cedar_below.specs.EntityUID.{uid_of};
-ghost use Rattle.cedar_entities.specs.ValidatorEntityType.{descendant_names, plain_entry};
+ghost use Rattle.cedar_schema_elements.specs.ValidatorEntityType.{descendant_names, plain_entry};
 ghost use Rattle.cedar_queries.specs.Hierarchy.{action_descendants, descendants_of, groups, HasActionBelow, IsKnownType, MayBeIn, types_above};
 
 use crate::selected::Selected;
 use crate::tests_of_values::{HasDescendant, IsGroup};
-use cedar_actions::ValidatorActionId;
 use cedar_below::{EntityType, EntityUID, M};
-use cedar_entities::ValidatorEntityType;
+use cedar_schema_elements::{ValidatorActionId, ValidatorEntityType};
 use std::alloc::Global;
 use std::collections::BTreeMap;
 
@@ -69,9 +68,9 @@ fn add_descendants<'a>(
     Ok(())
 }
 
-/// The names of the descendants of an entity type, in some order, each once, and then its own, which
-/// stands there twice where it is a descendant of itself. Of an entity type that isn't there just its own
-/// name. Or want of memory.
+/// The names of the descendants of an entity type, in some order, each once, and then its own,
+/// which stands there twice where it is a descendant of itself. Of an entity type that isn't there
+/// just its own name.
 pub fn entity_types_in<'a>(
     alloc: Global,
     types: &'a EntityTypes,
@@ -105,8 +104,8 @@ fn add_actions_in<'a>(
     Ok(())
 }
 
-/// For each of some uids in turn the uids of the descendants of its action, in some order, and then the
-/// uid itself, repeats among them; None where one of them is that of no action. Or want of memory.
+/// For each of some uids in turn the uids of the descendants of its action, in some order, and then
+/// the uid itself, repeats among them; None where one of them is that of no action.
 pub fn actions_in_set<'a>(
     alloc: Global,
     actions: &'a Actions,

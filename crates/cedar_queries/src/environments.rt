@@ -1,11 +1,11 @@
-//! The environments of requests, lent.
+//! The environments of requests, borrowed.
 
 ghost use Rattle.std.specs.Prelude.{◌≡◌, map};
 ghost use Rattle.std.specs.Iterator.{YieldsFirstBy, item_count};
-ghost use Rattle.cedar_entities.specs.RequestEnv.{environment_of, owned_environment};
+ghost use Rattle.cedar_schema_elements.specs.RequestEnv.{environment_of, owned_environment};
 ghost use Rattle.cedar_queries.specs.RequestEnvs.{environments_left};
 
-use cedar_entities::{RequestEnv, UnlinkedRequestEnv};
+use cedar_schema_elements::{RequestEnv, UnlinkedRequestEnv};
 use std::iter::FusedIterator;
 use std::slice;
 

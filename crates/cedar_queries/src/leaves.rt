@@ -4,15 +4,14 @@ ghost use Rattle.std.specs.Prelude.{◌≡◌, ◌++◌, IfOk, map};
 ghost use Rattle.std.specs.Bool.{MatchBool};
 ghost use Rattle.std.specs.Iterator.{at_most};
 ghost use Rattle.std.specs.List.Sorted.{IsPermutation};
-ghost use Rattle.cedar_actions.specs.ValidatorActionId.{plain_action_entry};
-ghost use Rattle.cedar_entities.specs.ValidatorEntityType.{plain_entry};
+ghost use Rattle.cedar_schema_elements.specs.ValidatorActionId.{plain_action_entry};
+ghost use Rattle.cedar_schema_elements.specs.ValidatorEntityType.{plain_entry};
 ghost use Rattle.cedar_queries.specs.GivesLeaf.{GivesLeaf, pending_types};
 ghost use Rattle.cedar_queries.specs.Leaves.{IsLeaf, context_types, entity_type_types, field_types, inner_types, leaves_of, part_count, schema_leaves, shown_types};
 ghost use Rattle.cedar_types.specs.Meaning.{fields_of, ty_of};
 
-use cedar_actions::ValidatorActionId;
 use cedar_below::{EntityType, EntityUID, M};
-use cedar_entities::ValidatorEntityType;
+use cedar_schema_elements::{ValidatorActionId, ValidatorEntityType};
 use cedar_types::{Attributes, Type};
 use std::alloc::Global;
 use std::collections::BTreeMap;
@@ -26,13 +25,14 @@ type Actions = BTreeMap<EntityUID, ValidatorActionId>;
 
 /// The leaves of types that are yet to be gone over, in no order that is promised.
 ///
-/// An item is want of memory where a growth was refused on the way; after it the iterator has ended.
+/// An item is that memory ran out where a growth was refused on the way; after it the iterator has
+/// ended.
 #[derive(Drop)]
 pub struct TypeIterator<'a> {
     pending: Vec<&'a Type>,
 }
 
-/// Adds the types of some attributes, or answers want of memory.
+/// Adds the types of some attributes.
 fn add_attributes<'a>(pending: &mut Vec<&'a Type>, attributes: &'a Attributes) -> M<()>
     ensures { IfOk result (λ _. shown_types pending.new.items ≡ shown_types pending.old.items ++ field_types (fields_of attributes.now)) }
 {
@@ -42,7 +42,7 @@ fn add_attributes<'a>(pending: &mut Vec<&'a Type>, attributes: &'a Attributes) -
     Ok(())
 }
 
-/// Adds the types right inside a type, and tells whether it isn't a leaf; or answers want of memory.
+/// Adds the types right inside a type, and tells whether it isn't a leaf.
 fn add_inner<'a>(pending: &mut Vec<&'a Type>, ty: &'a Type) -> M<bool>
     ensures { IfOk result (λ has_parts. MatchBool has_parts
         (¬ IsLeaf (ty_of ty.now) × (shown_types pending.new.items ≡ shown_types pending.old.items ++ inner_types (ty_of ty.now)))
@@ -87,7 +87,7 @@ impl<'a> Iterator for TypeIterator<'a> {
 
 impl<'a> FusedIterator for TypeIterator<'a> {}
 
-/// Adds the types of attributes and tags of entity types, or answers want of memory.
+/// Adds the types of attributes and tags of entity types.
 fn add_entity_types<'a>(pending: &mut Vec<&'a Type>, types: &'a EntityTypes) -> M<()>
     ensures { IfOk result (λ _. shown_types pending.new.items
         ≡ shown_types pending.old.items ++ entity_type_types (map plain_entry types.now.entries)) }
@@ -101,7 +101,7 @@ fn add_entity_types<'a>(pending: &mut Vec<&'a Type>, types: &'a EntityTypes) -> 
     Ok(())
 }
 
-/// Adds the types of the contexts of actions, or answers want of memory.
+/// Adds the types of the contexts of actions.
 fn add_contexts<'a>(pending: &mut Vec<&'a Type>, actions: &'a Actions) -> M<()>
     ensures { IfOk result (λ _. shown_types pending.new.items
         ≡ shown_types pending.old.items ++ context_types (map plain_action_entry actions.now.entries)) }
@@ -114,8 +114,7 @@ fn add_contexts<'a>(pending: &mut Vec<&'a Type>, actions: &'a Actions) -> M<()>
     Ok(())
 }
 
-/// The leaves of the types of attributes, tags and contexts, each as often as it stands there, or want of
-/// memory.
+/// The leaves of the types of attributes, tags and contexts, each as often as it stands there.
 pub fn leaf_types<'a>(
     alloc: Global,
     types: &'a EntityTypes,

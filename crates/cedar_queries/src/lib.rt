@@ -1,4 +1,5 @@
-//! What a schema answers of its entity types and its actions.
+//! What a schema answers of its entity types and its actions, and what is known of the attributes
+//! and tags of types over them.
 #![tactic(auto)]
 
 pub use completeness::{CompleteError, IncompleteSchemaError, check_complete};
@@ -7,7 +8,11 @@ pub use descent::{
     any_descendent_of, entity_types_in, is_known_entity_type,
 };
 pub use environments::RequestEnvs;
+pub use known::{all_attributes, known_attributes};
 pub use leaves::{TypeIterator, leaf_types};
+pub use possible::{
+    has_declared_entity_types, is_known_uid, lookup_attribute_type, may_have_attr, may_have_tags,
+};
 pub use requests::{
     ActionsFor, ApplicableTypes, actions_for_principal_and_resource, context_type,
     is_known_action_id, principals, principals_for_action, resources, resources_for_action,
@@ -19,7 +24,9 @@ pub use unresolved::{
 mod completeness;
 mod descent;
 mod environments;
+mod known;
 mod leaves;
+mod possible;
 mod requests;
 mod selected;
 mod tests_of_values;

@@ -4,8 +4,8 @@ ghost use Rattle.std.specs.Prelude.{◌≡◌, ◌≢◌, ◌↔◌, AllPairs, C
 ghost use Rattle.std.specs.Iterator.{at_most};
 ghost use Rattle.std.specs.Map.Iter.{TakesFirst};
 ghost use Rattle.std.specs.Option.{option_copied, option_map};
-ghost use Rattle.cedar_actions.specs.ActionKind.{kind_principals, kind_resources};
-ghost use Rattle.cedar_actions.specs.ValidatorActionId.{action_of, plain_action_entry};
+ghost use Rattle.cedar_schema_elements.specs.ActionKind.{kind_principals, kind_resources};
+ghost use Rattle.cedar_schema_elements.specs.ValidatorActionId.{action_of, plain_action_entry};
 ghost use Rattle.cedar_below.specs.EntityType.{type_name};
 ghost use Rattle.cedar_below.specs.EntityUID.{uid_of};
 ghost use Rattle.cedar_queries.specs.RequestTypes.{action_at, actions_for, all_principals, all_resources, context_at};
@@ -15,8 +15,8 @@ ghost use Rattle.cedar_types.specs.Meaning.{ty_of};
 use crate::descent::Actions;
 use crate::selected::Selected;
 use crate::tests_of_values::ForRequest;
-use cedar_actions::ValidatorActionId;
 use cedar_below::{EntityType, EntityUID};
+use cedar_schema_elements::ValidatorActionId;
 use cedar_types::Type;
 use std::collections::{btree_map, hash_set};
 use std::iter::FusedIterator;
@@ -46,7 +46,7 @@ impl<'a> Model for ApplicableTypes<'a> {
     ghost use Rattle.cedar_below.specs.EntityType.{type_name};
     ghost use Rattle.std.specs.List.{flat_map};
     ghost use Rattle.std.specs.Option.{unwrap_or};
-    ghost use Rattle.cedar_actions.specs.ValidatorActionId.{action_of};
+    ghost use Rattle.cedar_schema_elements.specs.ValidatorActionId.{action_of};
     ghost use Rattle.cedar_below.specs.PlainName.{PlainName};
     ghost use Rattle.cedar_queries.specs.Role.{types_in_role};
 

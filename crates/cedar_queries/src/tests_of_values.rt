@@ -1,16 +1,15 @@
 //! What entity types and actions are asked for.
 
 ghost use Rattle.std.specs.Prelude.{◌&&◌};
-ghost use Rattle.cedar_actions.specs.ActionKind.{kind_principals, kind_resources};
-ghost use Rattle.cedar_actions.specs.ValidatorActionId.{action_of};
+ghost use Rattle.cedar_schema_elements.specs.ActionKind.{kind_principals, kind_resources};
+ghost use Rattle.cedar_schema_elements.specs.ValidatorActionId.{action_of};
 ghost use Rattle.cedar_below.specs.EntityType.{type_name};
-ghost use Rattle.cedar_entities.specs.ValidatorEntityType.{descendant_names};
+ghost use Rattle.cedar_schema_elements.specs.ValidatorEntityType.{descendant_names};
 ghost use Rattle.cedar_queries.specs.Hierarchy.{has_name, is_nonempty};
 
 use crate::selected::Test;
-use cedar_actions::ValidatorActionId;
 use cedar_below::EntityType;
-use cedar_entities::ValidatorEntityType;
+use cedar_schema_elements::{ValidatorActionId, ValidatorEntityType};
 
 /// That an entity type is among the descendants.
 #[derive(Drop)]
@@ -60,7 +59,7 @@ impl<'a> Test<ValidatorActionId> for ForRequest<'a> {
 pub struct IsExternal;
 
 impl Test<ValidatorEntityType> for IsExternal {
-    ghost use Rattle.cedar_entities.specs.ValidatorEntityType.{entity_type_of};
+    ghost use Rattle.cedar_schema_elements.specs.ValidatorEntityType.{entity_type_of};
     ghost use Rattle.cedar_queries.specs.Unresolved.{is_external_type};
 
     ghost holds = { λ test it. is_external_type (entity_type_of it).kind };

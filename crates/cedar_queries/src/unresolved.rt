@@ -2,16 +2,15 @@
 
 ghost use Rattle.std.specs.Prelude.{◌≡◌, ◌↔◌, [], IsTrue, map};
 ghost use Rattle.std.specs.Iterator.{YieldsFirstBy, item_count};
-ghost use Rattle.cedar_actions.specs.ValidatorActionId.{plain_action_entry};
-ghost use Rattle.cedar_entities.specs.ValidatorEntityType.{plain_entry};
+ghost use Rattle.cedar_schema_elements.specs.ValidatorActionId.{plain_action_entry};
+ghost use Rattle.cedar_schema_elements.specs.ValidatorEntityType.{plain_entry};
 ghost use Rattle.cedar_queries.specs.Unresolved.{plain_unresolved, unresolved, unresolved_left};
 
 use crate::descent::{Actions, EntityTypes};
 use crate::selected::Selected;
 use crate::tests_of_values::IsExternal;
-use cedar_actions::ValidatorActionId;
 use cedar_below::{EntityType, EntityUID};
-use cedar_entities::ValidatorEntityType;
+use cedar_schema_elements::{ValidatorActionId, ValidatorEntityType};
 use std::iter::FusedIterator;
 
 /// An entity type or an action that is declared elsewhere (RFC 116).

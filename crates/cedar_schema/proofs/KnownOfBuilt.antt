@@ -7,28 +7,28 @@ use Rattle.cedar_below.proofs.Lists.{Contains-cons, Contains-preimage}
 use Rattle.cedar_below.specs.PlainName.{PlainName, name_cmp}
 use Rattle.cedar_below.specs.declared.entity_type.EntityType.{EntityType}
 use Rattle.cedar_below.specs.declared.extension.Extensions.{Extensions}
-use Rattle.cedar_declared.specs.Bag.{Bag}
-use Rattle.cedar_declared.specs.DeclaredSchema.{IsDeclaredSchema}
-use Rattle.cedar_declared.specs.EntityTypeKind.{EntityTypeKind, kind_fields, standard_kind}
-use Rattle.cedar_declared.specs.PlainSchema.{SchemaEntityType}
-use Rattle.cedar_declared.specs.ValidSchema.{IsTypeOfKind}
-use Rattle.cedar_entities.specs.EntityTypeKind.{plain_kind}
-use Rattle.cedar_entities.specs.ValidatorEntityType.{plain_entry}
-use Rattle.cedar_entities.specs.declared.entity_type.ValidatorEntityType.{ValidatorEntityType}
-use Rattle.cedar_entities.specs.declared.entity_type_kind.ValidatorEntityTypeKind.{ValidatorEntityTypeKind}
-use Rattle.cedar_entities.specs.declared.entity_type_kind.ValidatorEntityTypeKind.TheVariants as variant
-use Rattle.cedar_laws.proofs.CleanSchemas.{declared_clean}
-use Rattle.cedar_lookup.specs.KnownAttributes.{declared_fields, type_at}
-use Rattle.cedar_lookup.specs.KnownLaws.{AreCleanTypes}
-use Rattle.cedar_rules.specs.Clean.{AreClean, IsClean}
-use Rattle.cedar_rules.specs.Fields.{IsAscending}
-use Rattle.cedar_rules.specs.Ty.{Ty, Fields, end, record_of}
+use Rattle.cedar_declarations.specs.Bag.{Bag}
+use Rattle.cedar_declarations.specs.DeclaredSchema.{IsDeclaredSchema}
+use Rattle.cedar_declarations.specs.EntityTypeKind.{EntityTypeKind, kind_fields, standard_kind}
+use Rattle.cedar_declarations.specs.PlainSchema.{SchemaEntityType}
+use Rattle.cedar_declarations.specs.ValidSchema.{IsTypeOfKind}
+use Rattle.cedar_schema_elements.specs.EntityTypeKind.{plain_kind}
+use Rattle.cedar_schema_elements.specs.ValidatorEntityType.{plain_entry}
+use Rattle.cedar_schema_elements.specs.declared.entity_type.ValidatorEntityType.{ValidatorEntityType}
+use Rattle.cedar_schema_elements.specs.declared.entity_type_kind.ValidatorEntityTypeKind.{ValidatorEntityTypeKind}
+use Rattle.cedar_schema_elements.specs.declared.entity_type_kind.ValidatorEntityTypeKind.TheVariants as variant
+use Rattle.cedar_declaration_laws.proofs.CleanSchemas.{declared_clean}
+use Rattle.cedar_queries.specs.KnownAttributes.{declared_fields, type_at}
+use Rattle.cedar_queries.specs.KnownLaws.{AreCleanTypes}
+use Rattle.cedar_type_rules.specs.Clean.{AreClean, IsClean}
+use Rattle.cedar_type_rules.specs.Fields.{IsSortedByName}
+use Rattle.cedar_type_rules.specs.Ty.{Ty, Fields, end, record_of}
 use Rattle.cedar_schema.specs.ValidatorSchema.{schema_of}
 use Rattle.cedar_schema.specs.declared.schema.ValidatorSchema.{ValidatorSchema}
-use Rattle.cedar_types.specs.Layers.{IsAscending-fields}
+use Rattle.cedar_types.specs.Layers.{IsSortedByName-fields}
 
 -- no attributes are in order
-none_ascend : IsAscending end
+none_ascend : IsSortedByName end
 unfolding IsStrictlySortedBy
 none_ascend = tt
 
@@ -44,16 +44,16 @@ declared_of P none (it ∷ rest) each name =
     [ true ↦ each it (Contains-cons it rest it (inl refl)) | false ↦ others ]
 
 -- the attributes of a kind are in order
-kind_ascends : (kind : ValidatorEntityTypeKind) → IsAscending (kind_fields (plain_kind kind))
-kind_ascends (variant.Standard it) = IsAscending-fields it.attributes
+kind_ascends : (kind : ValidatorEntityTypeKind) → IsSortedByName (kind_fields (plain_kind kind))
+kind_ascends (variant.Standard it) = IsSortedByName-fields it.attributes
 kind_ascends kind = none_ascend
 
 -- those of an entity type of a schema are
 type_ascends : (entries : List (EntityType × ValidatorEntityType)) (it : PlainName × SchemaEntityType)
-    → Contains (map plain_entry entries) it → IsAscending (kind_fields it.1.kind)
+    → Contains (map plain_entry entries) it → IsSortedByName (kind_fields it.1.kind)
 type_ascends entries it among =
     let (entry, inside, same) = Contains-preimage plain_entry entries it among in
-    let P : PlainName × SchemaEntityType → Type 0 = λ each. IsAscending (kind_fields each.1.kind) in
+    let P : PlainName × SchemaEntityType → Type 0 = λ each. IsSortedByName (kind_fields each.1.kind) in
     subst P same (kind_ascends entry.1.kind)
 
 -- the attributes of a kind are clean where its types are
@@ -69,5 +69,5 @@ declared_clean_types bag extensions schema declared members member among =
     let types = (schema_of schema).entity_types in (
       declared_of AreClean tt types
           (λ it at. kind_clean it.1.kind (λ ty is. declared_clean bag extensions (schema_of schema) declared ty (inl (it, at, is)))) member,
-      declared_of IsAscending none_ascend types (type_ascends schema.entity_types.entries) member,
+      declared_of IsSortedByName none_ascend types (type_ascends schema.entity_types.entries) member,
     )

@@ -1,12 +1,16 @@
 mod ClosedTwice
+mod CollectedBags
+pub mod Comparisons
 mod DeclaredParts
-mod GatheredBags
+pub mod InOrder
 mod KnownBags
 mod KnownOfBuilt
 mod Mapped
+pub mod NamespaceLemmas
 mod ReadySteps
+mod ResolvedOver
 pub mod SchemaEquality
 mod SchemaKeys
 mod SchemaNames
-mod SettledOver
+pub mod ShownLemmas
 mod SurePieces

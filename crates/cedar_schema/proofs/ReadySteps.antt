@@ -11,50 +11,50 @@ use Rattle.cedar_below.specs.declared.entity_type.EntityType.{EntityType}
 use Rattle.cedar_below.specs.declared.entity_uid.EntityUID.{EntityUID}
 use Rattle.cedar_below.specs.declared.extension.Extensions.{Extensions}
 use Rattle.cedar_below.specs.declared.internal_name.InternalName.{InternalName}
-use Rattle.cedar_built.specs.DeclaredTypes.{AreDeclaredEntityTypes}
-use Rattle.cedar_built.specs.Ready.{IsReady}
-use Rattle.cedar_built_actions.specs.Ready.{AreActionsOf}
-use Rattle.cedar_common_types.specs.DeclaredTypes.{AreTypesOf, AreWrittenOut}
-use Rattle.cedar_common_types.specs.SoundTypes.{CommonTypesAreSound}
-use Rattle.cedar_declared.proofs.BuiltInLemmas.{one_definition}
-use Rattle.cedar_declared.proofs.TogetherLemmas.{said_is_declared}
-use Rattle.cedar_declared.specs.Bag.{Bag, declared_actions, declared_common, declared_entities, definitions}
-use Rattle.cedar_declared.specs.Names.{Names}
-use Rattle.cedar_entities.specs.declared.entity_type.ValidatorEntityType.{ValidatorEntityType}
+use Rattle.cedar_builder.specs.DeclaredEntityTypes.{AreDeclaredEntityTypes}
+use Rattle.cedar_builder.specs.EntityTypesReady.{IsReady}
+use Rattle.cedar_builder.specs.ActionsReady.{AreActionsOf}
+use Rattle.cedar_elaboration.specs.DeclaredTypes.{AreTypesOf, AreElaborated}
+use Rattle.cedar_elaboration.specs.SoundTypes.{CommonTypesAreSound}
+use Rattle.cedar_declarations.proofs.BuiltInLemmas.{one_definition}
+use Rattle.cedar_declarations.proofs.TogetherLemmas.{said_is_declared}
+use Rattle.cedar_declarations.specs.Bag.{Bag, declared_actions, declared_common, declared_entities, definitions}
+use Rattle.cedar_declarations.specs.Names.{Names}
+use Rattle.cedar_schema_elements.specs.declared.entity_type.ValidatorEntityType.{ValidatorEntityType}
 use Rattle.cedar_fragments.specs.declared.namespace.actions.ActionFragment.{ActionFragment}
 use Rattle.cedar_fragments.specs.declared.namespace.entity_types.EntityTypeFragment.{EntityTypeFragment}
-use Rattle.cedar_gathered.specs.Gathered.{gathered_actions, gathered_common, gathered_entities}
+use Rattle.cedar_resolution.specs.Collected.{collected_actions, collected_common, collected_entities}
 use Rattle.cedar_names.specs.declared.json_schema.type_of.Type.{«Type»}
-use Rattle.cedar_schema.proofs.GatheredBags.{gathered_unreserved, names_gathered}
+use Rattle.cedar_schema.proofs.CollectedBags.{collected_unreserved, names_collected}
 use Rattle.cedar_schema.proofs.KnownBags.{knows_all}
-use Rattle.cedar_schema.specs.SettledBag.{IsSettledOver}
-use Rattle.cedar_written.specs.Known.{set_names, written_types}
-use Rattle.cedar_written.specs.declared.known_types.KnownTypes.{KnownTypes}
+use Rattle.cedar_schema.specs.ResolvedBag.{IsResolvedOver}
+use Rattle.cedar_elaboration.specs.Scope.{set_names, elaborated_types}
+use Rattle.cedar_elaboration.specs.declared.type_scope.TypeScope.{TypeScope}
 
-module _ (bag : Bag) (given : Extensions) (held : Names) (over : IsSettledOver bag given held) (names : BTreeSet InternalName)
+module _ (bag : Bag) (given : Extensions) (held : Names) (over : IsResolvedOver bag given held) (names : BTreeSet InternalName)
     (are_held : set_names names ≡ held.entities) (common : List (InternalName × «Type» InternalName))
     (entity_types : List (EntityType × EntityTypeFragment InternalName))
     (actions : List (EntityUID × ActionFragment InternalName EntityType))
-    (is_common : gathered_common common ≡ declared_common bag)
-    (is_entities : gathered_entities entity_types ≡ declared_entities bag)
-    (is_actions : gathered_actions actions ≡ declared_actions bag) where
+    (is_common : collected_common common ≡ declared_common bag)
+    (is_entities : collected_entities entity_types ≡ declared_entities bag)
+    (is_actions : collected_actions actions ≡ declared_actions bag) where
   -- the names of entity types are those that the bag defines
   same_names : SameItems (definitions bag given).entities (set_names names)
   same_names =
       let P : List PlainName → Type 0 = SameItems (definitions bag given).entities in subst P (sym are_held) over.entities
 
-  -- the common types can be written out
+  -- the common types can be elaborated
   pub types_of : AreTypesOf bag given common entity_types names
   types_of = record {
     common = is_common;
-    entities = names_gathered bag entity_types is_entities;
+    entities = names_collected bag entity_types is_entities;
     names = same_names;
-    unreserved = gathered_unreserved bag given entity_types actions is_entities is_actions;
+    unreserved = collected_unreserved bag given entity_types actions is_entities is_actions;
     fit = over.fit;
   }
 
-  module _ (known : KnownTypes) (known_names : known.entities.now ≡ names) (known_extensions : known.extensions.now ≡ given)
-      (written : AreWrittenOut bag given (written_types known.common.now)) (sound : CommonTypesAreSound bag given) where
+  module _ (known : TypeScope) (known_names : known.entities.now ≡ names) (extensions_in_scope : known.extensions.now ≡ given)
+      (written : AreElaborated bag given (elaborated_types known.common.now)) (sound : CommonTypesAreSound bag given) where
     -- the same of what is known
     known_same : SameItems (definitions bag given).entities (set_names known.entities.now)
     known_same =
@@ -67,9 +67,9 @@ module _ (bag : Bag) (given : Extensions) (held : Names) (over : IsSettledOver b
       entities = is_entities;
       placed = λ reference placed. over.resolves reference (inr placed);
       knows = λ expr counted. knows_all bag given known known_same written expr;
-      extensions = ap extension_types known_extensions;
+      extensions = ap extension_types extensions_in_scope;
       one_definition = one_definition bag given over.fit sound.once;
-      unreserved = gathered_unreserved bag given entity_types actions is_entities is_actions;
+      unreserved = collected_unreserved bag given entity_types actions is_entities is_actions;
     }
 
     -- the actions can be built
@@ -88,7 +88,7 @@ module _ (bag : Bag) (given : Extensions) (held : Names) (over : IsSettledOver b
       placed = λ reference placed. over.resolves reference (inr placed);
       named = over.parents;
       knows = λ expr counted. knows_all bag given known known_same written expr;
-      extensions = ap extension_types known_extensions;
+      extensions = ap extension_types extensions_in_scope;
       one_definition = one_definition bag given over.fit sound.once;
-      unreserved = gathered_unreserved bag given entity_types actions is_entities is_actions;
+      unreserved = collected_unreserved bag given entity_types actions is_entities is_actions;
     }

@@ -1,26 +1,26 @@
--- Schemas are equal exactly where they are the same, whatever their locations.
+-- Schemas are equal exactly where they are the same, ignoring locations.
 use Rattle.std.proofs.Common.{◌&&◌, Bool, [], ◌∷◌, List, map, refl, ap}
 use Rattle.std.proofs.lemmas.Bool.Decides.{Decides-and, Decides-like}
 use Rattle.std.specs.Bool.{Decides}
 use Rattle.std.specs.Cmp.Lexicographic.{pointwise}
-use Rattle.cedar_actions.proofs.ActionEquality.{actions-Same}
-use Rattle.cedar_actions.specs.ValidatorActionId.{plain_action_entry}
-use Rattle.cedar_actions.specs.contracts.action_id.ValidatorActionIdPartialEq.TheImpl as action_eq
-use Rattle.cedar_actions.specs.declared.action_id.ValidatorActionId.{ValidatorActionId}
+use Rattle.cedar_schema_elements.proofs.ActionEquality.{actions-Same}
+use Rattle.cedar_schema_elements.specs.ValidatorActionId.{plain_action_entry}
+use Rattle.cedar_schema_elements.specs.contracts.action_id.ValidatorActionIdPartialEq.TheImpl as action_eq
+use Rattle.cedar_schema_elements.specs.declared.action_id.ValidatorActionId.{ValidatorActionId}
 use Rattle.cedar_below.proofs.Names.{entity_type_eq-same}
 use Rattle.cedar_below.proofs.Uids.{entity_uid_eq-same}
-use Rattle.cedar_below.specs.Lists.{HoldsInTurn}
+use Rattle.cedar_below.specs.Lists.{HoldsPairwise}
 use Rattle.cedar_below.specs.contracts.entity_type.EntityTypePartialEq.TheImpl as name_eq
 use Rattle.cedar_below.specs.contracts.entity_uid.EntityUIDPartialEq.TheImpl as uid_eq
 use Rattle.cedar_below.specs.declared.entity_type.EntityType.{EntityType}
 use Rattle.cedar_below.specs.declared.entity_uid.EntityUID.{EntityUID}
-use Rattle.cedar_declared.specs.SameSchema.{SameAction, SameEntityType, SameSchema}
-use Rattle.cedar_entities.proofs.EntityTypeEquality.{entity_types-Same}
-use Rattle.cedar_entities.specs.ValidatorEntityType.{PlainEntityType, plain_entry}
-use Rattle.cedar_entities.specs.contracts.entity_type.ValidatorEntityTypePartialEq.TheImpl as entity_type_eq
-use Rattle.cedar_entities.specs.declared.entity_type.ValidatorEntityType.{ValidatorEntityType}
-use Rattle.cedar_laws.proofs.MereLemmas.{known_entities}
-use Rattle.cedar_laws.proofs.SameEntities.{same_entities}
+use Rattle.cedar_declarations.specs.SameSchema.{SameAction, SameEntityType, SameSchema}
+use Rattle.cedar_schema_elements.proofs.EntityTypeEquality.{entity_types-Same}
+use Rattle.cedar_schema_elements.specs.ValidatorEntityType.{PlainEntityType, plain_entry}
+use Rattle.cedar_schema_elements.specs.contracts.entity_type.ValidatorEntityTypePartialEq.TheImpl as entity_type_eq
+use Rattle.cedar_schema_elements.specs.declared.entity_type.ValidatorEntityType.{ValidatorEntityType}
+use Rattle.cedar_declaration_laws.proofs.MereLemmas.{known_entities}
+use Rattle.cedar_declaration_laws.proofs.SameEntities.{same_entities}
 use Rattle.cedar_schema.specs.ValidatorSchema.{schema_of}
 use Rattle.cedar_schema.specs.contracts.schema.ValidatorSchemaPartialEq.TheImpl as schema_eq
 use Rattle.cedar_schema.specs.declared.schema.ValidatorSchema.{ValidatorSchema}
@@ -57,14 +57,15 @@ action_entry-Same p q =
     (λ same. (same.key, (same.uid, same.kind, same.descendants)))
     (Decides-and _ _ (entity_uid_eq-same p.0 q.0) (actions-Same p.1 q.1))
 
--- lists are equal by a test exactly where what they stand for is the same in turn, if the test decides that of each two items
-in_turn-Same : {A P : Type 0} (test : A → A → Bool) (plain : A → P) (Same : P → P → Type 0)
+-- lists are equal by a test exactly where what they stand for is pairwise the same, if the test decides that of each
+-- two items
+pairwise-Same : {A P : Type 0} (test : A → A → Bool) (plain : A → P) (Same : P → P → Type 0)
     → ((p q : A) → Decides (test p q) (Same (plain p) (plain q))) → (xs ys : List A)
-    → Decides (pointwise test xs ys) (HoldsInTurn Same (map plain xs) (map plain ys))
-in_turn-Same test plain Same decides [] [] = (λ _. tt, λ _. refl)
-in_turn-Same test plain Same decides [] (y ∷ ys) = none (λ same. same)
-in_turn-Same test plain Same decides (x ∷ xs) [] = none (λ same. same)
-in_turn-Same test plain Same decides (x ∷ xs) (y ∷ ys) = Decides-and _ _ (decides x y) (in_turn-Same test plain Same decides xs ys)
+    → Decides (pointwise test xs ys) (HoldsPairwise Same (map plain xs) (map plain ys))
+pairwise-Same test plain Same decides [] [] = (λ _. tt, λ _. refl)
+pairwise-Same test plain Same decides [] (y ∷ ys) = none (λ same. same)
+pairwise-Same test plain Same decides (x ∷ xs) [] = none (λ same. same)
+pairwise-Same test plain Same decides (x ∷ xs) (y ∷ ys) = Decides-and _ _ (decides x y) (pairwise-Same test plain Same decides xs ys)
 
 -- schemas are equal exactly where they are the same
 pub schemas-Same : (a b : ValidatorSchema) → Decides ((schema_eq.ghosts).eq a b) (SameSchema (schema_of a) (schema_of b))
@@ -78,5 +79,5 @@ schemas-Same a b =
     })
     (λ same. (same.entity_types, same.actions))
     (Decides-and _ _
-    (in_turn-Same same_entry plain_entry SameEntityType entry-Same a.entity_types.entries b.entity_types.entries)
-    (in_turn-Same same_action_entry plain_action_entry SameAction action_entry-Same a.actions.entries b.actions.entries))
+    (pairwise-Same same_entry plain_entry SameEntityType entry-Same a.entity_types.entries b.entity_types.entries)
+    (pairwise-Same same_action_entry plain_action_entry SameAction action_entry-Same a.action_ids.entries b.action_ids.entries))

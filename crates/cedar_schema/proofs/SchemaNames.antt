@@ -1,11 +1,12 @@
--- What is known of the names of every schema: they ascend, entity types and actions stand under their own, and none is reserved.
+-- What is known of the names of every schema: they are sorted, entity types and actions stand under their own, and none
+-- is reserved.
 use Rattle.std.proofs.Common.{◌≡◌, ◌∙◌, ◌∷◌, [], Contains, List, inl, inr, map, refl, subst, sym}
 use Rattle.std.proofs.Math.Logic.{∥∥₁_elim}
 use Rattle.std.proofs.Props.{props}
 use Rattle.std.specs.List.Sorted.{IsStrictlySortedBy}
 use Rattle.std.specs.Map.{keys_of}
-use Rattle.cedar_actions.specs.ValidatorActionId.{action_of, plain_action_entry}
-use Rattle.cedar_actions.specs.declared.action_id.ValidatorActionId.{ValidatorActionId}
+use Rattle.cedar_schema_elements.specs.ValidatorActionId.{action_of, plain_action_entry}
+use Rattle.cedar_schema_elements.specs.declared.action_id.ValidatorActionId.{ValidatorActionId}
 use Rattle.cedar_below.proofs.Lists.{Contains-cons, Contains-preimage}
 use Rattle.cedar_below.proofs.Names.{entity_type_ord-name_cmp}
 use Rattle.cedar_below.proofs.Ordered.{IsStrictlySortedBy-map}
@@ -14,7 +15,7 @@ use Rattle.cedar_below.proofs.Uids.{entity_uid_ord-uid_cmp}
 use Rattle.cedar_below.specs.EntityType.{type_name}
 use Rattle.cedar_below.specs.EntityUID.{uid_of}
 use Rattle.cedar_below.specs.Identifier.{reserved_word}
-use Rattle.cedar_below.specs.Lists.{HoldsInTurn}
+use Rattle.cedar_below.specs.Lists.{HoldsPairwise}
 use Rattle.cedar_below.specs.PlainName.{PlainName, name_cmp}
 use Rattle.cedar_below.specs.PlainUid.{PlainUid, uid_cmp}
 use Rattle.cedar_below.specs.contracts.entity_type.EntityTypeOrd.TheImpl as entity_type_ord
@@ -22,17 +23,17 @@ use Rattle.cedar_below.specs.contracts.entity_uid.EntityUIDOrd.TheImpl as entity
 use Rattle.cedar_below.specs.declared.entity.Entity.{Entity}
 use Rattle.cedar_below.specs.declared.entity_type.EntityType.{EntityType}
 use Rattle.cedar_below.specs.declared.entity_uid.EntityUID.{EntityUID}
-use Rattle.cedar_declared.proofs.OccurrenceLemmas.{Contains-image}
-use Rattle.cedar_declared.proofs.TurnLemmas.{turn_forth}
-use Rattle.cedar_declared.specs.ClosedSchema.{ClosesAction, ClosesSchema, ClosesType}
-use Rattle.cedar_declared.specs.PlainSchema.{ActionEntity, PlainSchema, SchemaAction, SchemaEntityType}
-use Rattle.cedar_declared.specs.SameSchema.{SameAction, SameEntityType}
-use Rattle.cedar_derived.specs.ActionEntities.{schema_with}
-use Rattle.cedar_entities.specs.ValidatorEntityType.{entity_type_of, plain_entry}
-use Rattle.cedar_entities.specs.declared.entity_type.ValidatorEntityType.{ValidatorEntityType}
-use Rattle.cedar_laws.specs.EndToEnd.{HasNoReservedName, IsInOrder, StandsUnderItsNames}
-use Rattle.cedar_validated.proofs.InTurn.{in_turn_back}
-use Rattle.cedar_validated.proofs.Keyed.{key_of_uid, named_key, names_of_keys}
+use Rattle.cedar_declarations.proofs.OccurrenceLemmas.{Contains-image}
+use Rattle.cedar_declarations.proofs.TurnLemmas.{turn_forth}
+use Rattle.cedar_declarations.specs.ClosedSchema.{ClosesAction, ClosesSchema, ClosesType}
+use Rattle.cedar_declarations.specs.PlainSchema.{ActionEntity, PlainSchema, SchemaAction, SchemaEntityType}
+use Rattle.cedar_declarations.specs.SameSchema.{SameAction, SameEntityType}
+use Rattle.cedar_schema_elements.specs.ActionEntities.{schema_with}
+use Rattle.cedar_schema_elements.specs.ValidatorEntityType.{entity_type_of, plain_entry}
+use Rattle.cedar_schema_elements.specs.declared.entity_type.ValidatorEntityType.{ValidatorEntityType}
+use Rattle.cedar_declaration_laws.specs.EndToEnd.{HasNoReservedName, IsInOrder, StandsUnderItsNames}
+use Rattle.cedar_validation.proofs.Pairwise.{pairwise_back}
+use Rattle.cedar_validation.proofs.Keyed.{key_of_uid, named_key, names_of_keys}
 use Rattle.cedar_schema.specs.ValidatorSchema.{schema_of}
 use Rattle.cedar_schema.specs.declared.schema.ValidatorSchema.{ValidatorSchema}
 
@@ -42,7 +43,7 @@ Types = List (EntityType × ValidatorEntityType)
 abbrev Actions : Type 0
 Actions = List (EntityUID × ValidatorActionId)
 
--- what is held by maps whose keys ascend is in order
+-- what is held by maps whose keys are sorted without duplicates is in order
 pub schema_in_order : (types : Types) (actions : Actions) (entities : List Entity)
     → IsStrictlySortedBy ((entity_type_ord.ghosts).cmp) (keys_of types)
     → IsStrictlySortedBy ((entity_uid_ord.ghosts).cmp) (keys_of actions)
@@ -82,17 +83,17 @@ pub closed_under_names : (schema closed : PlainSchema) → ClosesSchema schema c
     → StandsUnderItsNames closed
 closed_under_names schema closed closes stands = record {
   entity_types = λ it among.
-      let from = in_turn_back (ClosesType schema) schema.entity_types closed.entity_types closes.entity_types it among in
+      let from = pairwise_back (ClosesType schema) schema.entity_types closed.entity_types closes.entity_types it among in
       sym from.2.name ∙ (stands.entity_types from.0 from.1 ∙ from.2.key);
   actions = λ it among.
-      let from = in_turn_back (ClosesAction schema) schema.actions closed.actions closes.actions it among in
+      let from = pairwise_back (ClosesAction schema) schema.actions closed.actions closes.actions it among in
       sym from.2.uid ∙ (stands.actions from.0 from.1 ∙ from.2.key);
 }
 
--- and one whose entity types and actions are the same in turn
+-- and one whose entity types and actions are pairwise the same
 pub same_under_names : (types others : List (PlainName × SchemaEntityType)) (actions other_actions : List (PlainUid × SchemaAction))
-    (entities other_entities : List ActionEntity) → HoldsInTurn SameEntityType others types
-    → HoldsInTurn SameAction other_actions actions
+    (entities other_entities : List ActionEntity) → HoldsPairwise SameEntityType others types
+    → HoldsPairwise SameAction other_actions actions
     → StandsUnderItsNames (record { entity_types = types; actions = actions; action_entities = entities })
     → StandsUnderItsNames (record { entity_types = others; actions = other_actions; action_entities = other_entities })
 same_under_names types others actions other_actions entities other_entities type_turn action_turn stands = record {
@@ -125,19 +126,19 @@ module _ {K V P : Type 0} (key : K → P) (own : V → P) where
       let others = own_names rest (λ it among. named it (Contains-cons entry rest it (inr among))) in
       λ i. first i ∷ others i
 
--- the names that the entity types of a schema stand under ascend
+-- the names that the entity types of a schema stand under are sorted
 pub type_keys_ascend : (schema : ValidatorSchema) → IsStrictlySortedBy name_cmp (map type_name (keys_of schema.entity_types.entries))
 type_keys_ascend schema =
     subst (IsStrictlySortedBy name_cmp) (names_of_keys type_name plain_entry (λ e. refl) schema.entity_types.entries)
     (known_order schema).entity_types
 
--- the uids that the actions of a schema stand under ascend
-pub action_keys_ascend : (schema : ValidatorSchema) → IsStrictlySortedBy uid_cmp (map uid_of (keys_of schema.actions.entries))
+-- the uids that the actions of a schema stand under are sorted
+pub action_keys_ascend : (schema : ValidatorSchema) → IsStrictlySortedBy uid_cmp (map uid_of (keys_of schema.action_ids.entries))
 action_keys_ascend schema =
-    subst (IsStrictlySortedBy uid_cmp) (names_of_keys uid_of plain_action_entry (λ e. refl) schema.actions.entries)
+    subst (IsStrictlySortedBy uid_cmp) (names_of_keys uid_of plain_action_entry (λ e. refl) schema.action_ids.entries)
     (known_order schema).actions
 
--- the names of the entity types of a schema ascend
+-- the names of the entity types of a schema are sorted
 pub type_names_ascend : (schema : ValidatorSchema)
     → IsStrictlySortedBy name_cmp (map (λ it. (entity_type_of it).name) (map (λ it. it.1) schema.entity_types.entries))
 type_names_ascend schema =
@@ -147,11 +148,11 @@ type_names_ascend schema =
     (λ it among. (known_names schema).entity_types (plain_entry it) (Contains-image plain_entry entries it among))))
     (type_keys_ascend schema)
 
--- the uids of the actions of a schema ascend
+-- the uids of the actions of a schema are sorted
 pub action_uids_ascend : (schema : ValidatorSchema)
-    → IsStrictlySortedBy uid_cmp (map (λ it. (action_of it).uid) (map (λ it. it.1) schema.actions.entries))
+    → IsStrictlySortedBy uid_cmp (map (λ it. (action_of it).uid) (map (λ it. it.1) schema.action_ids.entries))
 action_uids_ascend schema =
-    let entries = schema.actions.entries in
+    let entries = schema.action_ids.entries in
     subst (IsStrictlySortedBy uid_cmp)
     (sym (own_names uid_of (λ it. (action_of it).uid) entries
     (λ it among. (known_names schema).actions (plain_action_entry it) (Contains-image plain_action_entry entries it among))))
@@ -164,7 +165,7 @@ no_reserved_name schema = record {
       let key = named_key schema.entity_types.entries name has in
       let P : PlainName → Type 0 = λ each. Contains each.path reserved_word in key.0.0.unreserved (inr (subst P (sym key.2) reserved));
   actions = λ uid has reserved.
-      let key = key_of_uid schema.actions.entries uid has in
+      let key = key_of_uid schema.action_ids.entries uid has in
       let P : PlainUid → Type 0 = λ each. Contains each.ty.path reserved_word in
       key.0.ty.0.unreserved (inr (subst P (sym key.2) reserved));
 }

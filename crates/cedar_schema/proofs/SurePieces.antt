@@ -3,22 +3,22 @@ use Rattle.std.proofs.Common.{subst, map, Contains}
 use Rattle.cedar_below.proofs.Lists.{Contains-preimage}
 use Rattle.cedar_below.specs.PlainName.{PlainName}
 use Rattle.cedar_below.specs.declared.extension.Extensions.{Extensions}
-use Rattle.cedar_built.specs.Sound.{EntityTypesAreSound}
-use Rattle.cedar_built_actions.specs.Sound.{ActionsAreSound}
-use Rattle.cedar_common_types.specs.SoundTypes.{CommonTypesAreSound}
-use Rattle.cedar_declared.specs.Bag.{Bag, declared_entities, defined_names}
-use Rattle.cedar_declared.specs.Fault.{action_attributes, action_entity_type, reserved_name}
-use Rattle.cedar_declared.specs.IllFormed.{IsIllFormed}
-use Rattle.cedar_declared.specs.Mentions.{HasOpenRecord}
-use Rattle.cedar_declared.specs.Names.{Names, ResolvesTo}
+use Rattle.cedar_builder.specs.SoundEntityTypes.{EntityTypesAreSound}
+use Rattle.cedar_builder.specs.SoundActions.{ActionsAreSound}
+use Rattle.cedar_elaboration.specs.SoundTypes.{CommonTypesAreSound}
+use Rattle.cedar_declarations.specs.Bag.{Bag, declared_entities, defined_names}
+use Rattle.cedar_declarations.specs.Fault.{action_attributes, action_entity_type, reserved_name}
+use Rattle.cedar_declarations.specs.IllFormed.{IsIllFormed}
+use Rattle.cedar_declarations.specs.Mentions.{HasOpenRecord}
+use Rattle.cedar_declarations.specs.Names.{Names, ResolvesTo}
 use Rattle.cedar_fragments.specs.DefinitionFault.{HasNoDefinitionFault}
-use Rattle.cedar_laws.proofs.MentionLemmas.{HasKnownExtensions}
-use Rattle.cedar_laws.proofs.SureBags.{of_counted, of_placed, sure_is_well}
+use Rattle.cedar_declaration_laws.proofs.MentionLemmas.{HasKnownExtensions}
+use Rattle.cedar_declaration_laws.proofs.SureBags.{of_counted, of_placed, sure_is_well}
 use Rattle.cedar_names.specs.EntityBody.{EntityBody}
 use Rattle.cedar_below.specs.PlainName.{IsActionType}
-use Rattle.cedar_schema.specs.SettledBag.{IsSettledOver}
+use Rattle.cedar_schema.specs.ResolvedBag.{IsResolvedOver}
 
-module _ (bag : Bag) (extensions : Extensions) (names : Names) (settled : IsSettledOver bag extensions names)
+module _ (bag : Bag) (extensions : Extensions) (names : Names) (resolved : IsResolvedOver bag extensions names)
     (definitions_sound : HasNoDefinitionFault bag) (common : CommonTypesAreSound bag extensions)
     (entities : EntityTypesAreSound bag extensions) (actions : ActionsAreSound bag extensions) where
   -- a declared entity type is no type of actions
@@ -35,15 +35,15 @@ module _ (bag : Bag) (extensions : Extensions) (names : Names) (settled : IsSett
         attributes = λ ids. definitions_sound extensions (action_attributes ids) tt;
         closed = of_counted bag (λ expr. ¬ HasOpenRecord expr) common.closed entities.closed actions.closed;
         known = of_counted bag (HasKnownExtensions extensions) common.known entities.extension_types actions.extension_types;
-        places = λ reference name placed resolves. of_placed bag
+        type_locations = λ reference name placed resolves. of_placed bag
             (λ each. ResolvesTo (defined_names bag extensions) each name → ¬ IsActionType name)
             (λ lower each parent is. declared_no_action name (entities.parents lower name each parent is))
             (λ uid body each among place is. declared_no_action name (actions.entity_types uid body each name among place is))
             reference placed resolves;
-        resolves = settled.resolves;
-        names = settled.parents;
-        types_shadow = settled.types_shadow;
-        actions_shadow = settled.actions_shadow;
+        resolves = resolved.resolves;
+        names = resolved.parents;
+        types_shadow = resolved.types_shadow;
+        actions_shadow = resolved.actions_shadow;
         entity_types_once = entities.once;
         common_types_once = common.once;
         actions_once = actions.once;

@@ -1,4 +1,9 @@
+pub mod Located
+pub mod LocatedType
+pub mod ResolvedBag
 pub mod SchemaKeys
 pub mod SchemaParts
-pub mod SettledBag
+pub mod ShownCommonTypes
+pub mod ShownNamespaces
+pub mod TypeLocations
 pub mod ValidatorSchema

@@ -1,6 +1,6 @@
 use Rattle.std.specs.Prelude.{List, Option, map}
 use Rattle.std.specs.BTreeMap.{get_by}
-use Rattle.cedar_actions.specs.declared.action_id.ValidatorActionId.{ValidatorActionId}
+use Rattle.cedar_schema_elements.specs.declared.action_id.ValidatorActionId.{ValidatorActionId}
 use Rattle.cedar_below.specs.Entities.{entities_of}
 use Rattle.cedar_below.specs.EntityType.{type_name}
 use Rattle.cedar_below.specs.EntityUID.{uid_of}
@@ -8,11 +8,11 @@ use Rattle.cedar_below.specs.PlainName.{PlainName, name_cmp}
 use Rattle.cedar_below.specs.PlainUid.{PlainUid, uid_cmp}
 use Rattle.cedar_below.specs.declared.entity_type.EntityType.{EntityType}
 use Rattle.cedar_below.specs.declared.entity_uid.EntityUID.{EntityUID}
-use Rattle.cedar_declared.specs.PlainSchema.{PlainSchema}
-use Rattle.cedar_derived.specs.ActionEntities.{schema_with}
-use Rattle.cedar_entities.specs.ValidatorEntityType.{plain_entry}
-use Rattle.cedar_entities.specs.declared.entity_type.ValidatorEntityType.{ValidatorEntityType}
-use Rattle.cedar_located.specs.declared.gathering.Located.{Located}
+use Rattle.cedar_declarations.specs.PlainSchema.{PlainSchema}
+use Rattle.cedar_schema_elements.specs.ActionEntities.{schema_with}
+use Rattle.cedar_schema_elements.specs.ValidatorEntityType.{plain_entry}
+use Rattle.cedar_schema_elements.specs.declared.entity_type.ValidatorEntityType.{ValidatorEntityType}
+use Rattle.cedar_schema.specs.declared.collecting.Located.{Located}
 use Rattle.cedar_schema.specs.declared.schema.ValidatorSchema.{ValidatorSchema}
 
 -- the entity types of a schema, each under its name, in the order of the names
@@ -21,7 +21,7 @@ schema_entries schema = schema.entity_types.entries
 
 -- the actions of a schema, each under its uid, in the order of the uids
 abbrev pub action_entries : ValidatorSchema → List (EntityUID × ValidatorActionId)
-action_entries schema = schema.actions.entries
+action_entries schema = schema.action_ids.entries
 
 -- the entity type of that name
 abbrev pub entity_type_named : ValidatorSchema → PlainName → Option ValidatorEntityType
@@ -29,12 +29,12 @@ entity_type_named schema name = get_by (λ key. name_cmp name (type_name key)) s
 
 -- the action of that uid
 abbrev pub action_of_uid : ValidatorSchema → PlainUid → Option ValidatorActionId
-action_of_uid schema uid = get_by (λ key. uid_cmp uid (uid_of key)) schema.actions
+action_of_uid schema uid = get_by (λ key. uid_cmp uid (uid_of key)) schema.action_ids
 
 -- what a schema stands for
 abbrev pub schema_of : ValidatorSchema → PlainSchema
 schema_of schema =
-    schema_with (map plain_entry schema.entity_types.entries) schema.actions.entries (entities_of schema.action_entities)
+    schema_with (map plain_entry schema.entity_types.entries) schema.action_ids.entries (entities_of schema.action_entities)
 
 -- what a schema shows of its fragments
 abbrev pub located_of : ValidatorSchema → Located

@@ -10,34 +10,29 @@ ghost use Rattle.cedar_below.specs.PlainName.{name_cmp};
 ghost use Rattle.cedar_below.specs.PlainUid.{uid_cmp};
 ghost use Rattle.cedar_below.specs.Extensions.{extension_types};
 ghost use Rattle.cedar_below.specs.TypeNames.{TypeNamesFit};
-ghost use Rattle.cedar_declared.specs.DeclaredSchema.{IsDeclaredSchema};
-ghost use Rattle.cedar_declared.specs.Fault.{want_of_memory};
-ghost use Rattle.cedar_declared.specs.IllFormed.{IsFault, IsIllFormed};
-ghost use Rattle.cedar_declared.specs.SchemaError.{fault_of};
+ghost use Rattle.cedar_declarations.specs.DeclaredSchema.{IsDeclaredSchema};
+ghost use Rattle.cedar_declarations.specs.Fault.{out_of_memory};
+ghost use Rattle.cedar_declarations.specs.IllFormed.{IsFault, IsIllFormed};
+ghost use Rattle.cedar_declarations.specs.SchemaError.{fault_of};
 ghost use Rattle.cedar_fragments.specs.FragmentDeclarations.{conditional_bag};
 ghost use Rattle.cedar_fragments.specs.HeldNames.{held_names};
-ghost use Rattle.cedar_gathered.specs.Gathered.{settled_bag};
-ghost use Rattle.cedar_laws.specs.EndToEnd.{IsBuiltFrom};
-ghost use Rattle.cedar_located.specs.Located.{ShowsFragments};
+ghost use Rattle.cedar_resolution.specs.Collected.{resolved_bag};
+ghost use Rattle.cedar_declaration_laws.specs.EndToEnd.{IsBuiltFrom};
+ghost use Rattle.cedar_schema.specs.Located.{ShowsFragments};
 ghost use Rattle.cedar_schema.specs.SchemaKeys.{AreKeysLocated};
 ghost use Rattle.cedar_schema.specs.SchemaParts.{parts_schema};
-ghost use Rattle.cedar_schema.specs.SettledBag.{IsSettledOver};
+ghost use Rattle.cedar_schema.specs.ResolvedBag.{IsResolvedOver};
 
-use cedar_actions::ValidatorActionId;
+use crate::collecting::{Located, located_in};
 use cedar_below::{Entities, EntityType, EntityUID, Extensions, InternalName};
-use cedar_built::entity_types;
-use cedar_built_actions::actions;
-use cedar_common_types::defined_common_types;
-use cedar_declared::SchemaError;
-use cedar_derived::action_entities;
-use cedar_entities::ValidatorEntityType;
+use cedar_builder::{actions, entity_types};
+use cedar_declarations::SchemaError;
+use cedar_elaboration::{TypeScope, defined_common_types};
 use cedar_fragments::defs::AllDefs;
 use cedar_fragments::namespace::ValidatorSchemaFragment;
-use cedar_gathered::{Declarations, gather};
-use cedar_located::{Located, located_in};
 use cedar_names::json_schema::ConditionalName;
-use cedar_resolved::{Settled, settle};
-use cedar_written::KnownTypes;
+use cedar_resolution::{Declarations, Resolved, collect_declarations, resolve_fragments};
+use cedar_schema_elements::{ValidatorActionId, ValidatorEntityType, action_entities};
 use std::alloc::Global;
 use std::collections::BTreeMap;
 
@@ -55,14 +50,14 @@ pub(crate) struct SchemaParts {
     pub(crate) located: Located,
 }
 
-/// That the names of entity types ascend in their map.
-fn names_ascend(types: &BTreeMap<EntityType, ValidatorEntityType>)
+/// That the names of entity types are sorted in their map.
+fn names_sorted(types: &BTreeMap<EntityType, ValidatorEntityType>)
     ensures { IsStrictlySortedBy name_cmp (map type_name (keys_of types.now.entries)) }
 {
     let _keys = types.keys();
 }
 
-/// That the uids of actions ascend in their map.
+/// That the uids of actions are sorted in their map.
 fn uids_ascend(actions: &BTreeMap<EntityUID, ValidatorActionId>)
     ensures { IsStrictlySortedBy uid_cmp (map uid_of (keys_of actions.now.entries)) }
 {
@@ -70,30 +65,30 @@ fn uids_ascend(actions: &BTreeMap<EntityUID, ValidatorActionId>)
 }
 
 /// What fragments over full names declare, where the names of entity types are these.
-fn build_settled(
+fn build_resolved(
     alloc: Global,
     fragments: Vec<ValidatorSchemaFragment<InternalName, EntityType>>,
     defs: &AllDefs,
     located: Located,
     extensions: &Extensions,
 ) -> Result<SchemaParts, SchemaError>
-    ensures declared { IfOk result (λ parts. IsSettledOver (settled_bag fragments.items) extensions.now (held_names defs.now)
-        → IsDeclaredSchema (settled_bag fragments.items) extensions.now (parts_schema parts)) }
+    ensures declared { IfOk result (λ parts. IsResolvedOver (resolved_bag fragments.items) extensions.now (held_names defs.now)
+        → IsDeclaredSchema (resolved_bag fragments.items) extensions.now (parts_schema parts)) }
     ensures located { IfOk result (λ parts. parts.located ≡ located) }
     ensures keys { IfOk result (λ parts. AreKeysLocated parts.entity_types.entries parts.actions.entries) }
-    ensures well_formed { OnOk result (IsSettledOver (settled_bag fragments.items) extensions.now (held_names defs.now)
-        → ¬ IsIllFormed (settled_bag fragments.items) extensions.now) }
-    ensures fault { IfErr result (λ error. IsSettledOver (settled_bag fragments.items) extensions.now (held_names defs.now)
-        → (fault_of error ≡ want_of_memory) ⊎ IsFault (settled_bag fragments.items) extensions.now (fault_of error)) }
+    ensures well_formed { OnOk result (IsResolvedOver (resolved_bag fragments.items) extensions.now (held_names defs.now)
+        → ¬ IsIllFormed (resolved_bag fragments.items) extensions.now) }
+    ensures fault { IfErr result (λ error. IsResolvedOver (resolved_bag fragments.items) extensions.now (held_names defs.now)
+        → (fault_of error ≡ out_of_memory) ⊎ IsFault (resolved_bag fragments.items) extensions.now (fault_of error)) }
 {
     let Declarations {
         common_types,
         entity_types: declared,
         actions: declared_actions,
-    } = gather(alloc, fragments)?;
+    } = collect_declarations(alloc, fragments)?;
     let names = defs.entity_type_names();
     let common = defined_common_types(alloc, common_types, &declared, names, extensions)?;
-    let known = KnownTypes {
+    let known = TypeScope {
         common: &common,
         entities: names,
         extensions,
@@ -101,7 +96,7 @@ fn build_settled(
     let entity_types = entity_types(alloc, declared, &known)?;
     let actions = actions(alloc, declared_actions, &entity_types, &known)?;
     let action_entities = action_entities(alloc, &actions)?;
-    names_ascend(&entity_types);
+    names_sorted(&entity_types);
     uids_ascend(&actions);
     Ok(SchemaParts {
         entity_types,
@@ -114,8 +109,8 @@ fn build_settled(
 /// What fragments declare over some extensions, whose names of extension types have to fit, as
 /// [`Extensions::type_names_fit`] tests.
 ///
-/// It is refused exactly where the bag of their declarations is ill-formed, with a fault of it by name,
-/// or where memory is wanting.
+/// It is refused exactly where the bag of their declarations is ill-formed, with a fault of it by
+/// name, or where memory runs out.
 pub(crate) fn build(
     alloc: Global,
     fragments: Vec<ValidatorSchemaFragment<ConditionalName, ConditionalName>>,
@@ -127,6 +122,6 @@ pub(crate) fn build(
     ensures keys { IfOk result (λ parts. AreKeysLocated parts.entity_types.entries parts.actions.entries) }
 {
     let located = located_in(alloc, &fragments)?;
-    let Settled { fragments, defs } = settle(alloc, fragments, extensions)?;
-    build_settled(alloc, fragments, &defs, located, extensions)
+    let Resolved { fragments, defs } = resolve_fragments(alloc, fragments, extensions)?;
+    build_resolved(alloc, fragments, &defs, located, extensions)
 }

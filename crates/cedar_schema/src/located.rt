@@ -1,15 +1,16 @@
 //! What a schema shows of the fragments that it was built from.
 
+use crate::located_common_type::LocatedCommonType;
+use crate::located_namespace::LocatedNamespace;
 use crate::schema::ValidatorSchema;
 use cedar_below::InternalName;
-use cedar_located::{LocatedCommonType, LocatedNamespace};
 use std::collections::btree_map;
 use std::slice;
 
 impl ValidatorSchema {
     ghost use Rattle.std.specs.Prelude.{◌≡◌, map};
     ghost use Rattle.std.specs.Slice.Iter.{iter_rest};
-    ghost use Rattle.cedar_located.specs.Located.{common_entries, namespace_entries};
+    ghost use Rattle.cedar_schema.specs.Located.{common_entries, namespace_entries};
     ghost use Rattle.cedar_schema.specs.ValidatorSchema.{located_of};
 
     /// The common types of the fragments, with where they were declared, in the order of the fragments:

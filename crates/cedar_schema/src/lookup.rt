@@ -3,9 +3,9 @@
 ghost use Rattle.std.specs.Prelude.{◌≡◌, ◌↔◌, ◌∷◌, [], IfOk, IfSome, IsSome, IsTrue};
 ghost use Rattle.std.specs.Option.{option_map};
 ghost use Rattle.cedar_below.specs.EntityUID.{uid_of};
-ghost use Rattle.cedar_lookup.specs.KnownAttributes.{AreAttributesOf};
-ghost use Rattle.cedar_lookup.specs.Possible.{AreDeclaredTypes, IsKnownUid, MayHaveAttribute, MayHaveTags};
-ghost use Rattle.cedar_rules.specs.Ty.{Fields, Ty, field_at, union_of};
+ghost use Rattle.cedar_queries.specs.KnownAttributes.{AreAttributesOf};
+ghost use Rattle.cedar_queries.specs.Possible.{AreDeclaredTypes, IsKnownUid, MayHaveAttribute, MayHaveTags};
+ghost use Rattle.cedar_type_rules.specs.Ty.{Fields, Ty, field_at, union_of};
 ghost use Rattle.cedar_schema.specs.ValidatorSchema.{schema_of};
 ghost use Rattle.cedar_types.specs.EntityKind.{kind_ty};
 ghost use Rattle.cedar_types.specs.Meaning.{attribute_of, fields_of, ty_of};
@@ -21,20 +21,20 @@ use std::alloc::Global;
 pub trait SchemaLookup: Sized {
     ghost stands_for: { Self → Ty };
 
-    /// The type of a literal uid: that of the entities of the uid's entity type. None unless the uid is that
-    /// of an action of the schema, where its type is a type of actions, or else its type is declared. Or
-    /// want of memory.
+    /// The type of a literal uid: that of the entities of the uid's entity type. None unless the
+    /// uid is that of an action of the schema, where its type is a type of actions, or else its
+    /// type is declared.
     fn euid_literal(alloc: Global, uid: &EntityUID, schema: &ValidatorSchema) -> M<Option<Self>>
         ensures known { IfOk result (λ literal. IsSome literal
             ↔ IsKnownUid (schema_of schema.now).entity_types (schema_of schema.now).actions (uid_of uid.now)) }
         ensures ty { IfOk result (λ literal. IfSome literal (λ ty. stands_for ty ≡ union_of ((uid_of uid.now).ty ∷ []))) };
 
     /// The attributes of the type: a record's own; those that are known of an entity's kind, as
-    /// [`KnownAttrs::all_known_attrs`] gives them; and of every other type none. Or want of memory.
+    /// [`KnownAttrs::all_known_attrs`] gives them; and of every other type none.
     fn all_attributes(&self, alloc: Global, schema: &ValidatorSchema) -> M<Attributes>
         ensures { IfOk result (λ attrs. AreAttributesOf (schema_of schema.now).entity_types (stands_for self.now) (fields_of attrs)) };
 
-    /// The attribute of this name among the type's, if there is one, or want of memory.
+    /// The attribute of this name among the type's, if there is one.
     fn lookup_attribute_type(
         alloc: Global,
         schema: &ValidatorSchema,
@@ -64,7 +64,7 @@ impl SchemaLookup for Type {
     ghost stands_for = { ty_of };
 
     fn euid_literal(alloc: Global, uid: &EntityUID, schema: &ValidatorSchema) -> M<Option<Self>> {
-        if !cedar_lookup::is_known_uid(&schema.entity_types, &schema.actions, uid) {
+        if !cedar_queries::is_known_uid(&schema.entity_types, &schema.action_ids, uid) {
             return Ok(None);
         }
         let ty = Type::named_entity_reference(alloc, uid.entity_type().clone()?)?;
@@ -72,7 +72,7 @@ impl SchemaLookup for Type {
     }
 
     fn all_attributes(&self, alloc: Global, schema: &ValidatorSchema) -> M<Attributes> {
-        cedar_lookup::all_attributes(alloc, &schema.entity_types, self)
+        cedar_queries::all_attributes(alloc, &schema.entity_types, self)
     }
 
     fn lookup_attribute_type(
@@ -81,19 +81,19 @@ impl SchemaLookup for Type {
         ty: &Type,
         name: &str,
     ) -> M<Option<AttributeType>> {
-        cedar_lookup::lookup_attribute_type(alloc, &schema.entity_types, ty, name)
+        cedar_queries::lookup_attribute_type(alloc, &schema.entity_types, ty, name)
     }
 
     fn may_have_attr(schema: &ValidatorSchema, ty: &Type, name: &str) -> bool {
-        cedar_lookup::may_have_attr(&schema.entity_types, ty, name)
+        cedar_queries::may_have_attr(&schema.entity_types, ty, name)
     }
 
     fn may_have_tags(schema: &ValidatorSchema, ty: &Type) -> bool {
-        cedar_lookup::may_have_tags(&schema.entity_types, ty)
+        cedar_queries::may_have_tags(&schema.entity_types, ty)
     }
 
     fn has_declared_entity_types(schema: &ValidatorSchema, ty: &Type) -> bool {
-        cedar_lookup::has_declared_entity_types(&schema.entity_types, ty)
+        cedar_queries::has_declared_entity_types(&schema.entity_types, ty)
     }
 }
 
@@ -103,10 +103,10 @@ impl SchemaLookup for Type {
 pub trait KnownAttrs {
     ghost stands_for: { Self → Ty };
 
-    /// The attributes that are known of entities of the kind: of one entity type those that it declares; of a
-    /// union of more those that its members have in common, joined in permissive mode and without
-    /// locations; of entities of any type none. An entity type that the schema lacks counts as one without
-    /// attributes. Or want of memory.
+    /// The attributes that are known of entities of the kind: of one entity type those that it
+    /// declares; of a union of more those that its members have in common, joined in permissive
+    /// mode and without locations; of entities of any type none. An entity type that the schema
+    /// lacks counts as one without attributes.
     fn all_known_attrs(&self, alloc: Global, schema: &ValidatorSchema) -> M<Attributes>
         ensures { IfOk result (λ attrs. AreAttributesOf (schema_of schema.now).entity_types (stands_for self.now) (fields_of attrs)) };
 }
@@ -115,11 +115,11 @@ impl KnownAttrs for EntityKind {
     ghost stands_for = { kind_ty };
 
     fn all_known_attrs(&self, alloc: Global, schema: &ValidatorSchema) -> M<Attributes> {
-        cedar_lookup::known_attributes(alloc, &schema.entity_types, self)
+        cedar_queries::known_attributes(alloc, &schema.entity_types, self)
     }
 }
 
-/// The attributes of the entity of a literal uid: those of its type, if the uid is known. Or want of memory.
+/// The attributes of the entity of a literal uid: those of its type, if the uid is known.
 pub fn literal_attributes<T: SchemaLookup + Drop>(
     alloc: Global,
     uid: &EntityUID,
@@ -136,7 +136,7 @@ pub fn literal_attributes<T: SchemaLookup + Drop>(
     }
 }
 
-/// The attribute of this name that is known of entities of a kind, if there is one, or want of memory.
+/// The attribute of this name that is known of entities of a kind, if there is one.
 pub fn known_attribute<K: KnownAttrs>(
     alloc: Global,
     schema: &ValidatorSchema,

@@ -1,13 +1,13 @@
 //! What a schema answers.
 
 use crate::schema::ValidatorSchema;
-use cedar_actions::ValidatorActionId;
 use cedar_below::{Entities, EntityType, EntityUID, Extensions, M, ValidationMode};
-use cedar_derived::action_entities;
-use cedar_entities::{UnlinkedRequestEnv, ValidatorEntityType};
 use cedar_queries::{
     ActionGroups, ActionsFor, Ancestors, ApplicableTypes, CompleteError, RequestEnvs, TypeIterator,
     UnresolvedDeclarations,
+};
+use cedar_schema_elements::{
+    UnlinkedRequestEnv, ValidatorActionId, ValidatorEntityType, action_entities,
 };
 use cedar_types::Type;
 use std::alloc::Global;
@@ -18,20 +18,20 @@ impl ValidatorSchema {
     ghost use Rattle.std.specs.List.{flat_map};
     ghost use Rattle.std.specs.List.Sorted.{IsPermutation, IsStrictlySortedBy};
     ghost use Rattle.std.specs.Option.{option_copied, option_map};
-    ghost use Rattle.cedar_actions.specs.ActionKind.{kind_principals, kind_resources};
-    ghost use Rattle.cedar_actions.specs.ValidatorActionId as action;
-    ghost use Rattle.cedar_actions.specs.ValidatorActionId.{action_of};
+    ghost use Rattle.cedar_schema_elements.specs.ActionKind.{kind_principals, kind_resources};
+    ghost use Rattle.cedar_schema_elements.specs.ValidatorActionId as action;
+    ghost use Rattle.cedar_schema_elements.specs.ValidatorActionId.{action_of};
     ghost use Rattle.cedar_below.specs.Entities.{entities_of};
     ghost use Rattle.cedar_below.specs.EntityType.{type_loc, type_name};
     ghost use Rattle.cedar_below.specs.EntityUID.{uid_loc, uid_of, uid_type_loc};
     ghost use Rattle.cedar_below.specs.PlainName.{name_cmp};
     ghost use Rattle.cedar_below.specs.PlainUid.{uid_cmp};
-    ghost use Rattle.cedar_declared.specs.ActionEntities.{AreActionEntities};
-    ghost use Rattle.cedar_declared.specs.Environments.{AreEnvironmentsOf};
-    ghost use Rattle.cedar_derived.specs.ActionEntities.{schema_with};
-    ghost use Rattle.cedar_entities.specs.RequestEnv.{owned_environment};
-    ghost use Rattle.cedar_entities.specs.ValidatorEntityType as types;
-    ghost use Rattle.cedar_entities.specs.ValidatorEntityType.{entity_type_of};
+    ghost use Rattle.cedar_declarations.specs.ActionEntities.{AreActionEntities};
+    ghost use Rattle.cedar_declarations.specs.Environments.{AreEnvironmentsOf};
+    ghost use Rattle.cedar_schema_elements.specs.ActionEntities.{schema_with};
+    ghost use Rattle.cedar_schema_elements.specs.RequestEnv.{owned_environment};
+    ghost use Rattle.cedar_schema_elements.specs.ValidatorEntityType as types;
+    ghost use Rattle.cedar_schema_elements.specs.ValidatorEntityType.{entity_type_of};
     ghost use Rattle.cedar_queries.specs.GivesLeaf.{pending_types};
     ghost use Rattle.cedar_queries.specs.Leaves.{leaves_of, schema_leaves};
     ghost use Rattle.cedar_queries.specs.Hierarchy.{IsKnownType, MayBeIn, action_descendants, descendants_of, groups, types_above};
@@ -70,7 +70,7 @@ impl ValidatorSchema {
     pub fn get_action_id(&self, uid: &EntityUID) -> Option<&ValidatorActionId>
         ensures { option_copied result ≡ action_of_uid self.now (uid_of uid.now) }
     {
-        self.actions.get(uid)
+        self.action_ids.get(uid)
     }
 
     /// The actions, external ones too, in the order of their uids, one for each.
@@ -78,7 +78,7 @@ impl ValidatorSchema {
         ensures actions { result ≡ map (λ entry. entry.1) (action_entries self.now) }
         ensures in_order { IsStrictlySortedBy uid_cmp (map (λ it. (action_of it).uid) result) }
     {
-        self.actions.values()
+        self.action_ids.values()
     }
 
     /// The uids of the actions, external ones too, in order, each once.
@@ -88,7 +88,7 @@ impl ValidatorSchema {
         ensures types_located { map uid_type_loc result ≡ map (λ entry. action.name_type_loc entry.1) (action_entries self.now) }
         ensures in_order { IsStrictlySortedBy uid_cmp (map uid_of result) }
     {
-        self.actions.keys()
+        self.action_ids.keys()
     }
 
     /// The environments of the requests that the actions are for: for each action that is defined, each
@@ -99,8 +99,8 @@ impl ValidatorSchema {
         &self.environments
     }
 
-    /// The environments of the requests that the actions are for, lent: the same in either mode, each
-    /// once.
+    /// The environments of the requests that the actions are for, borrowed: the same in either
+    /// mode, each once.
     pub fn unlinked_request_envs(&self, _mode: ValidationMode) -> RequestEnvs<'_>
         ensures { AreEnvironmentsOf (schema_of self.now) (environments_left result) }
     {
@@ -112,7 +112,7 @@ impl ValidatorSchema {
     pub fn principals(&self) -> ApplicableTypes<'_>
         ensures { result ≡ all_principals (schema_of self.now).actions }
     {
-        cedar_queries::principals(&self.actions)
+        cedar_queries::principals(&self.action_ids)
     }
 
     /// The types of the resources of requests: of each action in turn each once. External actions have
@@ -120,7 +120,7 @@ impl ValidatorSchema {
     pub fn resources(&self) -> ApplicableTypes<'_>
         ensures { result ≡ all_resources (schema_of self.now).actions }
     {
-        cedar_queries::resources(&self.actions)
+        cedar_queries::resources(&self.action_ids)
     }
 
     /// The types of the principals of an action's requests, each once; of an external action none. None
@@ -130,7 +130,7 @@ impl ValidatorSchema {
             ≡ option_map (λ it. kind_principals it.kind) (action_at (uid_of uid.now) (schema_of self.now).actions) }
         ensures once { IfSome result (λ types. AllPairs (λ a b. a ≢ b) (map type_name types)) }
     {
-        cedar_queries::principals_for_action(&self.actions, uid)
+        cedar_queries::principals_for_action(&self.action_ids, uid)
     }
 
     /// The types of the resources of an action's requests, each once; of an external action none. None
@@ -140,7 +140,7 @@ impl ValidatorSchema {
             ≡ option_map (λ it. kind_resources it.kind) (action_at (uid_of uid.now) (schema_of self.now).actions) }
         ensures once { IfSome result (λ types. AllPairs (λ a b. a ≢ b) (map type_name types)) }
     {
-        cedar_queries::resources_for_action(&self.actions, uid)
+        cedar_queries::resources_for_action(&self.action_ids, uid)
     }
 
     /// The uids of the actions that are for requests of this principal with this resource, in order, each
@@ -154,7 +154,7 @@ impl ValidatorSchema {
             ≡ actions_for (type_name principal.now) (type_name resource.now) (schema_of self.now).actions }
         ensures in_order { IsStrictlySortedBy uid_cmp (map uid_of result) }
     {
-        cedar_queries::actions_for_principal_and_resource(&self.actions, principal, resource)
+        cedar_queries::actions_for_principal_and_resource(&self.action_ids, principal, resource)
     }
 
     /// The uids of the actions that have descendants, in order, each once.
@@ -162,7 +162,7 @@ impl ValidatorSchema {
         ensures uids { map uid_of result ≡ groups (schema_of self.now).actions }
         ensures in_order { IsStrictlySortedBy uid_cmp (map uid_of result) }
     {
-        cedar_queries::action_groups(&self.actions)
+        cedar_queries::action_groups(&self.action_ids)
     }
 
     /// The type of the context of an action's requests. None where the schema has no action of this uid,
@@ -170,7 +170,7 @@ impl ValidatorSchema {
     pub fn context_type(&self, uid: &EntityUID) -> Option<&Type>
         ensures { option_map ty_of (option_copied result) ≡ context_at (uid_of uid.now) (schema_of self.now).actions }
     {
-        cedar_queries::context_type(&self.actions, uid)
+        cedar_queries::context_type(&self.action_ids, uid)
     }
 
     /// Whether the schema has an entity type of this name, or the name is one of actions' types.
@@ -184,7 +184,7 @@ impl ValidatorSchema {
     pub fn is_known_action_id(&self, uid: &EntityUID) -> bool
         ensures { IsTrue result ↔ Contains (map (λ it. it.0) (schema_of self.now).actions) (uid_of uid.now) }
     {
-        cedar_queries::is_known_action_id(&self.actions, uid)
+        cedar_queries::is_known_action_id(&self.action_ids, uid)
     }
 
     /// The names of the entity types that have this one among their descendants, in order, each once; None
@@ -197,9 +197,9 @@ impl ValidatorSchema {
         cedar_queries::ancestors(&self.entity_types, ty)
     }
 
-    /// The names of the descendants of an entity type, in some order, each once, and then its own, which
-    /// stands there twice where it is a descendant of itself. Of an entity type that the schema hasn't just
-    /// its own name. Or want of memory.
+    /// The names of the descendants of an entity type, in some order, each once, and then its own,
+    /// which stands there twice where it is a descendant of itself. Of an entity type that the
+    /// schema hasn't just its own name.
     pub fn get_entity_types_in<'a>(
         &'a self,
         alloc: Global,
@@ -212,9 +212,9 @@ impl ValidatorSchema {
         cedar_queries::entity_types_in(alloc, &self.entity_types, ty)
     }
 
-    /// For each of some uids in turn the uids of the descendants of its action, in some order, and then the
-    /// uid itself, repeats among them; None where one of them is that of no action of the schema. Or want
-    /// of memory.
+    /// For each of some uids in turn the uids of the descendants of its action, in some order, and
+    /// then the uid itself, repeats among them; None where one of them is that of no action of the
+    /// schema.
     pub fn get_actions_in_set<'a>(
         &'a self,
         alloc: Global,
@@ -225,7 +225,7 @@ impl ValidatorSchema {
         ensures uids { IfOk result (λ answer. IfSome answer (λ all. map (λ it. uid_of it.now) all.items
             ≡ flat_map (λ uid. action_descendants (uid_of uid) (schema_of self.now).actions ++ uid_of uid ∷ []) uids.now)) }
     {
-        cedar_queries::actions_in_set(alloc, &self.actions, uids)
+        cedar_queries::actions_in_set(alloc, &self.action_ids, uids)
     }
 
     /// Whether entities of some of the one types may be among or below those of some of the others: one of
@@ -235,7 +235,7 @@ impl ValidatorSchema {
         ensures { IsTrue result ↔ Any (λ lower. Any (λ upper. MayBeIn (schema_of self.now).entity_types
             (schema_of self.now).actions (type_name lower) (type_name upper)) uppers.now) lowers.now }
     {
-        cedar_queries::any_descendent_of(&self.entity_types, &self.actions, lowers, uppers)
+        cedar_queries::any_descendent_of(&self.entity_types, &self.action_ids, lowers, uppers)
     }
 
     /// What is declared to be elsewhere (RFC 116): the external entity types in order, and then the external
@@ -243,40 +243,40 @@ impl ValidatorSchema {
     pub fn unresolved_declarations(&self) -> UnresolvedDeclarations<'_>
         ensures { unresolved_left result ≡ unresolved (schema_of self.now).entity_types (schema_of self.now).actions }
     {
-        cedar_queries::unresolved_declarations(&self.entity_types, &self.actions)
+        cedar_queries::unresolved_declarations(&self.entity_types, &self.action_ids)
     }
 
     /// Whether nothing is declared to be elsewhere.
     pub fn is_complete(&self) -> bool
         ensures { IsTrue result ↔ (unresolved (schema_of self.now).entity_types (schema_of self.now).actions ≡ []) }
     {
-        cedar_queries::is_complete(&self.entity_types, &self.actions)
+        cedar_queries::is_complete(&self.entity_types, &self.action_ids)
     }
 
-    /// That nothing is declared to be elsewhere; else the error carries what is, in order, with the location of
-    /// the first. Or want of memory.
+    /// That nothing is declared to be elsewhere; else the error carries what is, in order, with the
+    /// location of the first. Or out of memory.
     pub fn check_complete(&self, alloc: Global) -> Result<(), CompleteError>
         ensures complete { OnOk result (unresolved (schema_of self.now).entity_types (schema_of self.now).actions ≡ []) }
         ensures incomplete { IfErr result (IsIncomplete (schema_of self.now).entity_types (schema_of self.now).actions) }
     {
-        cedar_queries::check_complete(alloc, &self.entity_types, &self.actions)
+        cedar_queries::check_complete(alloc, &self.entity_types, &self.action_ids)
     }
 
-    /// The leaves of the types of attributes, tags and contexts: whatever stands there that is neither a record
-    /// nor a set of elements of a type, as often as it stands there, in any order. Or want of memory.
+    /// The leaves of the types of attributes, tags and contexts: whatever stands there that is
+    /// neither a record nor a set of elements of a type, as often as it stands there, in any order.
     pub fn leaf_types(&self, alloc: Global) -> M<TypeIterator<'_>>
         ensures { IfOk result (λ leaves. IsPermutation
             (schema_leaves (schema_of self.now).entity_types (schema_of self.now).actions) (leaves_of (pending_types leaves))) }
     {
-        cedar_queries::leaf_types(alloc, &self.entity_types, &self.actions)
+        cedar_queries::leaf_types(alloc, &self.entity_types, &self.action_ids)
     }
 
-    /// The entities of the actions that the schema defines, by uid: without attributes and tags, each just
-    /// below the actions that list it among their descendants, external ones too. Or want of memory.
+    /// The entities of the actions that the schema defines, by uid: without attributes and tags,
+    /// each just below the actions that list it among their descendants, external ones too.
     pub fn action_entities(&self, alloc: Global, _extensions: &Extensions) -> M<Entities>
         ensures { IfOk result (λ entities. AreActionEntities
             (schema_with (schema_of self.now).entity_types (action_entries self.now) (entities_of entities))) }
     {
-        action_entities(alloc, &self.actions)
+        action_entities(alloc, &self.action_ids)
     }
 }

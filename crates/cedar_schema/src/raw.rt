@@ -5,14 +5,14 @@ ghost use Rattle.std.specs.List.{flat_map};
 ghost use Rattle.std.specs.Result.{result_map_both};
 ghost use Rattle.cedar_below.specs.Extensions.{extension_types};
 ghost use Rattle.cedar_below.specs.TypeNames.{TypeNamesFit};
-ghost use Rattle.cedar_declared.specs.Fault.{want_of_memory};
-ghost use Rattle.cedar_declared.specs.SchemaError.{fault_of};
+ghost use Rattle.cedar_declarations.specs.Fault.{out_of_memory};
+ghost use Rattle.cedar_declarations.specs.SchemaError.{fault_of};
 ghost use Rattle.cedar_fragments.specs.DefinitionFault.{IsDefinitionFault};
 ghost use Rattle.cedar_fragments.specs.FragmentDeclarations.{conditional_bag};
 ghost use Rattle.cedar_fragments.specs.FragmentFault.{NamesAllOfADefinition};
 ghost use Rattle.cedar_fragments.specs.Located.{fragment_common_names, named_namespaces, raw_common_names, raw_namespaces};
-ghost use Rattle.cedar_laws.specs.EndToEnd.{IsBuiltFrom};
-ghost use Rattle.cedar_located.specs.Located.{ShowsWritten};
+ghost use Rattle.cedar_declaration_laws.specs.EndToEnd.{IsBuiltFrom};
+ghost use Rattle.cedar_schema.specs.Located.{ShowsWritten};
 ghost use Rattle.cedar_names.specs.Declaration.{raw_bag};
 ghost use Rattle.cedar_names.specs.declared.json_schema.conditional_name.ConditionalName.{ConditionalName as Conditional};
 ghost use Rattle.cedar_schema.specs.SchemaKeys.{AreKeysLocated};
@@ -20,12 +20,12 @@ ghost use Rattle.cedar_schema.specs.SchemaParts.{parts_schema};
 
 use crate::building::{SchemaParts, build};
 use cedar_below::Extensions;
-use cedar_declared::SchemaError;
+use cedar_declarations::SchemaError;
 use cedar_fragments::namespace::ValidatorSchemaFragment;
 use cedar_names::json_schema::{ConditionalName, Fragment, RawName};
 use std::alloc::Global;
 
-/// The same fragments, whose names say what they may stand for.
+/// The same fragments, over conditional names.
 fn conditional_fragments(
     alloc: Global,
     fragments: Vec<Fragment<RawName>>,
@@ -35,7 +35,7 @@ fn conditional_fragments(
         ≡ flat_map raw_common_names fragments.items) }
     ensures namespaces { IfOk result (λ it. flat_map (named_namespaces Conditional Conditional) it.items
         ≡ flat_map raw_namespaces fragments.items) }
-    ensures fault { IfErr result (λ error. (fault_of error ≡ want_of_memory)
+    ensures fault { IfErr result (λ error. (fault_of error ≡ out_of_memory)
         ⊎ IsDefinitionFault (raw_bag fragments.items) (fault_of error)) }
     ensures all_named { IfErr result (λ error. NamesAllOfADefinition fragments.items (fault_of error)) }
 {
@@ -50,8 +50,9 @@ fn conditional_fragments(
 /// What fragments declare over some extensions, whose names of extension types have to fit, as
 /// [`Extensions::type_names_fit`] tests.
 ///
-/// It is refused exactly where the bag of their declarations is ill-formed, with a fault of it by name,
-/// or where memory is wanting. A refusal for actions with attributes names all those of one definition.
+/// It is refused exactly where the bag of their declarations is ill-formed, with a fault of it by
+/// name, or where memory runs out. A refusal for actions with attributes names all those of one
+/// definition.
 pub(crate) fn build_raw(
     alloc: Global,
     fragments: Vec<Fragment<RawName>>,

@@ -1,27 +1,34 @@
 //! Schemas, and how one is built from fragments.
 
 ghost use Rattle.std.specs.Prelude.{map};
-ghost use Rattle.cedar_actions.specs.ValidatorActionId as action;
+ghost use Rattle.cedar_schema_elements.specs.ValidatorActionId as action;
 ghost use Rattle.cedar_below.specs.Entities.{entities_of};
-ghost use Rattle.cedar_declared.specs.ActionEntities.{AreActionEntities};
-ghost use Rattle.cedar_declared.specs.Environments.{AreEnvironmentsOf};
-ghost use Rattle.cedar_derived.specs.ActionEntities.{schema_with};
-ghost use Rattle.cedar_entities.specs.RequestEnv.{owned_environment};
-ghost use Rattle.cedar_entities.specs.ValidatorEntityType as types;
-ghost use Rattle.cedar_entities.specs.ValidatorEntityType.{plain_entry};
-ghost use Rattle.cedar_laws.specs.EndToEnd.{IsInOrder, StandsUnderItsNames};
+ghost use Rattle.cedar_declarations.specs.ActionEntities.{AreActionEntities};
+ghost use Rattle.cedar_declarations.specs.Environments.{AreEnvironmentsOf};
+ghost use Rattle.cedar_schema_elements.specs.ActionEntities.{schema_with};
+ghost use Rattle.cedar_schema_elements.specs.RequestEnv.{owned_environment};
+ghost use Rattle.cedar_schema_elements.specs.ValidatorEntityType as types;
+ghost use Rattle.cedar_schema_elements.specs.ValidatorEntityType.{plain_entry};
+ghost use Rattle.cedar_declaration_laws.specs.EndToEnd.{IsInOrder, StandsUnderItsNames};
 
 use crate::building::{SchemaParts, build};
+use crate::collecting::Located;
+pub use crate::located_common_type::LocatedCommonType;
+pub use crate::located_namespace::LocatedNamespace;
+pub use crate::located_type::LocatedType;
 use crate::raw::build_raw;
-use cedar_actions::ValidatorActionId;
 use cedar_below::{Entities, EntityType, EntityUID, Extensions, M};
-use cedar_declared::SchemaError;
-use cedar_derived::{action_entities, environments};
-use cedar_entities::{UnlinkedRequestEnv, ValidatorEntityType};
+pub use cedar_declarations::{ContextOrShape, SchemaError, UnsupportedFeature};
 use cedar_fragments::namespace::ValidatorSchemaFragment;
-use cedar_located::Located;
 use cedar_names::json_schema::{ConditionalName, Fragment, NamespaceDefinition, RawName};
-use cedar_validated::{
+pub use cedar_queries::{
+    CompleteError, IncompleteSchemaError, TypeIterator, UnresolvedDeclaration,
+};
+use cedar_schema_elements::{
+    UnlinkedRequestEnv, ValidatorActionId, ValidatorEntityType, action_entities, environments,
+};
+pub use cedar_schema_writer::WriteBackFault;
+use cedar_validation::{
     Validated, actions_by_uid, copied_actions, copied_types, types_by_name, validate,
 };
 use std::alloc::Global;
@@ -39,7 +46,7 @@ use std::collections::BTreeMap;
 #[derive_where(Debug, PartialEq, Eq)]
 pub struct ValidatorSchema {
     pub(crate) entity_types: BTreeMap<EntityType, ValidatorEntityType>,
-    pub(crate) actions: BTreeMap<EntityUID, ValidatorActionId>,
+    pub(crate) action_ids: BTreeMap<EntityUID, ValidatorActionId>,
     #[derive_where(skip(EqHashOrd))]
     pub(crate) action_entities: Entities,
     #[derive_where(skip(EqHashOrd))]
@@ -47,48 +54,48 @@ pub struct ValidatorSchema {
     #[derive_where(skip(EqHashOrd))]
     pub(crate) located: Located,
     ghost entities_of_actions: { ∥ AreActionEntities
-        (schema_with (map plain_entry entity_types.entries) actions.entries (entities_of action_entities)) ∥₁ },
+        (schema_with (map plain_entry entity_types.entries) action_ids.entries (entities_of action_entities)) ∥₁ },
     ghost environments_of_actions: { ∥ AreEnvironmentsOf
-        (schema_with (map plain_entry entity_types.entries) actions.entries (entities_of action_entities))
+        (schema_with (map plain_entry entity_types.entries) action_ids.entries (entities_of action_entities))
         (map owned_environment environments.items) ∥₁ },
     ghost in_order: { ∥ IsInOrder
-        (schema_with (map plain_entry entity_types.entries) actions.entries (entities_of action_entities)) ∥₁ },
+        (schema_with (map plain_entry entity_types.entries) action_ids.entries (entities_of action_entities)) ∥₁ },
     ghost under_names: { ∥ StandsUnderItsNames
-        (schema_with (map plain_entry entity_types.entries) actions.entries (entities_of action_entities)) ∥₁ },
+        (schema_with (map plain_entry entity_types.entries) action_ids.entries (entities_of action_entities)) ∥₁ },
     ghost types_located: { types.AreLocatedAsKeys entity_types.entries },
-    ghost actions_located: { action.AreLocatedAsKeys actions.entries },
+    ghost actions_located: { action.AreLocatedAsKeys action_ids.entries },
 }
 
 impl ValidatorSchema {
     ghost use Rattle.std.specs.Prelude.{◌≡◌, ◌⊎◌, List, [], ◌∷◌, IfErr, IfOk, OnOk, None};
     ghost use Rattle.std.specs.Iterator.{Drains, IsFinite};
     ghost use Rattle.std.specs.Result.{result_map_both};
-    ghost use Rattle.cedar_actions.specs.declared.action_id.ValidatorActionId.{ValidatorActionId as ActionOfSchema};
+    ghost use Rattle.cedar_schema_elements.specs.declared.action_id.ValidatorActionId.{ValidatorActionId as ActionOfSchema};
     ghost use Rattle.cedar_below.specs.EntityType.{type_name};
     ghost use Rattle.cedar_below.specs.EntityUID.{uid_of};
     ghost use Rattle.cedar_below.specs.Extensions.{extension_types};
-    ghost use Rattle.cedar_below.specs.Lists.{HoldsInTurn};
+    ghost use Rattle.cedar_below.specs.Lists.{HoldsPairwise};
     ghost use Rattle.cedar_below.specs.TypeNames.{TypeNamesFit};
     ghost use Rattle.cedar_below.specs.declared.entity_type.EntityType.{EntityType as Name};
     ghost use Rattle.cedar_below.specs.declared.entity_uid.EntityUID.{EntityUID as Uid};
-    ghost use Rattle.cedar_declared.specs.ClosedSchema.{ClosesSchema};
-    ghost use Rattle.cedar_declared.specs.Fault.{want_of_memory};
-    ghost use Rattle.cedar_declared.specs.SameSchema.{SameSchema};
-    ghost use Rattle.cedar_declared.specs.SchemaError.{fault_of};
-    ghost use Rattle.cedar_declared.specs.ValidSchema.{IsSchemaFault, IsValidSchema};
-    ghost use Rattle.cedar_entities.specs.declared.entity_type.ValidatorEntityType.{ValidatorEntityType as EntityTypeOfSchema};
+    ghost use Rattle.cedar_declarations.specs.ClosedSchema.{ClosesSchema};
+    ghost use Rattle.cedar_declarations.specs.Fault.{out_of_memory};
+    ghost use Rattle.cedar_declarations.specs.SameSchema.{SameSchema};
+    ghost use Rattle.cedar_declarations.specs.SchemaError.{fault_of};
+    ghost use Rattle.cedar_declarations.specs.ValidSchema.{IsSchemaFault, IsValidSchema};
+    ghost use Rattle.cedar_schema_elements.specs.declared.entity_type.ValidatorEntityType.{ValidatorEntityType as EntityTypeOfSchema};
     ghost use Rattle.cedar_fragments.specs.DefinitionFault.{NamesAllWithAttributes};
     ghost use Rattle.cedar_fragments.specs.FragmentDeclarations.{conditional_bag};
     ghost use Rattle.cedar_fragments.specs.FragmentFault.{NamesAllOfADefinition};
     ghost use Rattle.cedar_fragments.specs.Located.{written_common_names};
-    ghost use Rattle.cedar_laws.specs.EndToEnd.{IsBuiltFrom};
-    ghost use Rattle.cedar_located.specs.Located.{Shows, ShowsFragments, ShowsWritten, common_entries, namespace_entries};
-    ghost use Rattle.cedar_located.specs.ShownCommonTypes.{shown_common_type};
-    ghost use Rattle.cedar_located.specs.ShownNamespaces.{shown_entry};
+    ghost use Rattle.cedar_declaration_laws.specs.EndToEnd.{IsBuiltFrom};
+    ghost use Rattle.cedar_schema.specs.Located.{Shows, ShowsFragments, ShowsWritten, common_entries, namespace_entries};
+    ghost use Rattle.cedar_schema.specs.ShownCommonTypes.{shown_common_type};
+    ghost use Rattle.cedar_schema.specs.ShownNamespaces.{shown_entry};
     ghost use Rattle.cedar_names.specs.Declaration.{raw_bag, raw_declarations, raw_fragment};
     ghost use Rattle.cedar_schema.specs.ValidatorSchema.{action_entries, action_of_uid, entity_type_named, located_of, schema_entries, schema_of};
-    ghost use Rattle.cedar_validated.specs.Copies.{IsActionCopied, IsTypeCopied};
-    ghost use Rattle.cedar_validated.specs.LastNamed.{last_named, last_of_uid};
+    ghost use Rattle.cedar_validation.specs.Copies.{IsActionCopied, IsTypeCopied};
+    ghost use Rattle.cedar_validation.specs.LastNamed.{last_named, last_of_uid};
     ghost use Rattle.cedar_schema.specs.SchemaKeys.{AreKeysLocated};
     ghost use Rattle.cedar_schema.specs.SchemaParts.{parts_schema};
 
@@ -104,14 +111,14 @@ impl ValidatorSchema {
         let _in_order = action_entities.iter();
         ValidatorSchema {
             entity_types: BTreeMap::new(alloc),
-            actions: BTreeMap::new(alloc),
+            action_ids: BTreeMap::new(alloc),
             action_entities,
             environments: Vec::new(alloc),
             located: Located::nothing(alloc),
         }
     }
 
-    /// The schema of what was built, with its environments, or want of memory.
+    /// The schema of what was built, with its environments.
     fn from_parts(alloc: Global, parts: SchemaParts) -> M<Self>
         requires entities { AreActionEntities (parts_schema parts) }
         requires under_names { StandsUnderItsNames (parts_schema parts) }
@@ -133,7 +140,7 @@ impl ValidatorSchema {
         let environments = environments(alloc, &actions)?;
         Ok(ValidatorSchema {
             entity_types,
-            actions,
+            action_ids: actions,
             action_entities,
             environments,
             located,
@@ -143,11 +150,11 @@ impl ValidatorSchema {
     /// The schema that fragments declare over the given extensions, where the names in the fragments say
     /// what they may stand for.
     ///
-    /// The names of the extension types have to fit, which [`Extensions::type_names_fit`] tests. An error
-    /// other than want of memory names a fault of the declarations of all fragments together (Cedar's
-    /// rules of schemas, with RFC 24 for resolution, RFC 70 for shadowing and RFC 82 for tags); where
-    /// there is none, the schema is the one that is declared, and the only one. How the declarations are
-    /// split into fragments, and their order, makes no difference.
+    /// The names of the extension types have to fit, which [`Extensions::type_names_fit`] tests. An
+    /// error other than out of memory names a fault of the declarations of all fragments together
+    /// (Cedar's rules of schemas, with RFC 24 for resolution, RFC 70 for shadowing and RFC 82 for
+    /// tags); where there is none, the schema is the one that is declared, and the only one. How
+    /// the declarations are split into fragments, and their order, makes no difference.
     pub fn from_schema_fragments(
         alloc: Global,
         fragments: Vec<ValidatorSchemaFragment<ConditionalName, ConditionalName>>,
@@ -217,8 +224,8 @@ impl ValidatorSchema {
         ValidatorSchema::from_schema_frag(alloc, Fragment(definitions), extensions)
     }
 
-    /// The schema of given entity types and actions, each under its own name; of those of one name the last
-    /// counts. The entities of the actions and the environments are made of them. Or want of memory. Both
+    /// The schema of given entity types and actions, each under its own name; of those of one name
+    /// the last counts. The entities of the actions and the environments are made of them. Both
     /// have to come to an end.
     ///
     /// Nothing is checked, and descendants stay as they are given: [`ValidatorSchema::try_validate`] closes
@@ -263,7 +270,7 @@ impl ValidatorSchema {
     /// action that is no action (`UndeclaredActionsDescendant`); or one that shadows another
     /// (`TypeShadowing`, `ActionShadowing`). Descendants count in any number of steps.
     pub fn try_validate(self, alloc: Global, extensions: &Extensions) -> Result<Self, SchemaError>
-        ensures fault { IfErr result (λ error. (fault_of error ≡ want_of_memory)
+        ensures fault { IfErr result (λ error. (fault_of error ≡ out_of_memory)
             ⊎ IsSchemaFault extensions.now (schema_of self) (fault_of error)) }
         ensures valid { OnOk result (IsValidSchema extensions.now (schema_of self)) }
         ensures closed { IfOk result (λ schema. ClosesSchema (schema_of self) (schema_of schema)) }
@@ -274,7 +281,7 @@ impl ValidatorSchema {
             entity_types,
             actions,
             action_entities,
-        } = validate(alloc, self.entity_types, self.actions, extensions)?;
+        } = validate(alloc, self.entity_types, self.action_ids, extensions)?;
         let parts = SchemaParts {
             entity_types,
             actions,
@@ -284,12 +291,12 @@ impl ValidatorSchema {
         Ok(ValidatorSchema::from_parts(alloc, parts)?)
     }
 
-    /// An equal schema, which shows the same of its fragments, or want of memory. Its entity types and actions,
-    /// their names and their attributes are located alike.
+    /// An equal schema, which shows the same of its fragments. Its entity types and actions, their
+    /// names and their attributes are located alike.
     pub fn clone(&self) -> M<Self>
         ensures schema { IfOk result (λ copy. SameSchema (schema_of copy) (schema_of self.now)) }
-        ensures entity_types { IfOk result (λ copy. HoldsInTurn IsTypeCopied (schema_entries self.now) (schema_entries copy)) }
-        ensures actions { IfOk result (λ copy. HoldsInTurn IsActionCopied (action_entries self.now) (action_entries copy)) }
+        ensures entity_types { IfOk result (λ copy. HoldsPairwise IsTypeCopied (schema_entries self.now) (schema_entries copy)) }
+        ensures actions { IfOk result (λ copy. HoldsPairwise IsActionCopied (action_entries self.now) (action_entries copy)) }
         ensures common_types { IfOk result (λ copy. map shown_common_type (common_entries (located_of copy))
             ≡ map shown_common_type (common_entries (located_of self.now))) }
         ensures namespaces { IfOk result (λ copy. map shown_entry (namespace_entries (located_of copy))
@@ -297,7 +304,7 @@ impl ValidatorSchema {
         ensures keys { IfOk result (λ schema. AreKeysLocated (schema_entries schema) (action_entries schema)) }
     {
         let alloc = *self.environments.allocator();
-        let actions = copied_actions(&self.actions)?;
+        let actions = copied_actions(&self.action_ids)?;
         let action_entities = action_entities(alloc, &actions)?;
         let parts = SchemaParts {
             entity_types: copied_types(&self.entity_types)?,

@@ -3,8 +3,8 @@ use Rattle.std.proofs.Common.{◌≡◌, ◌↔◌, ◌∙◌, false, List, ◌�
 use Rattle.std.specs.Bool.{Decides}
 use Rattle.std.specs.declared.string.String.{String}
 use Rattle.cedar_below.proofs.Inclusion.{rest_alone, part_fails}
-use Rattle.cedar_rules.specs.Clean.{IsClean, AreClean}
-use Rattle.cedar_rules.specs.Ty.{fields_from}
+use Rattle.cedar_type_rules.specs.Clean.{IsClean, AreClean}
+use Rattle.cedar_type_rules.specs.Ty.{fields_from}
 use Rattle.cedar_types.proofs.EqualityLaws.{attribute_of-parts}
 use Rattle.cedar_types.specs.Attributes.{plain_attributes}
 use Rattle.cedar_types.specs.Layers.{pairs_of, fields_of-pairs}

@@ -17,13 +17,13 @@ use Rattle.cedar_below.specs.CoreSchemaType.{core_ty_of, core_attribute_of}
 use Rattle.cedar_below.specs.CoreTy.{core_fields_from, core_names}
 use Rattle.cedar_below.specs.Text.{Text, text_cmp}
 use Rattle.cedar_below.specs.declared.core_schema_type.CoreAttributeType.{CoreAttributeType}
-use Rattle.cedar_rules.proofs.ConsistentWalk.{AreConsistent, consistent-other, consistent-both, consistent-front, consistent-left, MayBeMissing}
-use Rattle.cedar_rules.specs.Consistent.{IsConsistent}
-use Rattle.cedar_rules.specs.Fields.{field_names}
-use Rattle.cedar_rules.specs.Ty.{Ty, fields_from}
-use Rattle.cedar_sorted.proofs.RisingLemmas.{Ahead, AllBelow, Ahead-first, Ahead-next, Ahead-past, Ahead-sought, missed, below_all, below_each-apart, taken-all, rises-from, seen-from}
-use Rattle.cedar_sorted.proofs.SearchLemmas.{text_of, text_at}
-use Rattle.cedar_sorted.specs.ByName.{NamesAscend, entry_texts}
+use Rattle.cedar_type_rules.proofs.ConsistentWalk.{AreConsistent, consistent-other, consistent-both, consistent-front, consistent-left, MayBeMissing}
+use Rattle.cedar_type_rules.specs.Consistent.{IsConsistent}
+use Rattle.cedar_type_rules.specs.Fields.{field_names}
+use Rattle.cedar_type_rules.specs.Ty.{Ty, fields_from}
+use Rattle.cedar_name_map.proofs.RisingLemmas.{Ahead, AllBelow, Ahead-first, Ahead-next, Ahead-past, Ahead-sought, missed, below_all, below_each-apart, taken-all, rises-from, seen-from}
+use Rattle.cedar_name_map.proofs.SearchLemmas.{text_of, text_at}
+use Rattle.cedar_name_map.specs.ByName.{AreSortedByName, entry_texts}
 use Rattle.cedar_types.proofs.CoredWalk.{core_entry}
 use Rattle.cedar_types.proofs.EqualityLaws.{attribute_of-parts}
 use Rattle.cedar_types.proofs.SubtypeSteps.{Sought, IsAt}
@@ -50,7 +50,7 @@ all-seen : {A B : Type 0} (P : A → Type 0) (Q : B → Type 0) (see : A → B) 
 all-seen P Q see also [] all = tt
 all-seen P Q see also (x ∷ xs) all = (also x all.0, all-seen P Q see also xs all.1)
 
--- in a list that ascends the others are above the first
+-- in a sorted list without duplicates the others are above the first
 others-above : (first : Text) (others : List Text) → IsStrictlySortedBy text_cmp (first ∷ others)
     → AllByRecursion (λ other. text_cmp first other ≡ Less) others
 unfolding IsStrictlySortedBy
@@ -92,7 +92,7 @@ consistent-first attrs own left IsOpen IsCoreOpen is sorted =
 -- a walk that goes on to a place for the next attribute of the other record, and tells whether what it passes may be missing
 pub record ConsistentStep (own : List (String Global × AttributeType)) (IsOpen IsCoreOpen Whole : Type 0) (at place : ℕ)
     (item : String Global × CoreAttributeType) (rest : List (String Global × CoreAttributeType)) (may : Bool) : Type 0 where
-  pub up : NamesAscend own
+  pub up : AreSortedByName own
   pub so_far : ConsistentSoFar own IsOpen IsCoreOpen Whole at (item ∷ rest)
   pub on : at ≤ place
   pub passed : (i : ℕ) (d : String Global × AttributeType) → at ≤ i → i < place → text_cmp (text_at own i d) (core_text item) ≡ Less
@@ -111,7 +111,7 @@ step_of attrs own IsOpen IsCoreOpen Whole at place item rest may is so_far on so
     × ((d : String Global × AttributeType) → place < length pairs → text_cmp (text_at pairs place d) (core_text item) ≢ Less) in
     let both = subst P (sym is) (sought.passed, sought.stays) in
     record {
-      up = subst NamesAscend (sym is) (out-Attributes attrs).attrs.value.ascending;
+      up = subst AreSortedByName (sym is) (out-Attributes attrs).attrs.value.sorted_by_name;
       so_far = so_far;
       on = on;
       passed = both.0;

@@ -14,15 +14,15 @@ use Rattle.cedar_below.proofs.Texts.{text_cmp-total}
 use Rattle.cedar_below.proofs.TreeLemmas.{core_attribute_of-parts}
 use Rattle.cedar_below.specs.CoreSchemaType.{core_ty_of, core_attribute_of}
 use Rattle.cedar_below.specs.CoreTy.{CoreTy, core_fields_from}
-use Rattle.cedar_below.specs.Lists.{HoldsInTurn}
+use Rattle.cedar_below.specs.Lists.{HoldsPairwise}
 use Rattle.cedar_below.specs.Text.{Text, text_cmp}
 use Rattle.cedar_below.specs.declared.core_schema_type.CoreAttributeType.{CoreAttributeType}
-use Rattle.cedar_rules.proofs.CoreSteps.{IsCored, cored-fields, cored-more, cored-names, fault-middle}
-use Rattle.cedar_rules.specs.CoreFault.{IsCoreFault, IsFieldsFault}
-use Rattle.cedar_rules.specs.CoreOf.{core_of, core_fields}
-use Rattle.cedar_rules.specs.Ty.{Ty, fields_from}
-use Rattle.cedar_rules.specs.declared.core_type_fault.CoreTypeFault.{CoreTypeFault}
-use Rattle.cedar_sorted.specs.ByName.{NamesAscend, entry_texts}
+use Rattle.cedar_type_rules.proofs.CoreSteps.{IsCored, cored-fields, cored-more, cored-names, fault-middle}
+use Rattle.cedar_type_rules.specs.CoreFault.{IsCoreFault, IsFieldsFault}
+use Rattle.cedar_type_rules.specs.CoreOf.{core_of, core_fields}
+use Rattle.cedar_type_rules.specs.Ty.{Ty, fields_from}
+use Rattle.cedar_type_rules.specs.declared.core_type_fault.CoreTypeFault.{CoreTypeFault}
+use Rattle.cedar_name_map.specs.ByName.{AreSortedByName, entry_texts}
 use Rattle.cedar_types.proofs.EqualityLaws.{attribute_of-parts}
 use Rattle.cedar_types.specs.Attributes.{plain_attributes}
 use Rattle.cedar_types.specs.Layers.{plain_entry}
@@ -37,7 +37,7 @@ core_entry entry = (string_bytes entry.0, core_attribute_of entry.1)
 pub record CoredSoFar (all left : List (String Global × AttributeType)) (made : List (String Global × CoreAttributeType)) : Type 0 where
   pub done : List (String Global × AttributeType)
   pub split : all ≡ done ++ left
-  pub turn : HoldsInTurn IsCored (map plain_entry done) (map core_entry made)
+  pub turn : HoldsPairwise IsCored (map plain_entry done) (map core_entry made)
 
 -- a key is above others whose texts its text is above
 above-keys : (name : Text) (key : String Global) (made : List (String Global × CoreAttributeType)) → string_bytes key ≡ name
@@ -69,7 +69,7 @@ module _ (all : List (String Global × AttributeType)) (item : String Global × 
       ∙ map-map (λ (entry : Text × (Bool × CoreTy)). entry.0) core_entry made)
 
   -- the next name is above all that are made
-  next-above : NamesAscend all → (key : String Global) → string_bytes key ≡ string_bytes item.0
+  next-above : AreSortedByName all → (key : String Global) → string_bytes key ≡ string_bytes item.0
       → AllByRecursion (λ other. string_cmp key other ≡ Greater) (keys_of made)
   next-above up key same =
       let text : String Global × AttributeType → Text = λ entry. string_bytes entry.0 in
@@ -81,7 +81,7 @@ module _ (all : List (String Global × AttributeType)) (item : String Global × 
       (subst Q done_names (above_front text_cmp-total (entry_texts so_far.done) (string_bytes item.0) (entry_texts rest) sorted))
 
   -- one more is done, and goes to the end of the map
-  pub cored-next : NamesAscend all → (key : String Global) (attribute : CoreAttributeType) → string_bytes key ≡ string_bytes item.0
+  pub cored-next : AreSortedByName all → (key : String Global) (attribute : CoreAttributeType) → string_bytes key ≡ string_bytes item.0
       → attribute.required ≡ (out-AttributeType item.1).is_required
       → core_of (ty_of (out-AttributeType item.1).attr_type.value) ≡ Some (core_ty_of attribute.attr_type)
       → CoredSoFar all rest (insert_entry string_cmp made key attribute)
@@ -98,9 +98,9 @@ module _ (all : List (String Global × AttributeType)) (item : String Global × 
         done = so_far.done ++ item ∷ [];
         split = so_far.split ∙ sym (append_assoc so_far.done (item ∷ []) rest);
         turn =
-            subst (λ items. HoldsInTurn IsCored items (map core_entry (made ++ (key, attribute) ∷ [])))
+            subst (λ items. HoldsPairwise IsCored items (map core_entry (made ++ (key, attribute) ∷ [])))
             (sym (map-append plain_entry so_far.done (item ∷ [])))
-            (subst (HoldsInTurn IsCored (map plain_entry so_far.done ++ plain_entry item ∷ []))
+            (subst (HoldsPairwise IsCored (map plain_entry so_far.done ++ plain_entry item ∷ []))
             (sym (map-append core_entry made ((key, attribute) ∷ [])))
             (cored-more (map plain_entry so_far.done) (map core_entry made) (plain_entry item) (core_entry (key, attribute)) so_far.turn one));
       })

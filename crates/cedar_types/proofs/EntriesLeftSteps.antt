@@ -17,17 +17,17 @@ use Rattle.cedar_below.proofs.Ordered.{apart, IsStrictlySortedBy-map}
 use Rattle.cedar_below.proofs.Texts.{text_cmp-total, text_cmp-Equal}
 use Rattle.cedar_below.specs.Text.{Text, text_cmp}
 use Rattle.cedar_below.specs.declared.value.RestrictedExpr.{RestrictedExpr}
-use Rattle.cedar_sorted.proofs.MadeLemmas.{value_at-cons}
-use Rattle.cedar_sorted.proofs.SearchLemmas.{same-found, value_at-missed}
-use Rattle.cedar_sorted.specs.ByName.{NamesAscend, entry_texts, value_at}
+use Rattle.cedar_name_map.proofs.MadeLemmas.{value_at-cons}
+use Rattle.cedar_name_map.proofs.SearchLemmas.{same-found, value_at-missed}
+use Rattle.cedar_name_map.specs.ByName.{AreSortedByName, entry_texts, value_at}
 use Rattle.cedar_types.specs.EntriesLeft.{entries_left}
 use Rattle.cedar_types.specs.declared.entries_left.EntriesLeft.{EntriesLeft}
 use denote.Ref.{Bor}
 
--- pairs whose keys ascend have names that do
-pub NamesAscend-keys : {V : Type 0} (entries : List (String Global × V)) → IsStrictlySortedBy string_cmp (keys_of entries)
-    → NamesAscend entries
-NamesAscend-keys entries sorted =
+-- pairs whose keys are sorted without duplicates have names that do
+pub AreSortedByName-keys : {V : Type 0} (entries : List (String Global × V)) → IsStrictlySortedBy string_cmp (keys_of entries)
+    → AreSortedByName entries
+AreSortedByName-keys entries sorted =
     subst (IsStrictlySortedBy text_cmp) (map-map string_bytes (λ entry. entry.0) entries)
     (IsStrictlySortedBy-map string_cmp text_cmp string_bytes (λ a b. refl) (keys_of entries) sorted)
 
@@ -47,14 +47,14 @@ pub entries_left-next : (all : List (String Global × RestrictedExpr)) (first : 
 entries_left-next all None rest takes = sym takes.0
 entries_left-next all (Some entry) rest takes = sym takes
 
--- a walk that passes only lesser names: what is left ascends, and each name that isn't less finds what it did before
+-- a walk that passes only lesser names: what is left is sorted, and each name that isn't less finds what it did before
 pub record IsPast {V : Type 0} (name : Text) (all left : List (String Global × V)) : Type 0 where
-  pub ascend : NamesAscend left
+  pub ascend : AreSortedByName left
   pub keeps : (other : Text) → text_cmp other name ≢ Less → value_at other left ≡ value_at other all
 
 module _ {V : Type 0} (name : Text) (all : List (String Global × V)) where
   -- at first nothing is passed
-  pub IsPast-first : NamesAscend all → IsPast name all all
+  pub IsPast-first : AreSortedByName all → IsPast name all all
   IsPast-first up = record { ascend = up; keeps = λ other from. refl }
 
   module _ (x : String Global × V) (rest : List (String Global × V)) (past : IsPast name all (x ∷ rest)) where
@@ -100,11 +100,11 @@ module _ {V : Type 0} (name : Text) (all : List (String Global × V)) where
   pub IsPast-none : IsPast name all [] → None ≡ value_at name all
   IsPast-none past = past.keeps name (λ less. let tied = tied_itself text_cmp-total name in cc)
 
--- what is left of entries serves each of the names that are left to look up: it ascends, as they do, and each of them
+-- what is left of entries serves each of the names that are left to look up: it is sorted, as they do, and each of them
 -- finds what it does among all
 pub record Serves {V W : Type 0} (all left : List (String Global × V)) (names : List (String Global × W)) : Type 0 where
-  pub ascend : NamesAscend left
-  pub sought : NamesAscend names
+  pub ascend : AreSortedByName left
+  pub sought : AreSortedByName names
   pub finds : AllByRecursion (λ name. value_at name left ≡ value_at name all) (entry_texts names)
 
 -- each name finds in a list what it finds there
@@ -127,14 +127,14 @@ finds-past all before left name keeps (other ∷ names) above finds = (
 
 module _ {V W : Type 0} (all : List (String Global × V)) where
   -- at first all are left
-  pub Serves-first : (left : List (String Global × V)) (names : List (String Global × W)) → left ≡ all → NamesAscend left
-      → NamesAscend names → Serves all left names
+  pub Serves-first : (left : List (String Global × V)) (names : List (String Global × W)) → left ≡ all → AreSortedByName left
+      → AreSortedByName names → Serves all left names
   Serves-first left names is ascend sought =
       record { ascend = ascend; sought = sought; finds = finds-itself all left is (entry_texts names) }
 
   -- past a name, what is left serves those that follow
   pub Serves-next : (before left : List (String Global × V)) (item : String Global × W) (names : List (String Global × W))
-      → Serves all before (item ∷ names) → NamesAscend left
+      → Serves all before (item ∷ names) → AreSortedByName left
       → ((other : Text) → text_cmp other (string_bytes item.0) ≢ Less → value_at other left ≡ value_at other before)
       → Serves all left names
   unfolding IsStrictlySortedBy

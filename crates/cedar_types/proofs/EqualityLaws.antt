@@ -7,13 +7,13 @@ use Rattle.std.specs.declared.string.String.{String}
 use Rattle.cedar_below.proofs.Names.{name_eq-same}
 use Rattle.cedar_below.proofs.Texts.{text_eq-Decides}
 use Rattle.cedar_below.specs.Text.{Text}
-use Rattle.cedar_rules.proofs.CompareLemmas.{bool_eq-same}
-pub use Rattle.cedar_rules.proofs.CompareLemmas.{none, open_tag-Decides}
+use Rattle.cedar_type_rules.proofs.CompareLemmas.{bool_eq-same}
+pub use Rattle.cedar_type_rules.proofs.CompareLemmas.{none, open_tag-Decides}
 use Rattle.cedar_types.proofs.CompareLemmas.{kind_eq-same}
-use Rattle.cedar_rules.specs.Order.{kind_place}
+use Rattle.cedar_type_rules.specs.Order.{kind_rank}
 use Rattle.cedar_types.specs.Layers.{folded_layer, fields_of-rolled, plain_entry}
 use Rattle.cedar_types.specs.Meaning.{ty_of, attribute_of, fields_of, type_step, attribute_step, attributes_step}
-use Rattle.cedar_rules.specs.Ty.{Ty, never, truth, set_of, record_of, extension_of, Fields, end, field, fields_from}
+use Rattle.cedar_type_rules.specs.Ty.{Ty, never, truth, set_of, record_of, extension_of, Fields, end, field, fields_from}
 use Rattle.cedar_types.specs.contracts.attributes.AttributeTypePartialEq.TheImpl as attribute_type_eq
 use Rattle.cedar_types.specs.contracts.attributes.AttributesPartialEq.TheImpl as attributes_eq
 use Rattle.cedar_types.specs.contracts.types.TypePartialEq.TheImpl as type_eq
@@ -63,7 +63,7 @@ layer_shape (layer.Record attrs openness) = 6
 layer_shape (layer.ExtensionType name) = 7
 
 -- what a layer stands for is of its kind
-pub shape-folded_layer : (x : layer.Type-F «Type» AttributeType Attributes) → kind_place (folded_layer x) ≡ layer_shape x
+pub shape-folded_layer : (x : layer.Type-F «Type» AttributeType Attributes) → kind_rank (folded_layer x) ≡ layer_shape x
 shape-folded_layer layer.Never = refl
 shape-folded_layer (layer.Bool known) = refl
 shape-folded_layer layer.Long = refl
@@ -77,7 +77,7 @@ shape-folded_layer (layer.ExtensionType name) = refl
 
 -- layers that stand for the same are of one kind
 same_shape : (x z : layer.Type-F «Type» AttributeType Attributes) → folded_layer x ≡ folded_layer z → layer_shape x ≡ layer_shape z
-same_shape x z same = sym (shape-folded_layer x) ∙ (ap kind_place same ∙ shape-folded_layer z)
+same_shape x z same = sym (shape-folded_layer x) ∙ (ap kind_rank same ∙ shape-folded_layer z)
 
 -- layers are told apart where their parts are
 layers-Decides : (y : Told) (z : layer.Type-F «Type» AttributeType Attributes)

@@ -10,16 +10,16 @@ use Rattle.std.specs.declared.rc.Rc.{Rc}
 use Rattle.std.specs.declared.string.String.{String}
 use Rattle.cedar_below.specs.Text.{Text}
 use Rattle.cedar_below.specs.LastNamed.{last_named}
-use Rattle.cedar_rules.specs.Fields.{field_names, HoldsLast, IsAscending}
-use Rattle.cedar_rules.specs.Ty.{Ty, Fields, end, field, fields_from, field_at}
+use Rattle.cedar_type_rules.specs.Fields.{field_names, HoldsLast, IsSortedByName}
+use Rattle.cedar_type_rules.specs.Ty.{Ty, Fields, end, field, fields_from, field_at}
 use Rattle.cedar_types.specs.Attributes.{plain_attributes}
-use Rattle.cedar_sorted.specs.ByName.{entry_texts, value_at, with_texts}
+use Rattle.cedar_name_map.specs.ByName.{entry_texts, value_at, with_texts}
 use Rattle.cedar_types.specs.Located.{located, located_attributes, KeepsLast}
-use Rattle.cedar_types.specs.Layers.{pairs_of, fields_of-pairs, field_names-pairs, IsAscending-fields}
+use Rattle.cedar_types.specs.Layers.{pairs_of, fields_of-pairs, field_names-pairs, IsSortedByName-fields}
 use Rattle.cedar_types.specs.Meaning.{fields_of, attribute_of}
 use Rattle.cedar_types.specs.declared.attributes.AttributeType.{AttributeType}
 use Rattle.cedar_types.specs.declared.attributes.Attributes.{Attributes, out-Attributes, roll-Attributes, out-roll-Attributes}
-use Rattle.cedar_sorted.specs.declared.by_name.ByName.{ByName}
+use Rattle.cedar_name_map.specs.declared.by_name.ByName.{ByName}
 
 -- a choice between an attribute and what an option stands for is what the choice of the two stands for
 option_map-chosen : {A B : Type 0} (f : A → B) (b : Bool) (x : A) (m : Option B) (n : Option A) → m ≡ option_map f n
@@ -99,10 +99,10 @@ length-fields all held is =
     sym (length-map held.entries.items (λ entry. string_bytes entry.0))
     ∙ (ap (λ each. length (entry_texts each.entries.items)) is ∙ sym (ap length (field_names-pairs all)))
 
--- the names of any attributes that are answered ascend
-pub IfOk-ascending : {E : Type 0} (answer : Result Attributes E) → IfOk answer (λ all. IsAscending (fields_of all))
-IfOk-ascending (Ok all) = IsAscending-fields all
-IfOk-ascending (Err error) = tt
+-- the names of any attributes that are answered are sorted
+pub IfOk-sorted_by_name : {E : Type 0} (answer : Result Attributes E) → IfOk answer (λ all. IsSortedByName (fields_of all))
+IfOk-sorted_by_name (Ok all) = IsSortedByName-fields all
+IfOk-sorted_by_name (Err error) = tt
 
 -- attributes that are made of no pairs are none
 pub IfOk-none : {E : Type 0} (items : List (String Global × AttributeType)) (answer : Result Attributes E) → items ≡ []

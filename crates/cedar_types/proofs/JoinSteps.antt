@@ -12,38 +12,38 @@ use Rattle.cedar_below.proofs.Texts.{text_cmp-total, text_cmp-Equal}
 use Rattle.cedar_below.specs.Lists.{Included}
 use Rattle.cedar_below.specs.Text.{Text, text_cmp}
 use Rattle.cedar_below.specs.declared.validation_mode.ValidationMode.TheVariants.{Strict, Permissive}
-use Rattle.cedar_rules.proofs.AgreeLaws.{HasField-once}
-use Rattle.cedar_rules.proofs.Decisions.{all_among}
-use Rattle.cedar_rules.proofs.RecordAnswers.{PermissiveJoin, NothingDropped, no_permissive, drop_one, keep_one, permissive_names}
-use Rattle.cedar_rules.proofs.RecordAnswers.{permissive_second, permissive_closed, permissive_open}
-use Rattle.cedar_rules.proofs.StrictRecordAnswers.{StrictJoin, no_strict, keep_strict, help_refuses, strict_least, same_names}
-use Rattle.cedar_rules.proofs.SubtypeLaws.{HasField-name, HasField-named}
-use Rattle.cedar_rules.proofs.SubtypeLemmas.{HasField-found}
-use Rattle.cedar_rules.specs.Below.{HasField}
-use Rattle.cedar_rules.specs.Fields.{IsAscending, field_names}
-use Rattle.cedar_rules.specs.Help.{IsHelp, IsFlagHelp, IsHelpAtName}
-use Rattle.cedar_rules.specs.JoinAnswer.{IsJoinAnswer, IsAnswerOrMemory}
-use Rattle.cedar_rules.specs.OpenTag.{either_open}
-use Rattle.cedar_rules.specs.OwnBound.{HaveOwnBound, IsLeastOwnBound}
-use Rattle.cedar_rules.specs.Ty.{Ty, record_of, Fields, field, fields_from}
-use Rattle.cedar_rules.specs.WellFormed.{IsWellFormed}
-use Rattle.cedar_rules.specs.declared.join_error.JoinError.{JoinError}
-use Rattle.cedar_rules.specs.declared.join_error.JoinError.TheVariants as error
-use Rattle.cedar_rules.specs.declared.join_error.LubHelp.{LubHelp}
-use Rattle.cedar_rules.specs.declared.join_error.LubHelp.TheVariants as help
-use Rattle.cedar_rules.specs.declared.open_tag.OpenTag.{OpenTag}
-use Rattle.cedar_rules.specs.declared.open_tag.OpenTag.TheVariants.{OpenAttributes, ClosedAttributes}
-use Rattle.cedar_types.specs.Layers.{IsAscending-fields, field_names-entries, field_names-pairs, fields_of-pairs, pairs_of}
+use Rattle.cedar_type_rules.proofs.AgreeLaws.{HasField-once}
+use Rattle.cedar_type_rules.proofs.Decisions.{all_among}
+use Rattle.cedar_type_rules.proofs.RecordAnswers.{PermissiveJoin, NothingDropped, no_permissive, drop_one, keep_one, permissive_names}
+use Rattle.cedar_type_rules.proofs.RecordAnswers.{permissive_second, permissive_closed, permissive_open}
+use Rattle.cedar_type_rules.proofs.StrictRecordAnswers.{StrictJoin, no_strict, keep_strict, help_refuses, strict_least, same_names}
+use Rattle.cedar_type_rules.proofs.SubtypeLaws.{HasField-name, HasField-named}
+use Rattle.cedar_type_rules.proofs.SubtypeLemmas.{HasField-found}
+use Rattle.cedar_type_rules.specs.Below.{HasField}
+use Rattle.cedar_type_rules.specs.Fields.{IsSortedByName, field_names}
+use Rattle.cedar_type_rules.specs.Help.{IsHelp, IsFlagHelp, IsHelpAtName}
+use Rattle.cedar_type_rules.specs.JoinAnswer.{IsJoinAnswer, IsAnswerOrMemory}
+use Rattle.cedar_type_rules.specs.OpenTag.{either_open}
+use Rattle.cedar_type_rules.specs.OwnBound.{HaveOwnBound, IsLeastOwnBound}
+use Rattle.cedar_type_rules.specs.Ty.{Ty, record_of, Fields, field, fields_from}
+use Rattle.cedar_type_rules.specs.WellFormed.{IsWellFormed}
+use Rattle.cedar_type_rules.specs.declared.join_error.JoinError.{JoinError}
+use Rattle.cedar_type_rules.specs.declared.join_error.JoinError.TheVariants as error
+use Rattle.cedar_type_rules.specs.declared.join_error.LubHelp.{LubHelp}
+use Rattle.cedar_type_rules.specs.declared.join_error.LubHelp.TheVariants as help
+use Rattle.cedar_type_rules.specs.declared.open_tag.OpenTag.{OpenTag}
+use Rattle.cedar_type_rules.specs.declared.open_tag.OpenTag.TheVariants.{OpenAttributes, ClosedAttributes}
+use Rattle.cedar_types.specs.Layers.{IsSortedByName-fields, field_names-entries, field_names-pairs, fields_of-pairs, pairs_of}
 use Rattle.cedar_types.proofs.FieldLemmas.{field_at-pairs}
 use Rattle.cedar_types.proofs.FieldLemmas.{length-fields}
 use Rattle.cedar_types.proofs.EqualityLaws.{attribute_of-parts}
 use Rattle.cedar_types.specs.WellFormedTypes.{IsWellFormed-type}
-use Rattle.cedar_sorted.proofs.RisingLemmas.{Ahead, AllBelow, Included-back, Included-length, Ahead-first, Ahead-next, Ahead-sought, missed}
-use Rattle.cedar_sorted.proofs.SearchLemmas.{text_of, value_at-place}
+use Rattle.cedar_name_map.proofs.RisingLemmas.{Ahead, AllBelow, Included-back, Included-length, Ahead-first, Ahead-next, Ahead-sought, missed}
+use Rattle.cedar_name_map.proofs.SearchLemmas.{text_of, value_at-place}
 use Rattle.cedar_types.proofs.SubtypeSteps.{Sought, IsAt}
 use Rattle.cedar_types.specs.Attributes.{plain_attributes}
 use Rattle.cedar_types.specs.AttributeJoin.{attribute_ty, IsPermissiveAttribute, IsStrictAttribute}
-use Rattle.cedar_sorted.specs.ByName.{NamesAscend, value_at}
+use Rattle.cedar_name_map.specs.ByName.{AreSortedByName, value_at}
 use Rattle.cedar_types.specs.Located.{located}
 use Rattle.cedar_types.specs.Meaning.{ty_of, fields_of, attribute_of, attribute_loc}
 use Rattle.cedar_types.specs.declared.attributes.Attributes.{Attributes, out-Attributes}
@@ -91,14 +91,14 @@ plain-push : (joined : Pairs) (one : String Global × AttributeType) (tail : Lis
 plain-push [] one tail = refl
 plain-push (first ∷ rest) one tail = ap (λ more. (string_bytes first.0, attribute_of first.1) ∷ more) (plain-push rest one tail)
 
--- pairs whose names ascend are attributes that do
-ascending_at : (pairs : Pairs) → IsStrictlySortedBy text_cmp (map text_of pairs) → IsAscending (fields_at pairs)
+-- pairs whose names are sorted without duplicates are attributes that do
+ascending_at : (pairs : Pairs) → IsStrictlySortedBy text_cmp (map text_of pairs) → IsSortedByName (fields_at pairs)
 ascending_at pairs up = subst (IsStrictlySortedBy text_cmp) (sym (field_names-entries pairs)) up
 
--- and the names of such attributes ascend
-pub names_ascend : (pairs : Pairs) (fields : Fields) → fields ≡ fields_at pairs → IsAscending fields → NamesAscend pairs
-names_ascend pairs fields is ascending =
-    subst (IsStrictlySortedBy text_cmp) (ap field_names is ∙ field_names-entries pairs) ascending
+-- and the names of such attributes are sorted
+pub names_sorted : (pairs : Pairs) (fields : Fields) → fields ≡ fields_at pairs → IsSortedByName fields → AreSortedByName pairs
+names_sorted pairs fields is sorted_by_name =
+    subst (IsStrictlySortedBy text_cmp) (ap field_names is ∙ field_names-entries pairs) sorted_by_name
 
 -- there are as many names as pairs
 names_count : (pairs : Pairs) (fields : Fields) → fields ≡ fields_at pairs → length (field_names fields) ≡ length pairs
@@ -118,7 +118,7 @@ module _ (b : Attributes) (at place : ℕ) (item : String Global × AttributeTyp
   -- where the name isn't at the place, the record hasn't the name
   lacks_name : ¬ IsAt (pairs_of b) place (string_bytes item.0) → ¬ Contains (field_names (fields_of b)) (string_bytes item.0)
   lacks_name wrong among =
-      missed text_of text_cmp text_cmp-total (pairs_of b) (out-Attributes b).attrs.value.ascending (string_bytes item.0)
+      missed text_of text_cmp text_cmp-total (pairs_of b) (out-Attributes b).attrs.value.sorted_by_name (string_bytes item.0)
       place all_below sought.stays wrong
       (subst (λ names. Contains names (string_bytes item.0)) (field_names-pairs b) among)
 
@@ -130,7 +130,7 @@ module _ (b : Attributes) (at place : ℕ) (item : String Global × AttributeTyp
       HasField-found (string_bytes item.0) (fields_of b) (attribute_of (get_or (pairs_of b) place d).1)
       (field_at-pairs (string_bytes item.0) b
       ∙ ap (option_map attribute_of)
-      (value_at-place (pairs_of b) (out-Attributes b).attrs.value.ascending (string_bytes item.0) place d here.0 (here.1 d)))
+      (value_at-place (pairs_of b) (out-Attributes b).attrs.value.sorted_by_name (string_bytes item.0) place d here.0 (here.1 d)))
 
 -- a walk that goes on to a place for the next attribute of the one record, and tells whether its name is there in the other
 pub record JoinStep (SoFar : Attributes → Attributes → ℕ → Pairs → Pairs → Type 0) (a b : Attributes) (at place : ℕ)
@@ -150,7 +150,7 @@ pub record PermissiveSoFar (a b : Attributes) (at : ℕ) (rest joined : Pairs) :
 pub permissive-first : (a b : Attributes) → PermissiveSoFar a b 0 (pairs_of a) []
 permissive-first a b = record {
   unplaced = tt;
-  ahead = Ahead-first text_of text_of text_cmp text_cmp-total (pairs_of b) (pairs_of a) (out-Attributes a).attrs.value.ascending;
+  ahead = Ahead-first text_of text_of text_cmp text_cmp-total (pairs_of b) (pairs_of a) (out-Attributes a).attrs.value.sorted_by_name;
   whole = λ tail.
       let P : Fields → Type 0 = λ fields. (it : PermissiveJoin fields (fields_of b)) → it.fields ≡ fields_from tail
       → (all : PermissiveJoin (fields_of a) (fields_of b)) × (all.fields ≡ fields_from tail) in
@@ -192,7 +192,7 @@ module _ {a b : Attributes} {at place : ℕ} {item : String Global × AttributeT
   permissive-refused d met none =
       permissive-drop (λ rb of has own.
       none (subst (HaveOwnBound Permissive (attribute_ty item.1))
-      (HasField-once (fields_of b) (string_bytes item.0) rb _ of _ (IsAscending-fields b) has
+      (HasField-once (fields_of b) (string_bytes item.0) rb _ of _ (IsSortedByName-fields b) has
       (has_there b at place item rest step.so_far.ahead step.sought d (step.here.0 met))).1 own))
 
   -- a name whose types join is kept
@@ -241,10 +241,10 @@ module _ (a b : Attributes) (ta tb : OpenTag) (joined : Pairs) (all : Permissive
   nothing_dropped whole = (
     whole.0,
     (
-      kept_all (field_names all.fields) (field_names (fields_of a)) all.ascending (IsAscending-fields a)
+      kept_all (field_names all.fields) (field_names (fields_of a)) all.sorted_by_name (IsSortedByName-fields a)
           (permissive_names (fields_of a) (fields_of b) all)
           (names_count joined all.fields is ∙ (whole.1.0 ∙ length-fields a (out-Attributes a).attrs.value refl)),
-      kept_all (field_names all.fields) (field_names (fields_of b)) all.ascending (IsAscending-fields b)
+      kept_all (field_names all.fields) (field_names (fields_of b)) all.sorted_by_name (IsSortedByName-fields b)
           (permissive_second (fields_of a) (fields_of b) all)
           (names_count joined all.fields is ∙ (whole.1.1 ∙ length-fields b (out-Attributes b).attrs.value refl)),
     ),
@@ -256,11 +256,11 @@ module _ (a b : Attributes) (ta tb : OpenTag) (joined : Pairs) (all : Permissive
     none.0,
     (
       sym (names_count joined all.fields is)
-          ∙ (counted_all (field_names all.fields) (field_names (fields_of a)) all.ascending (IsAscending-fields a)
+          ∙ (counted_all (field_names all.fields) (field_names (fields_of a)) all.sorted_by_name (IsSortedByName-fields a)
           (permissive_names (fields_of a) (fields_of b) all) none.1.0
           ∙ sym (length-fields a (out-Attributes a).attrs.value refl)),
       sym (names_count joined all.fields is)
-          ∙ (counted_all (field_names all.fields) (field_names (fields_of b)) all.ascending (IsAscending-fields b)
+          ∙ (counted_all (field_names all.fields) (field_names (fields_of b)) all.sorted_by_name (IsSortedByName-fields b)
           (permissive_second (fields_of a) (fields_of b) all) none.1.1
           ∙ sym (length-fields b (out-Attributes b).attrs.value refl)),
     ),
@@ -272,12 +272,12 @@ module _ (a b : Attributes) (ta tb : OpenTag) (joined : Pairs) (all : Permissive
   permissive-least OpenAttributes closed =
       let P : Fields → Type 0 = λ fields. IsLeastOwnBound Permissive (record_of (fields_of a) ta) (record_of (fields_of b) tb)
       (record_of fields OpenAttributes) in
-      subst P is (permissive_open (fields_of a) (fields_of b) ta tb all (IsAscending-fields a) (IsAscending-fields b)
+      subst P is (permissive_open (fields_of a) (fields_of b) ta tb all (IsSortedByName-fields a) (IsSortedByName-fields b)
       (λ none. let wrong : OpenAttributes ≡ ClosedAttributes = closed.1 (all_counted none) in absurd cc))
   permissive-least ClosedAttributes closed =
       let P : Fields → Type 0 = λ fields. IsLeastOwnBound Permissive (record_of (fields_of a) ta) (record_of (fields_of b) tb)
       (record_of fields ClosedAttributes) in
-      subst P is (permissive_closed (fields_of a) (fields_of b) ta tb all (IsAscending-fields a) (IsAscending-fields b)
+      subst P is (permissive_closed (fields_of a) (fields_of b) ta tb all (IsSortedByName-fields a) (IsSortedByName-fields b)
       (nothing_dropped (closed.0 refl)))
 
 -- a walk of a strict join: with the join of what is left behind them, the pairs so far are the join of the whole, and a
@@ -293,7 +293,7 @@ pub record StrictSoFar (a b : Attributes) (at : ℕ) (rest joined : Pairs) : Typ
 pub strict-first : (a b : Attributes) → StrictSoFar a b 0 (pairs_of a) []
 strict-first a b = record {
   unplaced = tt;
-  ahead = Ahead-first text_of text_of text_cmp text_cmp-total (pairs_of b) (pairs_of a) (out-Attributes a).attrs.value.ascending;
+  ahead = Ahead-first text_of text_of text_cmp text_cmp-total (pairs_of b) (pairs_of a) (out-Attributes a).attrs.value.sorted_by_name;
   whole = λ tail.
       let P : Fields → Type 0 = λ fields. (it : StrictJoin fields (fields_of b)) → it.fields ≡ fields_from tail
       → (all : StrictJoin (fields_of a) (fields_of b)) × (all.fields ≡ fields_from tail) in
@@ -365,9 +365,9 @@ module _ (a b : Attributes) (ta tb : OpenTag) (same : length (pairs_of a) ≡ le
   strict-least joined all is =
       let P : Fields → Type 0 = λ fields. IsLeastOwnBound Strict (record_of (fields_of a) ta) (record_of (fields_of b) tb)
       (record_of fields (either_open ta tb)) in
-      subst P is (strict_least (fields_of a) (fields_of b) ta tb all (IsAscending-fields a) (IsAscending-fields b)
+      subst P is (strict_least (fields_of a) (fields_of b) ta tb all (IsSortedByName-fields a) (IsSortedByName-fields b)
       ((all_among text_cmp text_cmp-total text_cmp-Equal (field_names (fields_of a)) (field_names (fields_of b))
-      (IsAscending-fields a) (IsAscending-fields b)
+      (IsSortedByName-fields a) (IsSortedByName-fields b)
       (λ n among. (let found = HasField-named (fields_of a) n among in
       let kept = HasField-named all.fields n (all.complete n found.0 found.1 found.2) in
       let part = all.sound n kept.0 kept.1 kept.2 in
@@ -378,7 +378,7 @@ module _ (a b : Attributes) (ta tb : OpenTag) (same : length (pairs_of a) ≡ le
       → ¬ HaveOwnBound Strict (record_of (fields_of a) ta) (record_of (fields_of b) tb)
       × IsHelp Strict (record_of (fields_of a) ta) (record_of (fields_of b) tb) given
   strict-refusal given found = (
-    help_refuses (fields_of a) (fields_of a) (fields_of b) ta tb given (IsAscending-fields a) (IsAscending-fields b)
+    help_refuses (fields_of a) (fields_of a) (fields_of b) ta tb given (IsSortedByName-fields a) (IsSortedByName-fields b)
         (λ n r t has. has) found,
     inr (same_counts, found),
   )
@@ -408,6 +408,6 @@ strict-unlike a b ta tb unlike =
     let second = length-fields b (out-Attributes b).attrs.value refl in
     let differ : ¬ (length (field_names (fields_of a)) ≡ length (field_names (fields_of b))) =
     λ e. unlike (first ∙ (e ∙ sym second)) in (
-      (λ own. differ (ap length (same_names (fields_of a) (fields_of b) ta tb (IsAscending-fields a) (IsAscending-fields b) own))),
+      (λ own. differ (ap length (same_names (fields_of a) (fields_of b) ta tb (IsSortedByName-fields a) (IsSortedByName-fields b) own))),
       inl (differ, refl),
     )

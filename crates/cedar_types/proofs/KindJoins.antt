@@ -4,17 +4,17 @@ use mathlib.Core.Bool.{beq}
 use Rattle.cedar_below.specs.PlainName.{PlainName}
 use Rattle.cedar_below.specs.declared.validation_mode.ValidationMode.{ValidationMode}
 use Rattle.cedar_below.specs.declared.validation_mode.ValidationMode.TheVariants.{Strict, Permissive}
-use Rattle.cedar_rules.proofs.JoinLemmas.{upper_is_join}
-use Rattle.cedar_rules.proofs.WithinLemmas.{within_elements, within_sets}
-use Rattle.cedar_rules.specs.Below.{Below}
-use Rattle.cedar_rules.specs.EntityUnion.{IsUnionOf}
-use Rattle.cedar_rules.specs.Help.{IsFlagHelp}
-use Rattle.cedar_rules.specs.JoinAnswer.{IsJoinAnswer, IsAnswerOrMemory}
-use Rattle.cedar_rules.specs.OwnBound.{IsOwnBound, HaveOwnBound, IsLeastOwnBound}
-use Rattle.cedar_rules.specs.Ty.{Ty, any_entity, union_of, any_set, set_of}
-use Rattle.cedar_rules.specs.declared.join_error.JoinError.{JoinError}
-use Rattle.cedar_rules.specs.declared.join_error.JoinError.TheVariants as error
-use Rattle.cedar_rules.specs.declared.join_error.LubHelp.TheVariants as help
+use Rattle.cedar_type_rules.proofs.JoinLemmas.{upper_is_join}
+use Rattle.cedar_type_rules.proofs.WithinLemmas.{within_elements, within_sets}
+use Rattle.cedar_type_rules.specs.Below.{Below}
+use Rattle.cedar_type_rules.specs.EntityUnion.{IsUnionOf}
+use Rattle.cedar_type_rules.specs.Help.{IsFlagHelp}
+use Rattle.cedar_type_rules.specs.JoinAnswer.{IsJoinAnswer, IsAnswerOrMemory}
+use Rattle.cedar_type_rules.specs.OwnBound.{IsOwnBound, HaveOwnBound, IsLeastOwnBound}
+use Rattle.cedar_type_rules.specs.Ty.{Ty, any_entity, union_of, any_set, set_of}
+use Rattle.cedar_type_rules.specs.declared.join_error.JoinError.{JoinError}
+use Rattle.cedar_type_rules.specs.declared.join_error.JoinError.TheVariants as error
+use Rattle.cedar_type_rules.specs.declared.join_error.LubHelp.TheVariants as help
 use Rattle.cedar_types.proofs.EqualityLaws.{attribute_of-parts, flags-Decides}
 use Rattle.cedar_types.specs.Meaning.{ty_of, attribute_of}
 use Rattle.cedar_types.specs.declared.attributes.AttributeType.{AttributeType, out-AttributeType}

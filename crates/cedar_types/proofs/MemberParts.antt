@@ -16,18 +16,18 @@ use Rattle.cedar_below.specs.declared.name.Name.{Name}
 use Rattle.cedar_below.specs.declared.value.RestrictedExpr.{RestrictedExpr}
 use Rattle.cedar_types.proofs.MembershipLemmas.{IsBoth, IsMembershipSoFar, IsMembershipSoFar-more, IsMembership-test}
 use Rattle.cedar_types.specs.MembershipAnswer.{Answer, IsMembership}
-use Rattle.cedar_rules.specs.Fields.{field_names}
+use Rattle.cedar_type_rules.specs.Fields.{field_names}
 use Rattle.cedar_types.specs.EntityKind.{kind_ty}
-use Rattle.cedar_rules.specs.Has.{Has, MayHave, Meets, HasFieldsBy, FieldsMeet, MayGive, SomeEntry, HasUid}
-use Rattle.cedar_rules.specs.OpenTag.{is_open}
+use Rattle.cedar_type_rules.specs.Has.{Has, MayHave, Meets, HasFieldsBy, FieldsMeet, MayGive, SomeEntry, HasUid}
+use Rattle.cedar_type_rules.specs.OpenTag.{is_open}
 use Rattle.cedar_types.specs.Meaning.{ty_of, fields_of, attribute_of, type_step, attribute_step, attributes_step}
-use Rattle.cedar_rules.specs.Ty.{Ty, set_of, record_of, extension_of, Fields, field}
+use Rattle.cedar_type_rules.specs.Ty.{Ty, set_of, record_of, extension_of, Fields, field}
 use Rattle.cedar_types.specs.declared.attributes.AttributeType.{AttributeType, out-AttributeType, fold_out-AttributeType}
 use Rattle.cedar_types.specs.declared.attributes.Attributes.{Attributes}
 use Rattle.cedar_types.specs.declared.entity_kind.EntityKind.{EntityKind}
 use Rattle.cedar_below.specs.PlainUid.{PlainUid}
 use Rattle.std.specs.Bool.{Decides}
-use Rattle.cedar_rules.specs.declared.open_tag.OpenTag.{OpenTag}
+use Rattle.cedar_type_rules.specs.declared.open_tag.OpenTag.{OpenTag}
 use Rattle.cedar_types.specs.declared.types.Type.{«Type», roll-Type, fold-roll-Type}
 use Rattle.cedar_types.specs.declared.types.Type.TheOpen as layer
 use Rattle.cedar_types.specs.declared.types.Type.TheVariants as type

@@ -11,7 +11,7 @@ use Rattle.cedar_below.specs.Tree.{Trees}
 use Rattle.cedar_below.specs.declared.extension.Extensions.{Extensions}
 use Rattle.cedar_below.specs.declared.extension.ExtensionFunction.{ExtensionFunction}
 use Rattle.cedar_below.specs.declared.extension.ExtensionFunctionLookupError.{ExtensionFunctionLookupError}
-use Rattle.cedar_rules.specs.Has.{MayGive}
+use Rattle.cedar_type_rules.specs.Has.{MayGive}
 use Rattle.cedar_types.specs.MembershipAnswer.{Answer, IsMembership}
 
 -- a test decides a part in which no call stands

@@ -18,8 +18,8 @@ use Rattle.cedar_below.specs.contracts.entity_type.EntityTypePartialEq.TheImpl a
 use Rattle.cedar_below.specs.declared.entity_type.EntityType.{EntityType}
 use Rattle.cedar_below.proofs.Names.{entity_type_eq-same, entity_type_ord-name_cmp}
 use Rattle.cedar_below.proofs.Ordered.{IsStrictlySortedBy-map}
-use Rattle.cedar_rules.specs.EntityUnion.{IsUnionOf}
-use Rattle.cedar_sorted.proofs.RisingLemmas.{some_item}
+use Rattle.cedar_type_rules.specs.EntityUnion.{IsUnionOf}
+use Rattle.cedar_name_map.proofs.RisingLemmas.{some_item}
 use Rattle.cedar_types.proofs.MemberLemmas.{Contains-named}
 use Rattle.cedar_types.proofs.UnionLemmas.{Contains-names}
 
@@ -117,7 +117,7 @@ names_of_distinct sorted all names filtered are =
     ∙ (sym (map-map type_name (λ ty. ty.now) all)
     ∙ (ap (λ refs. map type_name (referred refs)) (dedup_is _ _ _ filtered) ∙ ap (map type_name) (referred-distinct sorted)))
 
--- entity types that are referred to in order without repeats have names that ascend
+-- entity types that are referred to in order without repeats have names that are sorted without duplicates
 pub IsStrictlySortedBy-distinct : (sorted all : List (Bor EntityType)) (names : List PlainName)
     → IsSorted (λ a b. (entity_type_ord.ghosts).cmp a.now b.now) sorted
     → IsFiltered (DiffersFromLast same_type) [] sorted all → names ≡ map (λ ty. type_name ty.now) all

@@ -6,10 +6,10 @@ use Rattle.std.specs.declared.cmp.Ordering.{Ordering}
 use Rattle.std.specs.declared.string.String.{String}
 use Rattle.cedar_below.proofs.Names.{name_ord-name_cmp}
 use Rattle.cedar_below.specs.Text.{text_cmp}
-use Rattle.cedar_rules.proofs.CompareLemmas.{ties_from, bool_cmp-is, open_tag_cmp-is}
-use Rattle.cedar_rules.specs.CompareLaws.{ComparesBy}
-use Rattle.cedar_rules.specs.Order.{kind_place, ty_cmp, fields_cmp, attribute_cmp}
-use Rattle.cedar_rules.specs.Ty.{Ty, truth, any_entity, union_of, any_set, set_of, record_of, extension_of, Fields, fields_from}
+use Rattle.cedar_type_rules.proofs.CompareLemmas.{ties_from, bool_cmp-is, open_tag_cmp-is}
+use Rattle.cedar_type_rules.specs.CompareLaws.{ComparesBy}
+use Rattle.cedar_type_rules.specs.Order.{kind_rank, ty_cmp, fields_cmp, attribute_cmp}
+use Rattle.cedar_type_rules.specs.Ty.{Ty, truth, any_entity, union_of, any_set, set_of, record_of, extension_of, Fields, fields_from}
 use Rattle.cedar_types.specs.Layers.{fields_of-rolled, folded_layer, plain_entry}
 use Rattle.cedar_types.proofs.CompareLemmas.{kind_cmp-is}
 use Rattle.cedar_types.proofs.EqualityLaws.{layer_shape, shape-folded_layer, attribute_of-parts, types-Decides, attributes-Decides, attribute-Decides}
@@ -50,7 +50,7 @@ parts y = map-Type ((t : «Type») × IsPlaced t) ((t : AttributeType) × IsPlac
     × ArePlaced t) «Type» AttributeType Attributes (λ e. e.0) (λ e. e.0) (λ e. e.0) y
 
 -- types of two kinds are ordered by their kinds
-ty_cmp-apart : (a b : Ty) → kind_place a ≢ kind_place b → ty_cmp a b ≡ nat_cmp (kind_place a) (kind_place b)
+ty_cmp-apart : (a b : Ty) → kind_rank a ≢ kind_rank b → ty_cmp a b ≡ nat_cmp (kind_rank a) (kind_rank b)
 ty_cmp-apart (truth a) (truth b) apart = absurd (apart refl)
 ty_cmp-apart any_entity (union_of b) apart = absurd (apart refl)
 ty_cmp-apart (union_of a) any_entity apart = absurd (apart refl)

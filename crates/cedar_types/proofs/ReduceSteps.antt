@@ -1,19 +1,19 @@
--- Types that are joined in turn.
+-- Types that are folded by joins.
 use Rattle.std.proofs.Common.{◌≢◌, Result, IsOkAnd}
 use Rattle.std.specs.List.{AllByRecursion}
 use Rattle.cedar_below.specs.Lists.{Included}
-use Rattle.cedar_rules.proofs.ReduceLemmas.{reduce_any_order}
-use Rattle.cedar_rules.specs.Clean.{IsClean}
+use Rattle.cedar_type_rules.proofs.ReduceLemmas.{reduce_any_order}
+use Rattle.cedar_type_rules.specs.Clean.{IsClean}
 use Rattle.cedar_types.specs.WellFormedTypes.{IsWellFormed-type}
 use Rattle.std.proofs.Common.{◌≡◌, refl, ap, sym, subst, ◌∙◌, Bool, List, map, Ok, Err}
 use Rattle.std.specs.Result.{result_map_both}
 use Rattle.cedar_below.specs.declared.validation_mode.ValidationMode.{ValidationMode}
-use Rattle.cedar_rules.proofs.JoinsOf.{answers_by, joined_reduced}
-use Rattle.cedar_rules.specs.JoinAnswer.{IsReduceAnswer, IsAnswerOrMemory}
-use Rattle.cedar_rules.specs.Joining.{AnswersJoinOf, IsGivenOrMemory, IsJoinedInTurn}
-use Rattle.cedar_rules.specs.Ty.{Ty, Fields, never}
-use Rattle.cedar_rules.specs.declared.join_error.JoinError.{JoinError}
-use Rattle.cedar_rules.specs.declared.join_error.JoinError.TheVariants as error
+use Rattle.cedar_type_rules.proofs.JoinsOf.{answers_by, joined_reduced}
+use Rattle.cedar_type_rules.specs.JoinAnswer.{IsReduceAnswer, IsAnswerOrMemory}
+use Rattle.cedar_type_rules.specs.Joining.{AnswersJoinOf, IsGivenOrMemory, IsFoldOfJoins}
+use Rattle.cedar_type_rules.specs.Ty.{Ty, Fields, never}
+use Rattle.cedar_type_rules.specs.declared.join_error.JoinError.{JoinError}
+use Rattle.cedar_type_rules.specs.declared.join_error.JoinError.TheVariants as error
 use Rattle.cedar_types.specs.Meaning.{ty_of, type_step, attribute_step, attributes_step}
 use Rattle.cedar_types.specs.declared.types.Type.{«Type», roll-Type, fold-roll-Type}
 use Rattle.cedar_types.specs.declared.types.Type.TheOpen as layer
@@ -27,17 +27,17 @@ ty_of-never =
     fold-roll-Type Ty (Bool × Ty) Fields type_step attribute_step attributes_step layer.Never in
     e)
 
--- types that are joined in turn from `Never` are reduced
+-- types that are folded by joins from `Never` are reduced
 pub types-reduced : (mode : ValidationMode) (start : «Type») (all : List «Type») (result : Result «Type» JoinError) → start ≡ type.Never
-    → IsGivenOrMemory (IsJoinedInTurn (AnswersJoinOf ty_of mode) start all) result
+    → IsGivenOrMemory (IsFoldOfJoins (AnswersJoinOf ty_of mode) start all) result
     → IsAnswerOrMemory ty_of (IsReduceAnswer mode never (map ty_of all)) result
 types-reduced mode start all result is =
-    answers_by ty_of (IsJoinedInTurn (AnswersJoinOf ty_of mode) start all) (IsReduceAnswer mode never (map ty_of all)) result
+    answers_by ty_of (IsFoldOfJoins (AnswersJoinOf ty_of mode) start all) (IsReduceAnswer mode never (map ty_of all)) result
     (λ answer right.
     let P : Ty → Type 0 = λ from. IsReduceAnswer mode from (map ty_of all) (result_map_both ty_of (λ given. given) answer) in
     subst P (ap ty_of is ∙ ty_of-never) (joined_reduced ty_of IsWellFormed-type mode start all answer right))
 
--- what clean types are reduced to is what they are in another order, want of memory aside
+-- what clean types are reduced to is what they are in another order, memory aside
 pub reduced_in_any_order : (mode : ValidationMode) (types others : List «Type») (join : «Type») (answer : Result «Type» JoinError)
     → AllByRecursion IsClean (map ty_of types) → Included (map ty_of types) (map ty_of others)
     → Included (map ty_of others) (map ty_of types) → IsReduceAnswer mode never (map ty_of types) (Ok (ty_of join))

@@ -7,9 +7,9 @@ use Rattle.cedar_below.proofs.Lists.{Contains-cons, Contains-cons_cases}
 use Rattle.cedar_below.specs.Tree.{Tree}
 use Rattle.cedar_below.specs.declared.extension.Extensions.{Extensions}
 use Rattle.cedar_below.specs.declared.value.Value.{Value}
-use Rattle.cedar_rules.specs.Has.{Has}
-use Rattle.cedar_rules.specs.Stated.{AreStatedWith, IsSampled, IsStatedWith}
-use Rattle.cedar_rules.specs.Ty.{Ty, fields_from}
+use Rattle.cedar_type_rules.specs.Has.{Has}
+use Rattle.cedar_type_rules.specs.Stated.{AreStatedWith, IsSampled, IsStatedWith}
+use Rattle.cedar_type_rules.specs.Ty.{Ty, fields_from}
 use Rattle.cedar_types.proofs.EqualityLaws.{attribute_of-parts}
 use Rattle.cedar_types.specs.Attributes.{plain_attributes}
 use Rattle.cedar_types.specs.Layers.{pairs_of, fields_of-pairs}

@@ -12,23 +12,23 @@ use Rattle.cedar_below.specs.Lists.{Included}
 use Rattle.cedar_below.specs.Text.{Text, text_cmp}
 use Rattle.cedar_below.specs.declared.validation_mode.ValidationMode.{ValidationMode}
 use Rattle.cedar_below.specs.declared.validation_mode.ValidationMode.TheVariants.{Strict, Permissive}
-use Rattle.cedar_rules.proofs.AntisymmetryLaws.{Included-same}
-use Rattle.cedar_rules.proofs.SubtypeLaws.{FieldsBelow-names}
-use Rattle.cedar_rules.proofs.SubtypeLemmas.{HasBelow, HasBelow-Decides, HasBelow-none}
-use Rattle.cedar_rules.specs.Below.{AttributeBelow, FieldsBelow, NamesBelow}
-use Rattle.cedar_rules.specs.Fields.{IsAscending, field_names}
-use Rattle.cedar_rules.specs.Ty.{Fields, fields_from, field_at}
-use Rattle.cedar_rules.specs.declared.open_tag.OpenTag.{OpenTag}
-use Rattle.cedar_rules.specs.declared.open_tag.OpenTag.TheVariants.{ClosedAttributes}
-use Rattle.cedar_types.specs.Layers.{IsAscending-fields, field_names-pairs, fields_of-pairs, pairs_of}
+use Rattle.cedar_type_rules.proofs.AntisymmetryLaws.{Included-same}
+use Rattle.cedar_type_rules.proofs.SubtypeLaws.{FieldsBelow-names}
+use Rattle.cedar_type_rules.proofs.SubtypeLemmas.{HasBelow, HasBelow-Decides, HasBelow-none}
+use Rattle.cedar_type_rules.specs.Below.{AttributeBelow, FieldsBelow, NamesBelow}
+use Rattle.cedar_type_rules.specs.Fields.{IsSortedByName, field_names}
+use Rattle.cedar_type_rules.specs.Ty.{Fields, fields_from, field_at}
+use Rattle.cedar_type_rules.specs.declared.open_tag.OpenTag.{OpenTag}
+use Rattle.cedar_type_rules.specs.declared.open_tag.OpenTag.TheVariants.{ClosedAttributes}
+use Rattle.cedar_types.specs.Layers.{IsSortedByName-fields, field_names-pairs, fields_of-pairs, pairs_of}
 use Rattle.cedar_types.proofs.FieldLemmas.{field_at-pairs, length-fields}
-use Rattle.cedar_sorted.proofs.RisingLemmas.{Included-back, Ahead, AllBelow, Ahead-first, Ahead-sought, Ahead-next, sought-Decides, sought-next}
-use Rattle.cedar_sorted.proofs.SearchLemmas.{text_of, text_at, value_at-place, value_at-missed}
+use Rattle.cedar_name_map.proofs.RisingLemmas.{Included-back, Ahead, AllBelow, Ahead-first, Ahead-sought, Ahead-next, sought-Decides, sought-next}
+use Rattle.cedar_name_map.proofs.SearchLemmas.{text_of, text_at, value_at-place, value_at-missed}
 use Rattle.cedar_types.specs.Attributes.{plain_attributes}
 use Rattle.cedar_types.specs.Meaning.{fields_of, attribute_of}
 use Rattle.cedar_types.specs.declared.attributes.Attributes.{Attributes, out-Attributes}
 use Rattle.cedar_types.specs.declared.attributes.AttributeType.{AttributeType}
-use Rattle.cedar_sorted.specs.declared.by_name.ByName.{ByName}
+use Rattle.cedar_name_map.specs.declared.by_name.ByName.{ByName}
 
 -- pairs of a name and an attribute
 abbrev Pairs : Type 0
@@ -45,7 +45,7 @@ pub WalkedBelow-first : (mode : ValidationMode) (lower upper : Attributes) → W
 WalkedBelow-first mode lower upper =
     let P : Fields → Type 0 = λ fields. FieldsBelow mode (fields_of lower) fields ↔ FieldsBelow mode (fields_of lower) (fields_of upper) in (
       subst P (fields_of-pairs upper) (λ h. h, λ h. h),
-      Ahead-first text_of text_of text_cmp text_cmp-total (pairs_of lower) (pairs_of upper) (out-Attributes upper).attrs.value.ascending,
+      Ahead-first text_of text_of text_cmp text_cmp-total (pairs_of lower) (pairs_of upper) (out-Attributes upper).attrs.value.sorted_by_name,
     )
 
 -- what a walk on to a name knows: it passes only names below, and comes to one that isn't
@@ -87,13 +87,13 @@ module _ (attrs : Attributes) (at place : ℕ) (name : String Global) (rest : Li
   sought-name b decides =
       let P : List Text → Type 0 = λ names. Decides b (Contains names (string_bytes name)) in
       subst P (sym (field_names-pairs attrs))
-      (sought-Decides text_of string_bytes text_cmp text_cmp-total (pairs_of attrs) (out-Attributes attrs).attrs.value.ascending
+      (sought-Decides text_of string_bytes text_cmp text_cmp-total (pairs_of attrs) (out-Attributes attrs).attrs.value.sorted_by_name
       at place name rest ahead sought.passed sought.stays b decides)
 
   -- the walk over names goes on from the place
   pub sought-on : Ahead text_of string_bytes text_cmp (pairs_of attrs) place rest
   sought-on =
-      sought-next text_of string_bytes text_cmp text_cmp-total (pairs_of attrs) (out-Attributes attrs).attrs.value.ascending
+      sought-next text_of string_bytes text_cmp text_cmp-total (pairs_of attrs) (out-Attributes attrs).attrs.value.sorted_by_name
       at place name rest ahead sought.passed sought.stays
 
 module _ (mode : ValidationMode) (lower upper : Attributes) (at place : ℕ) (item : String Global × AttributeType) (rest : Pairs)
@@ -108,7 +108,7 @@ module _ (mode : ValidationMode) (lower upper : Attributes) (at place : ℕ) (it
   found_at d within is =
       field_at-pairs (string_bytes item.0) lower
       ∙ ap (option_map attribute_of)
-      (value_at-place (pairs_of lower) (out-Attributes lower).attrs.value.ascending (string_bytes item.0) place d within is)
+      (value_at-place (pairs_of lower) (out-Attributes lower).attrs.value.sorted_by_name (string_bytes item.0) place d within is)
 
   -- whether the attribute at the place is below decides whether the lower has one below
   at_decides : (d : String Global × AttributeType) (b : Bool) → place < length (pairs_of lower)
@@ -117,7 +117,7 @@ module _ (mode : ValidationMode) (lower upper : Attributes) (at place : ℕ) (it
       → Decides b (HasBelow mode (fields_of lower) (string_bytes item.0) (attribute_of item.1).0 (attribute_of item.1).1)
   at_decides d b within is decides =
       HasBelow-Decides mode (fields_of lower) (string_bytes item.0) (attribute_of item.1)
-      (attribute_of (get_or (pairs_of lower) place d).1) b (IsAscending-fields lower) (found_at d within is) decides
+      (attribute_of (get_or (pairs_of lower) place d).1) b (IsSortedByName-fields lower) (found_at d within is) decides
 
   -- where the name isn't at the place, the lower record hasn't the attribute
   pub WalkedBelow-missed : ¬ IsAt (pairs_of lower) place (string_bytes item.0) → Decides false (FieldsBelow mode (fields_of lower) (fields_of upper))
@@ -125,10 +125,10 @@ module _ (mode : ValidationMode) (lower upper : Attributes) (at place : ℕ) (it
       let none : field_at (string_bytes item.0) (fields_of lower) ≡ None =
       field_at-pairs (string_bytes item.0) lower
       ∙ ap (option_map attribute_of)
-      (value_at-missed (pairs_of lower) (out-Attributes lower).attrs.value.ascending (string_bytes item.0) place
+      (value_at-missed (pairs_of lower) (out-Attributes lower).attrs.value.sorted_by_name (string_bytes item.0) place
       all_below sought.stays missed) in
       part_fails walked.0
-      (HasBelow-none mode (fields_of lower) (string_bytes item.0) (attribute_of item.1) (IsAscending-fields lower) none)
+      (HasBelow-none mode (fields_of lower) (string_bytes item.0) (attribute_of item.1) (IsSortedByName-fields lower) none)
 
   -- where the attribute at the place isn't below, the lower record isn't
   pub WalkedBelow-fails : (d : String Global × AttributeType) → IsAt (pairs_of lower) place (string_bytes item.0)
@@ -147,7 +147,7 @@ module _ (mode : ValidationMode) (lower upper : Attributes) (at place : ℕ) (it
   )
 
 -- a record that has each attribute of another has no further name exactly where it has as many
-pub Included-counts : (mode : ValidationMode) (lower upper : Fields) → IsAscending lower → IsAscending upper
+pub Included-counts : (mode : ValidationMode) (lower upper : Fields) → IsSortedByName lower → IsSortedByName upper
     → FieldsBelow mode lower upper
     → (length (field_names lower) ≡ length (field_names upper)) ↔ Included (field_names lower) (field_names upper)
 Included-counts mode lower upper first second below =
@@ -158,7 +158,7 @@ Included-counts mode lower upper first second below =
 
 -- in strict mode that tells whether it has no further name
 pub NamesBelow-strict : (mode : ValidationMode) (openness : OpenTag) (lower upper : Fields) (as_many : Bool) → mode ≡ Strict
-    → IsAscending lower → IsAscending upper → Decides as_many (length (field_names lower) ≡ length (field_names upper))
+    → IsSortedByName lower → IsSortedByName upper → Decides as_many (length (field_names lower) ≡ length (field_names upper))
     → FieldsBelow mode lower upper → Decides as_many (NamesBelow mode openness lower upper)
 NamesBelow-strict mode openness lower upper as_many is first second decides =
     let P : ValidationMode → Type 0 = λ each. FieldsBelow each lower upper → Decides as_many (NamesBelow each openness lower upper) in
@@ -167,7 +167,7 @@ NamesBelow-strict mode openness lower upper as_many is first second decides =
 
 -- and below a closed record too
 pub NamesBelow-closed : (mode : ValidationMode) (openness : OpenTag) (lower upper : Fields) (as_many : Bool) → mode ≡ Permissive
-    → openness ≡ ClosedAttributes → IsAscending lower → IsAscending upper
+    → openness ≡ ClosedAttributes → IsSortedByName lower → IsSortedByName upper
     → Decides as_many (length (field_names lower) ≡ length (field_names upper))
     → FieldsBelow mode lower upper → Decides as_many (NamesBelow mode openness lower upper)
 NamesBelow-closed mode openness lower upper as_many is closed first second decides =

@@ -5,8 +5,8 @@ use Rattle.std.specs.List.{flat_map}
 use Rattle.std.specs.declared.string.String.{String}
 use Rattle.cedar_below.specs.PlainName.{PlainName, name_text}
 use Rattle.cedar_below.specs.Text.{Text}
-use Rattle.cedar_rules.specs.Ty.{fields_from}
-use Rattle.cedar_rules.specs.TypeText.{names_text, mark_text, ty_text, fields_text}
+use Rattle.cedar_type_rules.specs.Ty.{fields_from}
+use Rattle.cedar_type_rules.specs.TypeText.{names_text, mark_text, ty_text, fields_text}
 use Rattle.cedar_types.specs.Attributes.{plain_attributes}
 use Rattle.cedar_types.specs.Layers.{pairs_of, fields_of-pairs}
 use Rattle.cedar_types.specs.Meaning.{attribute_of, fields_of}

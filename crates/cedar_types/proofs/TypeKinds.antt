@@ -2,15 +2,15 @@
 use Rattle.std.proofs.Common.{◌≡◌, ◌≢◌, ℕ, refl, sym, ap, ◌∙◌, arith, Bool, Option}
 use Rattle.cedar_below.specs.PlainName.{PlainName}
 use Rattle.cedar_below.specs.declared.validation_mode.ValidationMode.{ValidationMode}
-use Rattle.cedar_rules.proofs.AnsweredLemmas.{unlike_shapes}
-use Rattle.cedar_rules.specs.Below.{Below}
-use Rattle.cedar_rules.specs.Help.{IsHelp}
-use Rattle.cedar_rules.specs.Order.{kind_place}
-use Rattle.cedar_rules.specs.OwnBound.{HaveOwnBound}
-use Rattle.cedar_rules.specs.Ty.{Ty, Fields, never, truth, long, text, any_entity, union_of, any_set, set_of, record_of, extension_of}
-use Rattle.cedar_rules.specs.declared.bool_type.BoolType.{BoolType}
-use Rattle.cedar_rules.specs.declared.join_error.LubHelp.TheVariants as help
-use Rattle.cedar_rules.specs.declared.open_tag.OpenTag.{OpenTag}
+use Rattle.cedar_type_rules.proofs.AnsweredLemmas.{unlike_shapes}
+use Rattle.cedar_type_rules.specs.Below.{Below}
+use Rattle.cedar_type_rules.specs.Help.{IsHelp}
+use Rattle.cedar_type_rules.specs.Order.{kind_rank}
+use Rattle.cedar_type_rules.specs.OwnBound.{HaveOwnBound}
+use Rattle.cedar_type_rules.specs.Ty.{Ty, Fields, never, truth, long, text, any_entity, union_of, any_set, set_of, record_of, extension_of}
+use Rattle.cedar_type_rules.specs.declared.bool_type.BoolType.{BoolType}
+use Rattle.cedar_type_rules.specs.declared.join_error.LubHelp.TheVariants as help
+use Rattle.cedar_type_rules.specs.declared.open_tag.OpenTag.{OpenTag}
 use Rattle.cedar_types.proofs.EqualityLaws.{layer_shape, shape-folded_layer}
 use Rattle.cedar_types.specs.Meaning.{ty_of, type_step, attribute_step, attributes_step}
 use Rattle.cedar_types.specs.declared.attributes.Attributes.{Attributes}
@@ -43,7 +43,7 @@ extensions_refused mode a b differ = (no_bound, refl)
 
 -- types of unlike kinds of which none is below the other have no join, and no help
 pub unlike_refused : (mode : ValidationMode) (a b : Ty) → ¬ Below mode a b → ¬ Below mode b a
-    → IsUnlike (kind_place a) (kind_place b) → IsRefused mode a b
+    → IsUnlike (kind_rank a) (kind_rank b) → IsRefused mode a b
 unlike_refused mode never b first second unlike = absurd (first tt)
 unlike_refused mode a never first second unlike = absurd (second tt)
 unlike_refused mode (truth a) (truth b) first second unlike = absurd (unlike.truths refl refl)
@@ -67,13 +67,13 @@ unlike_refused mode a b first second unlike =
     (unlike_shapes mode a b (λ e. absurd cc) (λ e. absurd cc) (λ e. absurd cc), refl)
 
 -- the kind of what a type stands for is that of its layer
-place_rolled : (x : layer.Type-F «Type» AttributeType Attributes) → kind_place (ty_of (roll-Type x)) ≡ layer_shape x
+place_rolled : (x : layer.Type-F «Type» AttributeType Attributes) → kind_rank (ty_of (roll-Type x)) ≡ layer_shape x
 place_rolled x =
-    ap kind_place (fold-roll-Type Ty (Bool × Ty) Fields type_step attribute_step attributes_step x) ∙ shape-folded_layer x
+    ap kind_rank (fold-roll-Type Ty (Bool × Ty) Fields type_step attribute_step attributes_step x) ∙ shape-folded_layer x
 
 -- the kind of a type as a number
 abbrev pub place_of : «Type» → ℕ
-place_of it = kind_place (ty_of it)
+place_of it = kind_rank (ty_of it)
 
 -- where its layer is one, its kind is that of the layer
 place_out : (it : «Type») (x : layer.Type-F «Type» AttributeType Attributes) → out-Type it ≡ x → place_of it ≡ layer_shape x

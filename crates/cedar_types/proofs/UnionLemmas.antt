@@ -6,7 +6,7 @@ use Rattle.std.specs.List.Sorted.{IsStrictlySortedBy}
 use Rattle.cedar_below.specs.EntityType.{type_name}
 use Rattle.cedar_below.specs.declared.entity_type.EntityType.{EntityType}
 use Rattle.cedar_below.specs.PlainName.{PlainName, name_cmp}
-use Rattle.cedar_rules.specs.EntityUnion.{AreDisjoint}
+use Rattle.cedar_type_rules.specs.EntityUnion.{AreDisjoint}
 
 -- a single name is in order
 pub IsStrictlySortedBy-one : (name : PlainName) → IsStrictlySortedBy name_cmp (name ∷ [])

@@ -18,7 +18,7 @@ use Rattle.cedar_below.specs.Lists.{Included}
 use Rattle.cedar_below.specs.PlainName.{PlainName, name_cmp}
 use Rattle.cedar_below.specs.contracts.entity_type.EntityTypeOrd.TheImpl as entity_type_ord
 use Rattle.cedar_below.specs.declared.entity_type.EntityType.{EntityType}
-use Rattle.cedar_sorted.proofs.RisingLemmas.{seen_at-rises, Contains-seen_at}
+use Rattle.cedar_name_map.proofs.RisingLemmas.{seen_at-rises, Contains-seen_at}
 
 module _ (types : List EntityType) (up : IsStrictlySortedBy name_cmp (map type_name types)) (ty : EntityType) where
   -- entity types that rise by their names are sorted

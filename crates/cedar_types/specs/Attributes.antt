@@ -4,7 +4,7 @@ use Rattle.std.specs.declared.rc.Rc.{Rc}
 use Rattle.std.specs.declared.string.String.{String}
 use Rattle.cedar_below.specs.Text.{Text}
 use Rattle.cedar_types.specs.Meaning.{ty_of, attribute_of}
-use Rattle.cedar_rules.specs.Ty.{Ty}
+use Rattle.cedar_type_rules.specs.Ty.{Ty}
 use Rattle.cedar_types.specs.declared.attributes.AttributeType.{AttributeType}
 use Rattle.cedar_types.specs.declared.types.Type.{«Type»}
 

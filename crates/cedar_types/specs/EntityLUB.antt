@@ -2,12 +2,12 @@ use Rattle.std.specs.Prelude.{List, [], ◌∷◌, Option, None, Some, map}
 use Rattle.cedar_below.specs.EntityType.{type_name}
 use Rattle.cedar_below.specs.PlainName.{PlainName}
 use Rattle.cedar_below.specs.declared.entity_type.EntityType.{EntityType}
-use Rattle.cedar_rules.specs.Ty.{Ty, union_of}
+use Rattle.cedar_type_rules.specs.Ty.{Ty, union_of}
 use Rattle.cedar_types.specs.declared.entity_lub.EntityLUB.{EntityLUB}
 
 -- a union's entity types, in order
 abbrev pub lub_types : EntityLUB → List EntityType
-lub_types lub = lub.elements.items
+lub_types lub = lub.lub_elements.items
 
 -- the only one of some entity types
 abbrev pub only_type : List EntityType → Option EntityType

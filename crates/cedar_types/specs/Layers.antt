@@ -3,9 +3,9 @@ use Rattle.std.proofs.lemmas.Simd.{map-map}
 use Rattle.std.specs.List.Sorted.{IsStrictlySortedBy}
 use Rattle.std.specs.declared.string.String.{String}
 use Rattle.cedar_below.specs.Text.{Text, text_cmp}
-use Rattle.cedar_rules.specs.Fields.{field_names, IsAscending}
-use Rattle.cedar_rules.specs.Ty.{Ty, Fields, fields_from}
-use Rattle.cedar_sorted.specs.ByName.{entry_texts}
+use Rattle.cedar_type_rules.specs.Fields.{field_names, IsSortedByName}
+use Rattle.cedar_type_rules.specs.Ty.{Ty, Fields, fields_from}
+use Rattle.cedar_name_map.specs.ByName.{entry_texts}
 use Rattle.cedar_types.specs.Attributes.{plain_attributes}
 use Rattle.cedar_types.specs.Meaning.{ty_of, attribute_of, fields_of, type_step, attribute_step, attributes_step}
 use Rattle.cedar_types.specs.declared.attributes.AttributeType.{AttributeType}
@@ -46,6 +46,6 @@ field_names-entries (entry ∷ rest) = ap (λ names. string_bytes entry.0 ∷ na
 pub field_names-pairs : (all : Attributes) → field_names (fields_of all) ≡ entry_texts (pairs_of all)
 field_names-pairs all = ap field_names (fields_of-pairs all) ∙ field_names-entries (pairs_of all)
 
--- the names of any attributes ascend
-pub IsAscending-fields : (all : Attributes) → IsAscending (fields_of all)
-IsAscending-fields all = subst (IsStrictlySortedBy text_cmp) (sym (field_names-pairs all)) (out-Attributes all).attrs.value.ascending
+-- the names of any attributes are sorted
+pub IsSortedByName-fields : (all : Attributes) → IsSortedByName (fields_of all)
+IsSortedByName-fields all = subst (IsStrictlySortedBy text_cmp) (sym (field_names-pairs all)) (out-Attributes all).attrs.value.sorted_by_name

@@ -1,8 +1,8 @@
 pub mod AttributeJoin
 pub mod Attributes
-pub mod EntriesLeft
 pub mod EntityKind
 pub mod EntityLUB
+pub mod EntriesLeft
 pub mod Layers
 pub mod Located
 pub mod Meaning

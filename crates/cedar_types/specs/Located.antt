@@ -6,7 +6,7 @@ use Rattle.std.specs.declared.string.String.{String}
 use Rattle.cedar_below.specs.Text.{Text}
 use Rattle.cedar_below.specs.declared.loc.Loc.{Loc}
 use Rattle.cedar_below.specs.LastNamed.{last_named}
-use Rattle.cedar_sorted.specs.ByName.{value_at}
+use Rattle.cedar_name_map.specs.ByName.{value_at}
 use Rattle.cedar_types.specs.Meaning.{ty_of}
 use Rattle.cedar_types.specs.declared.attributes.AttributeType.{AttributeType, out-AttributeType}
 use Rattle.cedar_types.specs.declared.attributes.Attributes.{Attributes, out-Attributes}

@@ -6,13 +6,13 @@ use Rattle.cedar_below.proofs.ValueLemmas.{IsName-type_name, IsName-plain_name}
 use Rattle.cedar_below.specs.EntityType.{type_name}
 use Rattle.cedar_below.specs.declared.entity_type.EntityType.{EntityType}
 use Rattle.cedar_below.specs.IsValue.{IsName, IsText}
-use Rattle.cedar_rules.specs.Fields.{field_names}
-use Rattle.cedar_rules.specs.WellFormed.{IsWellFormed, AreWellFormed, AreNames, AreTexts}
-use Rattle.cedar_rules.specs.Ty.{Ty, Fields, fields_from}
-use Rattle.cedar_sorted.specs.ByName.{entry_texts}
+use Rattle.cedar_type_rules.specs.Fields.{field_names}
+use Rattle.cedar_type_rules.specs.WellFormed.{IsWellFormed, AreWellFormed, AreNames, AreTexts}
+use Rattle.cedar_type_rules.specs.Ty.{Ty, Fields, fields_from}
+use Rattle.cedar_name_map.specs.ByName.{entry_texts}
 use Rattle.cedar_types.specs.EntityKind.{kind_ty}
 use Rattle.cedar_types.specs.EntityLUB.{lub_names, lub_ty}
-use Rattle.cedar_types.specs.Layers.{folded_layer, fields_of-rolled, plain_entry, pairs_of, field_names-pairs, IsAscending-fields}
+use Rattle.cedar_types.specs.Layers.{folded_layer, fields_of-rolled, plain_entry, pairs_of, field_names-pairs, IsSortedByName-fields}
 use Rattle.cedar_types.specs.Meaning.{ty_of, attribute_of, fields_of, type_step, attribute_step, attributes_step}
 use Rattle.cedar_types.specs.declared.attributes.AttributeType.{AttributeType, roll-AttributeType, map-AttributeType, fold-roll-AttributeType}
 use Rattle.cedar_types.specs.declared.attributes.Attributes.{Attributes, roll-Attributes, map-Attributes, ind-Attributes}
@@ -25,7 +25,7 @@ use Rattle.cedar_types.specs.declared.types.Type.TheOpen as layer
 -- the names of a union aren't reserved
 AreNames-lub : (lub : EntityLUB) → AreNames (lub_names lub)
 AreNames-lub lub name among =
-    let (ty, inside, same) = Contains-preimage type_name lub.elements.items name among in subst IsName same (IsName-type_name ty)
+    let (ty, inside, same) = Contains-preimage type_name lub.lub_elements.items name among in subst IsName same (IsName-type_name ty)
 
 -- the names of some entity types that aren't none aren't none
 some_names : (types : List EntityType) → types ≢ [] → map type_name types ≢ []
@@ -34,7 +34,7 @@ some_names (ty ∷ types) some = λ none. cc
 
 -- a union stands for a well-formed type
 pub lub_formed : (lub : EntityLUB) → IsWellFormed (lub_ty lub)
-lub_formed lub = (some_names lub.elements.items lub.nonempty, lub.ascending, AreNames-lub lub)
+lub_formed lub = (some_names lub.lub_elements.items lub.nonempty, lub.sorted_by_name, AreNames-lub lub)
 
 -- a kind of entities stands for a well-formed type
 pub kind_formed : (of : EntityKind) → IsWellFormed (kind_ty of)
@@ -81,7 +81,7 @@ layer_formed layer.String = tt
 layer_formed (layer.Entity of) = kind_formed of
 layer_formed (layer.Set None) = tt
 layer_formed (layer.Set (Some element)) = element.value.1
-layer_formed (layer.Record attrs openness) = (IsAscending-fields attrs.0, attrs.1, AreTexts-fields attrs.0)
+layer_formed (layer.Record attrs openness) = (IsSortedByName-fields attrs.0, attrs.1, AreTexts-fields attrs.0)
 layer_formed (layer.ExtensionType name) = IsName-plain_name name
 
 type_formed : (x : layer.Type-F «Type» AttributeType Attributes) (y : FormedLayer) → parts y ≡ x → Formed (roll-Type x)

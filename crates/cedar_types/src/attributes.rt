@@ -8,20 +8,20 @@ ghost use Rattle.std.specs.declared.rc.Rc.{Rc};
 ghost use Rattle.std.specs.declared.string.String.{String};
 ghost use Rattle.cedar_below.specs.Text.{Text};
 ghost use Rattle.cedar_below.specs.declared.loc.Loc.{Loc};
-ghost use Rattle.cedar_rules.specs.Fields.{HoldsLast, IsAscending, field_names};
+ghost use Rattle.cedar_type_rules.specs.Fields.{HoldsLast, IsSortedByName, field_names};
 ghost use Rattle.cedar_types.specs.Attributes.{plain_attributes, plain_required};
-ghost use Rattle.cedar_sorted.specs.ByName.{NamesAscend, value_at};
+ghost use Rattle.cedar_name_map.specs.ByName.{AreSortedByName, value_at};
 ghost use Rattle.cedar_types.specs.Located.{located, located_at, located_attributes, located_required, KeepsLast};
 ghost use Rattle.cedar_types.specs.Meaning.{ty_of, attribute_of, fields_of, attribute_loc};
-ghost use Rattle.cedar_rules.specs.Ty.{end, field_at, fields_from};
-ghost use Rattle.cedar_rules.specs.TypeText.{fields_text};
+ghost use Rattle.cedar_type_rules.specs.Ty.{end, field_at, fields_from};
+ghost use Rattle.cedar_type_rules.specs.TypeText.{fields_text};
 ghost use Rattle.cedar_types.specs.declared.attributes.AttributeType.{AttributeType};
 ghost use Rattle.cedar_types.specs.declared.types.Type.{«Type»};
 
 use crate::show::write_attribute;
 use crate::types::Type;
 use cedar_below::{Loc, M};
-use cedar_sorted::{ByName, Entries, Names};
+use cedar_name_map::{ByName, Entries, Names};
 use std::alloc::Global;
 use std::fmt;
 use std::rc::Rc;
@@ -103,7 +103,7 @@ impl AttributeType {
         self.is_required
     }
 
-    /// An equal attribute at the same location, or want of memory.
+    /// An equal attribute at the same location.
     pub fn clone(&self) -> M<Self>
         ensures attribute { IfOk result (λ copy. attribute_of copy ≡ attribute_of self.now) }
         ensures loc { IfOk result (λ copy. attribute_loc copy ≡ attribute_loc self.now) }
@@ -118,7 +118,7 @@ impl AttributeType {
 }
 
 impl Attributes {
-    /// The attributes of these pairs, or want of memory. Of repeated names the last wins.
+    /// The attributes of these pairs. Of repeated names the last wins.
     fn from_entries(alloc: Global, entries: Vec<(String, AttributeType)>) -> M<Self>
         ensures attributes { IfOk result (λ all. HoldsLast (plain_attributes entries.items) (fields_of all)) }
         ensures located { IfOk result (λ all. KeepsLast (located_attributes entries.items) all) }
@@ -128,26 +128,29 @@ impl Attributes {
         })
     }
 
-    /// The attributes of these pairs, whose names ascend, or want of memory.
-    pub(crate) fn from_ascending(alloc: Global, entries: Vec<(String, AttributeType)>) -> M<Self>
-        requires { NamesAscend entries.items }
+    /// The attributes of these pairs, whose names are sorted without duplicates.
+    pub(crate) fn from_sorted_by_name(
+        alloc: Global,
+        entries: Vec<(String, AttributeType)>,
+    ) -> M<Self>
+        requires { AreSortedByName entries.items }
         ensures attributes { IfOk result (λ all. fields_of all ≡ fields_from (plain_attributes entries.items)) }
         ensures located { IfOk result (λ all. (name : Text) → located_at name all ≡ option_map located (value_at name entries.items)) }
     {
         Ok(Attributes {
-            attrs: Rc::new(alloc, ByName::from_ascending(entries))?,
+            attrs: Rc::new(alloc, ByName::from_sorted_by_name(entries))?,
         })
     }
 
-    /// No attributes, or want of memory.
+    /// No attributes.
     pub fn empty(alloc: Global) -> M<Self>
         ensures { IfOk result (λ all. fields_of all ≡ end) }
     {
         Attributes::from_entries(alloc, Vec::new(alloc))
     }
 
-    /// The attributes of these names, with their locations, or want of memory. Of repeated names the
-    /// last wins. The items have to come to an end.
+    /// The attributes of these names, with their locations. Of repeated names the last wins. The
+    /// items have to come to an end.
     pub fn with_attributes<I: IntoIterator<Item = (String, AttributeType)>>(
         alloc: Global,
         items: I,
@@ -156,7 +159,7 @@ impl Attributes {
         ensures attributes { IfOk result (λ all. (it : I.IntoIter) × (xs : List (String Global × AttributeType))
             × I.into_iter_gives items it × Drains I.IntoIter.next_gives it xs × HoldsLast (plain_attributes xs) (fields_of all)
             × KeepsLast (located_attributes xs) all) }
-        ensures ascending { IfOk result (λ all. IsAscending (fields_of all)) }
+        ensures sorted_by_name { IfOk result (λ all. IsSortedByName (fields_of all)) }
     {
         let mut entries = Vec::new(alloc);
         for (name, attribute) in items {
@@ -165,8 +168,8 @@ impl Attributes {
         Attributes::from_entries(alloc, entries)
     }
 
-    /// The attributes of these names, each of which has to be there, or want of memory. Of repeated
-    /// names the last wins. The items have to come to an end.
+    /// The attributes of these names, each of which has to be there. Of repeated names the last
+    /// wins. The items have to come to an end.
     pub fn with_required_attributes<I: IntoIterator<Item = (String, Rc<Type>)>>(
         alloc: Global,
         items: I,
@@ -175,7 +178,7 @@ impl Attributes {
         ensures attributes { IfOk result (λ all. (it : I.IntoIter) × (xs : List (String Global × Rc «Type» Global))
             × I.into_iter_gives items it × Drains I.IntoIter.next_gives it xs × HoldsLast (plain_required xs) (fields_of all)
             × KeepsLast (located_required xs) all) }
-        ensures ascending { IfOk result (λ all. IsAscending (fields_of all)) }
+        ensures sorted_by_name { IfOk result (λ all. IsSortedByName (fields_of all)) }
     {
         let mut entries = Vec::new(alloc);
         for (name, ty) in items {
@@ -187,7 +190,7 @@ impl Attributes {
     /// The attributes with their names, in the names' order.
     pub fn iter(&self) -> Entries<'_, AttributeType>
         ensures attributes { fields_from (plain_attributes result) ≡ fields_of self.now }
-        ensures ascending { IsAscending (fields_of self.now) }
+        ensures sorted_by_name { IsSortedByName (fields_of self.now) }
     {
         Entries::new(self.attrs.as_slice())
     }
@@ -195,7 +198,7 @@ impl Attributes {
     /// The names of the attributes, in their order.
     pub fn keys(&self) -> Names<'_, AttributeType>
         ensures names { map string_bytes result ≡ field_names (fields_of self.now) }
-        ensures ascending { IsAscending (fields_of self.now) }
+        ensures sorted_by_name { IsSortedByName (fields_of self.now) }
     {
         Names::new(self.attrs.as_slice())
     }
@@ -218,7 +221,7 @@ impl Attributes {
         self.attrs.get_counted(name)
     }
 
-    /// The same attributes at the same locations, which are shared, or want of memory.
+    /// The same attributes at the same locations, which are shared.
     pub fn clone(&self) -> M<Self>
         ensures attributes { IfOk result (λ copy. fields_of copy ≡ fields_of self.now) }
         ensures located { IfOk result (λ copy. (name : Text) → located_at name copy ≡ located_at name self.now) }

@@ -1,7 +1,7 @@
 //! Whether the any-set stands nowhere in a type.
 
 ghost use Rattle.std.specs.Prelude.{◌↔◌, IsTrue};
-ghost use Rattle.cedar_rules.specs.Clean.{IsClean, AreClean};
+ghost use Rattle.cedar_type_rules.specs.Clean.{IsClean, AreClean};
 ghost use Rattle.cedar_types.specs.Meaning.{ty_of, fields_of};
 
 use crate::attributes::Attributes;

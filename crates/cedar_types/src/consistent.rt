@@ -5,9 +5,9 @@ ghost use Rattle.std.specs.List.{AllByRecursion};
 ghost use Rattle.cedar_below.specs.CoreSchemaType.{core_ty_of, core_fields_of};
 ghost use Rattle.cedar_below.specs.CoreTy.{core_entity, core_record};
 ghost use Rattle.cedar_below.specs.EntityType.{type_name};
-ghost use Rattle.cedar_rules.specs.Consistent.{IsConsistent};
-ghost use Rattle.cedar_rules.specs.Ty.{record_of};
-ghost use Rattle.cedar_rules.specs.declared.open_tag.OpenTag.TheVariants.{OpenAttributes};
+ghost use Rattle.cedar_type_rules.specs.Consistent.{IsConsistent};
+ghost use Rattle.cedar_type_rules.specs.Ty.{record_of};
+ghost use Rattle.cedar_type_rules.specs.declared.open_tag.OpenTag.TheVariants.{OpenAttributes};
 ghost use Rattle.cedar_types.specs.Attributes.{plain_attributes};
 ghost use Rattle.cedar_types.specs.EntityKind.{kind_ty};
 ghost use Rattle.cedar_types.specs.Meaning.{ty_of, fields_of};
@@ -16,7 +16,7 @@ use crate::attributes::{AttributeType, Attributes};
 use crate::entity_kind::EntityKind;
 use crate::types::Type;
 use cedar_below::{CoreAttributeType, CoreSchemaType, EntityType};
-use cedar_rules::OpenTag;
+use cedar_type_rules::OpenTag;
 use std::collections::BTreeMap;
 
 /// Whether an attribute with this flag may be missing in a record with this openness.

@@ -7,9 +7,9 @@ ghost use Rattle.std.specs.declared.alloc.Global.{Global};
 ghost use Rattle.std.specs.declared.string.String.{String};
 ghost use Rattle.cedar_below.specs.CoreSchemaType.{core_ty_of, core_fields_of};
 ghost use Rattle.cedar_below.specs.CoreTy.{core_set};
-ghost use Rattle.cedar_rules.specs.CoreFault.{IsCoreFault, IsFieldsFault};
-ghost use Rattle.cedar_rules.specs.CoreOf.{core_of, core_fields};
-ghost use Rattle.cedar_rules.specs.declared.core_type_fault.CoreTypeFault.TheVariants as fault;
+ghost use Rattle.cedar_type_rules.specs.CoreFault.{IsCoreFault, IsFieldsFault};
+ghost use Rattle.cedar_type_rules.specs.CoreOf.{core_of, core_fields};
+ghost use Rattle.cedar_type_rules.specs.declared.core_type_fault.CoreTypeFault.TheVariants as fault;
 ghost use Rattle.cedar_types.specs.EntityKind.{kind_ty};
 ghost use Rattle.cedar_types.specs.Meaning.{ty_of, fields_of};
 
@@ -17,11 +17,11 @@ use crate::attributes::Attributes;
 use crate::entity_kind::EntityKind;
 use crate::types::Type;
 use cedar_below::{CoreAttributeType, CoreSchemaType, M};
-use cedar_rules::{CoreTypeFault, OpenTag};
+use cedar_type_rules::{CoreTypeFault, OpenTag};
 use std::alloc::Global;
 use std::collections::BTreeMap;
 
-/// Puts an attribute under a copy of a name, or answers want of memory.
+/// Puts an attribute under a copy of a name.
 fn put_named(
     attrs: &mut BTreeMap<String, CoreAttributeType>,
     name: &String,
@@ -34,7 +34,7 @@ fn put_named(
     Ok(())
 }
 
-/// The core type of sets whose elements have a core type, or want of memory.
+/// The core type of sets whose elements have a core type.
 fn core_set(alloc: Global, element: CoreSchemaType) -> M<CoreSchemaType>
     ensures { IfOk result (λ core. core_ty_of core ≡ core_set (core_ty_of element)) }
 {
@@ -114,8 +114,8 @@ fn core_type(alloc: Global, ty: &Type) -> Result<CoreSchemaType, CoreTypeFault>
 /// The core type of a type: each case by itself, with the one of all truth values for any of them, and
 /// that of the empty set for the any-set.
 ///
-/// A type in which `Never`, any entity, or a union of two entity types or more stands has none, and the
-/// fault names one that stands in it. Or the answer is want of memory.
+/// A type in which `Never`, any entity, or a union of two entity types or more stands has none, and
+/// the fault names one that stands in it. Or the answer is that memory ran out.
 pub fn core_type_of(alloc: Global, ty: Type) -> Result<CoreSchemaType, CoreTypeFault>
     ensures core { IfOk result (λ core. core_of (ty_of ty) ≡ Some (core_ty_of core)) }
     ensures fault { IfErr result (IsCoreFault (ty_of ty)) }

@@ -17,7 +17,7 @@ impl EntityKind {
     ghost use Rattle.std.specs.Option.{option_copied, option_map};
     ghost use Rattle.cedar_types.specs.EntityLUB.{lub_names};
     ghost use Rattle.cedar_types.specs.EntityKind.{kind_ty};
-    ghost use Rattle.cedar_rules.specs.EntityTypes.{kind_names};
+    ghost use Rattle.cedar_type_rules.specs.EntityTypes.{kind_names};
 
     /// The union that the entity's type is one of, if one is known.
     pub fn as_entity_lub(&self) -> Option<&EntityLUB>
@@ -29,7 +29,7 @@ impl EntityKind {
         }
     }
 
-    /// An equal kind, or want of memory.
+    /// An equal kind.
     pub fn clone(&self) -> M<Self>
         ensures { IfOk result (λ copy. kind_ty copy ≡ kind_ty self.now) }
     {

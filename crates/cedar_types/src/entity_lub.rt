@@ -14,12 +14,12 @@ use std::slice;
 /// A union of entity types: a nonempty set of them, in order and without repeats.
 #[derive(Debug, Drop, PartialEq, Eq, PartialOrd, Ord, Hash)]
 pub struct EntityLUB {
-    elements: Vec<EntityType>,
-    ghost nonempty: { elements.items ≢ [] },
-    ghost ascending: { IsStrictlySortedBy name_cmp (map type_name elements.items) } by { IsStrictlySortedBy-prop name_cmp (map type_name elements.items) },
+    lub_elements: Vec<EntityType>,
+    ghost nonempty: { lub_elements.items ≢ [] },
+    ghost sorted_by_name: { IsStrictlySortedBy name_cmp (map type_name lub_elements.items) } by { IsStrictlySortedBy-prop name_cmp (map type_name lub_elements.items) },
 }
 
-/// Equal entity types in the same order, or want of memory.
+/// Equal entity types in the same order.
 fn clone_each(types: &Vec<EntityType>) -> M<Vec<EntityType>>
     ensures { IfOk result (λ copy. map type_name copy.items ≡ map type_name types.now.items) }
 {
@@ -30,7 +30,7 @@ fn clone_each(types: &Vec<EntityType>) -> M<Vec<EntityType>>
     Ok(copy)
 }
 
-/// Entity types equal to those that are referred to, in the same order, or want of memory.
+/// Entity types equal to those that are referred to, in the same order.
 fn clone_all(types: &Vec<&EntityType>) -> M<Vec<EntityType>>
     ensures { IfOk result (λ copy. map type_name copy.items ≡ map (λ ty. type_name ty.now) types.now.items) }
 {
@@ -41,7 +41,7 @@ fn clone_all(types: &Vec<&EntityType>) -> M<Vec<EntityType>>
     Ok(copy)
 }
 
-/// References to the entity types of two lists, or want of memory.
+/// References to the entity types of two lists.
 fn both_types<'a>(types: &'a Vec<EntityType>, others: &'a Vec<EntityType>) -> M<Vec<&'a EntityType>>
     ensures { IfOk result (λ both. map (λ ty. ty.now) both.items ≡ types.now.items ++ others.now.items) }
 {
@@ -49,7 +49,7 @@ fn both_types<'a>(types: &'a Vec<EntityType>, others: &'a Vec<EntityType>) -> M<
     Ok(both.collect_vec(*types.allocator())?)
 }
 
-/// The same references in the order of their entity types, or want of memory.
+/// The same references in the order of their entity types.
 fn in_order<'a>(types: Vec<&'a EntityType>) -> M<Vec<&'a EntityType>>
     ensures permutation { IfOk result (λ sorted. IsPermutation types.entry.items sorted.items) }
     ensures sorted { IfOk result (λ sorted. IsSorted (λ a b. ⟦<EntityType as Ord>⟧.cmp a.now b.now) sorted.items) }
@@ -68,16 +68,16 @@ impl EntityLUB {
     ghost use Rattle.std.specs.declared.cmp.Ordering.TheVariants.{Less};
     ghost use Rattle.cedar_below.specs.declared.entity_type.EntityType.{EntityType};
     ghost use Rattle.cedar_types.specs.EntityLUB.{lub_names, lub_types, only_type};
-    ghost use Rattle.cedar_rules.specs.EntityUnion.{only_name, AreDisjoint, IsUnionOf};
+    ghost use Rattle.cedar_type_rules.specs.EntityUnion.{only_name, AreDisjoint, IsUnionOf};
 
-    /// The union of a single entity type, or want of memory.
+    /// The union of a single entity type.
     pub fn single_entity(alloc: Global, ty: EntityType) -> M<Self>
         ensures names { IfOk result (λ lub. lub_names lub ≡ type_name ty ∷ []) }
         ensures types { IfOk result (λ lub. lub_types lub ≡ ty ∷ []) }
     {
-        let mut elements = Vec::with_capacity(alloc, 1)?;
-        elements.push(ty)?;
-        Ok(EntityLUB { elements })
+        let mut lub_elements = Vec::with_capacity(alloc, 1)?;
+        lub_elements.push(ty)?;
+        Ok(EntityLUB { lub_elements })
     }
 
     /// The entity type of the union, where there is only one.
@@ -85,7 +85,7 @@ impl EntityLUB {
         ensures name { option_map type_name (option_copied result) ≡ only_name (lub_names self.now) }
         ensures ty { option_copied result ≡ only_type (lub_types self.now) }
     {
-        match self.elements.as_slice() {
+        match self.lub_elements.as_slice() {
             [ty] => Some(ty),
             _ => None,
         }
@@ -96,9 +96,9 @@ impl EntityLUB {
         ensures name { option_map type_name result ≡ only_name (lub_names self) }
         ensures ty { result ≡ only_type (lub_types self) }
     {
-        let mut elements = self.elements;
-        if elements.len() == 1 {
-            elements.pop()
+        let mut lub_elements = self.lub_elements;
+        if lub_elements.len() == 1 {
+            lub_elements.pop()
         } else {
             None
         }
@@ -108,23 +108,23 @@ impl EntityLUB {
     pub fn iter(&self) -> slice::Iter<'_, EntityType>
         ensures names { map type_name (iter_rest result) ≡ lub_names self.now }
         ensures nonempty { lub_names self.now ≢ [] }
-        ensures ascending { IsStrictlySortedBy name_cmp (lub_names self.now) }
+        ensures sorted_by_name { IsStrictlySortedBy name_cmp (lub_names self.now) }
     {
-        self.elements.iter()
+        self.lub_elements.iter()
     }
 
     /// The entity types of the union, in order.
     pub(crate) fn as_slice(&self) -> &[EntityType]
         ensures { result.now ≡ lub_types self.now }
     {
-        self.elements.as_slice()
+        self.lub_elements.as_slice()
     }
 
     /// Whether an entity type is one of the union.
     pub fn contains(&self, ty: &EntityType) -> bool
         ensures { IsTrue result ↔ Contains (lub_names self.now) (type_name ty.now) }
     {
-        self.elements.binary_search(ty).is_ok()
+        self.lub_elements.binary_search(ty).is_ok()
     }
 
     /// Whether an entity type is one of the union.
@@ -142,7 +142,7 @@ impl EntityLUB {
         ensures stays { (d : EntityType) → result < length (lub_types self.now)
             → name_cmp (type_name (get_or (lub_types self.now) result d)) (type_name ty.now) ≢ Less }
     {
-        let types = self.elements.as_slice();
+        let types = self.lub_elements.as_slice();
         let mut at = from;
         while at < types.len() && types[at].cmp(ty) == Ordering::Less {
             at += 1;
@@ -155,7 +155,7 @@ impl EntityLUB {
         ensures { IsTrue result ↔ ((place < length (lub_types self.now))
             × ((d : EntityType) → type_name (get_or (lub_types self.now) place d) ≡ type_name ty.now)) }
     {
-        let types = self.elements.as_slice();
+        let types = self.lub_elements.as_slice();
         place < types.len() && types[place] == *ty
     }
 
@@ -166,7 +166,7 @@ impl EntityLUB {
         ensures { IsTrue result ↔ AreDisjoint (lub_names self.now) (lub_names other.now) }
     {
         let mut at = 0;
-        for ty in &self.elements {
+        for ty in &self.lub_elements {
             at = other.seek(at, ty);
             if other.is_at(at, ty) {
                 return false;
@@ -175,23 +175,23 @@ impl EntityLUB {
         true
     }
 
-    /// The union of the entity types of both unions, or want of memory.
+    /// The union of the entity types of both unions.
     pub fn least_upper_bound(&self, other: &EntityLUB) -> M<EntityLUB>
         ensures { IfOk result (λ lub. IsUnionOf (lub_names self.now) (lub_names other.now) (lub_names lub)) }
     {
-        let mut both = in_order(both_types(&self.elements, &other.elements)?)?;
+        let mut both = in_order(both_types(&self.lub_elements, &other.lub_elements)?)?;
         both.dedup();
         Ok(EntityLUB {
-            elements: clone_all(&both)?,
+            lub_elements: clone_all(&both)?,
         })
     }
 
-    /// An equal union, or want of memory.
+    /// An equal union.
     pub fn clone(&self) -> M<Self>
         ensures { IfOk result (λ copy. lub_names copy ≡ lub_names self.now) }
     {
         Ok(EntityLUB {
-            elements: clone_each(&self.elements)?,
+            lub_elements: clone_each(&self.lub_elements)?,
         })
     }
 }

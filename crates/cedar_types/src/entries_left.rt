@@ -4,7 +4,7 @@ ghost use Rattle.std.specs.Prelude.{◌≡◌, ◌≢◌, None};
 ghost use Rattle.std.specs.Option.{option_copied};
 ghost use Rattle.std.specs.declared.cmp.Ordering.TheVariants.{Less};
 ghost use Rattle.cedar_below.specs.Text.{Text, text_cmp};
-ghost use Rattle.cedar_sorted.specs.ByName.{NamesAscend, value_at};
+ghost use Rattle.cedar_name_map.specs.ByName.{AreSortedByName, value_at};
 ghost use Rattle.cedar_types.specs.EntriesLeft.{entries_left};
 
 use cedar_below::RestrictedExpr;
@@ -22,20 +22,21 @@ impl<'v> EntriesLeft<'v> {
     /// All entries of a record.
     pub(crate) fn new(values: &'v BTreeMap<String, RestrictedExpr>) -> EntriesLeft<'v>
         ensures all { entries_left result ≡ values.now.entries }
-        ensures ascend { NamesAscend (entries_left result) }
+        ensures ascend { AreSortedByName (entries_left result) }
     {
         let mut rest = values.iter();
         let first = rest.next();
         EntriesLeft { first, rest }
     }
 
-    /// The value of a name among the entries that are left, whose names ascend, if there is one.
+    /// The value of a name among the entries that are left, whose names are sorted without
+    /// duplicates, if there is one.
     ///
     /// It passes those of lesser names, and each other name finds what it did before.
     pub(crate) fn value_at(&mut self, name: &str) -> Option<&'v RestrictedExpr>
-        requires { NamesAscend (entries_left self.old) }
+        requires { AreSortedByName (entries_left self.old) }
         ensures value { option_copied result ≡ value_at name.now (entries_left self.old) }
-        ensures ascend { NamesAscend (entries_left self.new) }
+        ensures ascend { AreSortedByName (entries_left self.new) }
         ensures keeps { (other : Text) → text_cmp other name.now ≢ Less
             → value_at other (entries_left self.new) ≡ value_at other (entries_left self.old) }
         ensures passes { (other : Text) → text_cmp other name.now ≡ Less → value_at other (entries_left self.new) ≡ None }

@@ -5,12 +5,12 @@ ghost use Rattle.std.specs.declared.alloc.Global.{Global};
 ghost use Rattle.std.specs.declared.string.String.{String};
 ghost use Rattle.cedar_below.specs.Text.{Text};
 ghost use Rattle.cedar_below.specs.declared.validation_mode.ValidationMode.TheVariants as mode;
-ghost use Rattle.cedar_rules.specs.Below.{Below};
-ghost use Rattle.cedar_rules.specs.JoinAnswer.{IsJoinAnswer, IsReduceAnswer, IsAnswerOrMemory};
-ghost use Rattle.cedar_rules.specs.OpenTag.{either_open};
-ghost use Rattle.cedar_rules.specs.OwnBound.{IsLeastOwnBound};
-ghost use Rattle.cedar_rules.specs.Ty.{never, record_of};
-ghost use Rattle.cedar_rules.specs.declared.open_tag.OpenTag.TheVariants.{ClosedAttributes};
+ghost use Rattle.cedar_type_rules.specs.Below.{Below};
+ghost use Rattle.cedar_type_rules.specs.JoinAnswer.{IsJoinAnswer, IsReduceAnswer, IsAnswerOrMemory};
+ghost use Rattle.cedar_type_rules.specs.OpenTag.{either_open};
+ghost use Rattle.cedar_type_rules.specs.OwnBound.{IsLeastOwnBound};
+ghost use Rattle.cedar_type_rules.specs.Ty.{never, record_of};
+ghost use Rattle.cedar_type_rules.specs.declared.open_tag.OpenTag.TheVariants.{ClosedAttributes};
 ghost use Rattle.cedar_types.specs.AttributeJoin.{attribute_ty, IsPermissiveAttribute, IsStrictAttribute};
 ghost use Rattle.cedar_types.specs.EntityKind.{kind_ty};
 ghost use Rattle.cedar_types.specs.EntityLUB.{lub_ty};
@@ -24,7 +24,7 @@ use crate::entity_lub::EntityLUB;
 use crate::subtype::union_fits;
 use crate::types::Type;
 use cedar_below::{M, Memory, ValidationMode};
-use cedar_rules::{JoinError, LubHelp, OpenTag, reduce};
+use cedar_type_rules::{JoinError, LubHelp, OpenTag, reduce};
 use std::alloc::Global;
 use std::rc::Rc;
 
@@ -64,7 +64,7 @@ fn strict_kind(kind: &EntityKind, other: &EntityKind) -> Result<EntityKind, Join
     }
 }
 
-/// The join of two kinds of entities in permissive mode, or want of memory.
+/// The join of two kinds of entities in permissive mode.
 fn permissive_kind(kind: &EntityKind, other: &EntityKind) -> M<EntityKind>
     ensures { IfOk result (λ join. IsLeastOwnBound mode.Permissive (kind_ty kind.now) (kind_ty other.now) (kind_ty join)) }
 {
@@ -80,8 +80,8 @@ impl EntityKind {
     /// The least kind that has the entities of both.
     ///
     /// In permissive mode that is the union of the entity types of both, or any entity where one of
-    /// them is. In strict mode only a kind and itself have one; else the help is `EntityType`. Or the
-    /// answer is want of memory.
+    /// them is. In strict mode only a kind and itself have one; else the help is `EntityType`. Or
+    /// the answer is that memory ran out.
     pub fn least_upper_bound(
         &self,
         other: &EntityKind,
@@ -96,21 +96,21 @@ impl EntityKind {
     }
 }
 
-/// A shared type, or want of memory.
+/// A shared type.
 fn shared(alloc: Global, ty: Type) -> M<Rc<Type>>
     ensures { IfOk result (λ rc. rc.value ≡ ty) }
 {
     Ok(Rc::new(alloc, ty)?)
 }
 
-/// The same type, shared once more, or want of memory.
+/// The same type, shared once more.
 fn shared_again(ty: &Rc<Type>) -> M<Rc<Type>>
     ensures { IfOk result (λ rc. rc.value ≡ ty.now.value) }
 {
     Ok(ty.clone()?)
 }
 
-/// Puts an attribute with a name behind others, or answers want of memory.
+/// Puts an attribute with a name behind others.
 fn push_named(
     entries: &mut Vec<(String, AttributeType)>,
     name: &String,
@@ -165,8 +165,8 @@ fn strict_openness(openness: OpenTag, other_openness: OpenTag) -> OpenTag
     }
 }
 
-/// The join of two attributes of a name in permissive mode, or None where their types don't join; or want
-/// of memory. It has no location.
+/// The join of two attributes of a name in permissive mode, or None where their types don't join;
+/// or out of memory. It has no location.
 #[cycle(join)]
 fn permissive_attribute(
     alloc: Global,
@@ -207,8 +207,8 @@ fn strict_attribute(
     }
 }
 
-/// The join of two records in permissive mode, or want of memory: the attributes of the names of both
-/// whose types join.
+/// The join of two records in permissive mode: the attributes of the names of both whose types
+/// join.
 ///
 /// It goes over the attributes of both together, once.
 #[cycle(join)]
@@ -242,7 +242,7 @@ fn permissive_record(
         others.len(),
         joined.len(),
     );
-    Ok(record(Attributes::from_ascending(alloc, joined)?, openness))
+    Ok(record(Attributes::from_sorted_by_name(alloc, joined)?, openness))
 }
 
 /// The join of two records in strict mode: the attributes of the same names, each joined.
@@ -275,7 +275,7 @@ fn strict_record(
         let join = strict_attribute(alloc, attribute, &others[at].1)?;
         push_named(&mut joined, name, join)?;
     }
-    let attrs = Attributes::from_ascending(alloc, joined)?;
+    let attrs = Attributes::from_sorted_by_name(alloc, joined)?;
     Ok(record(attrs, strict_openness(a_openness, b_openness)))
 }
 
@@ -383,10 +383,11 @@ impl Type {
     /// same names with the same flags, and all their types have to join. An attribute that is joined has no
     /// location.
     ///
-    /// Else there is a help: `EntityRecord` for an entity and a record, that of the elements for sets,
-    /// `EntityType` for unlike entities in strict mode, and for records in strict mode `RecordWidth` where
-    /// the names differ, `AttributeQualifier` where two flags differ and their types join, or that of two
-    /// types; and `None` for all other types. Or the answer is want of memory.
+    /// Else there is a help: `EntityRecord` for an entity and a record, that of the elements for
+    /// sets, `EntityType` for unlike entities in strict mode, and for records in strict mode
+    /// `RecordWidth` where the names differ, `AttributeQualifier` where two flags differ and their
+    /// types join, or that of two types; and `None` for all other types. Or the answer is that
+    /// memory ran out.
     pub fn least_upper_bound(
         alloc: Global,
         a: &Type,
@@ -407,10 +408,11 @@ impl Type {
         join_apart(alloc, a, b, mode)
     }
 
-    /// The join of some types in turn, from `Never` on; or the help of the first join that is refused.
+    /// The fold of the join over some types, from `Never` on; or the help of the first join that is
+    /// refused.
     ///
-    /// The join of no types is `Never`. Where the any-set is among the types, their order matters. Or the
-    /// answer is want of memory.
+    /// The join of no types is `Never`. Where the any-set is among the types, their order matters.
+    /// Or the answer is that memory ran out.
     pub fn reduce_to_least_upper_bound(
         alloc: Global,
         items: &[Type],

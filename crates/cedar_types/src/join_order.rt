@@ -1,11 +1,11 @@
 //! Types, kinds of entities and unions, as what is ordered and can be joined.
 
 ghost use Rattle.std.specs.Prelude.{◌≡◌};
-ghost use Rattle.cedar_rules.proofs.AntisymmetryLaws.{Below-same};
-ghost use Rattle.cedar_rules.proofs.JoinsOf as joins_of;
-ghost use Rattle.cedar_rules.specs.Below.{Below};
-ghost use Rattle.cedar_rules.specs.Clean.{IsClean};
-ghost use Rattle.cedar_rules.specs.Joining.{AnswersJoinOf};
+ghost use Rattle.cedar_type_rules.proofs.AntisymmetryLaws.{Below-same};
+ghost use Rattle.cedar_type_rules.proofs.JoinsOf as joins_of;
+ghost use Rattle.cedar_type_rules.specs.Below.{Below};
+ghost use Rattle.cedar_type_rules.specs.Clean.{IsClean};
+ghost use Rattle.cedar_type_rules.specs.Joining.{AnswersJoinOf};
 ghost use Rattle.cedar_types.specs.EntityKind.{kind_ty};
 ghost use Rattle.cedar_types.specs.EntityLUB.{lub_ty};
 ghost use Rattle.cedar_types.specs.Meaning.{ty_of};
@@ -17,7 +17,7 @@ use crate::join::join_unions;
 use crate::subtype::union_fits;
 use crate::types::Type;
 use cedar_below::ValidationMode;
-use cedar_rules::{JoinError, JoinOrder};
+use cedar_type_rules::{JoinError, JoinOrder};
 use std::alloc::Global;
 
 impl JoinOrder for Type {

@@ -2,8 +2,10 @@
 #![tactic(auto)]
 
 pub use attributes::{AttributeType, Attributes};
-pub use cedar_rules::{BoolType, CoreTypeFault, JoinError, JoinOrder, LubHelp, OpenTag, reduce};
-pub use cedar_sorted::{Entries, Names};
+pub use cedar_name_map::{Entries, Names};
+pub use cedar_type_rules::{
+    BoolType, CoreTypeFault, JoinError, JoinOrder, LubHelp, OpenTag, reduce,
+};
 pub use core_type::core_type_of;
 pub use entity_kind::EntityKind;
 pub use entity_lub::EntityLUB;

@@ -9,10 +9,10 @@ ghost use Rattle.cedar_below.specs.RestrictedExpr.{tree_of, trees_of, entries_of
 ghost use Rattle.cedar_below.specs.Tree.{EachTree, SomeTree, entry_names};
 ghost use Rattle.cedar_below.specs.Value.{value_expr};
 ghost use Rattle.cedar_types.specs.MembershipAnswer.{IsMembership};
-ghost use Rattle.cedar_rules.specs.Fields.{field_names};
+ghost use Rattle.cedar_type_rules.specs.Fields.{field_names};
 ghost use Rattle.cedar_types.specs.EntityKind.{kind_ty};
-ghost use Rattle.cedar_rules.specs.Has.{Has, MayHave, Meets, HasFieldsBy, FieldsMeet, MayGive, HasTruth, HasUid};
-ghost use Rattle.cedar_rules.specs.OpenTag.{is_open};
+ghost use Rattle.cedar_type_rules.specs.Has.{Has, MayHave, Meets, HasFieldsBy, FieldsMeet, MayGive, HasTruth, HasUid};
+ghost use Rattle.cedar_type_rules.specs.OpenTag.{is_open};
 ghost use Rattle.cedar_types.specs.Meaning.{ty_of, fields_of};
 
 use crate::attributes::Attributes;
@@ -22,7 +22,7 @@ use crate::types::Type;
 use cedar_below::{
     EntityUID, ExtensionFunctionLookupError, Extensions, Name, RestrictedExpr, Value,
 };
-use cedar_rules::{BoolType, OpenTag};
+use cedar_type_rules::{BoolType, OpenTag};
 use std::collections::BTreeMap;
 
 /// Whether a value has a type, or the lookup fault of a function that it calls.
@@ -130,8 +130,8 @@ fn elements_have<'v>(values: &'v [RestrictedExpr], ty: &Type, extensions: &Exten
 }
 
 /// Whether the listed attributes have their types and those that are required are there, or the
-/// lookup fault of a function that the value of one calls. Past an attribute that settles it, none is
-/// looked at.
+/// lookup fault of a function that the value of one calls. Past an attribute that resolves it, none
+/// is looked at.
 ///
 /// It goes over both together, once.
 #[cycle(member)]

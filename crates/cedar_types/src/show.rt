@@ -5,7 +5,7 @@ ghost use Rattle.std.specs.Fmt.{WritesOnOk};
 ghost use Rattle.std.specs.List.{flat_map};
 ghost use Rattle.cedar_below.specs.EntityType.{type_name};
 ghost use Rattle.cedar_below.specs.PlainName.{name_text};
-ghost use Rattle.cedar_rules.specs.TypeText.{names_text, union_text, tag_text, mark_text, ty_text};
+ghost use Rattle.cedar_type_rules.specs.TypeText.{names_text, union_text, tag_text, mark_text, ty_text};
 ghost use Rattle.cedar_types.specs.EntityKind.{kind_ty};
 ghost use Rattle.cedar_types.specs.EntityLUB.{lub_names};
 ghost use Rattle.cedar_types.specs.Meaning.{ty_of, attribute_of};
@@ -15,7 +15,7 @@ use crate::entity_kind::EntityKind;
 use crate::entity_lub::EntityLUB;
 use crate::types::Type;
 use cedar_below::EntityType;
-use cedar_rules::OpenTag;
+use cedar_type_rules::OpenTag;
 use std::fmt;
 use std::fmt::Display;
 

@@ -1,8 +1,8 @@
 //! Types that are stated with samples, in which no part is without values and all attributes are required.
 
 ghost use Rattle.std.specs.Prelude.{◌≡◌, ◌↔◌, IsTrue, Contains, IfSome, None};
-ghost use Rattle.cedar_rules.specs.Has.{Has};
-ghost use Rattle.cedar_rules.specs.Stated.{AreStatedWith, IsSampled, IsStated, IsStatedWith};
+ghost use Rattle.cedar_type_rules.specs.Has.{Has};
+ghost use Rattle.cedar_type_rules.specs.Stated.{AreStatedWith, IsSampled, IsStated, IsStatedWith};
 ghost use Rattle.cedar_types.specs.Meaning.{ty_of, fields_of};
 ghost use Rattle.cedar_types.specs.Samples.{value_tree, value_trees};
 

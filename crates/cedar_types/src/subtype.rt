@@ -2,8 +2,8 @@
 
 ghost use Rattle.std.specs.Prelude.{◌≡◌, ◌↔◌, IsTrue, map, string_bytes};
 ghost use Rattle.cedar_below.specs.Lists.{Included};
-ghost use Rattle.cedar_rules.specs.Below.{Below, FieldsBelow, AttributeBelow, FlagsBelow, OpennessBelow, NamesBelow};
-ghost use Rattle.cedar_rules.specs.Fields.{IsAscending, field_names};
+ghost use Rattle.cedar_type_rules.specs.Below.{Below, FieldsBelow, AttributeBelow, FlagsBelow, OpennessBelow, NamesBelow};
+ghost use Rattle.cedar_type_rules.specs.Fields.{IsSortedByName, field_names};
 ghost use Rattle.cedar_types.specs.EntityKind.{kind_ty};
 ghost use Rattle.cedar_types.specs.EntityLUB.{lub_names, lub_ty};
 ghost use Rattle.cedar_types.specs.Meaning.{ty_of, fields_of, attribute_of};
@@ -13,7 +13,7 @@ use crate::entity_kind::EntityKind;
 use crate::entity_lub::EntityLUB;
 use crate::types::Type;
 use cedar_below::ValidationMode;
-use cedar_rules::{BoolType, OpenTag};
+use cedar_type_rules::{BoolType, OpenTag};
 
 /// Whether an attribute's flag fits below another's.
 fn flags_fit(lower: bool, upper: bool, mode: ValidationMode) -> bool

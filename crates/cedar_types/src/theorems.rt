@@ -2,29 +2,30 @@
 
 ghost use Rattle.std.specs.Prelude.{◌≡◌, ◌≢◌, ◌↔◌, List, [], ◌∷◌, map, Result, Ok, Err, IsOkAnd};
 ghost use Rattle.std.specs.List.{AllByRecursion};
+ghost use Rattle.cedar_below.specs.FeedsVariant.{FeedsVariantFirst};
 ghost use Rattle.cedar_below.specs.Lists.{Included};
 ghost use Rattle.cedar_below.specs.declared.validation_mode.ValidationMode.{ValidationMode};
 ghost use Rattle.cedar_below.specs.declared.validation_mode.ValidationMode.TheVariants as mode;
-ghost use Rattle.cedar_rules.specs.Agree.{Agree};
-ghost use Rattle.cedar_rules.specs.Below.{Below};
-ghost use Rattle.cedar_rules.specs.Bound.{IsCleanBound};
-ghost use Rattle.cedar_rules.specs.Clean.{IsClean};
-ghost use Rattle.cedar_rules.specs.JoinAnswer.{JoinAnswer, IsLeastAnswer, IsJoinAnswer, IsReduceAnswer, IsAnswerOrMemory};
-ghost use Rattle.cedar_rules.specs.OwnBound.{IsLeastOwnBound};
-ghost use Rattle.cedar_rules.specs.Ty.{never};
-ghost use Rattle.cedar_rules.specs.declared.join_error.JoinError.{JoinError};
-ghost use Rattle.cedar_rules.specs.declared.join_error.JoinError.TheVariants as error;
-ghost use Rattle.cedar_rules.specs.Fields.{IsAscending, field_names};
-ghost use Rattle.cedar_rules.specs.CompareLaws.{ComparesBy};
-ghost use Rattle.cedar_rules.specs.Order.{ty_cmp, fields_cmp, attribute_cmp, union_cmp};
-ghost use Rattle.cedar_rules.specs.InclusionLaws.{SubtypingIsInclusionOf, SubtypingIsInclusionAndNamesOf};
-ghost use Rattle.cedar_types.specs.EntityKind.{kind_ty};
+ghost use Rattle.cedar_type_rules.specs.Agree.{Agree};
+ghost use Rattle.cedar_type_rules.specs.Below.{Below};
+ghost use Rattle.cedar_type_rules.specs.Bound.{IsCleanBound};
+ghost use Rattle.cedar_type_rules.specs.Clean.{IsClean};
+ghost use Rattle.cedar_type_rules.specs.JoinAnswer.{JoinAnswer, IsLeastAnswer, IsJoinAnswer, IsReduceAnswer, IsAnswerOrMemory};
+ghost use Rattle.cedar_type_rules.specs.OwnBound.{IsLeastOwnBound};
+ghost use Rattle.cedar_type_rules.specs.Ty.{never};
+ghost use Rattle.cedar_type_rules.specs.declared.join_error.JoinError.{JoinError};
+ghost use Rattle.cedar_type_rules.specs.declared.join_error.JoinError.TheVariants as error;
+ghost use Rattle.cedar_type_rules.specs.Fields.{IsSortedByName, field_names};
+ghost use Rattle.cedar_type_rules.specs.CompareLaws.{ComparesBy};
+ghost use Rattle.cedar_type_rules.specs.Order.{ty_cmp, fields_cmp, attribute_cmp, union_cmp, kind_rank};
+ghost use Rattle.cedar_type_rules.specs.InclusionLaws.{SubtypingIsInclusionOf, SubtypingIsInclusionAndNamesOf};
+ghost use Rattle.cedar_types.specs.EntityKind.{is_of_union, kind_ty};
 ghost use Rattle.cedar_types.specs.declared.attributes.Attributes.{Attributes};
 ghost use Rattle.cedar_types.specs.declared.entity_kind.EntityKind.{EntityKind};
 ghost use Rattle.cedar_types.specs.declared.types.Type.{«Type»};
 ghost use Rattle.cedar_types.specs.EntityLUB.{lub_names};
 ghost use Rattle.cedar_types.specs.Meaning.{ty_of, attribute_of, fields_of};
-ghost use Rattle.cedar_rules.specs.WellFormed.{IsWellFormed, AreWellFormed, AreTexts};
+ghost use Rattle.cedar_type_rules.specs.WellFormed.{IsWellFormed, AreWellFormed, AreTexts};
 
 use crate::attributes::{AttributeType, Attributes};
 use crate::entity_kind::EntityKind;
@@ -32,12 +33,12 @@ use crate::entity_lub::EntityLUB;
 use crate::types::Type;
 use std::hash::Hash;
 
-/// Each kind of entities and each type stands for a well-formed plain type; and the attributes of each
-/// record have ascending names, which are texts, and stand for well-formed plain types.
+/// Each kind of entities and each type stands for a well-formed plain type; and the attributes of
+/// each record have sorted names, which are texts, and stand for well-formed plain types.
 pub fn types_are_well_formed()
     ensures kinds { (kind : EntityKind) → IsWellFormed (kind_ty kind) }
     ensures types { (ty : «Type») → IsWellFormed (ty_of ty) }
-    ensures ascending { (attributes : Attributes) → IsAscending (fields_of attributes) }
+    ensures sorted_by_name { (attributes : Attributes) → IsSortedByName (fields_of attributes) }
     ensures attributes { (attributes : Attributes) → AreWellFormed (fields_of attributes) }
     ensures texts { (attributes : Attributes) → AreTexts (field_names (fields_of attributes)) }
 {}
@@ -75,8 +76,8 @@ pub fn joins_of_types_are_least_bounds(a: &Type, b: &Type)
         → IsLeastOwnBound mode.Permissive (ty_of a.now) (ty_of b.now) (ty_of join) }
 {}
 
-/// What follows for whatever joins types in turn from `Never`: of clean types it gives their least clean
-/// bound, and where it gives a type, it gives one that stands for the same in whatever order.
+/// What follows for whatever folds types by joins from `Never`: of clean types it gives their least
+/// clean bound, and where it gives a type, it gives one that stands for the same in whatever order.
 pub fn reductions_of_types_are_least_bounds(types: &[Type], others: &[Type])
     ensures of_clean { (mode : ValidationMode) (answer : JoinAnswer) → AllByRecursion IsClean (map ty_of types.now)
         → IsReduceAnswer mode never (map ty_of types.now) answer
@@ -98,7 +99,7 @@ pub fn entity_kinds_compare_by_what_they_stand_for()
 {}
 
 /// Equality, order and hash of types, of attributes and of one attribute go by what they stand for,
-/// whatever their locations: types by kind in the order in which the variants are written, and then by
+/// ignoring locations: types by kind in the order in which the variants are written, and then by
 /// their parts in turn.
 pub fn types_compare_by_what_they_stand_for()
     ensures types { ComparesBy ty_of ty_cmp
@@ -107,4 +108,14 @@ pub fn types_compare_by_what_they_stand_for()
         ⟦<Attributes as PartialEq>⟧.eq ⟦<Attributes as Ord>⟧.cmp ⟦<Attributes as Hash>⟧.hash_input }
     ensures attribute { ComparesBy attribute_of attribute_cmp
         ⟦<AttributeType as PartialEq>⟧.eq ⟦<AttributeType as Ord>⟧.cmp ⟦<AttributeType as Hash>⟧.hash_input }
+{}
+
+/// The hash of a kind of entities is fed the variant first: any entity and a union feed unlike first items.
+pub fn entity_kinds_feed_their_variant()
+    ensures { FeedsVariantFirst is_of_union ⟦<EntityKind as Hash>⟧.hash_input }
+{}
+
+/// The hash of a type is fed the variant first: types of unlike variants feed unlike first items.
+pub fn types_feed_their_variant()
+    ensures { FeedsVariantFirst (λ (ty : «Type»). kind_rank (ty_of ty)) ⟦<Type as Hash>⟧.hash_input }
 {}

@@ -9,21 +9,21 @@ ghost use Rattle.cedar_below.specs.EntityType.{type_name};
 ghost use Rattle.cedar_below.specs.Name.{plain_name};
 ghost use Rattle.cedar_below.specs.Text.{Text};
 ghost use Rattle.cedar_below.specs.LastNamed.{last_named};
-ghost use Rattle.cedar_rules.specs.Fields.{IsRecordOf};
+ghost use Rattle.cedar_type_rules.specs.Fields.{IsRecordOf};
 ghost use Rattle.cedar_types.specs.Attributes.{plain_attributes, plain_required};
 ghost use Rattle.cedar_types.specs.Located.{element_of, listed_at, located_attributes};
 ghost use Rattle.cedar_types.specs.Meaning.{ty_of};
 ghost use Rattle.cedar_below.specs.TypeNames.{primitive_words};
-ghost use Rattle.cedar_rules.specs.Ty.{truth, long, text, any_entity, union_of, any_set, set_of, record_of, extension_of, end};
+ghost use Rattle.cedar_type_rules.specs.Ty.{truth, long, text, any_entity, union_of, any_set, set_of, record_of, extension_of, end};
 ghost use Rattle.cedar_types.specs.declared.attributes.AttributeType.{AttributeType};
 ghost use Rattle.cedar_types.specs.declared.types.Type.{«Type»};
-ghost use Rattle.cedar_rules.specs.declared.bool_type.BoolType.TheVariants as bool_type;
+ghost use Rattle.cedar_type_rules.specs.declared.bool_type.BoolType.TheVariants as bool_type;
 
 use crate::attributes::{AttributeType, Attributes};
 use crate::entity_kind::EntityKind;
 use crate::entity_lub::EntityLUB;
 use cedar_below::{EntityType, M, Name};
-use cedar_rules::{BoolType, OpenTag};
+use cedar_type_rules::{BoolType, OpenTag};
 use std::alloc::Global;
 use std::rc::Rc;
 
@@ -126,7 +126,7 @@ impl Type {
         Type::Entity(EntityKind::AnyEntity)
     }
 
-    /// The type of the entities of one entity type, or want of memory.
+    /// The type of the entities of one entity type.
     pub fn named_entity_reference(alloc: Global, ty: EntityType) -> M<Self>
         ensures { IfOk result (λ entity. ty_of entity ≡ union_of (type_name ty ∷ [])) }
     {
@@ -140,8 +140,8 @@ impl Type {
         Type::ExtensionType { name }
     }
 
-    /// The record type of these attributes, or want of memory. Of repeated names the last wins. The
-    /// items have to come to an end.
+    /// The record type of these attributes. Of repeated names the last wins. The items have to come
+    /// to an end.
     pub fn record_with_attributes<I: IntoIterator<Item = (String, AttributeType)>>(
         alloc: Global,
         items: I,
@@ -158,8 +158,8 @@ impl Type {
         })
     }
 
-    /// The record type of these attributes, each of which has to be there, or want of memory. Of
-    /// repeated names the last wins. The items have to come to an end.
+    /// The record type of these attributes, each of which has to be there. Of repeated names the
+    /// last wins. The items have to come to an end.
     pub fn record_with_required_attributes<I: IntoIterator<Item = (String, Rc<Type>)>>(
         alloc: Global,
         items: I,
@@ -182,7 +182,7 @@ impl Type {
         name == "Bool" || name == "Long" || name == "String"
     }
 
-    /// An equal type, with the same locations of attributes, or want of memory.
+    /// An equal type, with the same locations of attributes.
     pub fn clone(&self) -> M<Self>
         ensures same { IfOk result (λ copy. ty_of copy ≡ ty_of self.now) }
         ensures listed { IfOk result (λ copy. (name : Text) → listed_at name copy ≡ listed_at name self.now) }

@@ -6,7 +6,7 @@ ghost use Rattle.std.proofs.Common.{ap, refl, ◌∙◌};
 ghost use Rattle.std.proofs.lemmas.Bool.{eqb-true};
 
 use cedar_below::M;
-use cedar_closure::TCNode;
+use cedar_graph::TCNode;
 use std::alloc::Global;
 use std::collections::{HashMap, HashSet, hash_set};
 

@@ -1,7 +1,7 @@
 //! Numbers in order: chains of any length, what leads nowhere, and rings.
 
 use cedar_below::M;
-use cedar_closure::{Ordered, topological_order};
+use cedar_graph::{Ordered, topo_sort};
 use shorthand::checked::{one_of, same};
 use std::alloc::Global;
 use std::test::Fail;
@@ -32,9 +32,9 @@ fn chain(alloc: Global, count: usize) -> M<Vec<Vec<usize>>> {
     Ok(targets)
 }
 
-/// What is said of an order: how many numbers it has, the first and the last; or who leads back to itself.
+/// What is said of an order: how many numbers it has, the first and the last; or who is on a cycle.
 fn shown(alloc: Global, targets: &Vec<Vec<usize>>) -> Result<String, Fail> {
-    match topological_order(alloc, targets)? {
+    match topo_sort(alloc, targets)? {
         Ordered::Order(order) => {
             let (count, first, last) = (order.len(), order.first(), order.last());
             Ok(format!(in alloc; "{count} from {first:?} to {last:?}")?)

@@ -2,7 +2,7 @@
 
 use crate::member::{edges_in_all, marks_stand, nodes_of};
 use cedar_below::M;
-use cedar_closure::{TCNode, TcError, add_edges, compute_tc, compute_tc_counted};
+use cedar_graph::{TCNode, TcError, add_edges, compute_tc, compute_tc_counted};
 use shorthand::checked::{holds, same};
 use std::alloc::Global;
 use std::test::Fail;
@@ -43,7 +43,8 @@ fn chains_are_closed(rt: HostRuntime) -> Result<(), Fail> {
     Ok(())
 }
 
-/// What closing answers where cycles are refused: how many edges there are in all, or who leads back to itself.
+/// What closing answers where cycles are refused: how many edges there are in all, or who is on a
+/// cycle.
 fn refusing(alloc: Global, count: u32, edges: &[(u32, u32)]) -> Result<String, Fail> {
     let mut nodes = nodes_of(alloc, count, edges)?;
     match compute_tc(alloc, &mut nodes, true) {

@@ -2,7 +2,7 @@
 
 use crate::member::{Member, marks_stand, nodes_of};
 use cedar_below::M;
-use cedar_closure::{TCNode, TcError, compute_tc};
+use cedar_graph::{TCNode, TcError, compute_tc};
 use shorthand::checked::holds;
 use std::alloc::Global;
 use std::collections::{HashMap, HashSet};
@@ -73,7 +73,7 @@ fn check_closed(alloc: Global, count: u32, edges: &[(u32, u32)]) -> Result<(), F
     Ok(())
 }
 
-/// Whether some number of a graph leads back to itself, as a plain search finds.
+/// Whether some number of a graph is on a cycle, as a plain search finds.
 fn is_cyclic(alloc: Global, count: u32, edges: &[(u32, u32)]) -> M<bool> {
     for from in 0..count {
         if reached(alloc, edges, from)?.contains(&from) {

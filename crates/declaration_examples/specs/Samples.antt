@@ -8,7 +8,7 @@ use Rattle.cedar_names.specs.Expr.{Expr, record_expr, set_expr, long_expr, named
 use Rattle.cedar_names.specs.Reference.{Reference, reference_to}
 use Rattle.cedar_names.specs.declared.json_schema.reference_type.ReferenceType.{ReferenceType}
 use Rattle.cedar_names.specs.declared.json_schema.reference_type.ReferenceType.TheVariants.{Entity, CommonOrEntity}
-use Rattle.cedar_declared.specs.Bag.{Bag, alias_name}
+use Rattle.cedar_declarations.specs.Bag.{Bag, alias_name}
 
 -- the namespace `N`
 abbrev pub sample_namespace : PlainName

@@ -12,18 +12,18 @@ ghost use Rattle.cedar_names.specs.declared.json_schema.entity_type.EntityTypeKi
 ghost use Rattle.cedar_names.specs.declared.json_schema.raw_name.RawName.{RawName};
 ghost use Rattle.cedar_names.specs.RawExpr.{raw_reference};
 ghost use Rattle.cedar_names.specs.declared.json_schema.reference_type.ReferenceType.TheVariants as to;
-ghost use Rattle.cedar_declared.specs.Admits.{Admits};
-ghost use Rattle.cedar_declared.specs.Bag.{alias_name, built_in_name, definitions, defined_names};
-ghost use Rattle.cedar_declared.specs.Counted.{HasToResolve};
-ghost use Rattle.cedar_declared.specs.Names.{ResolvesTo};
-ghost use Rattle.cedar_declared.specs.Descent.{IsDescendant};
-ghost use Rattle.cedar_declared.specs.Fault.{open_record, undeclared_entity_types, type_shadowing, duplicate_entity_type, common_type_cycle, external_below_enumerated, enumerated_below};
-ghost use Rattle.cedar_declared.specs.IllFormed.{IsFault};
+ghost use Rattle.cedar_declarations.specs.Admits.{Admits};
+ghost use Rattle.cedar_declarations.specs.Bag.{alias_name, built_in_name, definitions, defined_names};
+ghost use Rattle.cedar_declarations.specs.Counted.{HasToResolve};
+ghost use Rattle.cedar_declarations.specs.Names.{ResolvesTo};
+ghost use Rattle.cedar_declarations.specs.Descent.{IsDescendant};
+ghost use Rattle.cedar_declarations.specs.Fault.{open_record, undeclared_entity_types, type_shadowing, duplicate_entity_type, common_type_cycle, external_below_enumerated, enumerated_below};
+ghost use Rattle.cedar_declarations.specs.IllFormed.{IsFault};
 ghost use Rattle.declaration_examples.specs.Samples.{within_sample, refer_here, refer_within, entity_here, cycle_bag, both_bag, alias_bag, shadow_bag, actions_bag, tint_bag, known_tint_bag, painted_bag, linked_bag, apart_bag, together_bag, ring_bag, principal_bag, nested_bag, open_bag, external_bag, optional_record};
-ghost use Rattle.cedar_declared.specs.SameBag.{SameBag};
-ghost use Rattle.cedar_declared.specs.Together.{EntitySays};
-ghost use Rattle.cedar_declared.specs.WrittenOut.{WrittenOut};
-ghost use Rattle.cedar_rules.specs.Ty.{long, text, union_of};
+ghost use Rattle.cedar_declarations.specs.SameBag.{SameBag};
+ghost use Rattle.cedar_declarations.specs.Together.{EntitySays};
+ghost use Rattle.cedar_declarations.specs.ElaboratesTo.{ElaboratesTo};
+ghost use Rattle.cedar_type_rules.specs.Ty.{long, text, union_of};
 
 /// Two common types that refer to each other are a cycle, and each is named; a built-in type that
 /// one of them refers to is not, nor is its alias.
@@ -41,19 +41,19 @@ pub fn cycles_name_their_members()
 /// A name that is common and entity is the common type where either may stand, and the entity type
 /// where an entity type has to.
 pub fn common_types_are_preferred()
-    ensures either { (extensions : Extensions) → WrittenOut (definitions both_bag extensions)
+    ensures either { (extensions : Extensions) → ElaboratesTo (definitions both_bag extensions)
         (named (refer_within to.CommonOrEntity (codes "T"))) long }
-    ensures entity { (extensions : Extensions) → WrittenOut (definitions both_bag extensions)
+    ensures entity { (extensions : Extensions) → ElaboratesTo (definitions both_bag extensions)
         (named (refer_within to.Entity (codes "T"))) (union_of (within_sample (codes "T") ∷ [])) }
 {}
 
 /// An entity type takes the alias of its name away; the built-in type keeps its full name.
 pub fn entity_types_take_aliases_away()
-    ensures entity { (extensions : Extensions) → WrittenOut (definitions alias_bag extensions)
+    ensures entity { (extensions : Extensions) → ElaboratesTo (definitions alias_bag extensions)
         (named (refer_here to.CommonOrEntity (codes "String"))) (union_of (alias_name (codes "String") ∷ [])) }
-    ensures built_in { (extensions : Extensions) → WrittenOut (definitions alias_bag extensions)
+    ensures built_in { (extensions : Extensions) → ElaboratesTo (definitions alias_bag extensions)
         (named (reference_to None to.CommonOrEntity (built_in_name (codes "String")))) text }
-    ensures alias { (extensions : Extensions) → WrittenOut (definitions alias_bag extensions)
+    ensures alias { (extensions : Extensions) → ElaboratesTo (definitions alias_bag extensions)
         (named (refer_here to.CommonOrEntity (codes "Long"))) long }
 {}
 

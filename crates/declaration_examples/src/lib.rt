@@ -1,5 +1,5 @@
 //! Worked examples of what bags of declarations say.
 #![tactic(auto)]
 
+pub mod converted_back;
 pub mod examples;
-pub mod written_back;

@@ -1,13 +1,13 @@
-//! What common types are written out as, and why they are refused.
+//! What common types are elaborated as, and why they are refused.
 
 use crate::refusals::refusal_text;
 use cedar_below::InternalName;
-use cedar_declared::SchemaError;
+use cedar_declarations::SchemaError;
+use cedar_elaboration::common_types;
 use cedar_names::json_schema::{RecordType, Type, TypeOfAttribute, TypeVariant};
 use cedar_types::Type as Written;
-use cedar_written::common_types;
 use shorthand::checked::{holds, same};
-use shorthand::names::{internal_name, placed_at, unreserved_id};
+use shorthand::names::{internal_name, located_at, unreserved_id};
 use shorthand::sample_extensions;
 use std::alloc::Global;
 use std::collections::{BTreeMap, BTreeSet};
@@ -46,7 +46,7 @@ fn attributes(
 ) -> Result<BTreeMap<String, TypeOfAttribute<InternalName>>, Fail> {
     let mut attributes = BTreeMap::new(alloc);
     for &(key, required) in KEYS {
-        let (key, loc) = placed_at(key);
+        let (key, loc) = located_at(key);
         let attribute = TypeOfAttribute {
             ty: either(alloc, word)?,
             required,
@@ -65,7 +65,7 @@ fn record(alloc: Global, word: &str, is_open: bool) -> Result<TypeVariant<Intern
     }))
 }
 
-/// The type of a form and a word that is written out.
+/// The type of a form and a word that is elaborated.
 fn variant(alloc: Global, form: &str, word: &str) -> Result<TypeVariant<InternalName>, Fail> {
     match form {
         "entity" => Ok(TypeVariant::Entity {
@@ -115,8 +115,8 @@ fn listed(alloc: Global, types: &BTreeMap<InternalName, Written>) -> Result<Stri
     Ok(shown)
 }
 
-/// The common types of some rows as they are written out, or the refusal.
-fn written_out(
+/// The common types of some rows as they are elaborated, or the refusal.
+fn elaborated(
     alloc: Global,
     rows: &[Row],
 ) -> Result<Result<BTreeMap<InternalName, Written>, SchemaError>, Fail> {
@@ -126,9 +126,9 @@ fn written_out(
     Ok(common_types(alloc, &types, &entities, &extensions))
 }
 
-/// The common types of some rows as they are written out, or why they are refused.
+/// The common types of some rows as they are elaborated, or why they are refused.
 fn outcome(alloc: Global, rows: &[Row]) -> Result<String, Fail> {
-    match written_out(alloc, rows)? {
+    match elaborated(alloc, rows)? {
         Ok(types) => listed(alloc, &types),
         Err(error) => Ok(refusal_text(alloc, error)?),
     }
@@ -140,10 +140,10 @@ const B: Row<'static> = ("B", "record", "C");
 
 const C: Row<'static> = ("C", "long", "");
 
-/// What those are written out as.
+/// What those are elaborated as.
 const WRITTEN: &str = "A=Set<{a: Long,b?: Long,}>;B={a: Long,b?: Long,};C=Long;";
 
-/// Common types, each list with what it is written out as or refused for.
+/// Common types, each list with what it is elaborated as or refused for.
 const OUTCOMES: &[(&[Row<'static>], &str)] = &[
     (&[A, B, C], WRITTEN),
     (&[C, B, A], WRITTEN),
@@ -195,7 +195,7 @@ const OUTCOMES: &[(&[Row<'static>], &str)] = &[
 ];
 
 #[test]
-fn common_types_are_written_out_or_refused(rt: HostRuntime) -> Result<(), Fail> {
+fn common_types_are_elaborated_or_refused(rt: HostRuntime) -> Result<(), Fail> {
     let alloc = rt.alloc();
     for &(rows, expected) in OUTCOMES {
         same(expected, outcome(alloc, rows)?.as_str(), expected)?;
@@ -209,9 +209,9 @@ const LOCATED: &[&str] = &[
     "is_required: false, loc: Some(Loc { source: 2, start: 2, stop: 5 })",
 ];
 
-/// What a record type with attributes at places is written out as, with all that it holds.
+/// What a record type with attributes at places is elaborated as, with all that it holds.
 fn with_locations(alloc: Global) -> Result<String, Fail> {
-    let written = written_out(alloc, &[("A", "record", "User")])??;
+    let written = elaborated(alloc, &[("A", "record", "User")])??;
     Ok(format!(in alloc; "{written:?}")?)
 }
 

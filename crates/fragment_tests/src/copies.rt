@@ -1,4 +1,4 @@
-//! Copies of fragments, before and after their names are settled.
+//! Copies of fragments, before and after their names are resolved.
 
 use crate::declarations::fragment_of;
 use cedar_below::{EntityType, InternalName};
@@ -22,8 +22,8 @@ fn copies_of_fragments_show_the_same(rt: HostRuntime) -> Result<(), Fail> {
     same("a copy", copied.as_str(), shown.as_str())
 }
 
-/// The fragment of a text, with its names settled among its own.
-pub(crate) fn settled_fragment(
+/// The fragment of a text, with its names resolved among its own.
+pub(crate) fn resolved_fragment(
     alloc: Global,
     text: &str,
 ) -> Result<ValidatorSchemaFragment<InternalName, EntityType>, Fail> {
@@ -33,9 +33,9 @@ pub(crate) fn settled_fragment(
 }
 
 #[test]
-fn copies_of_settled_fragments_show_the_same(rt: HostRuntime) -> Result<(), Fail> {
+fn copies_of_resolved_fragments_show_the_same(rt: HostRuntime) -> Result<(), Fail> {
     let alloc = rt.alloc();
-    let fragment = settled_fragment(alloc, WRITTEN)?;
+    let fragment = resolved_fragment(alloc, WRITTEN)?;
     let shown = format!(in alloc; "{fragment:?}")?;
     let copied = format!(in alloc; "{:?}", fragment.clone()?)?;
     same("a copy", copied.as_str(), shown.as_str())

@@ -11,10 +11,10 @@ use shorthand::{declare, nothing};
 use std::alloc::Global;
 use std::test::Fail;
 
-/// A definition whose names say what they may stand for.
+/// A definition over conditional names.
 pub(crate) type Definition = ValidatorNamespaceDef<ConditionalName, ConditionalName>;
 
-/// A fragment whose names say what they may stand for.
+/// A fragment over conditional names.
 pub(crate) type Conditional = ValidatorSchemaFragment<ConditionalName, ConditionalName>;
 
 /// The definition of a namespace that a text spells.

@@ -4,7 +4,7 @@ use crate::declarations::{Conditional, Definition, definition_of, fragment_of};
 use cedar_fragments::namespace::ValidatorNamespaceDef;
 use cedar_names::json_schema::{ConditionalName, Type, TypeVariant};
 use shorthand::checked::{holds, same};
-use shorthand::names::{internal_namespace, placed_at, unreserved_id};
+use shorthand::names::{internal_namespace, located_at, unreserved_id};
 use std::alloc::Global;
 use std::collections::HashMap;
 use std::test::Fail;
@@ -61,7 +61,7 @@ fn definitions_show_their_names(rt: HostRuntime) -> Result<(), Fail> {
 
 /// Whole numbers, at a place.
 fn long() -> Type<ConditionalName> {
-    let (_, loc) = placed_at("Long@1");
+    let (_, loc) = located_at("Long@1");
     Type::Plain {
         ty: TypeVariant::Long,
         loc,

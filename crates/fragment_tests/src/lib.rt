@@ -1,5 +1,5 @@
-//! Tests of fragments, of the names that they declare and define, of what references resolve to, and of
-//! common types that are written out.
+//! Tests of fragments, of the names that they declare and define, of what references resolve to,
+//! and of common types that are elaborated.
 #![tactic(auto)]
 
 #[cfg(test)]

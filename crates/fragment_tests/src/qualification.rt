@@ -1,30 +1,29 @@
-//! What fragments become that are settled together, and what they are refused for.
+//! What fragments become that are resolved together, and what they are refused for.
 
-use crate::copies::settled_fragment;
+use crate::copies::resolved_fragment;
 use crate::declarations::fragments_of;
 use crate::refusals::refusal_text;
-use cedar_declared::SchemaError;
-use cedar_gathered::gather;
-use cedar_resolved::{Settled, settle};
+use cedar_declarations::SchemaError;
+use cedar_resolution::{Resolved, collect_declarations, resolve_fragments};
 use shorthand::checked::{holds, same};
 use shorthand::names::internal_name;
 use shorthand::sample_extensions;
 use std::alloc::Global;
 use std::test::Fail;
 
-/// What settled fragments are shown as, or why they are refused.
-fn shown(alloc: Global, settled: Result<Settled, SchemaError>) -> Result<String, Fail> {
-    match settled {
-        Ok(settled) => Ok(format!(in alloc; "{:?}", settled.fragments)?),
+/// What resolved fragments are shown as, or why they are refused.
+fn shown(alloc: Global, resolved: Result<Resolved, SchemaError>) -> Result<String, Fail> {
+    match resolved {
+        Ok(resolved) => Ok(format!(in alloc; "{:?}", resolved.fragments)?),
         Err(error) => Ok(refusal_text(alloc, error)?),
     }
 }
 
-/// The same of the fragments of some texts.
+/// What becomes of the fragments of some texts.
 fn outcome(alloc: Global, texts: &[&str]) -> Result<String, Fail> {
     let extensions = sample_extensions(alloc)?;
     let fragments = fragments_of(alloc, texts)?;
-    shown(alloc, settle(alloc, fragments, &extensions))
+    shown(alloc, resolve_fragments(alloc, fragments, &extensions))
 }
 
 /// What stands before and after the name of an entity type that an attribute is of.
@@ -34,22 +33,22 @@ const ATTRIBUTE: (&str, &str) = (
      loc: Some(Loc { source: 3, start: 2, stop: 5 }) }",
 );
 
-/// The same of the type of the one parent of an action.
+/// What stands before and after the type of the one parent of an action.
 const PARENT: (&str, &str) = (
     "parents: [ActionParent { id: \"b\", ty: EntityType(Name { name: ",
     " }), loc: Some(Loc { source: 1, start: 2, stop: 5 }) }]",
 );
 
-/// The same of the one principal of requests.
+/// What stands before and after the one principal of requests.
 const PRINCIPAL: (&str, &str) = ("principals: [", "], resources: []");
 
-/// The same of the common type that another one refers to.
+/// What stands before and after the common type that another one refers to.
 const REFERENCE: (&str, &str) = (
     "CommonTypeRef { type_name: ",
     ", loc: Some(Loc { source: 2, start: 2, stop: 5 }) }",
 );
 
-/// The same of an external entity type, which is declared without parents.
+/// What stands before and after an external entity type, which is declared without parents.
 const EXTERNAL: (&str, &str) = (
     "EntityTypeDef { name: EntityType(Name { name: ",
     " }), fragment: External { parents: [] } }",
@@ -125,7 +124,7 @@ fn names_are_those_of_what_is_declared(rt: HostRuntime) -> Result<(), Fail> {
     Ok(())
 }
 
-/// Fragments, each with the refusal of settling them.
+/// Fragments, each with the refusal of resolution them.
 const REFUSED: &[(&[&str], &str)] = &[
     (
         &["N: entity T", "N::M: entity U {a@3: e:T@2}"],
@@ -175,10 +174,10 @@ fn what_names_nothing_or_shadows_is_refused(rt: HostRuntime) -> Result<(), Fail>
     Ok(())
 }
 
-/// How many common types, entity types and actions are gathered from the fragment of a text.
-fn gathered(alloc: Global, text: &str) -> Result<(usize, usize, usize), Fail> {
-    let fragment = settled_fragment(alloc, text)?;
-    let declared = gather(alloc, vec![in alloc; fragment]?)?;
+/// How many common types, entity types and actions are collected from the fragment of a text.
+fn collected(alloc: Global, text: &str) -> Result<(usize, usize, usize), Fail> {
+    let fragment = resolved_fragment(alloc, text)?;
+    let declared = collect_declarations(alloc, vec![in alloc; fragment]?)?;
     Ok((
         declared.common_types.len(),
         declared.entity_types.len(),
@@ -187,8 +186,8 @@ fn gathered(alloc: Global, text: &str) -> Result<(usize, usize, usize), Fail> {
 }
 
 #[test]
-fn declarations_are_gathered(rt: HostRuntime) -> Result<(), Fail> {
+fn declarations_are_collected(rt: HostRuntime) -> Result<(), Fail> {
     let text = "N: type C = Long; entity U; external entity T; action view";
-    let counts = gathered(rt.alloc(), text)?;
+    let counts = collected(rt.alloc(), text)?;
     holds(counts == (1, 2, 1), text)
 }

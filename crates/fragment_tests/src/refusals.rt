@@ -1,7 +1,7 @@
 //! Refusals as texts.
 
 use cedar_below::{M, Memory};
-use cedar_declared::SchemaError;
+use cedar_declarations::SchemaError;
 use std::alloc::Global;
 
 /// What is printed of a refusal.

@@ -2,11 +2,11 @@
 
 use crate::declarations::fragments_of;
 use crate::refusals::refusal_text;
-use cedar_actions::ValidatorApplySpec;
 use cedar_below::{EntityType, InternalName};
-use cedar_declared::SchemaError;
+use cedar_declarations::SchemaError;
 use cedar_fragments::defs::{AllDefs, ResolveName, resolve_all};
 use cedar_names::json_schema::{ConditionalName, QualifyError, ReferenceType};
+use cedar_schema_elements::ValidatorApplySpec;
 use shorthand::checked::same;
 use shorthand::names::{internal_name, raw};
 use std::alloc::Global;
@@ -128,7 +128,7 @@ fn of_one(alloc: Global, spec: &ValidatorApplySpec<EntityType>) -> Result<String
     Ok(format!(in alloc; "{principal} on {resource}")?)
 }
 
-/// The same of requests that came to name what is defined, or why they were refused.
+/// What is printed of requests that came to name what is defined, or why they were refused.
 fn requested(
     alloc: Global,
     qualified: Result<ValidatorApplySpec<EntityType>, SchemaError>,

@@ -70,10 +70,10 @@ fn raw_names_keep_the_name(rt: HostRuntime) -> Result<(), Fail> {
     let alloc = rt.alloc();
     let raw = raw(alloc, "Shop::User", Some(PLACE))?;
     same("Shop::User", raw.to_string(alloc)?.as_str(), "Shop::User")?;
-    let is_at_place = raw.loc() == Some(PLACE);
+    let is_at_location = raw.loc() == Some(PLACE);
     let is_base = raw.as_internal().basename().as_str() == "User";
     holds(
-        is_at_place && is_base && raw.into_internal().path().len() == 1,
+        is_at_location && is_base && raw.into_internal().path().len() == 1,
         "User",
     )
 }
@@ -140,7 +140,7 @@ fn errors_print_their_cause(rt: HostRuntime) -> Result<(), Fail> {
 }
 
 #[test]
-fn want_of_memory_is_an_error(rt: HostRuntime) -> Result<(), Fail> {
+fn out_of_memory_is_an_error(rt: HostRuntime) -> Result<(), Fail> {
     let error = QualifyError::from(Memory);
     holds(matches!(error, QualifyError::Memory(Memory)), "memory")?;
     same(

@@ -43,7 +43,7 @@ fn shared_common_types(alloc: Global, depth: u32) -> M<String> {
 }
 
 #[test]
-fn a_long_chain_of_common_types_is_written_out(rt: HostRuntime) -> Result<(), Fail> {
+fn a_long_chain_of_common_types_is_elaborated(rt: HostRuntime) -> Result<(), Fail> {
     let alloc = rt.alloc();
     let text = chain_of_common_types(alloc, 10_000)?;
     let shown = shown(alloc, &schema_of(alloc, text.as_str())?)?;
@@ -69,7 +69,7 @@ fn a_long_chain_of_entity_types_is_closed(rt: HostRuntime) -> Result<(), Fail> {
 }
 
 #[test]
-fn shared_common_types_are_written_out_once(rt: HostRuntime) -> Result<(), Fail> {
+fn shared_common_types_are_elaborated_once(rt: HostRuntime) -> Result<(), Fail> {
     let alloc = rt.alloc();
     let text = shared_common_types(alloc, 12)?;
     let shown = shown(alloc, &schema_of(alloc, text.as_str())?)?;
@@ -77,9 +77,9 @@ fn shared_common_types_are_written_out_once(rt: HostRuntime) -> Result<(), Fail>
 }
 
 #[test]
-fn what_is_written_out_is_shared(rt: HostRuntime) -> Result<(), Fail> {
+fn what_is_elaborated_is_shared(rt: HostRuntime) -> Result<(), Fail> {
     let alloc = rt.alloc();
-    // Written out anew at each place, this type would have 2 to the 64 parts.
+    // Elaborated anew at each place, this type would have 2 to the 64 parts.
     let text = shared_common_types(alloc, 64)?;
     let names = answer(alloc, &schema_of(alloc, text.as_str())?, "names")?;
     same("the names", names.as_str(), "U")

@@ -2,13 +2,13 @@
 #![tactic(auto)]
 
 #[cfg(test)]
+mod borrowed;
+#[cfg(test)]
 mod known;
 #[cfg(test)]
 mod large;
 #[cfg(test)]
-mod lent;
-#[cfg(test)]
-mod places;
+mod locations;
 #[cfg(test)]
 mod queries;
 #[cfg(test)]

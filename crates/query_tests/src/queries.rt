@@ -563,11 +563,12 @@ const LINKED: &[(&str, Questions)] = &[
 ];
 
 #[test]
-fn places_are_those_of_the_definition(rt: HostRuntime) -> Result<(), Fail> {
+fn locations_are_those_of_the_definition(rt: HostRuntime) -> Result<(), Fail> {
     check_all(rt.alloc(), LINKED)
 }
 
-/// An external declaration beside the definition, in either order, and where the names were written that are lent.
+/// An external declaration beside the definition, in either order, and where the names were written
+/// that are borrowed.
 const LENT: &[&str] = &[
     "external entity U@1; external action view@3@4 | entity U@11; entity V@12 in U; action view@13@14 P V R U; \
      action edit@15@16 in view",
@@ -587,19 +588,19 @@ const OF_LENT: Questions = &[
 ];
 
 #[test]
-fn names_are_lent_as_their_definitions_are_located(rt: HostRuntime) -> Result<(), Fail> {
+fn names_are_borrowed_as_their_definitions_are_located(rt: HostRuntime) -> Result<(), Fail> {
     for text in LENT {
         check_kept(rt.alloc(), text, OF_LENT)?;
     }
     Ok(())
 }
 
-/// External declarations alone, and where the names were written that are lent of them.
+/// External declarations alone, and where the names were written that are borrowed of them.
 const LENT_EXTERNAL: &str =
     "external entity U@1; external action view@3@4; action edit@5@6 in view";
 
 #[test]
-fn names_of_external_declarations_are_lent(rt: HostRuntime) -> Result<(), Fail> {
+fn names_of_external_declarations_are_borrowed(rt: HostRuntime) -> Result<(), Fail> {
     let wanted = &[
         ("lent names", "1;"),
         ("lent uids", "6;4;"),
@@ -636,7 +637,7 @@ fn check_allowed(alloc: Global, text: &str, rows: Questions) -> Result<(), Fail>
 }
 
 #[test]
-fn places_of_external_declarations_are_those_of_one(rt: HostRuntime) -> Result<(), Fail> {
+fn locations_of_external_declarations_are_those_of_one(rt: HostRuntime) -> Result<(), Fail> {
     for text in EXTERNAL {
         check_allowed(rt.alloc(), text, OF_EXTERNAL)?;
     }

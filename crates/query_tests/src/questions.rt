@@ -7,8 +7,9 @@
 //! - of a principal and a resource: `actions_for U Photo`
 //! - of the whole: `names`, `uids`, `principals`, `resources`, `groups`, `entities`, `leaves` of all types, `lacks`,
 //!   `is_complete`, `check`, `copy`, and for the environments of requests in either mode `strict` and `permissive`
-//! - of what is known of types, of where things were written, and of where the names were that are lent: as `known`,
-//!   `places` and `lent` say
+//! - of what is known of types, of where things were written, and of where the names were that are
+//! borrowed: as `known`,
+//!   `locations` and `borrowed` say
 //!
 //! A list stands between commas, with `-` for an empty one. An answer's items stand between blanks, and
 //! `None` stands for no answer. Principals, resources, leaves, environments, and the types in an entity type but for
@@ -16,9 +17,9 @@
 
 ghost use Rattle.std.specs.Iterator.{IsFinite};
 
+use crate::borrowed::{borrowed, borrowed_above};
 use crate::known::{of_literal, of_literal_entity, of_types};
-use crate::lent::{lent, lent_above};
-use crate::places::{common_types, lacking_at, namespaces, place};
+use crate::locations::{common_types, lacking_at, location, namespaces};
 use crate::schemas::shown;
 use cedar_schema::below::{Entity, EntityType, EntityUID, M, ValidationMode};
 use cedar_schema::{CompleteError, IncompleteSchemaError, UnresolvedDeclaration, ValidatorSchema};
@@ -322,8 +323,8 @@ pub(crate) fn answer(
         "actions_in" => actions_in(alloc, schema, of),
         "literal" => of_literal(alloc, schema, of),
         "attributes_of" => of_literal_entity(alloc, schema, of),
-        "lent" => lent(alloc, schema, of),
-        "lent_above" => lent_above(alloc, schema, of),
+        "lent" => borrowed(alloc, schema, of),
+        "lent_above" => borrowed_above(alloc, schema, of),
         "find" | "ancestors" | "types_in" | "is_type" => of_type(alloc, schema, word, of),
         "known"
         | "known_one"
@@ -333,7 +334,7 @@ pub(crate) fn answer(
         | "may_have_tags"
         | "are_declared" => of_types(alloc, schema, word, of),
         _ => match word.strip_suffix("_at") {
-            Some(thing) => place(alloc, schema, thing, of),
+            Some(thing) => location(alloc, schema, thing, of),
             None => of_action(alloc, schema, word, of),
         },
     }

@@ -7,23 +7,23 @@ use Rattle.cedar_below.specs.IsValue.{IsText}
 use Rattle.cedar_below.specs.Text.{Text}
 use Rattle.cedar_below.specs.declared.validation_mode.ValidationMode.{ValidationMode}
 use Rattle.cedar_below.specs.declared.validation_mode.ValidationMode.TheVariants.{Strict, Permissive}
-use Rattle.cedar_rules.proofs.ApartLemmas.{AreApart-truth_text}
+use Rattle.cedar_type_rules.proofs.ApartLemmas.{AreApart-truth_text}
 use Rattle.rule_examples.proofs.JoinExamples.{sets_join-apart, records_join-strict}
-use Rattle.cedar_rules.proofs.JoinLemmas.{upper_is_join}
-use Rattle.cedar_rules.proofs.ReduceLemmas.{reduced_once, refused_first}
-use Rattle.cedar_rules.proofs.SubtypeLaws.{HasBelow-of, HasField-named}
-use Rattle.cedar_rules.specs.Below.{Below, HasField}
-use Rattle.cedar_rules.specs.Help.{IsHelp}
-use Rattle.cedar_rules.specs.JoinAnswer.{IsJoinAnswer, IsReduceAnswer, JoinAnswer}
-use Rattle.cedar_rules.specs.OwnBound.{HaveOwnBound}
+use Rattle.cedar_type_rules.proofs.JoinLemmas.{upper_is_join}
+use Rattle.cedar_type_rules.proofs.ReduceLemmas.{reduced_once, refused_first}
+use Rattle.cedar_type_rules.proofs.SubtypeLaws.{HasBelow-of, HasField-named}
+use Rattle.cedar_type_rules.specs.Below.{Below, HasField}
+use Rattle.cedar_type_rules.specs.Help.{IsHelp}
+use Rattle.cedar_type_rules.specs.JoinAnswer.{IsJoinAnswer, IsReduceAnswer, JoinAnswer}
+use Rattle.cedar_type_rules.specs.OwnBound.{HaveOwnBound}
 use Rattle.rule_examples.specs.Samples.{bar_and_false, bar_and_text, required_y, optional_y, text_y, open_y, twice_y, unit_record, set_of_truths, set_of_longs}
-use Rattle.cedar_rules.specs.Ty.{Ty, never, long, text, any_set, record_of, end, field}
-use Rattle.cedar_rules.specs.WellFormed.{IsWellFormed}
-use Rattle.cedar_rules.specs.declared.bool_type.BoolType.TheVariants.{False}
-use Rattle.cedar_rules.specs.declared.join_error.LubHelp.{LubHelp}
-use Rattle.cedar_rules.specs.declared.join_error.LubHelp.TheVariants as help
-use Rattle.cedar_rules.specs.declared.open_tag.OpenTag.{OpenTag}
-use Rattle.cedar_rules.specs.declared.open_tag.OpenTag.TheVariants.{OpenAttributes, ClosedAttributes}
+use Rattle.cedar_type_rules.specs.Ty.{Ty, never, long, text, any_set, record_of, end, field}
+use Rattle.cedar_type_rules.specs.WellFormed.{IsWellFormed}
+use Rattle.cedar_type_rules.specs.declared.bool_type.BoolType.TheVariants.{False}
+use Rattle.cedar_type_rules.specs.declared.join_error.LubHelp.{LubHelp}
+use Rattle.cedar_type_rules.specs.declared.join_error.LubHelp.TheVariants as help
+use Rattle.cedar_type_rules.specs.declared.open_tag.OpenTag.{OpenTag}
+use Rattle.cedar_type_rules.specs.declared.open_tag.OpenTag.TheVariants.{OpenAttributes, ClosedAttributes}
 
 -- a name is among itself alone
 among_itself : (name : Text) → Contains (name ∷ []) name

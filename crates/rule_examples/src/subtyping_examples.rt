@@ -9,14 +9,14 @@ ghost use Rattle.cedar_below.specs.Tree.{Trees, no_tree, tree, no_entry, entry};
 ghost use Rattle.cedar_below.specs.declared.extension.Extensions.{Extensions};
 ghost use Rattle.cedar_below.specs.declared.validation_mode.ValidationMode.{ValidationMode};
 ghost use Rattle.cedar_below.specs.declared.validation_mode.ValidationMode.TheVariants.{Strict, Permissive};
-ghost use Rattle.cedar_rules.specs.Agree.{Agree};
-ghost use Rattle.cedar_rules.specs.Below.{Below};
-ghost use Rattle.cedar_rules.specs.Has.{Has, MayHave, Meets};
+ghost use Rattle.cedar_type_rules.specs.Agree.{Agree};
+ghost use Rattle.cedar_type_rules.specs.Below.{Below};
+ghost use Rattle.cedar_type_rules.specs.Has.{Has, MayHave, Meets};
 ghost use Rattle.rule_examples.specs.TakesText.{TakesText};
-ghost use Rattle.cedar_rules.specs.Ty.{Ty, never, truth, long, text, any_entity, union_of, any_set, set_of, record_of, extension_of};
-ghost use Rattle.cedar_rules.specs.Ty.{end, field};
-ghost use Rattle.cedar_rules.specs.declared.bool_type.BoolType.TheVariants as bool_type;
-ghost use Rattle.cedar_rules.specs.declared.open_tag.OpenTag.TheVariants.{OpenAttributes, ClosedAttributes};
+ghost use Rattle.cedar_type_rules.specs.Ty.{Ty, never, truth, long, text, any_entity, union_of, any_set, set_of, record_of, extension_of};
+ghost use Rattle.cedar_type_rules.specs.Ty.{end, field};
+ghost use Rattle.cedar_type_rules.specs.declared.bool_type.BoolType.TheVariants as bool_type;
+ghost use Rattle.cedar_type_rules.specs.declared.open_tag.OpenTag.TheVariants.{OpenAttributes, ClosedAttributes};
 
 /// Sets are below sets of more, and all are below the any-set.
 pub fn sets_by_example()

@@ -8,12 +8,12 @@ use Rattle.std.specs.declared.string.String.{String}
 use Rattle.cedar_below.specs.LastNamed.{last_named}
 use Rattle.cedar_below.specs.Text.{Text}
 use Rattle.cedar_below.specs.declared.extension.Extensions.{Extensions}
-use Rattle.cedar_rules.proofs.SubtypeLemmas.{found-HasField}
-use Rattle.cedar_rules.specs.Below.{HasField}
-use Rattle.cedar_rules.specs.Fields.{IsRecordOf}
-use Rattle.cedar_rules.specs.Stated.{AreStatedWith, IsStatedWith}
-use Rattle.cedar_rules.specs.Ty.{Fields, Ty, end, field}
-use Rattle.cedar_rules.specs.declared.open_tag.OpenTag.{OpenTag}
+use Rattle.cedar_type_rules.proofs.SubtypeLemmas.{found-HasField}
+use Rattle.cedar_type_rules.specs.Below.{HasField}
+use Rattle.cedar_type_rules.specs.Fields.{IsRecordOf}
+use Rattle.cedar_type_rules.specs.Stated.{AreStatedWith, IsStatedWith}
+use Rattle.cedar_type_rules.specs.Ty.{Fields, Ty, end, field}
+use Rattle.cedar_type_rules.specs.declared.open_tag.OpenTag.{OpenTag}
 use Rattle.cedar_types.specs.Attributes.{plain_required}
 use Rattle.cedar_types.specs.Meaning.{ty_of}
 use Rattle.cedar_types.specs.declared.types.Type.{«Type»}

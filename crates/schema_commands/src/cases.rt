@@ -81,7 +81,7 @@ fn cycle_record(alloc: Global) -> M<RecordType<RawName>> {
     Ok(record)
 }
 
-/// Common types that lead back to one another.
+/// Common types that form a cycle.
 fn cycle(alloc: Global) -> M<Vec<Fragment<RawName>>> {
     let record = plain(TypeVariant::Record(cycle_record(alloc)?));
     let mut definition = nothing(alloc);

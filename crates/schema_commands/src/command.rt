@@ -12,7 +12,7 @@ pub enum Case {
     Alias,
     /// A name that is declared as a common type and as an entity type.
     Both,
-    /// Common types that lead back to one another.
+    /// Common types that form a cycle.
     Cycle,
     /// No fragments.
     Empty,

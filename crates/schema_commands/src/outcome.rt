@@ -99,8 +99,8 @@ fn outcome_of(alloc: Global, command: Command) -> M<Outcome>
     }
 }
 
-/// Writes what a command gave, and answers the status: its own, 3 for want of memory, or 4 where `out`
-/// couldn't be written. A failed write to `err` is ignored.
+/// Writes what a command gave, and answers the status: its own, 3 where memory ran out, or 4 where
+/// `out` couldn't be written. A failed write to `err` is ignored.
 pub fn finish<O: Write, E: Write>(outcome: M<Outcome>, out: &mut O, err: &mut E) -> u8
     ensures given { IfOk outcome (λ given. (result ≡ given.status) ⊎ (result ≡ 4)) }
     ensures refused { OnErr outcome (result ≡ 3) }
@@ -122,7 +122,7 @@ pub fn finish<O: Write, E: Write>(outcome: M<Outcome>, out: &mut O, err: &mut E)
 /// - 0: what was asked for is printed on `out`.
 /// - 1: the schema or the join was refused; `out` has the line `refused: KIND`.
 /// - 2: the words give no command; `err` has the line on usage.
-/// - 3: memory was wanting; `err` has the line `memory`, and nothing was printed on `out`.
+/// - 3: memory ran out; `err` has the line `memory`, and nothing was printed on `out`.
 /// - 4: `out` couldn't be written.
 ///
 /// A failed write to `err` is ignored.
@@ -136,8 +136,8 @@ pub fn run<O: Write, E: Write>(alloc: Global, words: &[String], out: &mut O, err
     finish(outcome_of(alloc, command), out, err)
 }
 
-/// Answers the status where the words couldn't be read: 3 for want of memory, and 2 for a word that is
-/// no text. A failed write to `err` is ignored.
+/// Answers the status where the words couldn't be read: 3 where memory ran out, and 2 for a word
+/// that is no text. A failed write to `err` is ignored.
 pub fn unread<E: Write>(error: &io::Error, err: &mut E) -> u8
     ensures { (result ≡ 2) ⊎ (result ≡ 3) }
 {

@@ -121,7 +121,7 @@ fn text_of(alloc: Global, lines: &[String]) -> M<String> {
     Ok(text)
 }
 
-/// The lines that show a schema, sorted by their bytes, each ended by a line feed. Or want of memory.
+/// The lines that show a schema, sorted by their bytes, each ended by a line feed.
 ///
 /// - `entity NAME KIND` for each entity type, KIND being `standard`, `enum` or `external`
 /// - `attr NAME ATTR: TYPE` for each of its attributes, with `ATTR?:` where it is optional

@@ -8,13 +8,13 @@
 //! - `action view in all,N::Action::read P A,B R C context {a: Long} attributes`, with `-` for no types
 //! - `external` before `entity` or `action`
 //! - `N::M: entity U`, or `N::M:` for a namespace that declares nothing
-//! - places: `entity U@1`, `type T@1 = Long@2`, `action view@1@2 in all@3` for the action, its id and its parent,
+//! - locations: `entity U@1`, `type T@1 = Long@2`, `action view@1@2 in all@3` for the action, its id and its parent,
 //!   `N@1@2: entity U` for the name of the namespace and its definition, and as `types` says of types and attributes
 //!
 //! A text that spells none of these fails by name.
 
 use crate::entries::{action, entity_type, id_text};
-use crate::names::{namespace, placed_at, unreserved_id};
+use crate::names::{located_at, namespace, unreserved_id};
 use crate::types::written_type;
 use cedar_below::M;
 use cedar_names::json_schema::{CommonType, CommonTypeId, Fragment, NamespaceDefinition, RawName};
@@ -41,7 +41,7 @@ fn add_common_type(
     let Some((name, body)) = text.split_once(" = ") else {
         return Err(Fail::new(format_args!("no body: {text}")));
     };
-    let (name, loc) = placed_at(name);
+    let (name, loc) = located_at(name);
     let id = CommonTypeId::new(unreserved_id(alloc, name)?).ok_or("a word of Cedar's own")?;
     let ty = written_type(alloc, body)?;
     let declared = CommonType { ty, loc };
@@ -100,7 +100,7 @@ pub fn declare(
 }
 
 /// The text of a declaration's namespace, and the declaration, which is missing only after a namespace.
-pub fn placed(text: &str) -> (&str, Option<&str>) {
+pub fn within_namespace(text: &str) -> (&str, Option<&str>) {
     let (word, rest) = match text.split_once(' ') {
         Some((word, rest)) => (word, Some(rest)),
         None => (text, None),
@@ -117,8 +117,8 @@ fn add_declaration(
     fragment: &mut Fragment<RawName>,
     text: &str,
 ) -> Result<bool, Fail> {
-    let (within, declaration) = placed(text);
-    let (within, loc) = placed_at(within);
+    let (within, declaration) = within_namespace(text);
+    let (within, loc) = located_at(within);
     let within = namespace(alloc, within)?;
     let definition = fragment.0.entry(within)?.or_insert_with(|| nothing(alloc));
     definition.loc = loc.or(definition.loc);

@@ -1,6 +1,6 @@
 //! Declarations of entity types and of actions that texts spell, as plain data.
 
-use crate::names::{placed_at, raw, raws};
+use crate::names::{located_at, raw, raws};
 use crate::types::{empty_record, written_type};
 use cedar_below::{Eid, NonEmpty};
 use cedar_names::json_schema::{
@@ -95,7 +95,7 @@ fn standard(alloc: Global, text: &str) -> Result<(&str, EntityTypeKind<RawName>)
     Ok((name, EntityTypeKind::Standard(standard)))
 }
 
-/// The name and the declaration of an entity type, a standard one or `U enum red,green`, with a place behind its name.
+/// The name and the declaration of an entity type, a standard one or `U enum red,green`, with a location behind its name.
 pub(crate) fn entity_type(
     alloc: Global,
     text: &str,
@@ -108,7 +108,7 @@ pub(crate) fn entity_type(
         }
         None => standard(alloc, text)?,
     };
-    let (name, loc) = placed_at(name);
+    let (name, loc) = located_at(name);
     let declared = EntityType {
         kind,
         external,
@@ -117,10 +117,10 @@ pub(crate) fn entity_type(
     Ok((name, declared))
 }
 
-/// The reference to an action that is written as its id, with its type and `::` before it or without, and a place
+/// The reference to an action that is written as its id, with its type and `::` before it or without, and a location
 /// behind it.
 fn group(alloc: Global, text: &str) -> Result<ActionEntityUID<RawName>, Fail> {
-    let (text, loc) = placed_at(text);
+    let (text, loc) = located_at(text);
     let (ty, id) = match text.rsplit_once("::") {
         Some((ty, id)) => (Some(raw(alloc, ty)?), id),
         None => (None, text),
@@ -179,7 +179,7 @@ fn without_attributes(text: &str) -> (&str, bool) {
 }
 
 /// The text of the id and the declaration of an action,
-/// `view in all,N::Action::read P A,B R C context {} attributes`, with the places of the declaration and of the id behind
+/// `view in all,N::Action::read P A,B R C context {} attributes`, with the locations of the declaration and of the id behind
 /// the id.
 pub(crate) fn action(
     alloc: Global,
@@ -189,8 +189,8 @@ pub(crate) fn action(
     let (text, with_attributes) = without_attributes(text);
     let (text, applies) = parts(text, " P ");
     let (id, above) = parts(text, " in ");
-    let (id, defn_loc) = placed_at(id);
-    let (id, loc) = placed_at(id);
+    let (id, defn_loc) = located_at(id);
+    let (id, loc) = located_at(id);
     let declared = ActionType {
         attributes: if with_attributes {
             Some(BTreeMap::new(alloc))

@@ -1,4 +1,4 @@
-//! Names that texts spell, and places. A text that spells no name fails by name.
+//! Names that texts spell, and locations. A text that spells no name fails by name.
 
 use cedar_below::{Eid, EntityType, EntityUID, Id, InternalName, Loc, Name, UnreservedId};
 use cedar_names::json_schema::RawName;
@@ -8,9 +8,9 @@ use std::test::Fail;
 /// The text of no names in a list.
 pub const NONE: &str = "-";
 
-/// What stands before an `@` and a number at the end of a text, and the place in the text of that number; or the
-/// whole text, and no place.
-pub fn placed_at(text: &str) -> (&str, Option<Loc>) {
+/// What stands before an `@` and a number at the end of a text, and the location in the text of that number; or the
+/// whole text, and no location.
+pub fn located_at(text: &str) -> (&str, Option<Loc>) {
     let Some((before, number)) = text.rsplit_once('@') else {
         return (text, None);
     };
@@ -44,9 +44,9 @@ pub fn unreserved_id(alloc: Global, text: &str) -> Result<UnreservedId, Fail> {
     }
 }
 
-/// The name whose parts stand between `::` in a text, with a place behind them. It may be reserved.
+/// The name whose parts stand between `::` in a text, with a location behind them. It may be reserved.
 pub fn internal_name(alloc: Global, text: &str) -> Result<InternalName, Fail> {
-    let (text, loc) = placed_at(text);
+    let (text, loc) = located_at(text);
     let mut parts = Vec::new(alloc);
     for part in text.split("::") {
         parts.push(id(alloc, part)?)?;

@@ -3,17 +3,17 @@
 //! A leaf is `Long`, `String`, `Bool`, `n:X` (whatever `X` names), `e:X` (the entity type), `c:X` (the
 //! common type) or `x:X` (the extension type). A type is a leaf, a set `Set<leaf>`, or a record
 //! `{a: type, b?: type}`, with `*` at its end where it is open: `{a: type *}`, `{*}`. A record inside a
-//! record has leaves and sets alone, and one attribute at most. A type and the name of an attribute may have a place
+//! record has leaves and sets alone, and one attribute at most. A type and the name of an attribute may have a location
 //! behind them, `{a@1: Set<Long@2>@3}`.
 
-use crate::names::{placed_at, raw, unreserved_id};
+use crate::names::{located_at, raw, unreserved_id};
 use cedar_below::Loc;
 use cedar_names::json_schema::{RawName, RecordType, Type, TypeOfAttribute, TypeVariant};
 use std::alloc::Global;
 use std::collections::BTreeMap;
 use std::test::Fail;
 
-/// A type that is written out.
+/// A type variant.
 fn plain(ty: TypeVariant<RawName>, loc: Option<Loc>) -> Type<RawName> {
     Type::Plain { ty, loc }
 }
@@ -62,7 +62,7 @@ fn variant(alloc: Global, text: &str) -> Result<TypeVariant<RawName>, Fail> {
 
 /// The leaf that a text spells.
 fn leaf(alloc: Global, text: &str) -> Result<Type<RawName>, Fail> {
-    let (text, loc) = placed_at(text);
+    let (text, loc) = located_at(text);
     match text.strip_prefix("c:") {
         Some(name) => Ok(Type::CommonTypeRef {
             type_name: raw(alloc, name)?,
@@ -79,7 +79,7 @@ fn between<'t>(text: &'t str, begin: &str, end: &str) -> Option<&'t str> {
 
 /// The leaf, or the set of leaves, that a text spells.
 fn leaf_or_set(alloc: Global, text: &str) -> Result<Type<RawName>, Fail> {
-    let (set, loc) = placed_at(text);
+    let (set, loc) = located_at(text);
     match between(set, "Set<", ">") {
         Some(inner) => {
             let element = Box::new(alloc, leaf(alloc, inner)?)?;
@@ -96,7 +96,7 @@ fn add_attribute(
     written: &str,
     ty: Type<RawName>,
 ) -> Result<(), Fail> {
-    let (name, loc) = placed_at(written);
+    let (name, loc) = located_at(written);
     let (name, required) = match name.strip_suffix('?') {
         Some(name) => (name, false),
         None => (name, true),
@@ -140,7 +140,7 @@ fn small_record(alloc: Global, text: &str) -> Result<RecordType<RawName>, Fail> 
 
 /// The type of an attribute that a text spells.
 fn attribute_type(alloc: Global, text: &str) -> Result<Type<RawName>, Fail> {
-    let (record, loc) = placed_at(text);
+    let (record, loc) = located_at(text);
     match between(record, "{", "}") {
         Some(inner) => Ok(plain(TypeVariant::Record(small_record(alloc, inner)?), loc)),
         None => leaf_or_set(alloc, text),
@@ -170,7 +170,7 @@ fn record(alloc: Global, text: &str) -> Result<RecordType<RawName>, Fail> {
 
 /// The type that a text spells.
 pub(crate) fn written_type(alloc: Global, text: &str) -> Result<Type<RawName>, Fail> {
-    let (listed, loc) = placed_at(text);
+    let (listed, loc) = located_at(text);
     match between(listed, "{", "}") {
         Some(inner) => Ok(plain(TypeVariant::Record(record(alloc, inner)?), loc)),
         None => leaf_or_set(alloc, text),

@@ -1,8 +1,8 @@
 //! Tests of actions of a schema.
 
 use crate::test_values::{PLACE, entity_types, name, uid};
-use cedar_actions::{ValidatorActionId, ValidatorApplySpec};
 use cedar_names::json_schema::{ConditionalName, ReferenceType};
+use cedar_schema_elements::{ValidatorActionId, ValidatorApplySpec};
 use cedar_types::Type;
 use shorthand::checked::holds;
 use std::alloc::Global;

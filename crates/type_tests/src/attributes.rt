@@ -43,7 +43,7 @@ fn attribute(alloc: Global, name: &str, ty: Type) -> Result<(String, AttributeTy
 }
 
 /// The closed record type of numbers at `bar` and of truth values at `foo`, both declared at the place.
-fn placed(alloc: Global, foo: bool) -> Result<Type, Fail> {
+fn located(alloc: Global, foo: bool) -> Result<Type, Fail> {
     let mut items = Vec::new(alloc);
     items.push(attribute(alloc, "bar", Type::Long)?)?;
     items.push(attribute(alloc, "foo", Type::singleton_boolean(foo))?)?;
@@ -51,7 +51,7 @@ fn placed(alloc: Global, foo: bool) -> Result<Type, Fail> {
 }
 
 /// Whether an attribute of a record type was declared at the place.
-fn is_placed(ty: &Type, name: &str) -> bool {
+fn is_located(ty: &Type, name: &str) -> bool {
     match ty {
         Type::Record { attrs, .. } => attrs.get_attr(name).is_some_and(|it| it.loc == Some(PLACE)),
         _ => false,
@@ -60,8 +60,8 @@ fn is_placed(ty: &Type, name: &str) -> bool {
 
 /// The join of such types.
 fn joined(alloc: Global, first: bool, second: bool) -> Result<Type, Fail> {
-    let first = placed(alloc, first)?;
-    let second = placed(alloc, second)?;
+    let first = located(alloc, first)?;
+    let second = located(alloc, second)?;
     let mode = ValidationMode::Permissive;
     Type::least_upper_bound(alloc, &first, &second, mode).map_err(|_| Fail::from("no join"))
 }
@@ -69,7 +69,7 @@ fn joined(alloc: Global, first: bool, second: bool) -> Result<Type, Fail> {
 /// The text of such a join, and whether `bar` and `foo` were declared at the place.
 fn shown(alloc: Global, first: bool, second: bool) -> Result<String, Fail> {
     let join = joined(alloc, first, second)?;
-    let (bar, foo) = (is_placed(&join, "bar"), is_placed(&join, "foo"));
+    let (bar, foo) = (is_located(&join, "bar"), is_located(&join, "foo"));
     Ok(format!(in alloc; "{join} {bar} {foo}")?)
 }
 

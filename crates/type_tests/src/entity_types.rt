@@ -2,7 +2,7 @@
 
 use crate::test_values::{PLACE, entity_type, entity_types, sample, text};
 use cedar_below::{Eid, NonEmpty};
-use cedar_entities::ValidatorEntityType;
+use cedar_schema_elements::ValidatorEntityType;
 use cedar_types::{Attributes, OpenTag, Type};
 use shorthand::checked::holds;
 use std::alloc::Global;

@@ -1,7 +1,7 @@
 //! Tests of the types of a request.
 
 use crate::test_values::{entity_type, uid};
-use cedar_entities::UnlinkedRequestEnv;
+use cedar_schema_elements::UnlinkedRequestEnv;
 use cedar_types::Type;
 use shorthand::checked::holds;
 use std::alloc::Global;
@@ -20,15 +20,15 @@ fn of_users(alloc: Global) -> Result<UnlinkedRequestEnv, Fail> {
 
 /// Whether two owners lend the same types.
 fn lend_the_same(one: &UnlinkedRequestEnv, other: &UnlinkedRequestEnv) -> bool {
-    let (lent, copied) = (one.as_request_env(), other.as_request_env());
-    lent.principal == copied.principal
-        && lent.action == copied.action
-        && lent.resource == copied.resource
-        && lent.context == copied.context
+    let (borrowed, copied) = (one.as_request_env(), other.as_request_env());
+    borrowed.principal == copied.principal
+        && borrowed.action == copied.action
+        && borrowed.resource == copied.resource
+        && borrowed.context == copied.context
 }
 
 #[test]
-fn the_types_of_a_request_are_copied_and_lent(rt: HostRuntime) -> Result<(), Fail> {
+fn the_types_of_a_request_are_copied_and_borrowed(rt: HostRuntime) -> Result<(), Fail> {
     let owned = of_users(rt.alloc())?;
     let copy = owned.clone()?;
     let is_of_longs = *copy.as_request_env().context == Type::Long;

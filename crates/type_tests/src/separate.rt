@@ -3,7 +3,7 @@
 use crate::members::extensions;
 use crate::test_values::{sample, text, value};
 use cedar_below::{Extensions, M, Value};
-use cedar_separated::separating_value;
+use cedar_counterexample::separating_value;
 use cedar_types::{OpenTag, Type};
 use shorthand::checked::holds;
 use std::alloc::Global;
@@ -55,7 +55,7 @@ fn separated(
     }
 }
 
-/// The same of the types of two words.
+/// Whether a value separates the types of two words.
 fn is_separated(
     alloc: Global,
     first: &str,

@@ -1,8 +1,8 @@
 //! What the builder answers of fragments, as text.
 
+use crate::converted_back::comes_back;
 use crate::orders::{in_order, order_count, taken_apart};
 use crate::refusals::refusal_text;
-use crate::written_back::comes_back;
 use cedar_schema::below::M;
 use cedar_schema::json_schema::{Fragment, RawName};
 use cedar_schema::{SchemaError, ValidatorSchema};
@@ -86,8 +86,8 @@ fn first_schema(alloc: Global, texts: &[&str]) -> Result<Option<ValidatorSchema>
     Ok(build(alloc, fragments)?.ok())
 }
 
-/// Compares what validation gives of the schema of a row, and what is built again of it once it is written back, with
-/// the schema itself.
+/// Compares what validation gives of the schema of a row, and what is built again of it once it is
+/// converted back, with the schema itself.
 fn check_comes_back(alloc: Global, row: &Row) -> Result<(), Fail> {
     match &row.first {
         Some(schema) => holds(comes_back(alloc, schema)?, row.name),
@@ -110,9 +110,10 @@ pub(crate) fn check_as_written(
     check_orders(alloc, &row, &written(alloc, text)?)
 }
 
-/// Compares the answer for a text in every split that is tried and in every order: as it is written,
-/// with a fragment for each declaration, and with one fragment for all. The schemas are equal too, and
-/// validation gives an equal one back, as does building what it is written back as.
+/// Compares the answer for a text in every split that is tried and in every order: as it is
+/// written, with a fragment for each declaration, and with one fragment for all. The schemas are
+/// equal too, and validation gives an equal one back, as does building what it is converted back
+/// as.
 pub(crate) fn check_row(alloc: Global, name: &str, text: &str, allowed: &str) -> Result<(), Fail> {
     let texts = written(alloc, text)?;
     let row = Row {

@@ -288,7 +288,7 @@ fn schemas_are_refused_and_the_nearest_are_valid(rt: HostRuntime) -> Result<(), 
 }
 
 /// Whether what validation gives of the schema of a text is validated again, and comes back equal.
-fn is_settled(alloc: Global, text: &str) -> Result<bool, Fail> {
+fn is_resolved(alloc: Global, text: &str) -> Result<bool, Fail> {
     let extensions = sample_extensions(alloc)?;
     let first = validated(alloc, text)??;
     let again = first.clone()?.try_validate(alloc, &extensions)?;
@@ -298,7 +298,7 @@ fn is_settled(alloc: Global, text: &str) -> Result<bool, Fail> {
 #[test]
 fn validation_again_changes_nothing(rt: HostRuntime) -> Result<(), Fail> {
     for (text, _) in VALID {
-        holds(is_settled(rt.alloc(), text)?, text)?;
+        holds(is_resolved(rt.alloc(), text)?, text)?;
     }
     Ok(())
 }

@@ -8,6 +8,8 @@ mod answers;
 #[cfg(test)]
 mod by_hand;
 #[cfg(test)]
+mod converted_back;
+#[cfg(test)]
 mod kinds;
 #[cfg(test)]
 mod orders;
@@ -21,5 +23,3 @@ mod reserved;
 mod rows;
 #[cfg(test)]
 mod tried;
-#[cfg(test)]
-mod written_back;

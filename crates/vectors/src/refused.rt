@@ -243,7 +243,7 @@ const TWICE: &[(&str, &str, &str)] = &[
     ),
 ];
 
-/// What leads back to itself, and what stands below enumerated entity types.
+/// What is on a cycle, and what stands below enumerated entity types.
 const CHAINS: &[(&str, &str, &str)] = &[
     (
         "common types that lead back to one another",

@@ -1,23 +1,23 @@
 //! Declarations in reserved namespaces, which no fragment of plain data can hold.
 
 use crate::answers::answer_text;
+use crate::converted_back::comes_back;
 use crate::orders::taken_apart;
-use crate::written_back::comes_back;
 use cedar_schema::json_schema::ConditionalName;
 use cedar_schema::namespace::{ValidatorNamespaceDef, ValidatorSchemaFragment};
 use cedar_schema::{SchemaError, ValidatorSchema};
 use shorthand::checked::{holds, one_of};
 use shorthand::names::internal_namespace;
-use shorthand::{declare, nothing, placed, sample_extensions};
+use shorthand::{declare, nothing, sample_extensions, within_namespace};
 use std::alloc::Global;
 use std::test::Fail;
 
-/// A fragment whose names say what they may stand for.
+/// A fragment over conditional names.
 type Conditional = ValidatorSchemaFragment<ConditionalName, ConditionalName>;
 
 /// The fragment of one declaration in its namespace, or its refusal.
 fn conditional(alloc: Global, text: &str) -> Result<Result<Conditional, SchemaError>, Fail> {
-    let (namespace, declaration) = placed(text);
+    let (namespace, declaration) = within_namespace(text);
     let mut definition = nothing(alloc);
     declare(alloc, &mut definition, declaration.ok_or("no declaration")?)?;
     let namespace = internal_namespace(alloc, namespace)?;
@@ -96,7 +96,8 @@ const ROWS: &[(&str, &str)] = &[
     ("N: entity X", "entity N::X standard"),
 ];
 
-/// Whether what is built of the declarations of a text is refused, or comes back when it is written back, and validated.
+/// Whether what is built of the declarations of a text is refused, or comes back when it is
+/// converted back, and validated.
 fn is_refused_or_comes_back(alloc: Global, text: &str) -> Result<bool, Fail> {
     match build_each(alloc, text)? {
         Ok(schema) => comes_back(alloc, &schema),

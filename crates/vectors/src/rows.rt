@@ -292,7 +292,7 @@ fn names_are_resolved(rt: HostRuntime) -> Result<(), Fail> {
 }
 
 #[test]
-fn shapes_are_written_out(rt: HostRuntime) -> Result<(), Fail> {
+fn shapes_are_elaborated(rt: HostRuntime) -> Result<(), Fail> {
     for (row, text, lines) in SHAPES {
         check_row(rt.alloc(), row, text, lines)?;
     }
@@ -300,7 +300,7 @@ fn shapes_are_written_out(rt: HostRuntime) -> Result<(), Fail> {
 }
 
 #[test]
-fn common_types_are_written_out(rt: HostRuntime) -> Result<(), Fail> {
+fn common_types_are_elaborated(rt: HostRuntime) -> Result<(), Fail> {
     for (row, text, lines) in COMMON {
         check_row(rt.alloc(), row, text, lines)?;
     }

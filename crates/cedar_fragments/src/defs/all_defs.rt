@@ -8,8 +8,8 @@ use std::collections::BTreeSet;
 /// and the uids of actions.
 #[derive(Debug, Drop)]
 pub struct AllDefs {
-    pub(crate) entity_types: BTreeSet<InternalName>,
-    pub(crate) common_types: BTreeSet<InternalName>,
-    pub(crate) actions: BTreeSet<EntityUID>,
+    pub(crate) entity_defs: BTreeSet<InternalName>,
+    pub(crate) common_defs: BTreeSet<InternalName>,
+    pub(crate) action_defs: BTreeSet<EntityUID>,
     pub(crate) alloc: Global,
 }

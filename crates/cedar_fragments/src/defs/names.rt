@@ -3,7 +3,7 @@
 ghost use Rattle.std.specs.Prelude.{◌≡◌, ◌↔◌, IsTrue, IfOk, OnOk, OnErr, map, Contains, [], ◌∷◌};
 ghost use Rattle.cedar_below.specs.EntityUID.{uid_of};
 ghost use Rattle.cedar_below.specs.InternalName.{name_of};
-ghost use Rattle.cedar_declared.specs.Names.{Names};
+ghost use Rattle.cedar_declarations.specs.Names.{Names};
 ghost use Rattle.cedar_fragments.specs.HeldNames.{held_names, common_type_names, entity_type_names, uids_of_actions, definition_names, fragment_names, declared_names, HasAlso, HoldsAlso, HoldsJust};
 
 use crate::defs::all_defs::AllDefs;
@@ -15,7 +15,7 @@ use cedar_names::json_schema::ConditionalName;
 use std::alloc::Global;
 use std::collections::BTreeSet;
 
-/// Adds a name to some, or leaves them as they are and answers want of memory.
+/// Adds a name to some, or leaves them as they are and runs out of memory.
 fn add_name(names: &mut BTreeSet<InternalName>, name: InternalName) -> M<()>
     ensures added { OnOk result (HasAlso (map name_of names.new.keys) (map name_of names.old.keys) (name_of name ∷ [])) }
     ensures refused { OnErr result (names.new.keys ≡ names.old.keys) }
@@ -24,7 +24,7 @@ fn add_name(names: &mut BTreeSet<InternalName>, name: InternalName) -> M<()>
     Ok(())
 }
 
-/// Adds a uid to some, or leaves them as they are and answers want of memory.
+/// Adds a uid to some, or leaves them as they are and runs out of memory.
 fn add_uid(uids: &mut BTreeSet<EntityUID>, uid: EntityUID) -> M<()>
     ensures added { OnOk result (HasAlso (map uid_of uids.new.keys) (map uid_of uids.old.keys) (uid_of uid ∷ [])) }
     ensures refused { OnErr result (uids.new.keys ≡ uids.old.keys) }
@@ -38,48 +38,48 @@ impl AllDefs {
     pub fn is_defined_as_entity(&self, name: &InternalName) -> bool
         ensures { IsTrue result ↔ Contains (held_names self.now).entities (name_of name.now) }
     {
-        self.entity_types.contains(name)
+        self.entity_defs.contains(name)
     }
 
     /// Whether a common type of that name is defined.
     pub fn is_defined_as_common(&self, name: &InternalName) -> bool
         ensures { IsTrue result ↔ Contains (held_names self.now).common (name_of name.now) }
     {
-        self.common_types.contains(name)
+        self.common_defs.contains(name)
     }
 
     /// Whether an action of that uid is defined.
     pub fn is_defined_as_action(&self, uid: &EntityUID) -> bool
         ensures { IsTrue result ↔ Contains (held_names self.now).actions (uid_of uid.now) }
     {
-        self.actions.contains(uid)
+        self.action_defs.contains(uid)
     }
 
     /// The names of the entity types that are defined, in order.
     pub fn entity_type_names(&self) -> &BTreeSet<InternalName>
         ensures { map name_of result.now.keys ≡ (held_names self.now).entities }
     {
-        &self.entity_types
+        &self.entity_defs
     }
 
-    /// Adds the name to those of entity types. After want of memory all names are as before.
+    /// Adds the name to those of entity types. After memory ran out all names are as before.
     pub fn mark_as_defined_as_entity_type(&mut self, name: InternalName) -> M<()>
         ensures added { OnOk result (HasAlso (held_names self.new).entities (held_names self.old).entities (name_of name ∷ [])) }
         ensures common_stay { (held_names self.new).common ≡ (held_names self.old).common }
         ensures actions_stay { (held_names self.new).actions ≡ (held_names self.old).actions }
         ensures refused { OnErr result (held_names self.new ≡ held_names self.old) }
     {
-        add_name(&mut self.entity_types, name)
+        add_name(&mut self.entity_defs, name)
     }
 
-    /// Adds the name to those of common types. After want of memory all names are as before.
+    /// Adds the name to those of common types. After memory ran out all names are as before.
     pub fn mark_as_defined_as_common_type(&mut self, name: InternalName) -> M<()>
         ensures added { OnOk result (HasAlso (held_names self.new).common (held_names self.old).common (name_of name ∷ [])) }
         ensures entities_stay { (held_names self.new).entities ≡ (held_names self.old).entities }
         ensures actions_stay { (held_names self.new).actions ≡ (held_names self.old).actions }
         ensures refused { OnErr result (held_names self.new ≡ held_names self.old) }
     {
-        add_name(&mut self.common_types, name)
+        add_name(&mut self.common_defs, name)
     }
 }
 
@@ -121,9 +121,9 @@ impl AllDefs {
     fn add_definition<N, A>(&mut self, definition: &ValidatorNamespaceDef<N, A>) -> M<()>
         ensures { OnOk result (HoldsAlso (held_names self.new) (held_names self.old) (definition_names N A definition.now)) }
     {
-        add_common_types(&mut self.common_types, &definition.common_types)?;
-        add_entity_types(&mut self.entity_types, &definition.entity_types)?;
-        add_actions(&mut self.actions, &definition.actions)
+        add_common_types(&mut self.common_defs, &definition.common_types)?;
+        add_entity_types(&mut self.entity_defs, &definition.entity_types)?;
+        add_actions(&mut self.action_defs, &definition.actions)
     }
 
     /// Adds what a fragment itself declares.
@@ -143,9 +143,9 @@ impl AllDefs {
         ensures actions { (held_names result).actions ≡ [] }
     {
         AllDefs {
-            entity_types: BTreeSet::new(alloc),
-            common_types: BTreeSet::new(alloc),
-            actions: BTreeSet::new(alloc),
+            entity_defs: BTreeSet::new(alloc),
+            common_defs: BTreeSet::new(alloc),
+            action_defs: BTreeSet::new(alloc),
             alloc,
         }
     }
@@ -180,19 +180,19 @@ impl AllDefs {
         ensures actions_stay { IfOk result (λ defs. (held_names defs).actions ≡ (held_names self).actions) }
     {
         let AllDefs {
-            mut entity_types,
-            common_types,
-            actions,
+            mut entity_defs,
+            common_defs,
+            action_defs,
             alloc,
         } = self;
-        for uid in &actions {
+        for uid in &action_defs {
             let name = uid.entity_type().clone()?.into_name().into_internal();
-            add_name(&mut entity_types, name)?;
+            add_name(&mut entity_defs, name)?;
         }
         Ok(AllDefs {
-            entity_types,
-            common_types,
-            actions,
+            entity_defs,
+            common_defs,
+            action_defs,
             alloc,
         })
     }

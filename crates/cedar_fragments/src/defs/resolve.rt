@@ -2,13 +2,13 @@
 
 ghost use Rattle.std.specs.Prelude.{◌≡◌, ◌↔◌, IsTrue, IfOk, IfErr, OnErr, Contains, map};
 ghost use Rattle.cedar_below.specs.InternalName.{name_of};
-ghost use Rattle.cedar_below.specs.Lists.{HoldsInTurn};
+ghost use Rattle.cedar_below.specs.Lists.{HoldsPairwise};
 ghost use Rattle.cedar_below.specs.PlainName.{PlainName};
-ghost use Rattle.cedar_declared.specs.Names.{IsDefined, ResolvesTo};
-ghost use Rattle.cedar_declared.specs.Occurrences.{IsFirst};
+ghost use Rattle.cedar_declarations.specs.Names.{IsDefined, ResolvesTo};
+ghost use Rattle.cedar_declarations.specs.Occurrences.{IsFirst};
 ghost use Rattle.cedar_fragments.specs.HeldNames.{held_names};
 ghost use Rattle.cedar_fragments.specs.Refused.{IsRefused, IsRefusedAmong};
-ghost use Rattle.cedar_names.specs.ConditionalExpr.{placed_reference};
+ghost use Rattle.cedar_names.specs.ConditionalExpr.{positional_reference};
 ghost use Rattle.cedar_names.specs.ConditionalName.{conditional_reference};
 ghost use Rattle.cedar_names.specs.PossibleNames.{names_of};
 ghost use Rattle.cedar_names.specs.Reference.{Reference};
@@ -53,16 +53,16 @@ fn first_defined(
     Err(NonEmpty { head, tail })
 }
 
-/// What a name stands for at a place of the kind: the first of its possibilities that is defined in
-/// a kind that the place permits. It is refused with `TypeNotDefined`, which holds the reference
-/// itself, if there is none.
+/// What a name stands for at a position of the kind: the first of its possibilities that is defined
+/// in a kind that the position permits. It is refused with `TypeNotDefined`, which holds the
+/// reference itself, if there is none.
 pub(crate) fn resolve_at(
     name: ConditionalName,
     kind: ReferenceType,
     all_defs: &AllDefs,
 ) -> Result<InternalName, QualifyError>
-    ensures resolved { IfOk result (λ found. ResolvesTo (held_names all_defs.now) (placed_reference kind name) (name_of found)) }
-    ensures refused { IfErr result (IsRefused (held_names all_defs.now) (placed_reference kind name)) }
+    ensures resolved { IfOk result (λ found. ResolvesTo (held_names all_defs.now) (positional_reference kind name) (name_of found)) }
+    ensures refused { IfErr result (IsRefused (held_names all_defs.now) (positional_reference kind name)) }
 {
     match first_defined(name.into_possibilities(), kind, all_defs) {
         Ok(found) => Ok(found),
@@ -75,7 +75,7 @@ pub(crate) fn resolve_at(
     }
 }
 
-/// What names that aren't settled resolve to.
+/// What names that aren't resolved resolve to.
 ///
 /// The ghost member says what a name refers to: its possibilities, and the kinds that it permits.
 pub trait ResolveName {
@@ -104,7 +104,7 @@ pub fn resolve_all<N: ResolveName + Drop>(
     names: Vec<N>,
     all_defs: &AllDefs,
 ) -> Result<Vec<InternalName>, QualifyError>
-    ensures resolved { IfOk result (λ found. HoldsInTurn (ResolvesTo (held_names all_defs.now))
+    ensures resolved { IfOk result (λ found. HoldsPairwise (ResolvesTo (held_names all_defs.now))
         (map N.reference names.items) (map name_of found.items)) }
     ensures refused { IfErr result (IsRefusedAmong (held_names all_defs.now) (Contains (map N.reference names.items))) }
 {

@@ -6,16 +6,15 @@ ghost use Rattle.cedar_below.specs.EntityUID.{uid_of};
 ghost use Rattle.cedar_below.specs.InternalName.{name_of};
 ghost use Rattle.cedar_below.specs.PlainName.{PlainName, IsUnqualified};
 ghost use Rattle.cedar_below.specs.PlainUid.{PlainUid};
-ghost use Rattle.cedar_declared.specs.Fault.{want_of_memory};
-ghost use Rattle.cedar_declared.specs.SchemaError.{fault_of};
-ghost use Rattle.cedar_declared.specs.Shadowing.{ShadowsType};
+ghost use Rattle.cedar_declarations.specs.Fault.{out_of_memory};
+ghost use Rattle.cedar_declarations.specs.SchemaError.{fault_of};
+ghost use Rattle.cedar_declarations.specs.Shadowing.{ShadowsType};
 ghost use Rattle.cedar_fragments.specs.HeldNames.{held_names};
 ghost use Rattle.cedar_fragments.specs.ShadowedNames.{type_names, IsShadowing, NoTypeShadows, NoActionShadows, IsPlainAction};
 
 use crate::defs::all_defs::AllDefs;
-use crate::maps::put;
-use cedar_below::{EntityUID, InternalName, M};
-use cedar_declared::SchemaError;
+use cedar_below::{EntityUID, InternalName, M, put};
+use cedar_declarations::SchemaError;
 use std::collections::{BTreeMap, BTreeSet};
 
 impl AllDefs {
@@ -42,7 +41,7 @@ impl AllDefs {
     fn check_types(&self, names: &BTreeSet<InternalName>) -> Result<(), SchemaError>
         requires { (name : PlainName) → Contains (map name_of names.now.keys) name → Contains (type_names (held_names self.now)) name }
         ensures none { OnOk result (NoTypeShadows (type_names (held_names self.now)) (map name_of names.now.keys)) }
-        ensures fault { IfErr result (λ error. (fault_of error ≡ want_of_memory)
+        ensures fault { IfErr result (λ error. (fault_of error ≡ out_of_memory)
             ⊎ IsShadowing (held_names self.now) (fault_of error)) }
     {
         for name in names {
@@ -63,7 +62,7 @@ impl AllDefs {
             → Contains (map (λ entry. string_bytes entry.0) plain.entries) uid.eid) }
     {
         let mut plain = BTreeMap::new(self.alloc);
-        for uid in &self.actions {
+        for uid in &self.action_defs {
             if uid.entity_type().name().is_unqualified() {
                 let id = String::from_str(self.alloc, uid.eid().as_str())?;
                 put(&mut plain, id, uid.clone()?)?;
@@ -75,11 +74,11 @@ impl AllDefs {
     /// Refuses an action that would shadow another.
     fn check_actions(&self) -> Result<(), SchemaError>
         ensures none { OnOk result (NoActionShadows (held_names self.now).actions) }
-        ensures fault { IfErr result (λ error. (fault_of error ≡ want_of_memory)
+        ensures fault { IfErr result (λ error. (fault_of error ≡ out_of_memory)
             ⊎ IsShadowing (held_names self.now) (fault_of error)) }
     {
         let plain = self.plain_actions()?;
-        for uid in &self.actions {
+        for uid in &self.action_defs {
             if uid.entity_type().name().is_unqualified() {
                 continue;
             }
@@ -100,11 +99,11 @@ impl AllDefs {
     pub fn rfc_70_shadowing_checks(&self) -> Result<(), SchemaError>
         ensures types { OnOk result (NoTypeShadows (type_names (held_names self.now)) (type_names (held_names self.now))) }
         ensures actions { OnOk result (NoActionShadows (held_names self.now).actions) }
-        ensures fault { IfErr result (λ error. (fault_of error ≡ want_of_memory)
+        ensures fault { IfErr result (λ error. (fault_of error ≡ out_of_memory)
             ⊎ IsShadowing (held_names self.now) (fault_of error)) }
     {
-        self.check_types(&self.common_types)?;
-        self.check_types(&self.entity_types)?;
+        self.check_types(&self.common_defs)?;
+        self.check_types(&self.entity_defs)?;
         self.check_actions()?;
         Ok(())
     }

@@ -6,19 +6,19 @@ ghost use Rattle.cedar_below.specs.EntityType.{type_name};
 ghost use Rattle.cedar_below.specs.Id.{id_text};
 ghost use Rattle.cedar_below.specs.Identifier.{reserved_word};
 ghost use Rattle.cedar_below.specs.PlainName.{action_word};
-ghost use Rattle.cedar_declared.specs.Fault.{Fault, reserved_name, want_of_memory};
-ghost use Rattle.cedar_declared.specs.SchemaError.{fault_of};
+ghost use Rattle.cedar_declarations.specs.Fault.{Fault, reserved_name, out_of_memory};
+ghost use Rattle.cedar_declarations.specs.SchemaError.{fault_of};
 ghost use Rattle.std.specs.List.{AllByRecursion};
 ghost use Rattle.std.specs.List.Sorted.{IsStrictlySortedBy};
 ghost use Rattle.cedar_below.specs.EntityUID.{uid_of};
 ghost use Rattle.cedar_below.specs.Text.{Text, text_cmp};
-ghost use Rattle.cedar_declared.specs.IllFormed.{HasAttributes};
+ghost use Rattle.cedar_declarations.specs.IllFormed.{HasAttributes};
 ghost use Rattle.cedar_fragments.specs.ActionDeclarations.{fragment_parent, fragment_requests, action_fragment_body, action_fragment_declarations};
 ghost use Rattle.cedar_fragments.specs.DefinitionFault.{IsDefinitionFault, IsSound, NamesAllWithAttributes};
 ghost use Rattle.cedar_fragments.specs.WithAttributes.{with_attributes};
 ghost use Rattle.cedar_names.specs.Declaration.{action_declarations};
 ghost use Rattle.cedar_names.specs.ActionBody.{parent_action, parent_actions, requests_by, applies_to, action_body};
-ghost use Rattle.cedar_names.specs.ConditionalExpr.{placed_reference};
+ghost use Rattle.cedar_names.specs.ConditionalExpr.{positional_reference};
 ghost use Rattle.cedar_names.specs.NamespaceName.{namespace_name};
 ghost use Rattle.cedar_names.specs.RawExpr.{raw_reference};
 ghost use Rattle.cedar_names.specs.Reference.{Reference, name_within, path_within};
@@ -29,8 +29,8 @@ ghost use Rattle.cedar_names.specs.declared.json_schema.raw_name.RawName.{RawNam
 use crate::namespace::action_def::ActionDef;
 use crate::namespace::entity_types::entity_references;
 use crate::namespace::full_name::full_name;
-use cedar_below::{Eid, EntityType, EntityUID, Id, InternalName, Loc, M, Name};
-use cedar_declared::{SchemaError, UnsupportedFeature};
+use cedar_below::{Eid, EntityType, EntityUID, Id, InternalName, Loc, M, identifier};
+use cedar_declarations::{SchemaError, UnsupportedFeature};
 use cedar_names::json_schema::{
     ActionEntityUID, ActionType, ApplySpec, ConditionalName, RawName, RecordType, ReferenceType,
     Type, TypeVariant,
@@ -94,10 +94,7 @@ impl<N, A> ActionsDef<N, A> {
 fn action_id(alloc: Global) -> M<Id>
     ensures { IfOk result (λ id. id_text id ≡ action_word) }
 {
-    match Id::new(String::from_str(alloc, "Action")?) {
-        Some(id) => Ok(id),
-        None => unreachable!(),
-    }
+    identifier(alloc, "Action")
 }
 
 /// A reference to a parent of an action, by a name that is written in a namespace.
@@ -106,7 +103,7 @@ fn action_parent(
     namespace: Option<&InternalName>,
     written: ActionEntityUID<RawName>,
 ) -> M<ActionParent<ConditionalName>>
-    ensures { IfOk result (λ it. fragment_parent Conditional placed_reference it
+    ensures { IfOk result (λ it. fragment_parent Conditional positional_reference it
         ≡ parent_action Raw (raw_reference (namespace_name namespace.entry)) (namespace_name namespace.entry) written) }
 {
     let ActionEntityUID { id, ty, loc } = written;
@@ -124,7 +121,7 @@ fn action_parents(
     namespace: Option<&InternalName>,
     written: Option<Vec<ActionEntityUID<RawName>>>,
 ) -> M<Vec<ActionParent<ConditionalName>>>
-    ensures { IfOk result (λ it. map (fragment_parent Conditional placed_reference) it.items
+    ensures { IfOk result (λ it. map (fragment_parent Conditional positional_reference) it.items
         ≡ parent_actions Raw (raw_reference (namespace_name namespace.entry)) (namespace_name namespace.entry) written) }
 {
     let mut parents = Vec::new(alloc);
@@ -139,7 +136,7 @@ fn action_parents(
 
 /// No requests, with the closed record without attributes for a context.
 fn no_requests(alloc: Global) -> ActionRequests<ConditionalName>
-    ensures { fragment_requests Conditional placed_reference (Some result)
+    ensures { fragment_requests Conditional positional_reference (Some result)
         ≡ applies_to Raw (raw_reference None) None None }
 {
     let no_attributes = RecordType {
@@ -162,7 +159,7 @@ fn written_requests(
     namespace: Option<&InternalName>,
     written: ApplySpec<RawName>,
 ) -> M<ActionRequests<ConditionalName>>
-    ensures { IfOk result (λ it. fragment_requests Conditional placed_reference (Some it)
+    ensures { IfOk result (λ it. fragment_requests Conditional positional_reference (Some it)
         ≡ applies_to Raw (raw_reference (namespace_name namespace.entry)) (namespace_name namespace.entry) (Some written)) }
 {
     let ApplySpec {
@@ -189,7 +186,7 @@ fn action_requests(
     namespace: Option<&InternalName>,
     written: Option<ApplySpec<RawName>>,
 ) -> M<ActionRequests<ConditionalName>>
-    ensures { IfOk result (λ it. fragment_requests Conditional placed_reference (Some it)
+    ensures { IfOk result (λ it. fragment_requests Conditional positional_reference (Some it)
         ≡ applies_to Raw (raw_reference (namespace_name namespace.entry)) (namespace_name namespace.entry) written) }
 {
     match written {
@@ -206,7 +203,7 @@ impl ActionFragment<ConditionalName, ConditionalName> {
         written: ActionType<RawName>,
     ) -> M<Self>
         requires { written.attributes ≡ None }
-        ensures { IfOk result (λ it. action_fragment_body Conditional placed_reference Conditional placed_reference it
+        ensures { IfOk result (λ it. action_fragment_body Conditional positional_reference Conditional positional_reference it
             ≡ action_body Raw (raw_reference (namespace_name namespace.entry)) (namespace_name namespace.entry) written) }
     {
         let ActionType {
@@ -240,18 +237,15 @@ fn action_uid(
     ensures ty { IfOk result (λ uid. (uid_of uid).ty ≡ name_within (namespace_name namespace.entry) action_word) }
     ensures eid { IfOk result (λ uid. (uid_of uid).eid ≡ string_bytes id) }
     ensures unreserved { OnOk result (¬ Contains (path_within (namespace_name namespace.entry)) reserved_word) }
-    ensures fault { IfErr result (λ error. (fault_of error ≡ want_of_memory)
+    ensures fault { IfErr result (λ error. (fault_of error ≡ out_of_memory)
         ⊎ ((fault_of error ≡ reserved_name (name_within (namespace_name namespace.entry) action_word))
         × Contains (path_within (namespace_name namespace.entry)) reserved_word)) }
 {
     let name = full_name(alloc, namespace, action_id(alloc)?, loc)?;
-    if name.is_reserved() {
-        return Err(SchemaError::ReservedName(name));
+    match EntityType::from_internal(name) {
+        Ok(ty) => Ok(EntityUID::new(ty, Eid(id), loc)),
+        Err(name) => Err(SchemaError::ReservedName(name)),
     }
-    let Some(name) = Name::new(name) else {
-        unreachable!();
-    };
-    Ok(EntityUID::new(EntityType::new(name), Eid(id), loc))
 }
 
 /// The ids of the actions that are written with attributes, in order.
@@ -278,11 +272,11 @@ impl ActionsDef<ConditionalName, ConditionalName> {
         namespace: Option<&InternalName>,
         written: BTreeMap<String, ActionType<RawName>>,
     ) -> Result<Self, SchemaError>
-        ensures declarations { IfOk result (λ it. action_fragment_declarations Conditional placed_reference Conditional placed_reference it
+        ensures declarations { IfOk result (λ it. action_fragment_declarations Conditional positional_reference Conditional positional_reference it
             ≡ action_declarations Raw (raw_reference (namespace_name namespace.entry)) (namespace_name namespace.entry) written.entries) }
         ensures sound { OnOk result (AllByRecursion IsSound
             (action_declarations Raw (raw_reference (namespace_name namespace.entry)) (namespace_name namespace.entry) written.entries)) }
-        ensures fault { IfErr result (λ error. (fault_of error ≡ want_of_memory)
+        ensures fault { IfErr result (λ error. (fault_of error ≡ out_of_memory)
             ⊎ IsDefinitionFault (action_declarations Raw (raw_reference (namespace_name namespace.entry)) (namespace_name namespace.entry)
             written.entries) (fault_of error)) }
         ensures all_named { IfErr result (λ error. NamesAllWithAttributes

@@ -3,7 +3,7 @@
 ghost use Rattle.std.specs.Prelude.{◌≡◌, IfOk};
 ghost use Rattle.cedar_fragments.specs.Located.{common_type_defs, located_common_names, written_common_names};
 ghost use Rattle.cedar_fragments.specs.TypeDeclarations.{common_type_declarations};
-ghost use Rattle.cedar_names.specs.ConditionalExpr.{placed_reference};
+ghost use Rattle.cedar_names.specs.ConditionalExpr.{positional_reference};
 ghost use Rattle.cedar_names.specs.Declaration.{common_declarations};
 ghost use Rattle.cedar_names.specs.NamespaceName.{namespace_name};
 ghost use Rattle.cedar_names.specs.RawExpr.{raw_reference};
@@ -38,7 +38,7 @@ impl CommonTypeDefs<ConditionalName> {
         namespace: Option<&InternalName>,
         written: BTreeMap<CommonTypeId, CommonType<RawName>>,
     ) -> M<Self>
-        ensures declarations { IfOk result (λ it. common_type_declarations Conditional placed_reference it
+        ensures declarations { IfOk result (λ it. common_type_declarations Conditional positional_reference it
             ≡ common_declarations Raw (raw_reference (namespace_name namespace.entry)) (namespace_name namespace.entry) written.entries) }
         ensures located { IfOk result (λ it. located_common_names Conditional (common_type_defs Conditional it)
             ≡ written_common_names (namespace_name namespace.entry) written.entries) }

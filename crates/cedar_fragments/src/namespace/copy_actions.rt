@@ -12,12 +12,11 @@ ghost use Rattle.cedar_names.specs.declared.json_schema.reference_type.Reference
 use crate::namespace::action_def::ActionDef;
 use crate::namespace::actions::{ActionFragment, ActionParent, ActionRequests, ActionsDef};
 use crate::namespace::copy_types::copied_names;
-use cedar_below::M;
-use cedar_copied::copied_items;
+use cedar_below::{M, copied_items};
 use cedar_names::json_schema::FragmentName;
 
 impl<N: FragmentName + Drop> ActionRequests<N> {
-    /// Equal requests with the same locations, or want of memory.
+    /// Equal requests with the same locations.
     pub fn clone(&self) -> M<Self>
         ensures requests { IfOk result (λ copy. ShowsSame (RefersAlike N N.is_alike) (fragment_requests N) (Some self.now) (Some copy)) }
         ensures locs { IfOk result (λ copy. ShowsSame (LocatesAlike N N.is_alike) (requests_locs N) (Some self.now) (Some copy)) }
@@ -30,7 +29,7 @@ impl<N: FragmentName + Drop> ActionRequests<N> {
     }
 }
 
-/// The same of an action that may be defined elsewhere.
+/// Equal requests with the same locations, or none where the action is external.
 fn copied_requests<N: FragmentName + Drop>(
     requests: &Option<ActionRequests<N>>,
 ) -> M<Option<ActionRequests<N>>>
@@ -44,7 +43,7 @@ fn copied_requests<N: FragmentName + Drop>(
 }
 
 impl<A: FragmentName + Drop> ActionParent<A> {
-    /// An equal parent with the same locations, or want of memory.
+    /// An equal parent with the same locations.
     pub fn clone(&self) -> M<Self>
         ensures reference { IfOk result (ShowsSame (RefersAlike A A.is_alike) (fragment_parent A) self.now) }
         ensures locs { IfOk result (ShowsSame (LocatesAlike A A.is_alike) (parent_locs A) self.now) }
@@ -58,7 +57,7 @@ impl<A: FragmentName + Drop> ActionParent<A> {
 }
 
 impl<N: FragmentName + Drop, A: FragmentName + Drop> ActionFragment<N, A> {
-    /// Equal declarations with the same locations, or want of memory.
+    /// Equal declarations with the same locations.
     pub fn clone(&self) -> M<Self>
         ensures body { IfOk result (DeclaresSame N N.is_alike A A.is_alike
             (λ (refer : ReferenceType → N → Reference). action_fragment_body N refer A) self.now) }
@@ -73,7 +72,7 @@ impl<N: FragmentName + Drop, A: FragmentName + Drop> ActionFragment<N, A> {
 }
 
 impl<N: FragmentName + Drop, A: FragmentName + Drop> ActionDef<N, A> {
-    /// An equal action with the same locations, or want of memory.
+    /// An equal action with the same locations.
     pub fn clone(&self) -> M<Self>
         ensures declaration { IfOk result (DeclaresSame N N.is_alike A A.is_alike
             (λ (refer : ReferenceType → N → Reference). action_fragment_declaration N refer A) self.now) }
@@ -87,7 +86,7 @@ impl<N: FragmentName + Drop, A: FragmentName + Drop> ActionDef<N, A> {
 }
 
 impl<N: FragmentName + Drop, A: FragmentName + Drop> ActionsDef<N, A> {
-    /// Equal actions with the same locations, in their order, or want of memory.
+    /// Equal actions with the same locations, in their order.
     pub fn clone(&self) -> M<Self>
         ensures declarations { IfOk result (DeclaresSame N N.is_alike A A.is_alike
             (λ (refer : ReferenceType → N → Reference). action_fragment_declarations N refer A) self.now) }

@@ -2,7 +2,7 @@
 
 ghost use Rattle.std.specs.Prelude.{◌≡◌, IfOk};
 ghost use Rattle.std.specs.Option.{option_map};
-ghost use Rattle.cedar_fragments.specs.DefinitionsInTurn.{declarations_in_turn};
+ghost use Rattle.cedar_fragments.specs.DefinitionsPairwise.{declarations_pairwise};
 ghost use Rattle.cedar_fragments.specs.FragmentCopies.{DeclaresSame, LocatesSame};
 ghost use Rattle.cedar_fragments.specs.FragmentDeclarations.{definition_declarations, fragment_declarations};
 ghost use Rattle.cedar_fragments.specs.FragmentLocs.{definition_locs, fragment_locs};
@@ -14,11 +14,10 @@ ghost use Rattle.cedar_names.specs.declared.json_schema.reference_type.Reference
 
 use crate::namespace::definition::ValidatorNamespaceDef;
 use crate::namespace::fragment::ValidatorSchemaFragment;
-use cedar_below::{InternalName, M};
-use cedar_copied::copied_items;
+use cedar_below::{InternalName, M, copied_items};
 use cedar_names::json_schema::FragmentName;
 
-/// An equal name of a namespace with the same location, or want of memory. None is the empty one.
+/// An equal name of a namespace with the same location. None is the empty one.
 fn copied_namespace(namespace: &Option<InternalName>) -> M<Option<InternalName>>
     ensures { IfOk result (λ copy. option_map located_name copy ≡ option_map located_name namespace.now) }
 {
@@ -29,7 +28,7 @@ fn copied_namespace(namespace: &Option<InternalName>) -> M<Option<InternalName>>
 }
 
 impl<N: FragmentName + Drop, A: FragmentName + Drop> ValidatorNamespaceDef<N, A> {
-    /// An equal definition with the same locations, or want of memory.
+    /// An equal definition with the same locations.
     pub fn clone(&self) -> M<Self>
         ensures declarations { IfOk result (DeclaresSame N N.is_alike A A.is_alike
             (λ (refer : ReferenceType → N → Reference). definition_declarations N refer A) self.now) }
@@ -49,12 +48,12 @@ impl<N: FragmentName + Drop, A: FragmentName + Drop> ValidatorNamespaceDef<N, A>
 }
 
 impl<N: FragmentName + Drop, A: FragmentName + Drop> ValidatorSchemaFragment<N, A> {
-    /// An equal fragment with the same locations, or want of memory.
+    /// An equal fragment with the same locations.
     pub fn clone(&self) -> M<Self>
         ensures declarations { IfOk result (DeclaresSame N N.is_alike A A.is_alike
             (λ (refer : ReferenceType → N → Reference). fragment_declarations N refer A) self.now) }
-        ensures in_turn { IfOk result (DeclaresSame N N.is_alike A A.is_alike
-            (λ (refer : ReferenceType → N → Reference). declarations_in_turn N refer A) self.now) }
+        ensures pairwise { IfOk result (DeclaresSame N N.is_alike A A.is_alike
+            (λ (refer : ReferenceType → N → Reference). declarations_pairwise N refer A) self.now) }
         ensures locs { IfOk result (LocatesSame N N.is_alike A A.is_alike (λ (locs : N → Locs). fragment_locs N locs A) self.now) }
         ensures namespaces { IfOk result (λ copy. fragment_namespaces N A copy ≡ fragment_namespaces N A self.now) }
         ensures named { IfOk result (λ copy. named_namespaces N A copy ≡ named_namespaces N A self.now) }

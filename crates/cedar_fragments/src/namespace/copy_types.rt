@@ -2,33 +2,32 @@
 
 ghost use Rattle.std.specs.Prelude.{◌≡◌, IfOk, map};
 ghost use Rattle.std.specs.Option.{option_map};
-ghost use Rattle.cedar_below.specs.Lists.{HoldsInTurn};
+ghost use Rattle.cedar_below.specs.Lists.{HoldsPairwise};
 ghost use Rattle.cedar_fragments.specs.FragmentLocs.{common_type_locs, common_types_locs, entity_fragment_locs, entity_type_locs, entity_types_locs, tags_locs};
 ghost use Rattle.cedar_fragments.specs.Located.{common_type_defs, located_common_names, located_name};
 ghost use Rattle.cedar_fragments.specs.TypeDeclarations.{common_type_declaration, common_type_declarations, entity_type_declaration, entity_type_declarations, fragment_body};
 ghost use Rattle.cedar_names.specs.Copies.{LocatesAlike, RefersAlike, ShowsSame};
 ghost use Rattle.cedar_names.specs.Reference.{Reference};
-ghost use Rattle.cedar_names.specs.WrittenExpr.{written_type};
+ghost use Rattle.cedar_names.specs.TypeExpr.{type_expr};
 ghost use Rattle.cedar_names.specs.declared.json_schema.reference_type.ReferenceType.{ReferenceType};
 
 use crate::namespace::common_types::{CommonTypeDef, CommonTypeDefs};
 use crate::namespace::entity_type_def::EntityTypeDef;
 use crate::namespace::entity_types::{EntityTypeFragment, EntityTypesDef};
-use cedar_below::M;
-use cedar_copied::copied_items;
+use cedar_below::{M, copied_items};
 use cedar_names::json_schema::{AttributesOrContext, FragmentName, Type};
 
-/// Equal names with the same locations, in their order, or want of memory.
+/// Equal names with the same locations, in their order.
 pub(crate) fn copied_names<N: FragmentName + Drop>(names: &Vec<N>) -> M<Vec<N>>
-    ensures { IfOk result (λ copies. HoldsInTurn N.is_alike names.now.items copies.items) }
+    ensures { IfOk result (λ copies. HoldsPairwise N.is_alike names.now.items copies.items) }
 {
     copied_items(names, N::copied)
 }
 
-/// An equal type of tags with the same locations, if there is one, or want of memory.
+/// An equal type of tags with the same locations, if there is one.
 fn copied_tags<N: FragmentName + Drop>(tags: &Option<Type<N>>) -> M<Option<Type<N>>>
     ensures written { IfOk result (ShowsSame (RefersAlike N N.is_alike)
-        (λ (refer : ReferenceType → N → Reference). option_map (written_type N refer)) tags.now) }
+        (λ (refer : ReferenceType → N → Reference). option_map (type_expr N refer)) tags.now) }
     ensures locs { IfOk result (ShowsSame (LocatesAlike N N.is_alike) (tags_locs N) tags.now) }
 {
     match tags {
@@ -38,7 +37,7 @@ fn copied_tags<N: FragmentName + Drop>(tags: &Option<Type<N>>) -> M<Option<Type<
 }
 
 impl<N: FragmentName + Drop> CommonTypeDef<N> {
-    /// An equal common type with the same locations, or want of memory.
+    /// An equal common type with the same locations.
     pub fn clone(&self) -> M<Self>
         ensures declaration { IfOk result (ShowsSame (RefersAlike N N.is_alike) (common_type_declaration N) self.now) }
         ensures locs { IfOk result (ShowsSame (LocatesAlike N N.is_alike) (common_type_locs N) self.now) }
@@ -52,7 +51,7 @@ impl<N: FragmentName + Drop> CommonTypeDef<N> {
 }
 
 impl<N: FragmentName + Drop> CommonTypeDefs<N> {
-    /// Equal common types with the same locations, in their order, or want of memory.
+    /// Equal common types with the same locations, in their order.
     pub fn clone(&self) -> M<Self>
         ensures declarations { IfOk result (ShowsSame (RefersAlike N N.is_alike) (common_type_declarations N) self.now) }
         ensures locs { IfOk result (ShowsSame (LocatesAlike N N.is_alike) (common_types_locs N) self.now) }
@@ -65,7 +64,7 @@ impl<N: FragmentName + Drop> CommonTypeDefs<N> {
 }
 
 impl<N: FragmentName + Drop> EntityTypeFragment<N> {
-    /// Equal declarations with the same locations, or want of memory.
+    /// Equal declarations with the same locations.
     pub fn clone(&self) -> M<Self>
         ensures body { IfOk result (ShowsSame (RefersAlike N N.is_alike) (fragment_body N) self.now) }
         ensures locs { IfOk result (ShowsSame (LocatesAlike N N.is_alike) (entity_fragment_locs N) self.now) }
@@ -90,7 +89,7 @@ impl<N: FragmentName + Drop> EntityTypeFragment<N> {
 }
 
 impl<N: FragmentName + Drop> EntityTypeDef<N> {
-    /// An equal entity type with the same locations, or want of memory.
+    /// An equal entity type with the same locations.
     pub fn clone(&self) -> M<Self>
         ensures declaration { IfOk result (ShowsSame (RefersAlike N N.is_alike) (entity_type_declaration N) self.now) }
         ensures locs { IfOk result (ShowsSame (LocatesAlike N N.is_alike) (entity_type_locs N) self.now) }
@@ -103,7 +102,7 @@ impl<N: FragmentName + Drop> EntityTypeDef<N> {
 }
 
 impl<N: FragmentName + Drop> EntityTypesDef<N> {
-    /// Equal entity types with the same locations, in their order, or want of memory.
+    /// Equal entity types with the same locations, in their order.
     pub fn clone(&self) -> M<Self>
         ensures declarations { IfOk result (ShowsSame (RefersAlike N N.is_alike) (entity_type_declarations N) self.now) }
         ensures locs { IfOk result (ShowsSame (LocatesAlike N N.is_alike) (entity_types_locs N) self.now) }

@@ -4,8 +4,8 @@ ghost use Rattle.std.specs.Prelude.{◌≡◌, ◌⊎◌, IfOk, IfErr, OnOk};
 ghost use Rattle.std.specs.List.{AllByRecursion};
 ghost use Rattle.std.specs.Option.{option_copied, option_map};
 ghost use Rattle.cedar_below.specs.InternalName.{name_of};
-ghost use Rattle.cedar_declared.specs.Fault.{want_of_memory};
-ghost use Rattle.cedar_declared.specs.SchemaError.{fault_of};
+ghost use Rattle.cedar_declarations.specs.Fault.{out_of_memory};
+ghost use Rattle.cedar_declarations.specs.SchemaError.{fault_of};
 ghost use Rattle.cedar_fragments.specs.DefinitionFault.{HasNoDefinitionFault, IsDefinitionFault, IsSound, NamesAllWithAttributes};
 ghost use Rattle.cedar_fragments.specs.FragmentDeclarations.{conditional_definition, definition_namespace};
 ghost use Rattle.cedar_fragments.specs.Located.{definition_common_names, definition_loc, definition_name, located_name, written_common_names};
@@ -17,7 +17,7 @@ use crate::namespace::actions::ActionsDef;
 use crate::namespace::common_types::CommonTypeDefs;
 use crate::namespace::entity_types::EntityTypesDef;
 use cedar_below::{InternalName, Loc};
-use cedar_declared::SchemaError;
+use cedar_declarations::SchemaError;
 use cedar_names::json_schema::{ConditionalName, NamespaceDefinition, RawName};
 use std::alloc::Global;
 
@@ -41,7 +41,7 @@ impl<N, A> ValidatorNamespaceDef<N, A> {
     }
 }
 
-/// The name of a namespace, lent.
+/// The name of a namespace, borrowed.
 pub(crate) fn lend(namespace: &Option<InternalName>) -> Option<&InternalName>
     ensures { namespace_name result ≡ option_map name_of namespace.now }
 {
@@ -52,10 +52,10 @@ impl ValidatorNamespaceDef<ConditionalName, ConditionalName> {
     /// The declarations of a definition that is written in the namespace, None being the empty one.
     ///
     /// It is refused with `UnsupportedFeature` if an action is written with attributes, which then
-    /// names all such actions in order; with `ActionEntityTypeDeclared` if an entity type has the id
-    /// `Action`; and with `ReservedName` if an entity type or an action is declared in a reserved
-    /// namespace. All of this holds of external declarations too. The only other refusal is want of
-    /// memory.
+    /// names all such actions in order; with `ActionEntityTypeDeclared` if an entity type has the
+    /// id `Action`; and with `ReservedName` if an entity type or an action is declared in a
+    /// reserved namespace. All of this holds of external declarations too. The only other refusal
+    /// is that memory ran out.
     pub fn from_namespace_definition(
         alloc: Global,
         namespace: Option<InternalName>,
@@ -70,7 +70,7 @@ impl ValidatorNamespaceDef<ConditionalName, ConditionalName> {
         ensures loc { IfOk result (λ it. definition_loc Conditional Conditional it ≡ definition.loc) }
         ensures sound { OnOk result (AllByRecursion IsSound (raw_declarations (option_map name_of namespace) definition)) }
         ensures no_fault { OnOk result (HasNoDefinitionFault (raw_declarations (option_map name_of namespace) definition)) }
-        ensures fault { IfErr result (λ error. (fault_of error ≡ want_of_memory)
+        ensures fault { IfErr result (λ error. (fault_of error ≡ out_of_memory)
             ⊎ IsDefinitionFault (raw_declarations (option_map name_of namespace) definition) (fault_of error)) }
         ensures all_named { IfErr result (λ error. NamesAllWithAttributes
             (raw_declarations (option_map name_of namespace) definition) (option_map name_of namespace) (fault_of error)) }

@@ -6,18 +6,18 @@ ghost use Rattle.cedar_below.specs.EntityType.{type_name};
 ghost use Rattle.cedar_below.specs.Identifier.{reserved_word};
 ghost use Rattle.cedar_below.specs.PlainName.{IsActionType};
 ghost use Rattle.cedar_below.specs.UnreservedId.{unreserved_id_text};
-ghost use Rattle.cedar_declared.specs.Counted.{entity_parents};
+ghost use Rattle.cedar_declarations.specs.Counted.{entity_parents};
 ghost use Rattle.cedar_names.specs.Reference.{Reference};
 ghost use Rattle.cedar_names.specs.declared.json_schema.reference_type.ReferenceType.{ReferenceType};
-ghost use Rattle.cedar_declared.specs.Fault.{Fault, action_entity_type, reserved_name, want_of_memory};
-ghost use Rattle.cedar_declared.specs.SchemaError.{fault_of};
+ghost use Rattle.cedar_declarations.specs.Fault.{Fault, action_entity_type, reserved_name, out_of_memory};
+ghost use Rattle.cedar_declarations.specs.SchemaError.{fault_of};
 ghost use Rattle.cedar_fragments.specs.DefinitionFault.{IsDefinitionFault, IsSound, NamesNoAttributes};
 ghost use Rattle.cedar_fragments.specs.TypeDeclarations.{fragment_body, entity_type_declarations};
 ghost use Rattle.cedar_names.specs.Declaration.{entity_declarations};
 ghost use Rattle.cedar_names.specs.Reference.{name_within, path_within};
 ghost use Rattle.cedar_names.specs.declared.json_schema.raw_name.RawName.{RawName as Raw};
 ghost use Rattle.std.specs.Option.{option_map};
-ghost use Rattle.cedar_names.specs.ConditionalExpr.{placed_reference, placed_expr};
+ghost use Rattle.cedar_names.specs.ConditionalExpr.{positional_reference, positional_expr};
 ghost use Rattle.cedar_names.specs.EntityBody.{raw_entity_body, standard};
 ghost use Rattle.cedar_names.specs.NamespaceName.{namespace_name};
 ghost use Rattle.cedar_names.specs.RawExpr.{raw_reference, raw_expr};
@@ -26,8 +26,8 @@ ghost use Rattle.cedar_names.specs.declared.json_schema.reference_type.Reference
 
 use crate::namespace::entity_type_def::EntityTypeDef;
 use crate::namespace::full_name::full_name;
-use cedar_below::{Eid, EntityType, InternalName, Loc, M, Name, NonEmpty, UnreservedId};
-use cedar_declared::SchemaError;
+use cedar_below::{Eid, EntityType, InternalName, Loc, M, NonEmpty, UnreservedId};
+use cedar_declarations::SchemaError;
 use cedar_names::json_schema;
 use cedar_names::json_schema::{
     AttributesOrContext, ConditionalName, EntityTypeKind, RawName, ReferenceType,
@@ -94,7 +94,7 @@ pub(crate) fn entity_references(
     namespace: Option<&InternalName>,
     names: Vec<RawName>,
 ) -> M<Vec<ConditionalName>>
-    ensures { IfOk result (λ it. map (placed_reference entity) it.items
+    ensures { IfOk result (λ it. map (positional_reference entity) it.items
         ≡ map (raw_reference (namespace_name namespace.entry) entity) names.items) }
 {
     let mut references = Vec::new(alloc);
@@ -111,7 +111,7 @@ fn tags_type(
     namespace: Option<&InternalName>,
     tags: Option<Type<RawName>>,
 ) -> M<Option<Type<ConditionalName>>>
-    ensures { IfOk result (λ it. option_map placed_expr it
+    ensures { IfOk result (λ it. option_map positional_expr it
         ≡ option_map (raw_expr (namespace_name namespace.entry)) tags) }
 {
     match tags {
@@ -129,7 +129,7 @@ fn standard_fragment(
     namespace: Option<&InternalName>,
     written: StandardEntityType<RawName>,
 ) -> M<EntityTypeFragment<ConditionalName>>
-    ensures { IfOk result (λ it. fragment_body Conditional placed_reference it
+    ensures { IfOk result (λ it. fragment_body Conditional positional_reference it
         ≡ standard (map (raw_reference (namespace_name namespace.entry) entity) written.member_of_types.items)
         (raw_expr (namespace_name namespace.entry) written.shape.0) (option_map (raw_expr (namespace_name namespace.entry)) written.tags)) }
 {
@@ -157,7 +157,7 @@ impl EntityTypeFragment<ConditionalName> {
         namespace: Option<&InternalName>,
         written: json_schema::EntityType<RawName>,
     ) -> M<Self>
-        ensures { IfOk result (λ it. fragment_body Conditional placed_reference it
+        ensures { IfOk result (λ it. fragment_body Conditional positional_reference it
             ≡ raw_entity_body (namespace_name namespace.entry) written) }
     {
         match (written.kind, written.external) {
@@ -186,20 +186,17 @@ fn entity_type_name(
     ensures name { IfOk result (λ ty. type_name ty ≡ name_within (namespace_name namespace.entry) (unreserved_id_text id)) }
     ensures no_action { OnOk result (¬ IsActionType (name_within (namespace_name namespace.entry) (unreserved_id_text id))) }
     ensures unreserved { OnOk result (¬ Contains (path_within (namespace_name namespace.entry)) reserved_word) }
-    ensures fault { IfErr result (λ error. (fault_of error ≡ want_of_memory)
+    ensures fault { IfErr result (λ error. (fault_of error ≡ out_of_memory)
         ⊎ (((fault_of error ≡ action_entity_type (name_within (namespace_name namespace.entry) (unreserved_id_text id)))
         × IsActionType (name_within (namespace_name namespace.entry) (unreserved_id_text id)))
         ⊎ ((fault_of error ≡ reserved_name (name_within (namespace_name namespace.entry) (unreserved_id_text id)))
         × Contains (path_within (namespace_name namespace.entry)) reserved_word))) }
 {
     let name = full_name(alloc, namespace, id.into_id(), loc)?;
-    if name.is_reserved() {
-        return Err(SchemaError::ReservedName(name));
-    }
-    let Some(name) = Name::new(name) else {
-        unreachable!();
+    let ty = match EntityType::from_internal(name) {
+        Ok(ty) => ty,
+        Err(name) => return Err(SchemaError::ReservedName(name)),
     };
-    let ty = EntityType::new(name);
     if ty.is_action() {
         let name = ty.into_name().into_internal();
         return Err(SchemaError::ActionEntityTypeDeclared(name));
@@ -214,11 +211,11 @@ impl EntityTypesDef<ConditionalName> {
         namespace: Option<&InternalName>,
         written: BTreeMap<UnreservedId, json_schema::EntityType<RawName>>,
     ) -> Result<Self, SchemaError>
-        ensures declarations { IfOk result (λ it. entity_type_declarations Conditional placed_reference it
+        ensures declarations { IfOk result (λ it. entity_type_declarations Conditional positional_reference it
             ≡ entity_declarations Raw (raw_reference (namespace_name namespace.entry)) (namespace_name namespace.entry) written.entries) }
         ensures sound { OnOk result (AllByRecursion IsSound
             (entity_declarations Raw (raw_reference (namespace_name namespace.entry)) (namespace_name namespace.entry) written.entries)) }
-        ensures fault { IfErr result (λ error. (fault_of error ≡ want_of_memory)
+        ensures fault { IfErr result (λ error. (fault_of error ≡ out_of_memory)
             ⊎ IsDefinitionFault (entity_declarations Raw (raw_reference (namespace_name namespace.entry)) (namespace_name namespace.entry)
             written.entries) (fault_of error)) }
         ensures no_actions { IfErr result (λ error. NamesNoAttributes (fault_of error)) }

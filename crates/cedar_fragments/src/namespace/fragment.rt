@@ -5,10 +5,10 @@ ghost use Rattle.std.specs.List.{AllByRecursion};
 ghost use Rattle.std.specs.Option.{option_map};
 ghost use Rattle.cedar_below.specs.InternalName.{name_of};
 ghost use Rattle.cedar_below.specs.Name.{plain_name};
-ghost use Rattle.cedar_declared.specs.Fault.{want_of_memory};
-ghost use Rattle.cedar_declared.specs.SchemaError.{fault_of};
+ghost use Rattle.cedar_declarations.specs.Fault.{out_of_memory};
+ghost use Rattle.cedar_declarations.specs.SchemaError.{fault_of};
 ghost use Rattle.cedar_fragments.specs.DefinitionFault.{HasNoDefinitionFault, IsDefinitionFault, IsSound};
-ghost use Rattle.cedar_fragments.specs.DefinitionsInTurn.{conditional_in_turn, located_namespaces, raw_in_turn, raw_located_namespaces};
+ghost use Rattle.cedar_fragments.specs.DefinitionsPairwise.{conditional_pairwise, located_namespaces, raw_pairwise, raw_located_namespaces};
 ghost use Rattle.cedar_fragments.specs.FragmentDeclarations.{conditional_fragment};
 ghost use Rattle.cedar_fragments.specs.FragmentFault.{NamesAllOfADefinition};
 ghost use Rattle.cedar_fragments.specs.Located.{fragment_common_names, located_name, located_plain_name, named_namespaces, raw_common_names, raw_namespaces};
@@ -17,7 +17,7 @@ ghost use Rattle.cedar_names.specs.declared.json_schema.conditional_name.Conditi
 
 use crate::namespace::definition::ValidatorNamespaceDef;
 use cedar_below::{InternalName, Name};
-use cedar_declared::SchemaError;
+use cedar_declarations::SchemaError;
 use cedar_names::json_schema::{ConditionalName, Fragment, RawName};
 use std::alloc::Global;
 
@@ -39,20 +39,20 @@ fn internal_namespace(namespace: Option<Name>) -> Option<InternalName>
 }
 
 impl ValidatorSchemaFragment<ConditionalName, ConditionalName> {
-    /// The fragment whose names say what they may stand for, with one definition for each that is
-    /// written, in order, be it empty. It is refused as one of its definitions is.
+    /// The fragment over conditional names, with one definition for each that is written, in order,
+    /// be it empty. It is refused as one of its definitions is.
     pub fn from_schema_fragment(
         alloc: Global,
         fragment: Fragment<RawName>,
     ) -> Result<Self, SchemaError>
         ensures declarations { IfOk result (λ it. conditional_fragment it ≡ raw_fragment fragment) }
-        ensures in_turn { IfOk result (λ it. conditional_in_turn it ≡ raw_in_turn fragment) }
+        ensures pairwise { IfOk result (λ it. conditional_pairwise it ≡ raw_pairwise fragment) }
         ensures located { IfOk result (λ it. located_namespaces Conditional Conditional it ≡ raw_located_namespaces fragment) }
         ensures common_types { IfOk result (λ it. fragment_common_names Conditional Conditional it ≡ raw_common_names fragment) }
         ensures namespaces { IfOk result (λ it. named_namespaces Conditional Conditional it ≡ raw_namespaces fragment) }
         ensures sound { OnOk result (AllByRecursion IsSound (raw_fragment fragment)) }
         ensures no_fault { OnOk result (HasNoDefinitionFault (raw_fragment fragment)) }
-        ensures fault { IfErr result (λ error. (fault_of error ≡ want_of_memory)
+        ensures fault { IfErr result (λ error. (fault_of error ≡ out_of_memory)
             ⊎ IsDefinitionFault (raw_fragment fragment) (fault_of error)) }
         ensures all_named { IfErr result (λ error. NamesAllOfADefinition (fragment ∷ []) (fault_of error)) }
     {

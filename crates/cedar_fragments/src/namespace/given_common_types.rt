@@ -3,13 +3,13 @@
 ghost use Rattle.std.specs.Prelude.{◌≡◌, ◌∷◌, [], IfOk, IfErr};
 ghost use Rattle.std.specs.Option.{option_map};
 ghost use Rattle.cedar_below.specs.InternalName.{name_of};
-ghost use Rattle.cedar_declared.specs.Fault.{want_of_memory};
-ghost use Rattle.cedar_declared.specs.SchemaError.{fault_of};
+ghost use Rattle.cedar_declarations.specs.Fault.{out_of_memory};
+ghost use Rattle.cedar_declarations.specs.SchemaError.{fault_of};
 ghost use Rattle.cedar_fragments.specs.DeclaredAs.{declared_as};
 ghost use Rattle.cedar_fragments.specs.FragmentDeclarations.{conditional_definition, definition_namespace};
 ghost use Rattle.cedar_fragments.specs.GivenCommonTypes.{given_common_type, given_common_types};
 ghost use Rattle.cedar_fragments.specs.TypeDeclarations.{common_type_declarations};
-ghost use Rattle.cedar_names.specs.ConditionalExpr.{placed_reference, placed_expr};
+ghost use Rattle.cedar_names.specs.ConditionalExpr.{positional_reference, positional_expr};
 ghost use Rattle.cedar_names.specs.Declaration.{common_type};
 ghost use Rattle.cedar_names.specs.NamespaceName.{namespace_name};
 ghost use Rattle.cedar_names.specs.declared.json_schema.conditional_name.ConditionalName.{ConditionalName as Conditional};
@@ -20,7 +20,7 @@ use crate::namespace::definition::{ValidatorNamespaceDef, lend};
 use crate::namespace::entity_types::EntityTypesDef;
 use crate::namespace::full_name::full_name;
 use cedar_below::{InternalName, M, UnreservedId};
-use cedar_declared::SchemaError;
+use cedar_declarations::SchemaError;
 use cedar_names::json_schema::{ConditionalName, Type};
 use std::alloc::Global;
 use std::collections::HashMap;
@@ -31,7 +31,7 @@ fn given_def(
     namespace: Option<&InternalName>,
     definition: (UnreservedId, Type<ConditionalName>),
 ) -> M<CommonTypeDef<ConditionalName>>
-    ensures { IfOk result (λ def. declared_as (name_of def.name) (common_type (placed_expr def.ty))
+    ensures { IfOk result (λ def. declared_as (name_of def.name) (common_type (positional_expr def.ty))
         ≡ given_common_type (namespace_name namespace.entry) definition) }
 {
     let (id, ty) = definition;
@@ -45,7 +45,7 @@ fn given_defs(
     namespace: Option<&InternalName>,
     definitions: HashMap<UnreservedId, Type<ConditionalName>>,
 ) -> M<CommonTypeDefs<ConditionalName>>
-    ensures { IfOk result (λ it. common_type_declarations Conditional placed_reference it
+    ensures { IfOk result (λ it. common_type_declarations Conditional positional_reference it
         ≡ given_common_types (namespace_name namespace.entry) definitions.entries) }
 {
     let mut defs = Vec::new(alloc);
@@ -61,7 +61,7 @@ fn only_common_types(
     namespace: Option<InternalName>,
     common_types: CommonTypeDefs<ConditionalName>,
 ) -> ValidatorNamespaceDef<ConditionalName, ConditionalName>
-    ensures declarations { conditional_definition result ≡ common_type_declarations Conditional placed_reference common_types }
+    ensures declarations { conditional_definition result ≡ common_type_declarations Conditional positional_reference common_types }
     ensures namespace { definition_namespace Conditional Conditional result ≡ option_map name_of namespace }
 {
     ValidatorNamespaceDef {
@@ -75,7 +75,7 @@ fn only_common_types(
 
 impl ValidatorNamespaceDef<ConditionalName, ConditionalName> {
     /// The definition that declares just these common types, each under its id in the namespace,
-    /// None being the empty one. The only refusal is want of memory.
+    /// None being the empty one. The only refusal is that memory ran out.
     pub fn from_common_type_defs(
         alloc: Global,
         namespace: Option<InternalName>,
@@ -84,14 +84,14 @@ impl ValidatorNamespaceDef<ConditionalName, ConditionalName> {
         ensures declarations { IfOk result (λ it. conditional_definition it
             ≡ given_common_types (option_map name_of namespace) definitions.entries) }
         ensures namespace { IfOk result (λ it. definition_namespace Conditional Conditional it ≡ option_map name_of namespace) }
-        ensures fault { IfErr result (λ error. fault_of error ≡ want_of_memory) }
+        ensures fault { IfErr result (λ error. fault_of error ≡ out_of_memory) }
     {
         let common_types = given_defs(alloc, lend(&namespace), definitions)?;
         Ok(only_common_types(alloc, namespace, common_types))
     }
 
-    /// The definition that declares just this common type, under its id in the namespace, None being
-    /// the empty one. The only refusal is want of memory.
+    /// The definition that declares just this common type, under its id in the namespace, None
+    /// being the empty one. The only refusal is that memory ran out.
     pub fn from_common_type_def(
         alloc: Global,
         namespace: Option<InternalName>,
@@ -100,7 +100,7 @@ impl ValidatorNamespaceDef<ConditionalName, ConditionalName> {
         ensures declarations { IfOk result (λ it. conditional_definition it
             ≡ given_common_type (option_map name_of namespace) definition ∷ []) }
         ensures namespace { IfOk result (λ it. definition_namespace Conditional Conditional it ≡ option_map name_of namespace) }
-        ensures fault { IfErr result (λ error. fault_of error ≡ want_of_memory) }
+        ensures fault { IfErr result (λ error. fault_of error ≡ out_of_memory) }
     {
         let def = given_def(alloc, lend(&namespace), definition)?;
         let mut defs = Vec::new(alloc);

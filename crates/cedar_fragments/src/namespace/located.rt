@@ -1,4 +1,4 @@
-//! What fragments and definitions hold, lent, with where it was declared.
+//! What fragments and definitions hold, borrowed, with where it was declared.
 
 ghost use Rattle.std.specs.Prelude.{◌≡◌};
 ghost use Rattle.cedar_fragments.specs.Located.{definition_common_types, definition_loc, fragment_definitions};

@@ -52,8 +52,7 @@ impl<'a, N, A> Iterator for Namespaces<'a, N, A> {
 impl<'a, N, A> FusedIterator for Namespaces<'a, N, A> {}
 
 impl<N: Drop, A: Drop> ValidatorSchemaFragment<N, A> {
-    /// The fragment of these definitions, in order, or want of memory. The definitions have to come
-    /// to an end.
+    /// The fragment of these definitions, in order. The definitions have to come to an end.
     pub fn from_namespaces<I: IntoIterator<Item = ValidatorNamespaceDef<N, A>>>(
         alloc: Global,
         items: I,

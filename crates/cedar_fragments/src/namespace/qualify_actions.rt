@@ -4,21 +4,21 @@ ghost use Rattle.std.specs.Prelude.{◌≡◌, IfOk, IfErr, OnOk, MatchOption, S
 ghost use Rattle.std.specs.List.{flat_map};
 ghost use Rattle.cedar_below.specs.EntityType.{type_name};
 ghost use Rattle.cedar_below.specs.InternalName.{name_of};
-ghost use Rattle.cedar_below.specs.Lists.{HoldsInTurn};
+ghost use Rattle.cedar_below.specs.Lists.{HoldsPairwise};
 ghost use Rattle.cedar_below.specs.PlainName.{PlainName};
 ghost use Rattle.cedar_below.specs.declared.entity_type.EntityType.{EntityType as ActionEntityType};
 ghost use Rattle.cedar_below.specs.declared.internal_name.InternalName.{InternalName as Full};
-ghost use Rattle.cedar_declared.specs.Counted.{IsPrincipalOrResource};
-ghost use Rattle.cedar_declared.specs.Occurrences.{IsFirst};
-ghost use Rattle.cedar_declared.specs.SchemaError.{fault_of};
-ghost use Rattle.cedar_declared.specs.Settled.{SettlesReference, SettlesParent, SettlesRequests, SettlesBody, SettlesBag};
-ghost use Rattle.cedar_declared.specs.SettledExpr.{settled_reference};
+ghost use Rattle.cedar_declarations.specs.Counted.{IsPrincipalOrResource};
+ghost use Rattle.cedar_declarations.specs.Occurrences.{IsFirst};
+ghost use Rattle.cedar_declarations.specs.SchemaError.{fault_of};
+ghost use Rattle.cedar_declarations.specs.Resolved.{ResolvesReference, ResolvesParent, ResolvesRequests, ResolvesBody, ResolvesBag};
+ghost use Rattle.cedar_declarations.specs.ResolvedExpr.{resolved_reference};
 ghost use Rattle.cedar_fragments.specs.ActionDeclarations.{fragment_parent, fragment_requests, action_fragment_body, action_fragment_declarations};
-ghost use Rattle.cedar_fragments.specs.FragmentDeclarations.{settled_action_type};
+ghost use Rattle.cedar_fragments.specs.FragmentDeclarations.{resolved_action_type};
 ghost use Rattle.cedar_fragments.specs.FragmentLocs.{action_fragment_locs, actions_locs, no_locs, parent_locs, requests_locs};
 ghost use Rattle.cedar_fragments.specs.HeldNames.{held_names};
-ghost use Rattle.cedar_fragments.specs.QualifyFault.{HasToResolveFor, IsRequestedIn, IsRequested, IsUnsettled, IsUnsettledIn, IsUnsettledBag, NoneIsReserved};
-ghost use Rattle.cedar_names.specs.ConditionalExpr.{placed_reference};
+ghost use Rattle.cedar_fragments.specs.QualifyFault.{HasToResolveFor, IsRequestedIn, IsRequested, IsUnresolvable, IsUnresolvableIn, IsUnresolvableBag, NoneIsReserved};
+ghost use Rattle.cedar_names.specs.ConditionalExpr.{positional_reference};
 ghost use Rattle.cedar_names.specs.Declaration.{action};
 ghost use Rattle.cedar_names.specs.PossibleNames.{names_of};
 ghost use Rattle.cedar_names.specs.declared.json_schema.conditional_name.ConditionalName.{ConditionalName as Conditional};
@@ -29,7 +29,7 @@ use crate::namespace::action_def::ActionDef;
 use crate::namespace::actions::{ActionFragment, ActionParent, ActionRequests, ActionsDef};
 use crate::namespace::qualify_types::{qualify_entity_types, qualify_type};
 use cedar_below::{Eid, EntityType, EntityUID, InternalName, M, Name, NonEmpty};
-use cedar_declared::SchemaError;
+use cedar_declarations::SchemaError;
 use cedar_names::json_schema::{ActionEntityUID, ConditionalName, ReferenceType};
 
 /// The type of the action that has the id and a type of the name, if there is one.
@@ -77,11 +77,11 @@ fn qualify_parent(
     parent: ActionParent<ConditionalName>,
     all_defs: &AllDefs,
 ) -> Result<ActionParent<EntityType>, SchemaError>
-    ensures settled { IfOk result (λ it. SettlesParent (held_names all_defs.now)
-        (fragment_parent Conditional placed_reference parent) (fragment_parent ActionEntityType settled_action_type it)) }
+    ensures resolved { IfOk result (λ it. ResolvesParent (held_names all_defs.now)
+        (fragment_parent Conditional positional_reference parent) (fragment_parent ActionEntityType resolved_action_type it)) }
     ensures locs { IfOk result (λ it. parent_locs ActionEntityType no_locs it ≡ parent_locs Conditional no_locs parent) }
-    ensures fault { IfErr result (λ error. IsUnsettled (held_names all_defs.now)
-        (λ reference. ⊥) (λ it. fragment_parent Conditional placed_reference parent ≡ it) (λ reference. ⊥) (fault_of error)) }
+    ensures fault { IfErr result (λ error. IsUnresolvable (held_names all_defs.now)
+        (λ reference. ⊥) (λ it. fragment_parent Conditional positional_reference parent ≡ it) (λ reference. ⊥) (fault_of error)) }
 {
     let ActionParent { id, ty, loc } = parent;
     match first_action_type(ty.possibilities(), &id, all_defs)? {
@@ -105,12 +105,12 @@ fn qualify_parents(
     parents: Vec<ActionParent<ConditionalName>>,
     all_defs: &AllDefs,
 ) -> Result<Vec<ActionParent<EntityType>>, SchemaError>
-    ensures settled { IfOk result (λ it. HoldsInTurn (SettlesParent (held_names all_defs.now))
-        (map (fragment_parent Conditional placed_reference) parents.items) (map (fragment_parent ActionEntityType settled_action_type) it.items)) }
+    ensures resolved { IfOk result (λ it. HoldsPairwise (ResolvesParent (held_names all_defs.now))
+        (map (fragment_parent Conditional positional_reference) parents.items) (map (fragment_parent ActionEntityType resolved_action_type) it.items)) }
     ensures locs { IfOk result (λ it. flat_map (parent_locs ActionEntityType no_locs) it.items
         ≡ flat_map (parent_locs Conditional no_locs) parents.items) }
-    ensures fault { IfErr result (λ error. IsUnsettled (held_names all_defs.now)
-        (λ reference. ⊥) (Contains (map (fragment_parent Conditional placed_reference) parents.items)) (λ reference. ⊥) (fault_of error)) }
+    ensures fault { IfErr result (λ error. IsUnresolvable (held_names all_defs.now)
+        (λ reference. ⊥) (Contains (map (fragment_parent Conditional positional_reference) parents.items)) (λ reference. ⊥) (fault_of error)) }
 {
     let mut qualified = Vec::new(all_defs.alloc);
     for parent in parents {
@@ -125,11 +125,11 @@ fn qualify_requested(
     names: Vec<ConditionalName>,
     all_defs: &AllDefs,
 ) -> Result<Vec<InternalName>, SchemaError>
-    ensures settled { IfOk result (λ it. HoldsInTurn (SettlesReference (held_names all_defs.now))
-        (map (placed_reference entity) names.items) (map (settled_reference entity) it.items)) }
-    ensures unreserved { OnOk result (NoneIsReserved (held_names all_defs.now) (Contains (map (placed_reference entity) names.items))) }
-    ensures fault { IfErr result (λ error. IsUnsettled (held_names all_defs.now)
-        (Contains (map (placed_reference entity) names.items)) (λ parent. ⊥) (Contains (map (placed_reference entity) names.items)) (fault_of error)) }
+    ensures resolved { IfOk result (λ it. HoldsPairwise (ResolvesReference (held_names all_defs.now))
+        (map (positional_reference entity) names.items) (map (resolved_reference entity) it.items)) }
+    ensures unreserved { OnOk result (NoneIsReserved (held_names all_defs.now) (Contains (map (positional_reference entity) names.items))) }
+    ensures fault { IfErr result (λ error. IsUnresolvable (held_names all_defs.now)
+        (Contains (map (positional_reference entity) names.items)) (λ parent. ⊥) (Contains (map (positional_reference entity) names.items)) (fault_of error)) }
 {
     let qualified = qualify_entity_types(names, all_defs)?;
     for name in &qualified {
@@ -145,14 +145,14 @@ fn qualify_requests(
     requests: ActionRequests<ConditionalName>,
     all_defs: &AllDefs,
 ) -> Result<ActionRequests<InternalName>, SchemaError>
-    ensures settled { IfOk result (λ it. SettlesRequests (held_names all_defs.now)
-        (fragment_requests Conditional placed_reference (Some requests)) (fragment_requests Full settled_reference (Some it))) }
+    ensures resolved { IfOk result (λ it. ResolvesRequests (held_names all_defs.now)
+        (fragment_requests Conditional positional_reference (Some requests)) (fragment_requests Full resolved_reference (Some it))) }
     ensures locs { IfOk result (λ it. requests_locs Full no_locs (Some it) ≡ requests_locs Conditional no_locs (Some requests)) }
     ensures unreserved { OnOk result (NoneIsReserved (held_names all_defs.now)
-        (IsPrincipalOrResource (fragment_requests Conditional placed_reference (Some requests)))) }
-    ensures fault { IfErr result (λ error. IsUnsettled (held_names all_defs.now)
-        (HasToResolveFor (fragment_requests Conditional placed_reference (Some requests))) (λ parent. ⊥)
-        (IsPrincipalOrResource (fragment_requests Conditional placed_reference (Some requests))) (fault_of error)) }
+        (IsPrincipalOrResource (fragment_requests Conditional positional_reference (Some requests)))) }
+    ensures fault { IfErr result (λ error. IsUnresolvable (held_names all_defs.now)
+        (HasToResolveFor (fragment_requests Conditional positional_reference (Some requests))) (λ parent. ⊥)
+        (IsPrincipalOrResource (fragment_requests Conditional positional_reference (Some requests))) (fault_of error)) }
 {
     let ActionRequests {
         principals,
@@ -170,7 +170,7 @@ fn qualify_requests(
 }
 
 impl ActionFragment<ConditionalName, ConditionalName> {
-    /// The same of the action, where each name is that of what it resolves to. It is refused with
+    /// The same action, where each name is that of what it resolves to. It is refused with
     /// `ActionNotDefined` if a parent names no action, with `TypeNotDefined` if another name
     /// resolves to nothing, and with `ReservedName` if a principal or a resource resolves to a
     /// reserved name.
@@ -178,15 +178,15 @@ impl ActionFragment<ConditionalName, ConditionalName> {
         self,
         all_defs: &AllDefs,
     ) -> Result<ActionFragment<InternalName, EntityType>, SchemaError>
-        ensures settled { IfOk result (λ it. SettlesBody (held_names all_defs.now)
-            (action (action_fragment_body Conditional placed_reference Conditional placed_reference self))
-            (action (action_fragment_body Full settled_reference ActionEntityType settled_action_type it))) }
+        ensures resolved { IfOk result (λ it. ResolvesBody (held_names all_defs.now)
+            (action (action_fragment_body Conditional positional_reference Conditional positional_reference self))
+            (action (action_fragment_body Full resolved_reference ActionEntityType resolved_action_type it))) }
         ensures locs { IfOk result (λ it. action_fragment_locs Full no_locs ActionEntityType no_locs it
             ≡ action_fragment_locs Conditional no_locs Conditional no_locs self) }
         ensures unreserved { OnOk result (NoneIsReserved (held_names all_defs.now)
-            (IsRequestedIn (action (action_fragment_body Conditional placed_reference Conditional placed_reference self)))) }
-        ensures fault { IfErr result (λ error. IsUnsettledIn (held_names all_defs.now)
-            (action (action_fragment_body Conditional placed_reference Conditional placed_reference self)) (fault_of error)) }
+            (IsRequestedIn (action (action_fragment_body Conditional positional_reference Conditional positional_reference self)))) }
+        ensures fault { IfErr result (λ error. IsUnresolvableIn (held_names all_defs.now)
+            (action (action_fragment_body Conditional positional_reference Conditional positional_reference self)) (fault_of error)) }
     {
         let ActionFragment {
             requests,
@@ -213,15 +213,15 @@ impl ActionsDef<ConditionalName, ConditionalName> {
         self,
         all_defs: &AllDefs,
     ) -> Result<ActionsDef<InternalName, EntityType>, SchemaError>
-        ensures settled { IfOk result (λ it. SettlesBag (held_names all_defs.now)
-            (action_fragment_declarations Conditional placed_reference Conditional placed_reference self)
-            (action_fragment_declarations Full settled_reference ActionEntityType settled_action_type it)) }
+        ensures resolved { IfOk result (λ it. ResolvesBag (held_names all_defs.now)
+            (action_fragment_declarations Conditional positional_reference Conditional positional_reference self)
+            (action_fragment_declarations Full resolved_reference ActionEntityType resolved_action_type it)) }
         ensures locs { IfOk result (λ it. actions_locs Full no_locs ActionEntityType no_locs it
             ≡ actions_locs Conditional no_locs Conditional no_locs self) }
         ensures unreserved { OnOk result (NoneIsReserved (held_names all_defs.now)
-            (IsRequested (action_fragment_declarations Conditional placed_reference Conditional placed_reference self))) }
-        ensures fault { IfErr result (λ error. IsUnsettledBag (held_names all_defs.now)
-            (action_fragment_declarations Conditional placed_reference Conditional placed_reference self) (fault_of error)) }
+            (IsRequested (action_fragment_declarations Conditional positional_reference Conditional positional_reference self))) }
+        ensures fault { IfErr result (λ error. IsUnresolvableBag (held_names all_defs.now)
+            (action_fragment_declarations Conditional positional_reference Conditional positional_reference self) (fault_of error)) }
     {
         let mut defs = Vec::new(all_defs.alloc);
         for def in self.defs {

@@ -3,22 +3,22 @@
 ghost use Rattle.std.specs.Prelude.{◌≡◌, IfOk, IfErr, OnOk};
 ghost use Rattle.cedar_below.specs.declared.entity_type.EntityType.{EntityType as ActionEntityType};
 ghost use Rattle.cedar_below.specs.declared.internal_name.InternalName.{InternalName as Full};
-ghost use Rattle.cedar_below.specs.Lists.{HoldsInTurn};
-ghost use Rattle.cedar_declared.specs.SchemaError.{fault_of};
-ghost use Rattle.cedar_declared.specs.Settled.{SettlesBag};
-ghost use Rattle.cedar_fragments.specs.DefinitionsInTurn.{conditional_in_turn, located_namespaces, locs_in_turn, settled_in_turn};
-ghost use Rattle.cedar_fragments.specs.FragmentDeclarations.{definition_namespace, conditional_definition, conditional_fragment, settled_definition, settled_fragment};
+ghost use Rattle.cedar_below.specs.Lists.{HoldsPairwise};
+ghost use Rattle.cedar_declarations.specs.SchemaError.{fault_of};
+ghost use Rattle.cedar_declarations.specs.Resolved.{ResolvesBag};
+ghost use Rattle.cedar_fragments.specs.DefinitionsPairwise.{conditional_pairwise, located_namespaces, locs_pairwise, resolved_in_turn};
+ghost use Rattle.cedar_fragments.specs.FragmentDeclarations.{definition_namespace, conditional_definition, conditional_fragment, resolved_definition, resolved_fragment};
 ghost use Rattle.cedar_fragments.specs.FragmentLocs.{definition_locs, no_locs};
 ghost use Rattle.cedar_fragments.specs.HeldNames.{held_names};
 ghost use Rattle.cedar_fragments.specs.Located.{definition_loc, definition_name};
-ghost use Rattle.cedar_fragments.specs.QualifyFault.{IsRequested, IsUnsettledBag, NoneIsReserved};
+ghost use Rattle.cedar_fragments.specs.QualifyFault.{IsRequested, IsUnresolvableBag, NoneIsReserved};
 ghost use Rattle.cedar_names.specs.declared.json_schema.conditional_name.ConditionalName.{ConditionalName as Conditional};
 
 use crate::defs::AllDefs;
 use crate::namespace::definition::ValidatorNamespaceDef;
 use crate::namespace::fragment::ValidatorSchemaFragment;
 use cedar_below::{EntityType, InternalName};
-use cedar_declared::SchemaError;
+use cedar_declarations::SchemaError;
 use cedar_names::json_schema::ConditionalName;
 
 impl ValidatorNamespaceDef<ConditionalName, ConditionalName> {
@@ -30,14 +30,14 @@ impl ValidatorNamespaceDef<ConditionalName, ConditionalName> {
         self,
         all_defs: &AllDefs,
     ) -> Result<ValidatorNamespaceDef<InternalName, EntityType>, SchemaError>
-        ensures settled { IfOk result (λ it. SettlesBag (held_names all_defs.now) (conditional_definition self) (settled_definition it)) }
+        ensures resolved { IfOk result (λ it. ResolvesBag (held_names all_defs.now) (conditional_definition self) (resolved_definition it)) }
         ensures namespace { IfOk result (λ it. definition_namespace Full ActionEntityType it ≡ definition_namespace Conditional Conditional self) }
         ensures name { IfOk result (λ it. definition_name Full ActionEntityType it ≡ definition_name Conditional Conditional self) }
         ensures loc { IfOk result (λ it. definition_loc Full ActionEntityType it ≡ definition_loc Conditional Conditional self) }
         ensures locs { IfOk result (λ it. definition_locs Full no_locs ActionEntityType no_locs it
             ≡ definition_locs Conditional no_locs Conditional no_locs self) }
         ensures unreserved { OnOk result (NoneIsReserved (held_names all_defs.now) (IsRequested (conditional_definition self))) }
-        ensures fault { IfErr result (λ error. IsUnsettledBag (held_names all_defs.now) (conditional_definition self) (fault_of error)) }
+        ensures fault { IfErr result (λ error. IsUnresolvableBag (held_names all_defs.now) (conditional_definition self) (fault_of error)) }
     {
         let ValidatorNamespaceDef {
             namespace,
@@ -66,12 +66,12 @@ impl ValidatorSchemaFragment<ConditionalName, ConditionalName> {
         self,
         all_defs: &AllDefs,
     ) -> Result<ValidatorSchemaFragment<InternalName, EntityType>, SchemaError>
-        ensures settled { IfOk result (λ it. SettlesBag (held_names all_defs.now) (conditional_fragment self) (settled_fragment it)) }
-        ensures in_turn { IfOk result (λ it. HoldsInTurn (SettlesBag (held_names all_defs.now)) (conditional_in_turn self) (settled_in_turn it)) }
+        ensures resolved { IfOk result (λ it. ResolvesBag (held_names all_defs.now) (conditional_fragment self) (resolved_fragment it)) }
+        ensures pairwise { IfOk result (λ it. HoldsPairwise (ResolvesBag (held_names all_defs.now)) (conditional_pairwise self) (resolved_in_turn it)) }
         ensures located { IfOk result (λ it. located_namespaces Full ActionEntityType it ≡ located_namespaces Conditional Conditional self) }
-        ensures locs { IfOk result (λ it. locs_in_turn Full ActionEntityType it ≡ locs_in_turn Conditional Conditional self) }
+        ensures locs { IfOk result (λ it. locs_pairwise Full ActionEntityType it ≡ locs_pairwise Conditional Conditional self) }
         ensures unreserved { OnOk result (NoneIsReserved (held_names all_defs.now) (IsRequested (conditional_fragment self))) }
-        ensures fault { IfErr result (λ error. IsUnsettledBag (held_names all_defs.now) (conditional_fragment self) (fault_of error)) }
+        ensures fault { IfErr result (λ error. IsUnresolvableBag (held_names all_defs.now) (conditional_fragment self) (fault_of error)) }
     {
         let mut definitions = Vec::new(all_defs.alloc);
         for definition in self.definitions {

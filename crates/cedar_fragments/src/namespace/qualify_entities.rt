@@ -3,16 +3,16 @@
 ghost use Rattle.std.specs.Prelude.{◌≡◌, IfOk, IfErr, Some};
 ghost use Rattle.std.specs.Option.{option_map};
 ghost use Rattle.cedar_below.specs.declared.internal_name.InternalName.{InternalName as Full};
-ghost use Rattle.cedar_declared.specs.Counted.{HasToResolve};
-ghost use Rattle.cedar_declared.specs.Mentions.{Refers};
-ghost use Rattle.cedar_declared.specs.Settled.{SettlesTags, SettlesEntityBody, SettlesBag};
-ghost use Rattle.cedar_declared.specs.SettledExpr.{settled_reference, settled_expr};
+ghost use Rattle.cedar_declarations.specs.Counted.{HasToResolve};
+ghost use Rattle.cedar_declarations.specs.Mentions.{Refers};
+ghost use Rattle.cedar_declarations.specs.Resolved.{ResolvesTags, ResolvesEntityBody, ResolvesBag};
+ghost use Rattle.cedar_declarations.specs.ResolvedExpr.{resolved_reference, resolved_expr};
 ghost use Rattle.cedar_fragments.specs.FragmentLocs.{common_types_locs, entity_fragment_locs, entity_types_locs, no_locs, tags_locs};
 ghost use Rattle.cedar_fragments.specs.HeldNames.{held_names};
 ghost use Rattle.cedar_fragments.specs.QualifyFault.{HasToResolveIn};
 ghost use Rattle.cedar_fragments.specs.Refused.{IsRefusedAmong};
 ghost use Rattle.cedar_fragments.specs.TypeDeclarations.{common_type_declarations, fragment_body, entity_type_declarations};
-ghost use Rattle.cedar_names.specs.ConditionalExpr.{placed_reference, placed_expr};
+ghost use Rattle.cedar_names.specs.ConditionalExpr.{positional_reference, positional_expr};
 ghost use Rattle.cedar_names.specs.Declaration.{entity_type};
 ghost use Rattle.cedar_names.specs.Expr.{Expr};
 ghost use Rattle.cedar_names.specs.declared.json_schema.conditional_name.ConditionalName.{ConditionalName as Conditional};
@@ -32,11 +32,11 @@ impl CommonTypeDefs<ConditionalName> {
         self,
         all_defs: &AllDefs,
     ) -> Result<CommonTypeDefs<InternalName>, QualifyError>
-        ensures settled { IfOk result (λ it. SettlesBag (held_names all_defs.now)
-            (common_type_declarations Conditional placed_reference self) (common_type_declarations Full settled_reference it)) }
+        ensures resolved { IfOk result (λ it. ResolvesBag (held_names all_defs.now)
+            (common_type_declarations Conditional positional_reference self) (common_type_declarations Full resolved_reference it)) }
         ensures locs { IfOk result (λ it. common_types_locs Full no_locs it ≡ common_types_locs Conditional no_locs self) }
         ensures refused { IfErr result (IsRefusedAmong (held_names all_defs.now)
-            (HasToResolve (common_type_declarations Conditional placed_reference self))) }
+            (HasToResolve (common_type_declarations Conditional positional_reference self))) }
     {
         let mut defs = Vec::new(all_defs.alloc);
         for def in self.defs {
@@ -53,10 +53,10 @@ fn qualify_tags(
     tags: Option<Type<ConditionalName>>,
     all_defs: &AllDefs,
 ) -> Result<Option<Type<InternalName>>, QualifyError>
-    ensures settled { IfOk result (λ it. SettlesTags (held_names all_defs.now) (option_map placed_expr tags) (option_map settled_expr it)) }
+    ensures resolved { IfOk result (λ it. ResolvesTags (held_names all_defs.now) (option_map positional_expr tags) (option_map resolved_expr it)) }
     ensures locs { IfOk result (λ it. tags_locs Full no_locs it ≡ tags_locs Conditional no_locs tags) }
     ensures refused { IfErr result (IsRefusedAmong (held_names all_defs.now)
-        (λ reference. (expr : Expr) × (option_map placed_expr tags ≡ Some expr) × Refers expr reference)) }
+        (λ reference. (expr : Expr) × (option_map positional_expr tags ≡ Some expr) × Refers expr reference)) }
 {
     match tags {
         None => Ok(None),
@@ -68,17 +68,17 @@ fn qualify_tags(
 }
 
 impl EntityTypeFragment<ConditionalName> {
-    /// The same of the entity type, where each name is that of what it resolves to. It is refused
-    /// with `TypeNotDefined` if a name resolves to nothing.
+    /// The same entity type, where each name is that of what it resolves to. It is refused with
+    /// `TypeNotDefined` if a name resolves to nothing.
     pub fn fully_qualify_type_references(
         self,
         all_defs: &AllDefs,
     ) -> Result<EntityTypeFragment<InternalName>, QualifyError>
-        ensures settled { IfOk result (λ it. SettlesEntityBody (held_names all_defs.now)
-            (fragment_body Conditional placed_reference self) (fragment_body Full settled_reference it)) }
+        ensures resolved { IfOk result (λ it. ResolvesEntityBody (held_names all_defs.now)
+            (fragment_body Conditional positional_reference self) (fragment_body Full resolved_reference it)) }
         ensures locs { IfOk result (λ it. entity_fragment_locs Full no_locs it ≡ entity_fragment_locs Conditional no_locs self) }
         ensures refused { IfErr result (IsRefusedAmong (held_names all_defs.now)
-            (HasToResolveIn (entity_type (fragment_body Conditional placed_reference self)))) }
+            (HasToResolveIn (entity_type (fragment_body Conditional positional_reference self)))) }
     {
         match self {
             EntityTypeFragment::Standard {
@@ -111,11 +111,11 @@ impl EntityTypesDef<ConditionalName> {
         self,
         all_defs: &AllDefs,
     ) -> Result<EntityTypesDef<InternalName>, QualifyError>
-        ensures settled { IfOk result (λ it. SettlesBag (held_names all_defs.now)
-            (entity_type_declarations Conditional placed_reference self) (entity_type_declarations Full settled_reference it)) }
+        ensures resolved { IfOk result (λ it. ResolvesBag (held_names all_defs.now)
+            (entity_type_declarations Conditional positional_reference self) (entity_type_declarations Full resolved_reference it)) }
         ensures locs { IfOk result (λ it. entity_types_locs Full no_locs it ≡ entity_types_locs Conditional no_locs self) }
         ensures refused { IfErr result (IsRefusedAmong (held_names all_defs.now)
-            (HasToResolve (entity_type_declarations Conditional placed_reference self))) }
+            (HasToResolve (entity_type_declarations Conditional positional_reference self))) }
     {
         let mut defs = Vec::new(all_defs.alloc);
         for def in self.defs {

@@ -1,22 +1,21 @@
-//! How types whose names say what they may stand for come to name what is defined.
+//! How types over conditional names come to name what is defined.
 
 ghost use Rattle.std.specs.Prelude.{◌≡◌, IfOk, IfErr, map, Contains};
-ghost use Rattle.cedar_below.specs.Lists.{HoldsInTurn};
+ghost use Rattle.cedar_below.specs.Lists.{HoldsPairwise};
 ghost use Rattle.cedar_below.specs.declared.internal_name.InternalName.{InternalName as Full};
-ghost use Rattle.cedar_declared.specs.Mentions.{Refers};
-ghost use Rattle.cedar_declared.specs.Settled.{Settles, SettlesReference};
-ghost use Rattle.cedar_declared.specs.SettledExpr.{settled_reference, settled_expr, settled_variant, settled_record};
+ghost use Rattle.cedar_declarations.specs.Mentions.{Refers};
+ghost use Rattle.cedar_declarations.specs.Resolved.{Resolves, ResolvesReference};
+ghost use Rattle.cedar_declarations.specs.ResolvedExpr.{resolved_reference, resolved_expr, resolved_variant, resolved_record};
 ghost use Rattle.cedar_fragments.specs.FragmentLocs.{no_locs};
 ghost use Rattle.cedar_fragments.specs.HeldNames.{held_names};
 ghost use Rattle.cedar_fragments.specs.Refused.{IsRefusedAmong};
-ghost use Rattle.cedar_names.specs.ConditionalExpr.{placed_reference, placed_expr, placed_variant, placed_record};
+ghost use Rattle.cedar_names.specs.ConditionalExpr.{positional_reference, positional_expr, positional_variant, positional_record};
 ghost use Rattle.cedar_names.specs.TypeLocs.{record_locs, type_locs, variant_locs};
 ghost use Rattle.cedar_names.specs.declared.json_schema.conditional_name.ConditionalName.{ConditionalName as Conditional};
 ghost use Rattle.cedar_names.specs.declared.json_schema.reference_type.ReferenceType.TheVariants.{Entity as entity};
 
 use crate::defs::{AllDefs, resolve_at};
-use crate::maps::put;
-use cedar_below::InternalName;
+use cedar_below::{InternalName, put};
 use cedar_names::json_schema::{
     ConditionalName, QualifyError, RecordType, ReferenceType, Type, TypeOfAttribute, TypeVariant,
 };
@@ -29,9 +28,9 @@ pub(crate) fn qualify_type(
     ty: Type<ConditionalName>,
     all_defs: &AllDefs,
 ) -> Result<Type<InternalName>, QualifyError>
-    ensures settled { IfOk result (λ it. Settles (held_names all_defs.now) (placed_expr ty) (settled_expr it)) }
+    ensures resolved { IfOk result (λ it. Resolves (held_names all_defs.now) (positional_expr ty) (resolved_expr it)) }
     ensures locs { IfOk result (λ it. type_locs Full no_locs it ≡ type_locs Conditional no_locs ty) }
-    ensures refused { IfErr result (IsRefusedAmong (held_names all_defs.now) (Refers (placed_expr ty))) }
+    ensures refused { IfErr result (IsRefusedAmong (held_names all_defs.now) (Refers (positional_expr ty))) }
 {
     match ty {
         Type::Plain { ty, loc } => {
@@ -45,15 +44,15 @@ pub(crate) fn qualify_type(
     }
 }
 
-/// The same of a type that is written out.
+/// The type variant, with each name that of what it resolves to.
 #[cycle(qualify)]
 fn qualify_variant(
     ty: TypeVariant<ConditionalName>,
     all_defs: &AllDefs,
 ) -> Result<TypeVariant<InternalName>, QualifyError>
-    ensures settled { IfOk result (λ it. Settles (held_names all_defs.now) (placed_variant ty) (settled_variant it)) }
+    ensures resolved { IfOk result (λ it. Resolves (held_names all_defs.now) (positional_variant ty) (resolved_variant it)) }
     ensures locs { IfOk result (λ it. variant_locs Full no_locs it ≡ variant_locs Conditional no_locs ty) }
-    ensures refused { IfErr result (IsRefusedAmong (held_names all_defs.now) (Refers (placed_variant ty))) }
+    ensures refused { IfErr result (IsRefusedAmong (held_names all_defs.now) (Refers (positional_variant ty))) }
 {
     match ty {
         TypeVariant::String => Ok(TypeVariant::String),
@@ -80,15 +79,15 @@ fn qualify_variant(
     }
 }
 
-/// The same of a record type.
+/// The record type, with each name in its attributes that of what it resolves to.
 #[cycle(qualify)]
 fn qualify_record(
     record_type: RecordType<ConditionalName>,
     all_defs: &AllDefs,
 ) -> Result<RecordType<InternalName>, QualifyError>
-    ensures settled { IfOk result (λ it. Settles (held_names all_defs.now) (placed_record record_type) (settled_record it)) }
+    ensures resolved { IfOk result (λ it. Resolves (held_names all_defs.now) (positional_record record_type) (resolved_record it)) }
     ensures locs { IfOk result (λ it. record_locs Full no_locs it ≡ record_locs Conditional no_locs record_type) }
-    ensures refused { IfErr result (IsRefusedAmong (held_names all_defs.now) (Refers (placed_record record_type))) }
+    ensures refused { IfErr result (IsRefusedAmong (held_names all_defs.now) (Refers (positional_record record_type))) }
 {
     let RecordType {
         attributes: written,
@@ -112,9 +111,9 @@ pub(crate) fn qualify_entity_types(
     names: Vec<ConditionalName>,
     all_defs: &AllDefs,
 ) -> Result<Vec<InternalName>, QualifyError>
-    ensures settled { IfOk result (λ it. HoldsInTurn (SettlesReference (held_names all_defs.now))
-        (map (placed_reference entity) names.items) (map (settled_reference entity) it.items)) }
-    ensures refused { IfErr result (IsRefusedAmong (held_names all_defs.now) (Contains (map (placed_reference entity) names.items))) }
+    ensures resolved { IfOk result (λ it. HoldsPairwise (ResolvesReference (held_names all_defs.now))
+        (map (positional_reference entity) names.items) (map (resolved_reference entity) it.items)) }
+    ensures refused { IfErr result (IsRefusedAmong (held_names all_defs.now) (Contains (map (positional_reference entity) names.items))) }
 {
     let mut qualified = Vec::new(all_defs.alloc);
     for name in names {

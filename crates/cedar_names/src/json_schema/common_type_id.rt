@@ -65,7 +65,7 @@ impl CommonTypeId {
         self.id.as_str()
     }
 
-    /// An equal base name, or want of memory.
+    /// An equal base name.
     pub fn clone(&self) -> M<Self>
         ensures { IfOk result (λ copy. common_type_text copy ≡ common_type_text self.now) }
     {

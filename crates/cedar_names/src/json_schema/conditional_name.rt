@@ -1,4 +1,4 @@
-//! References whose names are not settled yet.
+//! References whose names are not resolved yet.
 
 ghost use Rattle.std.specs.Prelude.{◌≡◌, ◌∷◌, [], IfOk, map};
 ghost use Rattle.cedar_below.specs.InternalName.{name_of, name_loc};
@@ -10,7 +10,7 @@ use cedar_below::{InternalName, M, NonEmpty};
 use std::alloc::Global;
 use std::fmt;
 
-/// A reference to a type whose name is not settled yet: the names that it may stand for, and what
+/// A reference to a type whose name is not resolved yet: the names that it may stand for, and what
 /// kind of type it may name. It stands for the first of its possibilities that is declared as such
 /// a type.
 ///
@@ -21,7 +21,7 @@ pub struct ConditionalName {
     reference_type: ReferenceType,
 }
 
-/// Equal names in the same order with the same locations, or want of memory.
+/// Equal names in the same order with the same locations.
 fn clone_names(names: &Vec<InternalName>) -> M<Vec<InternalName>>
     ensures names { IfOk result (λ copy. map name_of copy.items ≡ map name_of names.now.items) }
     ensures locs { IfOk result (λ copy. map name_loc copy.items ≡ map name_loc names.now.items) }
@@ -82,7 +82,7 @@ impl ConditionalName {
         &self.reference_type
     }
 
-    /// An equal reference with the same locations, or want of memory.
+    /// An equal reference with the same locations.
     pub fn clone(&self) -> M<Self>
         ensures possibilities { IfOk result
             (λ copy. possibilities_of copy ≡ possibilities_of self.now) }

@@ -3,16 +3,15 @@
 ghost use Rattle.std.specs.Prelude.{IfOk};
 ghost use Rattle.cedar_names.specs.Copies.{IsRecordCopy, IsTypeCopy, IsVariantCopy, LocatesAlike, RefersAlike, ShowsSame};
 ghost use Rattle.cedar_names.specs.TypeLocs.{type_locs};
-ghost use Rattle.cedar_names.specs.WrittenExpr.{written_type};
+ghost use Rattle.cedar_names.specs.TypeExpr.{type_expr};
 
 use crate::json_schema::fragment_name::FragmentName;
-use crate::json_schema::qualify::put;
 use crate::json_schema::type_of::{RecordType, Type, TypeOfAttribute, TypeVariant};
-use cedar_below::M;
+use cedar_below::{M, put};
 use std::collections::BTreeMap;
 use std::default::Emptied;
 
-/// An equal type with the same locations, or want of memory.
+/// An equal type with the same locations.
 #[cycle(copying)]
 fn copy_type<N: FragmentName + Drop>(ty: &Type<N>) -> M<Type<N>>
     ensures { IfOk result (IsTypeCopy N N.is_alike ty.now) }
@@ -32,7 +31,7 @@ fn copy_type<N: FragmentName + Drop>(ty: &Type<N>) -> M<Type<N>>
     }
 }
 
-/// The same of a type that is written out.
+/// An equal type variant with the same locations.
 #[cycle(copying)]
 fn copy_variant<N: FragmentName + Drop>(ty: &TypeVariant<N>) -> M<TypeVariant<N>>
     ensures { IfOk result (IsVariantCopy N N.is_alike ty.now) }
@@ -62,7 +61,7 @@ fn copy_variant<N: FragmentName + Drop>(ty: &TypeVariant<N>) -> M<TypeVariant<N>
     }
 }
 
-/// The same of a record type.
+/// An equal record type with the same locations.
 #[cycle(copying)]
 fn copy_record<N: FragmentName + Drop>(record_type: &RecordType<N>) -> M<RecordType<N>>
     ensures { IfOk result (IsRecordCopy N N.is_alike record_type.now) }
@@ -83,9 +82,9 @@ fn copy_record<N: FragmentName + Drop>(record_type: &RecordType<N>) -> M<RecordT
 }
 
 impl<N: FragmentName + Drop> Type<N> {
-    /// An equal type with the same locations, or want of memory.
+    /// An equal type with the same locations.
     pub fn clone(&self) -> M<Self>
-        ensures written { IfOk result (ShowsSame (RefersAlike N N.is_alike) (written_type N) self.now) }
+        ensures written { IfOk result (ShowsSame (RefersAlike N N.is_alike) (type_expr N) self.now) }
         ensures locs { IfOk result (ShowsSame (LocatesAlike N N.is_alike) (type_locs N) self.now) }
     {
         copy_type(self)

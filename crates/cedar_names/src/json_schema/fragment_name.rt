@@ -6,14 +6,14 @@ ghost use Rattle.cedar_names.specs.Copies.{AlikeConditional, AlikeEntity, AlikeF
 use crate::json_schema::conditional_name::ConditionalName;
 use cedar_below::{EntityType, InternalName, M};
 
-/// A form of the names in a fragment: a name that isn't settled yet, or the full name of what it
+/// A form of the names in a fragment: a name that isn't resolved yet, or the full name of what it
 /// names.
 ///
 /// The ghost member says when a name is like another: equal, with the same locations.
 pub trait FragmentName {
     ghost is_alike: { Self → Self → Type 0 };
 
-    /// An equal name with the same locations, or want of memory.
+    /// An equal name with the same locations.
     fn copied(&self) -> M<Self>
     where
         Self: Sized,

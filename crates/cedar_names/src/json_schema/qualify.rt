@@ -1,8 +1,7 @@
 //! How a type that was written in a namespace comes to say what its names may stand for.
 
-ghost use Rattle.std.specs.BTreeMap.{insert_entry};
-ghost use Rattle.std.specs.Prelude.{◌≡◌, IfOk, OnOk};
-ghost use Rattle.cedar_names.specs.ConditionalExpr.{conditional_expr, conditional_variant, conditional_record, placed_expr, placed_variant, placed_record, ReferencesFit};
+ghost use Rattle.std.specs.Prelude.{◌≡◌, IfOk};
+ghost use Rattle.cedar_names.specs.ConditionalExpr.{conditional_expr, conditional_variant, conditional_record, positional_expr, positional_variant, positional_record, ReferencesFit};
 ghost use Rattle.cedar_names.specs.NamespaceName.{namespace_name};
 ghost use Rattle.cedar_names.specs.RawExpr.{raw_expr, raw_variant, raw_record};
 
@@ -10,19 +9,11 @@ use crate::json_schema::conditional_name::ConditionalName;
 use crate::json_schema::raw_name::RawName;
 use crate::json_schema::reference_type::ReferenceType;
 use crate::json_schema::type_of::{RecordType, Type, TypeOfAttribute, TypeVariant};
-use cedar_below::{InternalName, M};
+use cedar_below::{InternalName, M, put};
 use std::alloc::Global;
 use std::collections::BTreeMap;
 
-/// Puts a value under a key, or answers want of memory.
-pub(crate) fn put<K: Ord + Drop, V: Drop>(map: &mut BTreeMap<K, V>, key: K, value: V) -> M<()>
-    ensures { OnOk result (map.new.entries ≡ insert_entry K.cmp map.old.entries key value) }
-{
-    let _old = map.insert(key, value)?;
-    Ok(())
-}
-
-/// The same type, where each name says what it may stand for in the namespace.
+/// The same type, where each name is conditional in the namespace.
 #[cycle(qualify)]
 fn qualify_type(
     alloc: Global,
@@ -30,7 +21,7 @@ fn qualify_type(
     namespace: Option<&InternalName>,
 ) -> M<Type<ConditionalName>>
     ensures own { IfOk result (λ it. conditional_expr it ≡ raw_expr (namespace_name namespace.entry) ty) }
-    ensures placed { IfOk result (λ it. placed_expr it ≡ raw_expr (namespace_name namespace.entry) ty) }
+    ensures placed { IfOk result (λ it. positional_expr it ≡ raw_expr (namespace_name namespace.entry) ty) }
 {
     match ty {
         Type::Plain { ty, loc } => {
@@ -45,7 +36,7 @@ fn qualify_type(
     }
 }
 
-/// The same of a type that is written out.
+/// The same type variant, where each name is conditional.
 #[cycle(qualify)]
 fn qualify_variant(
     alloc: Global,
@@ -53,7 +44,7 @@ fn qualify_variant(
     namespace: Option<&InternalName>,
 ) -> M<TypeVariant<ConditionalName>>
     ensures own { IfOk result (λ it. conditional_variant it ≡ raw_variant (namespace_name namespace.entry) ty) }
-    ensures placed { IfOk result (λ it. placed_variant it ≡ raw_variant (namespace_name namespace.entry) ty) }
+    ensures placed { IfOk result (λ it. positional_variant it ≡ raw_variant (namespace_name namespace.entry) ty) }
 {
     match ty {
         TypeVariant::String => Ok(TypeVariant::String),
@@ -82,7 +73,7 @@ fn qualify_variant(
     }
 }
 
-/// The same of a record type.
+/// The same record type, where each name is conditional.
 #[cycle(qualify)]
 fn qualify_record(
     alloc: Global,
@@ -90,7 +81,7 @@ fn qualify_record(
     namespace: Option<&InternalName>,
 ) -> M<RecordType<ConditionalName>>
     ensures own { IfOk result (λ it. conditional_record it ≡ raw_record (namespace_name namespace.entry) record_type) }
-    ensures placed { IfOk result (λ it. placed_record it ≡ raw_record (namespace_name namespace.entry) record_type) }
+    ensures placed { IfOk result (λ it. positional_record it ≡ raw_record (namespace_name namespace.entry) record_type) }
 {
     let RecordType {
         attributes: written,
@@ -109,9 +100,9 @@ fn qualify_record(
 }
 
 impl Type<RawName> {
-    /// The same type, where each name says what it may stand for in the namespace, None being the
-    /// empty one: a name of a common type, of an entity type, or of either, whichever its place
-    /// permits. Locations are kept.
+    /// The same type, where each name is conditional in the namespace, None being the empty one: a
+    /// name of a common type, of an entity type, or of either, whichever its position permits.
+    /// Locations are kept.
     pub fn conditionally_qualify_type_references(
         self,
         alloc: Global,

@@ -1,4 +1,4 @@
-//! Why a reference is not settled.
+//! Why a reference is not resolved.
 
 ghost use Rattle.std.specs.Prelude.{◌≡◌};
 ghost use Rattle.cedar_below.specs.declared.memory.Memory.{Memory as WantOfMemory};
@@ -23,7 +23,7 @@ pub enum QualifyError {
     /// The reference stands for no declared type.
     #[error(transparent)]
     TypeNotDefined(TypeNotDefinedError),
-    /// Want of memory.
+    /// Out of memory.
     #[error(transparent)]
     Memory(Memory),
 }

@@ -103,7 +103,7 @@ impl RawName {
         }
     }
 
-    /// An equal name with the same location, or want of memory.
+    /// An equal name with the same location.
     pub fn clone(&self) -> M<Self>
         ensures name { IfOk result (λ copy. raw_name copy ≡ raw_name self.now) }
         ensures loc { IfOk result (λ copy. raw_loc copy ≡ raw_loc self.now) }

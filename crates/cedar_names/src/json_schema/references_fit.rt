@@ -1,21 +1,21 @@
 //! The test of whether references fit the places where they stand.
 
 ghost use Rattle.std.specs.Prelude.{◌≡◌, ◌↔◌, IsTrue};
-ghost use Rattle.cedar_names.specs.ConditionalExpr.{conditional_variant, conditional_record, placed_variant, placed_record, ReferencesFit};
+ghost use Rattle.cedar_names.specs.ConditionalExpr.{conditional_variant, conditional_record, positional_variant, positional_record, ReferencesFit};
 ghost use Rattle.cedar_names.specs.ConditionalName.{reference_type_of};
 
 use crate::json_schema::conditional_name::ConditionalName;
 use crate::json_schema::reference_type::ReferenceType;
 use crate::json_schema::type_of::{RecordType, Type, TypeVariant};
 
-/// Whether a reference is of the kind that its place permits.
+/// Whether a reference is of the kind that its position permits.
 fn reference_fits(name: &ConditionalName, kind: ReferenceType) -> bool
     ensures { IsTrue result ↔ (reference_type_of name.now ≡ kind) }
 {
     *name.reference_type() == kind
 }
 
-/// Whether each reference in a type fits its place.
+/// Whether each reference in a type fits its position.
 #[cycle(references_fit)]
 fn type_references_fit(ty: &Type<ConditionalName>) -> bool
     ensures { IsTrue result ↔ ReferencesFit ty.now }
@@ -26,10 +26,10 @@ fn type_references_fit(ty: &Type<ConditionalName>) -> bool
     }
 }
 
-/// The same of a type that is written out.
+/// Whether the references in a type variant fit their positions.
 #[cycle(references_fit)]
 fn variant_references_fit(ty: &TypeVariant<ConditionalName>) -> bool
-    ensures { IsTrue result ↔ (placed_variant ty.now ≡ conditional_variant ty.now) }
+    ensures { IsTrue result ↔ (positional_variant ty.now ≡ conditional_variant ty.now) }
 {
     match ty {
         TypeVariant::String => true,
@@ -45,10 +45,10 @@ fn variant_references_fit(ty: &TypeVariant<ConditionalName>) -> bool
     }
 }
 
-/// The same of a record type.
+/// Whether the references in a record type fit their positions.
 #[cycle(references_fit)]
 fn record_references_fit(record_type: &RecordType<ConditionalName>) -> bool
-    ensures { IsTrue result ↔ (placed_record record_type.now ≡ conditional_record record_type.now) }
+    ensures { IsTrue result ↔ (positional_record record_type.now ≡ conditional_record record_type.now) }
 {
     for (_name, attribute) in &record_type.attributes {
         if !type_references_fit(&attribute.ty) {
@@ -59,7 +59,7 @@ fn record_references_fit(record_type: &RecordType<ConditionalName>) -> bool
 }
 
 impl Type<ConditionalName> {
-    /// Whether each reference fits its place: a reference to a common type may name common types
+    /// Whether each reference fits its position: a reference to a common type may name common types
     /// alone, one to an entity type entity types alone, and one to either may name both.
     pub fn references_fit(&self) -> bool
         ensures { IsTrue result ↔ ReferencesFit self.now }

@@ -3,11 +3,11 @@
 use cedar_below::{Loc, UnreservedId};
 use std::collections::BTreeMap;
 
-/// A type as a schema writes it: written out, or a reference to a common type.
+/// A type as a schema writes it: elaborated, or a reference to a common type.
 #[derive(Debug, Drop)]
 #[cycle(schema_type)]
 pub enum Type<N> {
-    /// A type that is written out.
+    /// A type variant.
     Plain {
         /// The type.
         ty: TypeVariant<N>,
@@ -23,7 +23,7 @@ pub enum Type<N> {
     },
 }
 
-/// A type that is written out.
+/// A type variant.
 #[derive(Debug, Drop)]
 #[cycle(schema_type)]
 pub enum TypeVariant<N> {

@@ -12,12 +12,12 @@ use Rattle.cedar_below.specs.Text.{Text, text_cmp}
 use Rattle.cedar_below.specs.Tree.{call_value, entry_at}
 use Rattle.cedar_below.specs.Name.{plain_name}
 use Rattle.cedar_below.specs.declared.value.RestrictedExpr.{RestrictedExpr}
-use Rattle.cedar_sorted.specs.ByName.{NamesAscend, value_at}
+use Rattle.cedar_name_map.specs.ByName.{AreSortedByName, value_at}
 use Rattle.cedar_types.specs.MembershipAnswer.{Answer}
 use Rattle.cedar_types.specs.EntriesLeft.{entries_left}
 use Rattle.cedar_types.specs.Attributes.{plain_attributes}
 use Rattle.cedar_types.specs.Meaning.{ty_of, fields_of, attribute_of}
-use Rattle.cedar_rules.specs.Ty.{Ty, extension_of, Fields, fields_from}
+use Rattle.cedar_type_rules.specs.Ty.{Ty, extension_of, Fields, fields_from}
 use Rattle.cedar_types.specs.declared.attributes.Attributes.{out-Attributes}
 use Rattle.cedar_types.specs.declared.attributes.AttributeType.{AttributeType}
 use Rattle.cedar_types.specs.declared.types.Type.TheVariants as type
@@ -64,7 +64,7 @@ member::fields_have-loop-name-init t c =
     let items = sym (c.as_slice-name-items.ensures ∙ ap (λ all. all.entries.items) c.deref.ensures) in (
       subst P (fields_of-pairs attrs ∙ ap (λ entries. fields_from (plain_attributes entries)) items) (IsMembershipSoFar-none _ _ _),
       Serves-first c.args.values.now.entries (entries_left c.new-left.result) c.as_slice-name-items.result.now c.new-left.ensures.all
-          c.new-left.ensures.ascend (subst NamesAscend items (out-Attributes attrs).attrs.value.ascending),
+          c.new-left.ensures.ascend (subst AreSortedByName items (out-Attributes attrs).attrs.value.sorted_by_name),
     )
 
 pub member::fields_have-loop-name-preserved : goal.member::fields_have-loop-name-preserved

@@ -2,7 +2,7 @@ use Rattle.std.proofs.Common.{drop, ◌+◌, ◌*◌}
 use Rattle.cedar_below.specs.RestrictedExpr.{trees_of, entries_of}
 use Rattle.cedar_types.specs.Attributes.{plain_attributes}
 use Rattle.cedar_types.specs.Meaning.{ty_of, fields_of}
-use Rattle.cedar_rules.specs.Ty.{fields_from}
+use Rattle.cedar_type_rules.specs.Ty.{fields_from}
 use Rattle.cedar_types.specs.declared.attributes.Attributes.{size-Attributes}
 use Rattle.cedar_types.specs.declared.types.Type.{size-Type}
 use Rattle.cedar_types.proofs.EntriesLeftSteps.{Serves}

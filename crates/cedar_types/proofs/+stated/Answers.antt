@@ -5,8 +5,8 @@ use Rattle.std.specs.Bool.{Decides}
 use Rattle.std.specs.Option.{is_some}
 use Rattle.cedar_below.proofs.TreeLemmas.{drop-at}
 use Rattle.cedar_below.specs.Name.{plain_name}
-use Rattle.cedar_rules.specs.Stated.{IsSampled, IsStatedWith}
-use Rattle.cedar_rules.specs.Ty.{Ty, extension_of}
+use Rattle.cedar_type_rules.specs.Stated.{IsSampled, IsStatedWith}
+use Rattle.cedar_type_rules.specs.Ty.{Ty, extension_of}
 use Rattle.cedar_types.proofs.MemberParts.{ty_of-extension}
 use Rattle.cedar_types.proofs.StatedSteps.{IsStatedLeft, stated-first, stated-optional, stated-fails, stated-next, sampled-Decides}
 use Rattle.cedar_types.specs.Meaning.{ty_of}

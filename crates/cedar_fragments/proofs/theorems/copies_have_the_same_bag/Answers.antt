@@ -1,11 +1,11 @@
-use Rattle.cedar_declared.specs.SettledExpr.{settled_reference}
-use Rattle.cedar_fragments.proofs.CopyLemmas.{placed_alike, settled_alike, action_type_alike}
-use Rattle.cedar_fragments.specs.FragmentDeclarations.{settled_action_type}
-use Rattle.cedar_names.specs.ConditionalExpr.{placed_reference}
+use Rattle.cedar_declarations.specs.ResolvedExpr.{resolved_reference}
+use Rattle.cedar_fragments.proofs.CopyLemmas.{positional_alike, resolved_alike, action_type_alike}
+use Rattle.cedar_fragments.specs.FragmentDeclarations.{resolved_action_type}
+use Rattle.cedar_names.specs.ConditionalExpr.{positional_reference}
 use Rattle.cedar_fragments.proofs.theorems.copies_have_the_same_bag.Goals as goal
 
 pub returns-clause-conditional : goal.returns-clause-conditional
-returns-clause-conditional c fragment copy same = same placed_reference placed_reference placed_alike placed_alike
+returns-clause-conditional c fragment copy same = same positional_reference positional_reference positional_alike positional_alike
 
-pub returns-clause-settled : goal.returns-clause-settled
-returns-clause-settled c fragment copy same = same settled_reference settled_action_type settled_alike action_type_alike
+pub returns-clause-resolved : goal.returns-clause-resolved
+returns-clause-resolved c fragment copy same = same resolved_reference resolved_action_type resolved_alike action_type_alike

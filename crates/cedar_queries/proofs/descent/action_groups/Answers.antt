@@ -1,5 +1,5 @@
 use Rattle.std.proofs.Common.{ap, map, ◌∙◌}
-use Rattle.cedar_actions.specs.ValidatorActionId.{action_of}
+use Rattle.cedar_schema_elements.specs.ValidatorActionId.{action_of}
 use Rattle.cedar_below.specs.EntityUID.{uid_of}
 use Rattle.cedar_queries.proofs.SelectedLemmas.{keys_where-map}
 use Rattle.cedar_queries.specs.Hierarchy.{is_nonempty}

@@ -3,11 +3,11 @@ use Rattle.std.proofs.lemmas.Bool.{false≢true}
 use Rattle.std.proofs.lemmas.List.{flat_map_more, take_all, take_more}
 use Rattle.std.proofs.lemmas.List.Elements.{All-more}
 use Rattle.std.specs.List.{All, flat_map}
-use Rattle.cedar_actions.specs.ValidatorActionId.{action_of, plain_action_entry}
+use Rattle.cedar_schema_elements.specs.ValidatorActionId.{action_of, plain_action_entry}
 use Rattle.cedar_below.specs.EntityUID.{uid_of}
 use Rattle.cedar_below.specs.PlainUid.{PlainUid}
 use Rattle.cedar_below.specs.declared.entity_uid.EntityUID.{EntityUID}
-use Rattle.cedar_queries.proofs.LentLemmas.{lent}
+use Rattle.cedar_queries.proofs.BorrowedLemmas.{borrowed}
 use Rattle.cedar_queries.proofs.LookupLemmas.{action_descendants_found, action_known}
 use Rattle.cedar_queries.specs.Hierarchy.{action_descendants}
 use Rattle.cedar_queries.proofs.descent.actions_in_set.Goals as goal
@@ -33,7 +33,7 @@ loop-uid-preserved c =
     let each : EntityUID → List PlainUid = λ it. below it ++ uid_of it ∷ [] in
     let found = sym c.in-Some.ensures.value in
     let here = (action_known actions uid).0 (ap is_some found) in
-    let old = map (lent uid_of) c.loop-uid.all.items in
+    let old = map (borrowed uid_of) c.loop-uid.all.items in
     record {
       known = All-more P uids i uid c.loop-uid-test.true c.loop-uid.invariant.known (subst P c.uid-item.is here);
       added =

@@ -3,16 +3,16 @@ use Rattle.std.proofs.lemmas.List.{map-append}
 use Rattle.std.proofs.lemmas.Map.Iter.{iter_end}
 use Rattle.std.specs.Map.Iter.{deref}
 use Rattle.cedar_below.specs.EntityUID.{uid_of}
-use Rattle.cedar_queries.proofs.LentLemmas.{lent, lent_more}
+use Rattle.cedar_queries.proofs.BorrowedLemmas.{borrowed, borrowed_more}
 use Rattle.cedar_queries.proofs.descent.add_actions_in.Goals as goal
 
 pub returns : goal.returns
 returns c =
     let given = c.descendants-descendant-items in
     let all : map deref c.loop-descendant.yielded ≡ given.result = search (rules, iter_end) in
-    let old = map (lent uid_of) c.args.uids.now.items in
+    let old = map (borrowed uid_of) c.args.uids.now.items in
     let before =
-    lent_more uid_of c.args.uids.now.items c.loop-descendant.yielded c.loop-descendant.uids.items _ c.loop-descendant.invariant all
+    borrowed_more uid_of c.args.uids.now.items c.loop-descendant.yielded c.loop-descendant.uids.items _ c.loop-descendant.invariant all
     ∙ ap (λ added. old ++ added) given.ensures.uids in
-    ap (map (lent uid_of)) c.in_ok-push-2.ensures.items
-    ∙ (map-append (lent uid_of) c.loop-descendant.uids.items (c.args.uid ∷ []) ∙ ap (λ items. items ++ uid_of c.args.uid.now ∷ []) before)
+    ap (map (borrowed uid_of)) c.in_ok-push-2.ensures.items
+    ∙ (map-append (borrowed uid_of) c.loop-descendant.uids.items (c.args.uid ∷ []) ∙ ap (λ items. items ++ uid_of c.args.uid.now ∷ []) before)

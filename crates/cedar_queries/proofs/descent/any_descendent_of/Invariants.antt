@@ -1,7 +1,7 @@
 use Rattle.std.proofs.Common.{Any, map, take}
-use Rattle.cedar_actions.specs.ValidatorActionId.{plain_action_entry}
+use Rattle.cedar_schema_elements.specs.ValidatorActionId.{plain_action_entry}
 use Rattle.cedar_below.specs.EntityType.{type_name}
-use Rattle.cedar_entities.specs.ValidatorEntityType.{plain_entry}
+use Rattle.cedar_schema_elements.specs.ValidatorEntityType.{plain_entry}
 use Rattle.cedar_queries.specs.Hierarchy.{MayBeIn}
 use Rattle.cedar_queries.proofs.descent.any_descendent_of.Given as goal
 

@@ -4,8 +4,8 @@ use Rattle.cedar_below.specs.EntityType.{type_name}
 use Rattle.cedar_below.specs.PlainName.{PlainName}
 use Rattle.cedar_below.specs.declared.entity_type.EntityType.{EntityType}
 use Rattle.std.specs.Global.{Vec}
-use Rattle.cedar_entities.specs.ValidatorEntityType.{descendant_names, plain_entry}
-use Rattle.cedar_queries.proofs.LentLemmas.{lent}
+use Rattle.cedar_schema_elements.specs.ValidatorEntityType.{descendant_names, plain_entry}
+use Rattle.cedar_queries.proofs.BorrowedLemmas.{borrowed}
 use Rattle.cedar_queries.proofs.LookupLemmas.{descendants_found, descendants_none}
 use Rattle.cedar_queries.specs.Hierarchy.{descendants_of}
 use Rattle.cedar_queries.proofs.descent.entity_types_in.Goals as goal
@@ -15,19 +15,19 @@ pub returns-clause-names : goal.returns-clause-names
 returns-clause-names c =
     let name = type_name c.args.ty.now in
     let below : List PlainName = descendants_of name (map plain_entry c.args.types.now.entries) in
-    let before : map (lent type_name) c.match-get.names.items ≡ below = elim c.match-get.branch [
+    let before : map (borrowed type_name) c.match-get.names.items ≡ below = elim c.match-get.branch [
       | in-Some+in_ok-add_descendants w ↦
-          ap (λ (names : Vec (Bor EntityType)). map (lent type_name) names.items) w.names-is
+          ap (λ (names : Vec (Bor EntityType)). map (borrowed type_name) names.items) w.names-is
           ∙ (w.in_ok-add_descendants.ensures.names
-          ∙ (ap (λ items. map (lent type_name) items ++ descendant_names w.in-Some.entity_type.now) c.new-names.ensures.items
+          ∙ (ap (λ items. map (borrowed type_name) items ++ descendant_names w.in-Some.entity_type.now) c.new-names.ensures.items
           ∙ sym (descendants_found c.args.types.now c.args.ty.now w.in-Some.entity_type.now (sym w.in-Some.ensures.value))))
       | in_default w ↦
-          ap (λ (names : Vec (Bor EntityType)). map (lent type_name) names.items) w.names-is
-          ∙ (ap (map (lent type_name)) c.new-names.ensures.items
+          ap (λ (names : Vec (Bor EntityType)). map (borrowed type_name) names.items) w.names-is
+          ∙ (ap (map (borrowed type_name)) c.new-names.ensures.items
           ∙ sym (descendants_none c.args.types.now c.args.ty.now (sym w.in_default.ensures.value)))
     ] in
-    ap (map (lent type_name)) c.in_ok-push.ensures.items
-    ∙ (map-append (lent type_name) c.match-get.names.items (c.args.ty ∷ []) ∙ ap (λ names. names ++ name ∷ []) before)
+    ap (map (borrowed type_name)) c.in_ok-push.ensures.items
+    ∙ (map-append (borrowed type_name) c.match-get.names.items (c.args.ty ∷ []) ∙ ap (λ names. names ++ name ∷ []) before)
 
 pub returns-clause-once : goal.returns-clause-once
 returns-clause-once c =

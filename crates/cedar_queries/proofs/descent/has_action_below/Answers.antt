@@ -1,10 +1,10 @@
 use Rattle.std.proofs.Common.{ap, map, sym, subst, refl, ◌∙◌, List, ◌↔◌}
 use Rattle.std.proofs.lemmas.Bool.{false≢true}
-use Rattle.cedar_actions.specs.ValidatorActionId.{plain_action_entry}
+use Rattle.cedar_schema_elements.specs.ValidatorActionId.{plain_action_entry}
 use Rattle.cedar_below.proofs.Names.{entity_type_eq-same}
 use Rattle.cedar_below.specs.EntityType.{type_name}
 use Rattle.cedar_below.specs.PlainUid.{PlainUid}
-use Rattle.cedar_declared.specs.PlainSchema.{SchemaAction}
+use Rattle.cedar_declarations.specs.PlainSchema.{SchemaAction}
 use Rattle.cedar_queries.proofs.AnyLemmas.{any_finds, any_skips}
 use Rattle.cedar_queries.specs.Hierarchy.{HasActionBelow, HasBelow}
 use Rattle.cedar_queries.proofs.descent.has_action_below.Goals as goal

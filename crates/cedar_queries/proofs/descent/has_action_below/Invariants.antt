@@ -1,5 +1,5 @@
 use Rattle.std.proofs.Common.{◌↔◌, map}
-use Rattle.cedar_actions.specs.ValidatorActionId.{plain_action_entry}
+use Rattle.cedar_schema_elements.specs.ValidatorActionId.{plain_action_entry}
 use Rattle.cedar_below.specs.EntityType.{type_name}
 use Rattle.cedar_queries.specs.Hierarchy.{HasActionBelow}
 use Rattle.cedar_queries.proofs.descent.has_action_below.Given as goal

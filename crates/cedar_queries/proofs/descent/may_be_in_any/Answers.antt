@@ -1,10 +1,10 @@
 use Rattle.std.proofs.Common.{List, Any, map, sym, subst, refl, ◌∙◌}
 use Rattle.std.proofs.lemmas.Bool.{false≢true}
 use Rattle.std.proofs.lemmas.List.{take_all}
-use Rattle.cedar_actions.specs.ValidatorActionId.{plain_action_entry}
+use Rattle.cedar_schema_elements.specs.ValidatorActionId.{plain_action_entry}
 use Rattle.cedar_below.specs.EntityType.{type_name}
 use Rattle.cedar_below.specs.declared.entity_type.EntityType.{EntityType}
-use Rattle.cedar_entities.specs.ValidatorEntityType.{plain_entry}
+use Rattle.cedar_schema_elements.specs.ValidatorEntityType.{plain_entry}
 use Rattle.cedar_queries.proofs.AnyLemmas.{any_more}
 use Rattle.cedar_queries.specs.Hierarchy.{MayBeIn}
 use Rattle.cedar_queries.proofs.descent.may_be_in_any.Goals as goal

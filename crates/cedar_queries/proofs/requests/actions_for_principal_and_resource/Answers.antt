@@ -1,6 +1,6 @@
 use Rattle.std.proofs.Common.{◌&&◌, ap, map, ◌∙◌}
-use Rattle.cedar_actions.specs.ActionKind.{kind_principals, kind_resources}
-use Rattle.cedar_actions.specs.ValidatorActionId.{action_of}
+use Rattle.cedar_schema_elements.specs.ActionKind.{kind_principals, kind_resources}
+use Rattle.cedar_schema_elements.specs.ValidatorActionId.{action_of}
 use Rattle.cedar_below.specs.EntityType.{type_name}
 use Rattle.cedar_below.specs.EntityUID.{uid_of}
 use Rattle.cedar_queries.proofs.SelectedLemmas.{keys_where-map}

@@ -1,13 +1,13 @@
 use Rattle.std.proofs.Common.{Err, inl, inr, ⊎_elim}
 use Rattle.std.proofs.lemmas.Result.{err_from_is_err_and, IfErr-weaker, IfOk-weaker, on_ok_weaker}
-use Rattle.cedar_declared.specs.SchemaError.{fault_of}
+use Rattle.cedar_declarations.specs.SchemaError.{fault_of}
 use Rattle.cedar_fragments.specs.FragmentDeclarations.{conditional_bag}
 use Rattle.cedar_fragments.specs.HeldNames.{held_names}
-use Rattle.cedar_gathered.specs.Gathered.{settled_bag}
-use Rattle.cedar_laws.proofs.BuiltFrom.{built_from}
-use Rattle.cedar_laws.proofs.SettledLaws.{settling}
+use Rattle.cedar_resolution.specs.Collected.{resolved_bag}
+use Rattle.cedar_declaration_laws.proofs.BuiltFrom.{built_from}
+use Rattle.cedar_declaration_laws.proofs.ResolutionLaws.{resolution}
 use Rattle.cedar_schema.proofs.Mapped.{IfErr-mapped, IfOk-mapped, OnOk-mapped}
-use Rattle.cedar_schema.proofs.SettledOver.{settled_over}
+use Rattle.cedar_schema.proofs.ResolvedOver.{resolved_over}
 use Rattle.cedar_schema.specs.SchemaParts.{parts_schema}
 use Rattle.cedar_schema.proofs.building.build.Goals as goal
 
@@ -24,16 +24,16 @@ returns-clause-built c =
     let bag = conditional_bag c.args.fragments.items in
     let given = c.args.extensions.now in
     let fragments = c.in_ok-fragments.field-0.fragments.items in
-    let settled = settled_bag fragments in
-    let over = settled_over bag settled given (held_names c.in_ok-fragments.field-0.defs) c.requires c.in_ok-fragments.ensures.settled
+    let resolved = resolved_bag fragments in
+    let over = resolved_over bag resolved given (held_names c.in_ok-fragments.field-0.defs) c.requires c.in_ok-fragments.ensures.resolved
     c.in_ok-fragments.ensures.names c.in_ok-fragments.ensures.no_type_shadows c.in_ok-fragments.ensures.no_action_shadows in
-    let same = settling bag settled given c.in_ok-fragments.ensures.settled in
-    let r = c.build_settled.result in
+    let same = resolution bag resolved given c.in_ok-fragments.ensures.resolved in
+    let r = c.build_resolved.result in
     built_from bag given c.requires _
     (IfErr-mapped parts_schema fault_of r _
     (IfErr-weaker r _ _ (λ error at. ⊎_elim (λ memory. inl memory) (λ fault. inr ((same.0 (fault_of error)).1 fault)) (at over))
-    c.build_settled.ensures.fault))
+    c.build_resolved.ensures.fault))
     (OnOk-mapped parts_schema fault_of r _
-    (on_ok_weaker r (λ well ill. well over (ill.0, (same.0 ill.0).0 ill.1)) c.build_settled.ensures.well_formed))
+    (on_ok_weaker r (λ well ill. well over (ill.0, (same.0 ill.0).0 ill.1)) c.build_resolved.ensures.well_formed))
     (IfOk-mapped parts_schema fault_of r _
-    (IfOk-weaker r _ _ (λ parts is. (same.1 (parts_schema parts)).1 (is over)) c.build_settled.ensures.declared))
+    (IfOk-weaker r _ _ (λ parts is. (same.1 (parts_schema parts)).1 (is over)) c.build_resolved.ensures.declared))

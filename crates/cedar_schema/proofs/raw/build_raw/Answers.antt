@@ -1,18 +1,18 @@
 use Rattle.std.proofs.Common.{List, Err, inl, inr, subst, ⊎_elim}
 use Rattle.std.proofs.lemmas.Result.{err_from_is_err_and, IfErr-weaker, IfOk-weaker}
 use Rattle.std.specs.Result.{result_map_both}
-use Rattle.cedar_declared.specs.Bag.{Bag}
-use Rattle.cedar_declared.specs.SchemaError.{fault_of}
+use Rattle.cedar_declarations.specs.Bag.{Bag}
+use Rattle.cedar_declarations.specs.SchemaError.{fault_of}
 use Rattle.cedar_fragments.proofs.NamedOfDefinition.{none_named}
 use Rattle.cedar_fragments.proofs.SoundFragments.{fragments_have_no_fault}
 use Rattle.cedar_fragments.specs.FragmentDeclarations.{conditional_bag}
 use Rattle.cedar_fragments.specs.FragmentFault.{NamesAllOfADefinition}
 use Rattle.cedar_fragments.specs.Located.{DefinedNamespace, LocatedName}
-use Rattle.cedar_laws.proofs.BuiltFrom.{built_from}
-use Rattle.cedar_laws.specs.EndToEnd.{IsBuiltFrom}
-use Rattle.cedar_located.specs.Located.{Shows}
-use Rattle.cedar_located.specs.declared.gathering.Located.{Located}
-use Rattle.cedar_names.specs.ConditionalExpr.{placed_reference}
+use Rattle.cedar_declaration_laws.proofs.BuiltFrom.{built_from}
+use Rattle.cedar_declaration_laws.specs.EndToEnd.{IsBuiltFrom}
+use Rattle.cedar_schema.specs.Located.{Shows}
+use Rattle.cedar_schema.specs.declared.collecting.Located.{Located}
+use Rattle.cedar_names.specs.ConditionalExpr.{positional_reference}
 use Rattle.cedar_names.specs.Declaration.{raw_bag}
 use Rattle.cedar_schema.proofs.Mapped.{IfErr-unmapped}
 use Rattle.cedar_schema.specs.SchemaParts.{parts_schema}
@@ -42,7 +42,7 @@ returns-clause-all_named c =
     IfErr-unmapped parts_schema fault_of c.build.result (NamesAllOfADefinition c.args.fragments.items)
     (IfErr-weaker (result_map_both parts_schema fault_of c.build.result) _ _
     (none_named c.args.fragments.items (conditional_bag fragments) c.args.extensions.now
-    (fragments_have_no_fault _ placed_reference _ placed_reference fragments))
+    (fragments_have_no_fault _ positional_reference _ positional_reference fragments))
     c.build.ensures.built.fault)
 
 pub returns-clause-located : goal.returns-clause-located

@@ -3,8 +3,8 @@ use Rattle.std.proofs.lemmas.List.{nil_from_length}
 use Rattle.std.proofs.lemmas.List.Elements.{Contains-append_right}
 use Rattle.std.proofs.lemmas.Result.{err_from_is_err_and}
 use Rattle.std.specs.List.{flat_map}
-use Rattle.cedar_declared.specs.Fault.{want_of_memory}
-use Rattle.cedar_declared.specs.SchemaError.{fault_of}
+use Rattle.cedar_declarations.specs.Fault.{out_of_memory}
+use Rattle.cedar_declarations.specs.SchemaError.{fault_of}
 use Rattle.cedar_fragments.proofs.FragmentLemmas.{flat_map-included, flat_map-same, refusal_included}
 use Rattle.cedar_fragments.proofs.ListedSoFar.{ListedSoFar, ListedSoFar-none, ListedSoFar-more, listed_same}
 use Rattle.cedar_fragments.proofs.NamedOfDefinition.{named_among}
@@ -49,7 +49,7 @@ pub returns-in_err-fragment-clause-fault : goal.returns-in_err-fragment-clause-f
 returns-in_err-fragment-clause-fault c =
     let all = c.args.fragments.items in
     let fault = fault_of c.in_err-fragment.field-0.0 in
-    let at_fault : (fault ≡ want_of_memory) ⊎ IsDefinitionFault (raw_bag all) fault =
+    let at_fault : (fault ≡ out_of_memory) ⊎ IsDefinitionFault (raw_bag all) fault =
     refusal_included (raw_fragment c.in-Some.fragment) (raw_bag all)
     (flat_map-included raw_fragment all c.in-Some.fragment
     (next_item _ _ _ _ _ _ _ c.in-Some.fragment c.in-Some.ensures.steps.0 c.loop-fragment.invariant.0))

@@ -1,7 +1,7 @@
 use Rattle.std.proofs.Common.{◌≡◌}
 use Rattle.std.specs.List.{flat_map}
 use Rattle.std.specs.Vec.Iter.{into_iter_items}
-use Rattle.cedar_declared.specs.Bag.{Bag}
+use Rattle.cedar_declarations.specs.Bag.{Bag}
 use Rattle.cedar_fragments.proofs.ListedSoFar.{ListedSoFar}
 use Rattle.cedar_fragments.specs.FragmentDeclarations.{conditional_fragment}
 use Rattle.cedar_fragments.specs.Located.{fragment_common_names, named_namespaces, raw_common_names, raw_namespaces}

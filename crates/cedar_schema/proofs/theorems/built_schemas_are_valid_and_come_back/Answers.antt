@@ -1,12 +1,12 @@
-use Rattle.cedar_laws.proofs.ValidLaws.{declared_closed, declared_valid}
+use Rattle.cedar_declaration_laws.proofs.ValidLaws.{declared_closed, declared_valid}
 use Rattle.cedar_schema.proofs.ClosedTwice.{closed_same}
 use Rattle.cedar_schema.proofs.SchemaEquality.{schemas-Same}
 use Rattle.cedar_schema.specs.ValidatorSchema.{schema_of}
 use Rattle.cedar_schema.proofs.theorems.built_schemas_are_valid_and_come_back.Goals as goal
 
 pub returns-clause-valid : goal.returns-clause-valid
-returns-clause-valid c = λ bag extensions schema fit places built.
-    declared_valid bag extensions (schema_of schema) fit places built.well_formed built.declared
+returns-clause-valid c = λ bag extensions schema fit type_locations built.
+    declared_valid bag extensions (schema_of schema) fit type_locations built.well_formed built.declared
 
 pub returns-clause-equal : goal.returns-clause-equal
 returns-clause-equal c = λ bag extensions schema closed built closes.

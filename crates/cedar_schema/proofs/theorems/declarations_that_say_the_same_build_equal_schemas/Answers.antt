@@ -1,5 +1,5 @@
 use Rattle.std.proofs.Common.{⊎_elim}
-use Rattle.cedar_laws.proofs.SameBagLaws.{same_bags}
+use Rattle.cedar_declaration_laws.proofs.SameBagLaws.{same_bags}
 use Rattle.cedar_schema.proofs.SchemaEquality.{schemas-Same}
 use Rattle.cedar_schema.proofs.theorems.declarations_that_say_the_same_build_equal_schemas.Goals as goal
 use Rattle.cedar_schema.specs.ValidatorSchema.{schema_of}

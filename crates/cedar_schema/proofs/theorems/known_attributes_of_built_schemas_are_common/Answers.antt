@@ -1,4 +1,4 @@
-use Rattle.cedar_lookup.proofs.KnownLemmas.{known_is_common, larger_knows_less}
+use Rattle.cedar_queries.proofs.KnownLemmas.{known_is_common, larger_knows_less}
 use Rattle.cedar_schema.proofs.KnownOfBuilt.{declared_clean_types}
 use Rattle.cedar_schema.specs.ValidatorSchema.{schema_of}
 use Rattle.cedar_schema.proofs.theorems.known_attributes_of_built_schemas_are_common.Goals as goal

@@ -1,7 +1,7 @@
 use Rattle.cedar_schema.proofs.ClosedTwice.{closed_same}
 use Rattle.cedar_schema.proofs.SchemaEquality.{schemas-Same}
 use Rattle.cedar_schema.specs.ValidatorSchema.{schema_of}
-use Rattle.cedar_validated.proofs.ClosedAgain.{closes_again, fault_back}
+use Rattle.cedar_validation.proofs.ClosedAgain.{closes_again, fault_back}
 use Rattle.cedar_schema.proofs.theorems.validation_again_changes_nothing.Goals as goal
 
 pub returns-clause-valid : goal.returns-clause-valid

@@ -7,11 +7,11 @@ use Rattle.cedar_below.proofs.TreeLemmas.{drop-at, core_ty_of-record}
 use Rattle.cedar_below.specs.CoreSchemaType.{core_ty_of}
 use Rattle.cedar_below.specs.CoreTy.{core_record}
 use Rattle.cedar_below.specs.declared.core_schema_type.CoreAttributeType.{CoreAttributeType}
-use Rattle.cedar_rules.proofs.CompareLemmas.{is_open-eq}
-use Rattle.cedar_rules.specs.CoreFault.{IsCoreFault}
-use Rattle.cedar_rules.specs.CoreOf.{core_of}
-use Rattle.cedar_rules.specs.OpenTag.{is_open}
-use Rattle.cedar_sorted.specs.ByName.{NamesAscend}
+use Rattle.cedar_type_rules.proofs.CompareLemmas.{is_open-eq}
+use Rattle.cedar_type_rules.specs.CoreFault.{IsCoreFault}
+use Rattle.cedar_type_rules.specs.CoreOf.{core_of}
+use Rattle.cedar_type_rules.specs.OpenTag.{is_open}
+use Rattle.cedar_name_map.specs.ByName.{AreSortedByName}
 use Rattle.cedar_types.proofs.CoredWalk.{CoredSoFar, cored-fault, cored-next, cored-last}
 use Rattle.cedar_types.proofs.MemberParts.{ty_of-record}
 use Rattle.cedar_types.specs.Layers.{fields_of-pairs}
@@ -38,7 +38,7 @@ core_attributes-loop-name-preserved t c =
     let item = c.loop-name-item.result in
     let P : List (String Global × AttributeType) → Type 0 = λ left. CoredSoFar all left c.loop-name.core.entries in
     let so_far = subst P (drop-at _ c.loop-name.name-index item c.loop-name-test.true c.loop-name-item.is) c.loop-name.invariant in
-    let up : NamesAscend all = subst NamesAscend (sym c.as_slice-name-items.ensures) c.deref.result.now.ascending in
+    let up : AreSortedByName all = subst AreSortedByName (sym c.as_slice-name-items.ensures) c.deref.result.now.sorted_by_name in
     let Q : «Type» → Type 0 = λ ty. core_of (ty_of ty) ≡ Some (core_ty_of c.in_ok-attr_type.attr_type) in
     let (key, same, put) = c.in_ok-put_named.ensures in
     let R : List (String Global × CoreAttributeType) → Type 0 = CoredSoFar all _ in

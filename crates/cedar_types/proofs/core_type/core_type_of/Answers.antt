@@ -1,4 +1,4 @@
-use Rattle.cedar_rules.proofs.CoreSteps.{refused-lacks}
+use Rattle.cedar_type_rules.proofs.CoreSteps.{refused-lacks}
 use Rattle.cedar_types.specs.Meaning.{ty_of}
 use Rattle.cedar_types.proofs.core_type.core_type_of.Goals as goal
 

@@ -5,14 +5,14 @@ use Rattle.std.specs.declared.alloc.Global.{Global}
 use Rattle.std.specs.declared.rc.Rc.{Rc}
 use Rattle.cedar_below.proofs.TreeLemmas.{drop-at}
 use Rattle.cedar_below.specs.declared.validation_mode.ValidationMode.TheVariants.{Strict}
-use Rattle.cedar_rules.proofs.RecordAnswers.{PermissiveJoin}
-use Rattle.cedar_rules.proofs.StrictRecordAnswers.{StrictJoin}
-use Rattle.cedar_rules.specs.OpenTag.{either_open}
-use Rattle.cedar_rules.specs.OwnBound.{IsLeastOwnBound}
-use Rattle.cedar_rules.specs.Ty.{record_of, set_of}
+use Rattle.cedar_type_rules.proofs.RecordAnswers.{PermissiveJoin}
+use Rattle.cedar_type_rules.proofs.StrictRecordAnswers.{StrictJoin}
+use Rattle.cedar_type_rules.specs.OpenTag.{either_open}
+use Rattle.cedar_type_rules.specs.OwnBound.{IsLeastOwnBound}
+use Rattle.cedar_type_rules.specs.Ty.{record_of, set_of}
 use Rattle.cedar_types.specs.Layers.{pairs_of}
 use Rattle.cedar_types.proofs.JoinSteps.{JoinStep, unplaced-at}
-use Rattle.cedar_types.proofs.JoinSteps.{Pairs, fields_at, names_ascend, PermissiveSoFar, permissive-first, permissive-last}
+use Rattle.cedar_types.proofs.JoinSteps.{Pairs, fields_at, names_sorted, PermissiveSoFar, permissive-first, permissive-last}
 use Rattle.cedar_types.proofs.JoinSteps.{permissive-missed, permissive-refused, permissive-kept, permissive-least, StrictSoFar}
 use Rattle.cedar_types.proofs.JoinSteps.{strict-first, strict-last, strict-missed, strict-kept, strict-least, strict-refusal, strict-errs}
 use Rattle.cedar_types.proofs.JoinSteps.{strict-unlike, dropped_have_none}
@@ -172,11 +172,11 @@ permissive_record-loop-name-preserved t c =
           (permissive-missed step w.if-is_at.false)
     ]
 
-pub permissive_record-from_ascending-requires : goal.permissive_record-from_ascending-requires
-permissive_record-from_ascending-requires t c =
-    let past = goal.at.permissive_record-from_ascending-requires t c in
+pub permissive_record-from_sorted_by_name-requires : goal.permissive_record-from_sorted_by_name-requires
+permissive_record-from_sorted_by_name-requires t c =
+    let past = goal.at.permissive_record-from_sorted_by_name-requires t c in
     let last = permissive_joined t past.After-loop-name in
-    names_ascend c.loop-name.joined.items last.0.fields last.1 last.0.ascending
+    names_sorted c.loop-name.joined.items last.0.fields last.1 last.0.sorted_by_name
 
 pub permissive_record-returns-clause-join : goal.permissive_record-returns-clause-join
 permissive_record-returns-clause-join t c =
@@ -189,7 +189,7 @@ permissive_record-returns-clause-join t c =
     let count : c.len.result ≡ length joined = c.len.ensures ∙ c.loop-name.joined.ok.0 in
     let closed = c.permissive_openness-openness.ensures in
     let is : ty_of c.record.result ≡ record_of (fields_at joined) c.permissive_openness-openness.result =
-    c.record.ensures.ty ∙ ap (λ fields. record_of fields c.permissive_openness-openness.result) c.in_ok-from_ascending.ensures.attributes in
+    c.record.ensures.ty ∙ ap (λ fields. record_of fields c.permissive_openness-openness.result) c.in_ok-from_sorted_by_name.ensures.attributes in
     rw is
     (permissive-least a b c.args.a_openness c.args.b_openness joined last.0 last.1 c.permissive_openness-openness.result (
       (λ e. (let both = closed.0 e in
@@ -200,7 +200,7 @@ permissive_record-returns-clause-join t c =
 pub permissive_record-returns-clause-unplaced : goal.permissive_record-returns-clause-unplaced
 permissive_record-returns-clause-unplaced t c name =
     subst (λ (found : Option Located). IfSome found (λ it. it.loc ≡ None))
-    (sym (c.record.ensures.listed name ∙ c.in_ok-from_ascending.ensures.located name))
+    (sym (c.record.ensures.listed name ∙ c.in_ok-from_sorted_by_name.ensures.located name))
     (unplaced-at c.loop-name.joined.items name c.loop-name.invariant.unplaced)
 
 pub strict_record-returns-clause-unplaced : goal.strict_record-returns-clause-unplaced
@@ -306,11 +306,11 @@ strict_record-loop-name-preserved t c =
     subst R (sym {A = Pairs} more.2)
     (strict-kept step one (more.0, c.in_ok-join.join) c.if-not-is_at.false more.1 right.0 right.1 right.2 c.in_ok-join.ensures.loc)
 
-pub strict_record-from_ascending-requires : goal.strict_record-from_ascending-requires
-strict_record-from_ascending-requires t c =
-    let past = goal.at.strict_record-from_ascending-requires t c in
+pub strict_record-from_sorted_by_name-requires : goal.strict_record-from_sorted_by_name-requires
+strict_record-from_sorted_by_name-requires t c =
+    let past = goal.at.strict_record-from_sorted_by_name-requires t c in
     let last = strict_joined t past.After-loop-name in
-    names_ascend c.loop-name.joined.items last.0.fields last.1 last.0.ascending
+    names_sorted c.loop-name.joined.items last.0.fields last.1 last.0.sorted_by_name
 
 pub strict_record-returns-clause-join : goal.strict_record-returns-clause-join
 strict_record-returns-clause-join t c =

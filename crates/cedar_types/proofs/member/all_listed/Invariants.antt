@@ -3,11 +3,11 @@ use Rattle.cedar_below.specs.Lists.{Included}
 use Rattle.cedar_below.specs.RestrictedExpr.{entries_of}
 use Rattle.cedar_below.specs.Text.{text_cmp}
 use Rattle.cedar_below.specs.Tree.{entry_names}
-use Rattle.cedar_rules.specs.Fields.{field_names}
+use Rattle.cedar_type_rules.specs.Fields.{field_names}
 use Rattle.cedar_types.specs.Meaning.{fields_of}
 use Rattle.cedar_types.specs.Layers.{pairs_of}
-use Rattle.cedar_sorted.proofs.RisingLemmas.{Ahead}
-use Rattle.cedar_sorted.proofs.SearchLemmas.{text_of}
+use Rattle.cedar_name_map.proofs.RisingLemmas.{Ahead}
+use Rattle.cedar_name_map.proofs.SearchLemmas.{text_of}
 use Rattle.cedar_types.proofs.member.all_listed.Given as goal
 
 abbrev pub invariant-loop-name : goal.invariant-loop-name

@@ -1,5 +1,5 @@
 use Rattle.std.proofs.Common.{ap, ◌∙◌}
-use Rattle.cedar_types.specs.Layers.{IsAscending-fields}
+use Rattle.cedar_types.specs.Layers.{IsSortedByName-fields}
 use Rattle.cedar_types.proofs.SubtypeSteps.{NamesBelow-strict, NamesBelow-closed, counts-Decides}
 use Rattle.cedar_types.specs.Meaning.{fields_of}
 use Rattle.cedar_types.proofs.subtype.counts_fit.Goals as goal
@@ -10,7 +10,7 @@ returns-in-ClosedAttributes c =
     (c.as_slice.ensures ∙ ap (λ all. all.entries.items) c.deref.ensures)
     (c.as_slice-2.ensures ∙ ap (λ all. all.entries.items) c.deref-2.ensures) in
     NamesBelow-closed c.args.mode c.args.openness (fields_of c.args.lower.now) (fields_of c.args.upper.now) _ c.in-Permissive.is
-    c.in-ClosedAttributes.is (IsAscending-fields c.args.lower.now) (IsAscending-fields c.args.upper.now) counts
+    c.in-ClosedAttributes.is (IsSortedByName-fields c.args.lower.now) (IsSortedByName-fields c.args.upper.now) counts
 
 pub returns-in-Strict : goal.returns-in-Strict
 returns-in-Strict c =
@@ -18,4 +18,4 @@ returns-in-Strict c =
     (c.as_slice.ensures ∙ ap (λ all. all.entries.items) c.deref.ensures)
     (c.as_slice-2.ensures ∙ ap (λ all. all.entries.items) c.deref-2.ensures) in
     NamesBelow-strict c.args.mode c.args.openness (fields_of c.args.lower.now) (fields_of c.args.upper.now) _ c.in-Strict.is
-    (IsAscending-fields c.args.lower.now) (IsAscending-fields c.args.upper.now) counts
+    (IsSortedByName-fields c.args.lower.now) (IsSortedByName-fields c.args.upper.now) counts

@@ -7,7 +7,7 @@ use Rattle.cedar_below.specs.Lists.{Included}
 use Rattle.cedar_below.specs.declared.entity_type.EntityType.{EntityType}
 use Rattle.cedar_types.specs.EntityLUB.{lub_types, lub_names}
 use Rattle.cedar_below.proofs.Inclusion.{Included-step, Included-head}
-use Rattle.cedar_sorted.proofs.RisingLemmas.{Ahead, sought-Decides, sought-next}
+use Rattle.cedar_name_map.proofs.RisingLemmas.{Ahead, sought-Decides, sought-next}
 use Rattle.cedar_types.proofs.UnionSteps.{Included-empty}
 use Rattle.cedar_types.proofs.subtype.is_included.Goals as goal
 
@@ -18,7 +18,7 @@ returns-then-not-is_at c =
     (Included (map type_name types) (lub_names upper) ↔ Included (lub_names c.args.lower.now) (lub_names upper))
     × Ahead type_name type_name name_cmp (lub_types upper) c.loop-ty.at types in
     let so_far = subst P c.in-Some.ensures.steps c.loop-ty.invariant in
-    let there = sought-Decides type_name type_name name_cmp name_cmp-total (lub_types upper) upper.ascending c.loop-ty.at c.seek-at.result c.in-Some.ty.now _ so_far.1
+    let there = sought-Decides type_name type_name name_cmp name_cmp-total (lub_types upper) upper.sorted_by_name c.loop-ty.at c.seek-at.result c.in-Some.ty.now _ so_far.1
     c.seek-at.ensures.passed c.seek-at.ensures.stays c.is_at.result c.is_at.ensures in
     (λ wrong. absurd cc, λ all. absurd (let found = there.1 (Included-head _ _ _ (so_far.0.1 all)) in let none = c.if-not-is_at.true in cc))
 
@@ -29,10 +29,10 @@ loop-ty-preserved c =
     (Included (map type_name types) (lub_names upper) ↔ Included (lub_names c.args.lower.now) (lub_names upper))
     × Ahead type_name type_name name_cmp (lub_types upper) c.loop-ty.at types in
     let so_far = subst P c.in-Some.ensures.steps c.loop-ty.invariant in
-    let there = sought-Decides type_name type_name name_cmp name_cmp-total (lub_types upper) upper.ascending c.loop-ty.at c.seek-at.result c.in-Some.ty.now _ so_far.1
+    let there = sought-Decides type_name type_name name_cmp name_cmp-total (lub_types upper) upper.sorted_by_name c.loop-ty.at c.seek-at.result c.in-Some.ty.now _ so_far.1
     c.seek-at.ensures.passed c.seek-at.ensures.stays c.is_at.result c.is_at.ensures in (
       Included-step _ _ _ so_far.0 (there.0 c.if-not-is_at.false),
-      sought-next type_name type_name name_cmp name_cmp-total (lub_types upper) upper.ascending c.loop-ty.at c.seek-at.result c.in-Some.ty.now _ so_far.1
+      sought-next type_name type_name name_cmp name_cmp-total (lub_types upper) upper.sorted_by_name c.loop-ty.at c.seek-at.result c.in-Some.ty.now _ so_far.1
           c.seek-at.ensures.passed c.seek-at.ensures.stays,
     )
 

@@ -4,7 +4,7 @@ use Rattle.cedar_below.specs.EntityType.{type_name}
 use Rattle.cedar_below.specs.Lists.{Included}
 use Rattle.cedar_below.specs.PlainName.{name_cmp}
 use Rattle.cedar_types.specs.EntityLUB.{lub_types, lub_names}
-use Rattle.cedar_sorted.proofs.RisingLemmas.{Ahead}
+use Rattle.cedar_name_map.proofs.RisingLemmas.{Ahead}
 use Rattle.cedar_types.proofs.subtype.is_included.Given as goal
 
 abbrev pub invariant-loop-ty : goal.invariant-loop-ty

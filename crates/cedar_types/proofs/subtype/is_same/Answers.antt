@@ -3,11 +3,11 @@ use Rattle.std.specs.Bool.{Decides}
 use Rattle.cedar_below.proofs.Names.{entity_type_eq-same}
 use Rattle.cedar_below.specs.EntityType.{type_name}
 use Rattle.cedar_types.specs.EntityLUB.{lub_names}
-use Rattle.cedar_rules.proofs.SubtypeLemmas.{pointwise-map_Decides}
+use Rattle.cedar_type_rules.proofs.SubtypeLemmas.{pointwise-map_Decides}
 use Rattle.cedar_types.proofs.subtype.is_same.Goals as goal
 
 pub returns : goal.returns
 returns c =
     let P : Bool → Type 0 = λ same. Decides same (lub_names c.args.lower.now ≡ lub_names c.args.upper.now) in
-    subst P (sym c.eq.ensures) (pointwise-map_Decides type_name _ entity_type_eq-same c.args.lower.now.elements.items
-    c.args.upper.now.elements.items)
+    subst P (sym c.eq.ensures) (pointwise-map_Decides type_name _ entity_type_eq-same c.args.lower.now.lub_elements.items
+    c.args.upper.now.lub_elements.items)

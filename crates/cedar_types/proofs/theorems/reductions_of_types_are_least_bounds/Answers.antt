@@ -1,5 +1,5 @@
 use Rattle.std.proofs.Common.{map}
-use Rattle.cedar_rules.proofs.ReduceLemmas.{reduce_least_clean}
+use Rattle.cedar_type_rules.proofs.ReduceLemmas.{reduce_least_clean}
 use Rattle.cedar_types.proofs.ReduceSteps.{reduced_in_any_order}
 use Rattle.cedar_types.specs.Meaning.{ty_of}
 use Rattle.cedar_types.proofs.theorems.reductions_of_types_are_least_bounds.Goals as goal

@@ -1,4 +1,4 @@
-use Rattle.cedar_types.specs.Layers.{IsAscending-fields}
+use Rattle.cedar_types.specs.Layers.{IsSortedByName-fields}
 use Rattle.cedar_types.specs.WellFormedTypes.{kind_formed, IsWellFormed-type, AreWellFormed-fields, AreTexts-fields}
 use Rattle.cedar_types.proofs.theorems.types_are_well_formed.Goals as goal
 
@@ -8,8 +8,8 @@ returns-clause-kinds c = kind_formed
 pub returns-clause-types : goal.returns-clause-types
 returns-clause-types c = IsWellFormed-type
 
-pub returns-clause-ascending : goal.returns-clause-ascending
-returns-clause-ascending c = IsAscending-fields
+pub returns-clause-sorted_by_name : goal.returns-clause-sorted_by_name
+returns-clause-sorted_by_name c = IsSortedByName-fields
 
 pub returns-clause-attributes : goal.returns-clause-attributes
 returns-clause-attributes c = AreWellFormed-fields

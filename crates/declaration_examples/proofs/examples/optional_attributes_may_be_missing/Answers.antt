@@ -1,7 +1,7 @@
 use Rattle.std.proofs.Common.{zero, suc, [], ◌∷◌, refl, arith, Contains, codes}
 use Rattle.cedar_below.specs.Tree.{number_value}
-use Rattle.cedar_declared.proofs.BuiltInLemmas.{unlike_texts}
-use Rattle.cedar_declared.specs.Admits.{admits_record, admits_missing, admits_there, admits_no_member, admits_long}
+use Rattle.cedar_declarations.proofs.BuiltInLemmas.{unlike_texts}
+use Rattle.cedar_declarations.specs.Admits.{admits_record, admits_missing, admits_there, admits_no_member, admits_long}
 use Rattle.declaration_examples.proofs.examples.optional_attributes_may_be_missing.Goals as goal
 
 -- another name isn't listed

@@ -3,16 +3,16 @@ use Rattle.cedar_below.specs.PlainName.{PlainName, IsActionType, action_word}
 use Rattle.cedar_below.specs.declared.extension.Extensions.{Extensions}
 use Rattle.cedar_names.specs.Reference.{Reference}
 use Rattle.cedar_names.specs.declared.json_schema.reference_type.ReferenceType.TheVariants.{Entity}
-use Rattle.cedar_declared.specs.Bag.{alias_name, defined_names}
-use Rattle.cedar_declared.specs.Counted.{IsPlaced}
-use Rattle.cedar_declared.specs.Names.{ResolvesTo}
+use Rattle.cedar_declarations.specs.Bag.{alias_name, defined_names}
+use Rattle.cedar_declarations.specs.Counted.{IsAtEntityTypePosition}
+use Rattle.cedar_declarations.specs.Names.{ResolvesTo}
 use Rattle.declaration_examples.specs.Samples.{refer_here, action_here, principal_bag}
 use Rattle.declaration_examples.proofs.examples.principals_are_no_actions.Goals as goal
 
 -- the name is that of an action's type, and stands for a principal
 abbrev IsNamed : Extensions → PlainName → Type 0
 IsNamed extensions name =
-    IsActionType name × (reference : Reference) × IsPlaced principal_bag reference
+    IsActionType name × (reference : Reference) × IsAtEntityTypePosition principal_bag reference
     × ResolvesTo (defined_names principal_bag extensions) reference name
 
 -- the type of the action is

@@ -1,7 +1,7 @@
 use Rattle.std.proofs.Common.{◌≡◌, inl, inr, [], ◌∷◌, refl}
 use Rattle.cedar_below.proofs.Lists.{Contains-cons}
 use Rattle.cedar_below.specs.declared.validation_mode.ValidationMode.TheVariants.{Strict, Permissive}
-use Rattle.cedar_rules.proofs.InclusionLemmas.{Contains-only}
+use Rattle.cedar_type_rules.proofs.InclusionLemmas.{Contains-only}
 use Rattle.rule_examples.proofs.subtyping_examples.entities_by_example.Goals as goal
 
 pub returns-clause-not_less : goal.returns-clause-not_less

@@ -3,8 +3,8 @@ use Rattle.std.proofs.IntoIterSteps.{All-taken}
 use Rattle.std.proofs.lemmas.Result.{IfOk-weaker}
 use Rattle.std.specs.declared.rc.Rc.{Rc}
 use Rattle.std.specs.declared.string.String.{String}
-use Rattle.cedar_rules.specs.Fields.{IsRecordOf}
-use Rattle.cedar_rules.specs.declared.open_tag.OpenTag.TheVariants.{ClosedAttributes}
+use Rattle.cedar_type_rules.specs.Fields.{IsRecordOf}
+use Rattle.cedar_type_rules.specs.declared.open_tag.OpenTag.TheVariants.{ClosedAttributes}
 use Rattle.cedar_types.specs.Attributes.{plain_required}
 use Rattle.cedar_types.specs.Meaning.{ty_of}
 use Rattle.cedar_types.specs.declared.types.Type.{«Type»}

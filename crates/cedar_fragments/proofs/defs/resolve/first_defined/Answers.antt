@@ -2,7 +2,7 @@ use Rattle.std.proofs.Common.{get_or, arith, sym, ◌∙◌, ap, refl}
 use Rattle.std.proofs.lemmas.Bool.{false≢true}
 use Rattle.cedar_below.specs.InternalName.{name_of}
 use Rattle.cedar_below.specs.PlainName.{PlainName}
-use Rattle.cedar_declared.specs.Names.{IsDefined}
+use Rattle.cedar_declarations.specs.Names.{IsDefined}
 use Rattle.cedar_fragments.proofs.ResolveLemmas.{first_taken, none_more, none_of}
 use Rattle.cedar_fragments.specs.HeldNames.{held_names}
 use Rattle.cedar_fragments.proofs.defs.resolve.first_defined.Goals as goal

@@ -1,7 +1,7 @@
 use Rattle.std.proofs.Common.{◌≡◌, map, take}
 use Rattle.std.specs.List.{AllByRecursion}
 use Rattle.cedar_below.specs.InternalName.{name_of}
-use Rattle.cedar_declared.specs.Names.{IsDefined}
+use Rattle.cedar_declarations.specs.Names.{IsDefined}
 use Rattle.cedar_fragments.specs.HeldNames.{held_names}
 use Rattle.cedar_fragments.proofs.defs.resolve.first_defined.Given as goal
 

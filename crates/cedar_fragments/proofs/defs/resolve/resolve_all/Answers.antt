@@ -1,8 +1,8 @@
 use Rattle.std.proofs.Common.{map, Contains, arith}
 use Rattle.std.proofs.lemmas.List.{nil_from_length}
 use Rattle.std.proofs.lemmas.Result.{err_from_is_err_and}
-use Rattle.cedar_declared.proofs.OccurrenceLemmas.{Contains-image}
-use Rattle.cedar_fragments.proofs.InTurn.{turn_none, turn_more, turn_all, turn_next}
+use Rattle.cedar_declarations.proofs.OccurrenceLemmas.{Contains-image}
+use Rattle.cedar_fragments.proofs.Pairwise.{turn_none, turn_more, turn_all, turn_next}
 use Rattle.cedar_fragments.proofs.QualifiedLemmas.{refused_one}
 use Rattle.cedar_fragments.specs.HeldNames.{held_names}
 use Rattle.cedar_fragments.specs.Refused.{IsRefusedAmong}

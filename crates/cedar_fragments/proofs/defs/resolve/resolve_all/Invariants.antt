@@ -1,7 +1,7 @@
 use Rattle.std.specs.Vec.Iter.{into_iter_items}
 use Rattle.cedar_below.specs.InternalName.{name_of}
-use Rattle.cedar_declared.specs.Names.{ResolvesTo}
-use Rattle.cedar_fragments.proofs.InTurn.{TurnSoFar}
+use Rattle.cedar_declarations.specs.Names.{ResolvesTo}
+use Rattle.cedar_fragments.proofs.Pairwise.{TurnSoFar}
 use Rattle.cedar_fragments.specs.HeldNames.{held_names}
 use Rattle.cedar_fragments.proofs.defs.resolve.resolve_all.Given as goal
 

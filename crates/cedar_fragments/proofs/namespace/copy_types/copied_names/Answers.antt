@@ -1,6 +1,6 @@
 use Rattle.std.proofs.Common.{subst}
 use Rattle.std.proofs.lemmas.Result.{IfOk-weaker}
-use Rattle.cedar_below.specs.Lists.{HoldsInTurn}
+use Rattle.cedar_below.specs.Lists.{HoldsPairwise}
 use Rattle.cedar_fragments.proofs.CopyLemmas.{turn_weaker}
 use Rattle.cedar_fragments.proofs.namespace.copy_types.copied_names.Goals as goal
 
@@ -8,6 +8,6 @@ pub returns : goal.returns
 returns g c =
     let alike = g.N.FragmentName.is_alike in
     let names = c.args.names.now.items in
-    IfOk-weaker c.copied_items.result _ (λ copies. HoldsInTurn alike names copies.items)
+    IfOk-weaker c.copied_items.result _ (λ copies. HoldsPairwise alike names copies.items)
     (λ copies turn. turn_weaker _ alike (λ name copy ran. subst (λ it. alike it copy) ran.shows ran.says.met) names copies.items turn)
     c.copied_items.ensures

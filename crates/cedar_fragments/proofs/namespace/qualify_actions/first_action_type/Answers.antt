@@ -5,7 +5,7 @@ use Rattle.cedar_below.specs.InternalName.{name_of}
 use Rattle.cedar_below.specs.PlainName.{PlainName}
 use Rattle.cedar_below.specs.declared.entity_type.EntityType.{EntityType}
 use Rattle.cedar_below.specs.declared.internal_name.InternalName.{InternalName}
-use Rattle.cedar_declared.specs.Occurrences.{IsFirst}
+use Rattle.cedar_declarations.specs.Occurrences.{IsFirst}
 use Rattle.cedar_fragments.proofs.ResolveLemmas.{first_at}
 use Rattle.cedar_fragments.specs.HeldNames.{held_names}
 use Rattle.cedar_fragments.proofs.namespace.qualify_actions.first_action_type.Goals as goal

@@ -5,12 +5,12 @@ use Rattle.cedar_below.specs.EntityType.{type_name}
 use Rattle.cedar_below.specs.PlainName.{PlainName}
 use Rattle.cedar_below.specs.Text.{Text}
 use Rattle.cedar_below.specs.declared.entity_type.EntityType.{EntityType}
-use Rattle.cedar_declared.specs.Names.{NamesNoAction}
-use Rattle.cedar_declared.specs.Occurrences.{IsFirst}
-use Rattle.cedar_declared.specs.SchemaError.{carried_action}
+use Rattle.cedar_declarations.specs.Names.{NamesNoAction}
+use Rattle.cedar_declarations.specs.Occurrences.{IsFirst}
+use Rattle.cedar_declarations.specs.SchemaError.{carried_action}
 use Rattle.cedar_fragments.specs.ActionDeclarations.{fragment_parent}
 use Rattle.cedar_fragments.specs.HeldNames.{held_names}
-use Rattle.cedar_names.specs.ConditionalExpr.{placed_reference}
+use Rattle.cedar_names.specs.ConditionalExpr.{positional_reference}
 use Rattle.cedar_names.specs.ConditionalName.{possibilities_of, conditional_reference}
 use Rattle.cedar_names.specs.PossibleNames.{names_of}
 use Rattle.cedar_names.specs.Reference.{Reference}
@@ -18,8 +18,8 @@ use Rattle.cedar_names.specs.declared.json_schema.conditional_name.ConditionalNa
 use Rattle.cedar_names.specs.declared.json_schema.reference_type.ReferenceType.TheVariants.{Entity}
 use Rattle.cedar_fragments.proofs.namespace.qualify_actions.qualify_parent.Goals as goal
 
-pub returns-in-Some-clause-settled : goal.returns-in-Some-clause-settled
-returns-in-Some-clause-settled c =
+pub returns-in-Some-clause-resolved : goal.returns-in-Some-clause-resolved
+returns-in-Some-clause-resolved c =
     let id = string_bytes c.args.parent.id in
     let P : PlainName → Type 0 = λ ty. Contains (held_names c.args.all_defs.now).actions (record { ty = ty; eid = id }) in
     let names = names_of c.possibilities.result.now in
@@ -32,7 +32,7 @@ returns-in-Some-clause-settled c =
 pub returns-in-None-clause-fault : goal.returns-in-None-clause-fault
 returns-in-None-clause-fault c =
     let id = string_bytes c.args.parent.id in
-    let parent = fragment_parent ConditionalName placed_reference c.args.parent in
+    let parent = fragment_parent ConditionalName positional_reference c.args.parent in
     let actions = (held_names c.args.all_defs.now).actions in
     let P : PlainName → Type 0 = λ ty. Contains actions (record { ty = ty; eid = id }) in
     let names = names_of c.possibilities.result.now in
@@ -43,7 +43,7 @@ returns-in-None-clause-fault c =
     let nothing : NamesNoAction actions parent = subst Q c.possibilities.ensures.names none in
     let possibilities : possibilities_of c.new-ty.result ≡ possibilities_of c.args.parent.ty =
     c.new-ty.ensures.possibilities ∙ c.into_possibilities.ensures.names in
-    let same : conditional_reference c.new-ty.result ≡ placed_reference Entity c.args.parent.ty =
+    let same : conditional_reference c.new-ty.result ≡ positional_reference Entity c.args.parent.ty =
     (λ i. record { possibilities = possibilities i; kind = c.new-ty.ensures.reference_type i }) in
     let carries : Text × Option Reference = (id, Some (conditional_reference c.new-ty.result)) in
     let R : List (Text × Option Reference) → Text × Option Reference → Type 0 = λ each carried. Contains each carried in (

@@ -3,16 +3,16 @@ use Rattle.std.proofs.lemmas.List.{nil_from_length}
 use Rattle.std.proofs.lemmas.Result.{err_from_is_err_and}
 use Rattle.std.specs.List.{flat_map}
 use Rattle.cedar_below.specs.declared.entity_type.EntityType.{EntityType}
-use Rattle.cedar_declared.proofs.OccurrenceLemmas.{Contains-image}
-use Rattle.cedar_declared.specs.SchemaError.{fault_of}
-use Rattle.cedar_fragments.proofs.InTurn.{turn_none, turn_more, turn_all, turn_next}
+use Rattle.cedar_declarations.proofs.OccurrenceLemmas.{Contains-image}
+use Rattle.cedar_declarations.specs.SchemaError.{fault_of}
+use Rattle.cedar_fragments.proofs.Pairwise.{turn_none, turn_more, turn_all, turn_next}
 use Rattle.cedar_fragments.proofs.OneMore.{flat_one_more}
-use Rattle.cedar_fragments.proofs.UnsettledLemmas.{unsettled_wider}
+use Rattle.cedar_fragments.proofs.UnresolvableLemmas.{unresolvable_wider}
 use Rattle.cedar_fragments.specs.ActionDeclarations.{fragment_parent}
 use Rattle.cedar_fragments.specs.FragmentLocs.{no_locs, parent_locs}
 use Rattle.cedar_fragments.specs.HeldNames.{held_names}
-use Rattle.cedar_fragments.specs.QualifyFault.{IsUnsettled}
-use Rattle.cedar_names.specs.ConditionalExpr.{placed_reference}
+use Rattle.cedar_fragments.specs.QualifyFault.{IsUnresolvable}
+use Rattle.cedar_names.specs.ConditionalExpr.{positional_reference}
 use Rattle.cedar_names.specs.Reference.{ActionReference}
 use Rattle.cedar_names.specs.declared.json_schema.conditional_name.ConditionalName.{ConditionalName}
 use Rattle.cedar_fragments.proofs.namespace.qualify_actions.qualify_parents.Goals as goal
@@ -26,13 +26,13 @@ loop-parent-init c = (
 pub returns-in_err-qualify_parent-clause-fault : goal.returns-in_err-qualify_parent-clause-fault
 returns-in_err-qualify_parent-clause-fault c =
     let names = held_names c.args.all_defs.now in
-    let refer = fragment_parent ConditionalName placed_reference in
+    let refer = fragment_parent ConditionalName positional_reference in
     let all = map refer c.args.parents.items in
     let among = Contains-image refer c.args.parents.items c.in-Some.parent
     (turn_next _ _ _ _ _ _ _ c.in-Some.parent c.in-Some.ensures.steps.0 c.loop-parent.invariant.0) in
     let P : ActionReference → Type 0 = Contains all in
-    let at_fault : IsUnsettled names (λ reference. ⊥) (Contains all) (λ reference. ⊥) (fault_of c.in_err-qualify_parent.field-0.0) =
-    unsettled_wider names (λ reference. ⊥) (λ reference. ⊥) (λ it. refer c.in-Some.parent ≡ it) (Contains all) (λ reference. ⊥) (λ reference. ⊥)
+    let at_fault : IsUnresolvable names (λ reference. ⊥) (Contains all) (λ reference. ⊥) (fault_of c.in_err-qualify_parent.field-0.0) =
+    unresolvable_wider names (λ reference. ⊥) (λ reference. ⊥) (λ it. refer c.in-Some.parent ≡ it) (Contains all) (λ reference. ⊥) (λ reference. ⊥)
     (λ reference none. none) (λ parent is. subst P is among) (λ reference none. none) _ c.in_err-qualify_parent.ensures.fault in
     let p = err_from_is_err_and c.from_residual.result c.from_residual.ensures.1 in
     rw (p.1, p.2) at_fault
@@ -40,13 +40,13 @@ returns-in_err-qualify_parent-clause-fault c =
 pub loop-parent-preserved : goal.loop-parent-preserved
 loop-parent-preserved c = (
   turn_more _ _ _ _ _ _ _ _ c.in-Some.parent c.in_ok-qualify_parent.field-0 c.in-Some.ensures.steps.0 c.in_ok-push.ensures.items
-      c.in_ok-qualify_parent.ensures.settled c.loop-parent.invariant.0,
+      c.in_ok-qualify_parent.ensures.resolved c.loop-parent.invariant.0,
   flat_one_more (parent_locs EntityType no_locs) (parent_locs ConditionalName no_locs) c.loop-parent.qualified.items _
       c.loop-parent.yielded c.in_ok-qualify_parent.field-0 c.in-Some.parent c.in_ok-push.ensures.items c.loop-parent.invariant.1
       c.in_ok-qualify_parent.ensures.locs,
 )
 
-pub returns-clause-settled : goal.returns-clause-settled
-returns-clause-settled c =
+pub returns-clause-resolved : goal.returns-clause-resolved
+returns-clause-resolved c =
     turn_all _ _ _ _ _ _ (nil_from_length _ (omega (arith, c.in-None.ensures.steps.0, c.loop-parent.parent-iterator.rest.ok.0)))
     c.loop-parent.invariant.0

@@ -1,15 +1,15 @@
 use Rattle.std.proofs.Common.{map, Contains, Some, refl, inl, inr, ⊎_elim}
 use Rattle.std.proofs.lemmas.Result.{err_from_is_err_and}
-use Rattle.cedar_declared.specs.Counted.{IsPrincipalOrResource}
-use Rattle.cedar_declared.specs.Mentions.{Refers}
-use Rattle.cedar_declared.specs.SchemaError.{fault_of, qualify_fault}
+use Rattle.cedar_declarations.specs.Counted.{IsPrincipalOrResource}
+use Rattle.cedar_declarations.specs.Mentions.{Refers}
+use Rattle.cedar_declarations.specs.SchemaError.{fault_of, qualify_fault}
 use Rattle.cedar_fragments.proofs.LocLemmas.{kept_beside_names}
 use Rattle.cedar_fragments.proofs.QualifiedLemmas.{refused_wider}
-use Rattle.cedar_fragments.proofs.UnsettledLemmas.{unsettled_wider, refused_unsettled}
+use Rattle.cedar_fragments.proofs.UnresolvableLemmas.{unresolvable_wider, refused_unresolvable}
 use Rattle.cedar_fragments.specs.ActionDeclarations.{fragment_requests}
 use Rattle.cedar_fragments.specs.HeldNames.{held_names}
-use Rattle.cedar_fragments.specs.QualifyFault.{HasToResolveFor, IsUnsettled}
-use Rattle.cedar_names.specs.ConditionalExpr.{placed_reference, placed_expr}
+use Rattle.cedar_fragments.specs.QualifyFault.{HasToResolveFor, IsUnresolvable}
+use Rattle.cedar_names.specs.ConditionalExpr.{positional_reference, positional_expr}
 use Rattle.cedar_names.specs.declared.json_schema.conditional_name.ConditionalName.{ConditionalName}
 use Rattle.cedar_names.specs.declared.json_schema.reference_type.ReferenceType.TheVariants.{Entity}
 use Rattle.cedar_fragments.proofs.namespace.qualify_actions.qualify_requests.Goals as goal
@@ -17,10 +17,10 @@ use Rattle.cedar_fragments.proofs.namespace.qualify_actions.qualify_requests.Goa
 pub returns-in_err-principals-clause-fault : goal.returns-in_err-principals-clause-fault
 returns-in_err-principals-clause-fault c =
     let names = held_names c.args.all_defs.now in
-    let it = fragment_requests ConditionalName placed_reference (Some c.args.requests) in
-    let all = map (placed_reference Entity) c.args.requests.principals.items in
-    let at_fault : IsUnsettled names (HasToResolveFor it) (λ parent. ⊥) (IsPrincipalOrResource it) (fault_of c.in_err-principals.field-0.0) =
-    unsettled_wider names (Contains all) (HasToResolveFor it) (λ parent. ⊥) (λ parent. ⊥) (Contains all) (IsPrincipalOrResource it)
+    let it = fragment_requests ConditionalName positional_reference (Some c.args.requests) in
+    let all = map (positional_reference Entity) c.args.requests.principals.items in
+    let at_fault : IsUnresolvable names (HasToResolveFor it) (λ parent. ⊥) (IsPrincipalOrResource it) (fault_of c.in_err-principals.field-0.0) =
+    unresolvable_wider names (Contains all) (HasToResolveFor it) (λ parent. ⊥) (λ parent. ⊥) (Contains all) (IsPrincipalOrResource it)
     (λ reference among. inr (inl among)) (λ parent none. none) (λ reference among. inl among) _ c.in_err-principals.ensures.fault in
     let p = err_from_is_err_and c.from_residual.result c.from_residual.ensures.1 in
     rw (p.1, p.2) at_fault
@@ -28,10 +28,10 @@ returns-in_err-principals-clause-fault c =
 pub returns-in_err-resources-clause-fault : goal.returns-in_err-resources-clause-fault
 returns-in_err-resources-clause-fault c =
     let names = held_names c.args.all_defs.now in
-    let it = fragment_requests ConditionalName placed_reference (Some c.args.requests) in
-    let all = map (placed_reference Entity) c.args.requests.resources.items in
-    let at_fault : IsUnsettled names (HasToResolveFor it) (λ parent. ⊥) (IsPrincipalOrResource it) (fault_of c.in_err-resources.field-0.0) =
-    unsettled_wider names (Contains all) (HasToResolveFor it) (λ parent. ⊥) (λ parent. ⊥) (Contains all) (IsPrincipalOrResource it)
+    let it = fragment_requests ConditionalName positional_reference (Some c.args.requests) in
+    let all = map (positional_reference Entity) c.args.requests.resources.items in
+    let at_fault : IsUnresolvable names (HasToResolveFor it) (λ parent. ⊥) (IsPrincipalOrResource it) (fault_of c.in_err-resources.field-0.0) =
+    unresolvable_wider names (Contains all) (HasToResolveFor it) (λ parent. ⊥) (λ parent. ⊥) (Contains all) (IsPrincipalOrResource it)
     (λ reference among. inr (inr among)) (λ parent none. none) (λ reference among. inr among) _ c.in_err-resources.ensures.fault in
     let p = err_from_is_err_and c.from_residual-in_err-resources.result c.from_residual-in_err-resources.ensures.1 in
     rw (p.1, p.2) at_fault
@@ -39,10 +39,10 @@ returns-in_err-resources-clause-fault c =
 pub returns-in_err-context-clause-fault : goal.returns-in_err-context-clause-fault
 returns-in_err-context-clause-fault c =
     let names = held_names c.args.all_defs.now in
-    let it = fragment_requests ConditionalName placed_reference (Some c.args.requests) in
-    let context = placed_expr c.args.requests.context in
-    let at_fault : IsUnsettled names (HasToResolveFor it) (λ parent. ⊥) (IsPrincipalOrResource it) (qualify_fault c.in_err-context.field-0.0) =
-    refused_unsettled names (HasToResolveFor it) (λ parent. ⊥) (IsPrincipalOrResource it) _
+    let it = fragment_requests ConditionalName positional_reference (Some c.args.requests) in
+    let context = positional_expr c.args.requests.context in
+    let at_fault : IsUnresolvable names (HasToResolveFor it) (λ parent. ⊥) (IsPrincipalOrResource it) (qualify_fault c.in_err-context.field-0.0) =
+    refused_unresolvable names (HasToResolveFor it) (λ parent. ⊥) (IsPrincipalOrResource it) _
     (refused_wider names (Refers context) (HasToResolveFor it) (λ reference refers. inl (context, refl, refers)) _
     c.in_err-context.ensures.refused) in
     let p = err_from_is_err_and c.from_residual-in_err-context.result c.from_residual-in_err-context.ensures.1 in

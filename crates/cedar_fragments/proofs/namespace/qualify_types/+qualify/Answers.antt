@@ -4,16 +4,16 @@ use Rattle.std.specs.String.{string_cmp_total}
 use Rattle.std.specs.declared.alloc.Global.{Global}
 use Rattle.std.specs.declared.string.String.{String}
 use Rattle.cedar_below.specs.declared.internal_name.InternalName.{InternalName}
-use Rattle.cedar_declared.specs.Mentions.{Refers}
-use Rattle.cedar_declared.specs.Settled.{settles_text, settles_long, settles_truth, settles_set, settles_extension}
-use Rattle.cedar_declared.specs.SettledExpr.{settled_reference, settled_expr}
-use Rattle.cedar_fragments.proofs.InTurn.{RelatedSoFar, related_none, related_more, related_all}
+use Rattle.cedar_declarations.specs.Mentions.{Refers}
+use Rattle.cedar_declarations.specs.Resolved.{resolves_text, resolves_long, resolves_truth, resolves_set, resolves_extension}
+use Rattle.cedar_declarations.specs.ResolvedExpr.{resolved_reference, resolved_expr}
+use Rattle.cedar_fragments.proofs.Pairwise.{RelatedSoFar, related_none, related_more, related_all}
 use Rattle.cedar_fragments.proofs.LocLemmas.{KeepsAttribute, KeepsType, KeepsVariant, keep_attributes, keeps_attribute, keeps_common, keeps_either, keeps_entity, keeps_extension, keeps_long, keeps_plain, keeps_record, keeps_set, keeps_text, keeps_truth}
-use Rattle.cedar_fragments.proofs.QualifiedLemmas.{SettlesAttribute, Made, refused_wider, refused_one, settled_record_type, refers_record, settles_as, settles_name, refers_name, refers_as}
+use Rattle.cedar_fragments.proofs.QualifiedLemmas.{ResolvesAttribute, Made, refused_wider, refused_one, resolved_record_type, refers_record, resolves_as, resolves_name, refers_name, refers_as}
 use Rattle.cedar_fragments.specs.HeldNames.{held_names}
 use Rattle.cedar_fragments.specs.Refused.{IsRefusedAmong}
 use Rattle.cedar_names.proofs.VariantLemmas.{variant-String, variant-Long, variant-Boolean, variant-Set, variant-Record, variant-Entity, variant-EntityOrCommon, variant-Extension, type-Plain, type-CommonTypeRef}
-use Rattle.cedar_names.specs.ConditionalExpr.{placed_reference, placed_expr, placed_variant, placed_record}
+use Rattle.cedar_names.specs.ConditionalExpr.{positional_reference, positional_expr, positional_variant, positional_record}
 use Rattle.cedar_names.specs.Expr.{set_expr}
 use Rattle.cedar_names.specs.declared.json_schema.conditional_name.ConditionalName.{ConditionalName}
 use Rattle.cedar_names.specs.declared.json_schema.reference_type.ReferenceType.TheVariants.{Common, Entity, CommonOrEntity}
@@ -28,8 +28,8 @@ qualify_record-returns-in_err-ty-clause-refused t c =
     let names = held_names c.args.all_defs.now in
     let it = c.args.record_type in
     let ty = (out-TypeOfAttribute ConditionalName c.in-Some.attribute).ty in
-    let refused : IsRefusedAmong names (Refers (placed_record it)) c.in_err-ty.field-0.0 =
-    refused_wider names (Refers (placed_expr ty)) (Refers (placed_record it))
+    let refused : IsRefusedAmong names (Refers (positional_record it)) c.in_err-ty.field-0.0 =
+    refused_wider names (Refers (positional_expr ty)) (Refers (positional_record it))
     (refers_record it c.loop-name.invariant.0.done c.loop-name.name-iterator _ c.in-Some.name c.in-Some.attribute
     c.loop-name.invariant.0.split c.in-Some.ensures.steps) c.in_err-ty.field-0.0 c.in_err-ty.ensures.refused in
     let p = err_from_is_err_and c.from_residual.result c.from_residual.ensures.1 in
@@ -40,25 +40,25 @@ qualify_record-loop-name-preserved t c =
     let names = held_names c.args.all_defs.now in
     let all = (out-RecordType ConditionalName c.args.record_type).attributes.entries in
     let P : List (String Global × TypeOfAttribute InternalName) → Type 0 = λ made.
-    RelatedSoFar (SettlesAttribute names) all made c.next.new.self × RelatedSoFar KeepsAttribute all made c.next.new.self in
+    RelatedSoFar (ResolvesAttribute names) all made c.next.new.self × RelatedSoFar KeepsAttribute all made c.next.new.self in
     subst P (sym c.in_ok-put.ensures) (
-      related_more (SettlesAttribute names) string_cmp_total all c.loop-name.name-iterator c.next.new.self c.loop-name.attributes.entries
+      related_more (ResolvesAttribute names) string_cmp_total all c.loop-name.name-iterator c.next.new.self c.loop-name.attributes.entries
           c.in-Some.name c.in-Some.attribute _ c.into_iter-name-iterator.ensures.into_iter_gives.5 c.in-Some.ensures.steps
-          (refl, c.in_ok-ty.ensures.settled) c.loop-name.invariant.0,
+          (refl, c.in_ok-ty.ensures.resolved) c.loop-name.invariant.0,
       related_more KeepsAttribute string_cmp_total all c.loop-name.name-iterator c.next.new.self c.loop-name.attributes.entries
           c.in-Some.name c.in-Some.attribute _ c.into_iter-name-iterator.ensures.into_iter_gives.5 c.in-Some.ensures.steps
           (keeps_attribute c.in-Some.attribute _ refl c.in_ok-ty.ensures.locs) c.loop-name.invariant.1,
     )
 
-pub qualify_record-returns-clause-settled : goal.qualify_record-returns-clause-settled
-qualify_record-returns-clause-settled t c =
+pub qualify_record-returns-clause-resolved : goal.qualify_record-returns-clause-resolved
+qualify_record-returns-clause-resolved t c =
     let names = held_names c.args.all_defs.now in
     let it : Made names = record {
       attributes = c.loop-name.attributes;
       additional_attributes = (out-RecordType ConditionalName c.args.record_type).additional_attributes;
     } in
-    settled_record_type names c.args.record_type it refl
-    (related_all (SettlesAttribute names) _ _ _ c.in-None.ensures.steps.0 c.loop-name.invariant.0)
+    resolved_record_type names c.args.record_type it refl
+    (related_all (ResolvesAttribute names) _ _ _ c.in-None.ensures.steps.0 c.loop-name.invariant.0)
 
 pub qualify_record-loop-name-init : goal.qualify_record-loop-name-init
 qualify_record-loop-name-init t c = (
@@ -90,9 +90,9 @@ qualify_type-returns-in_ok-type_name-in-CommonTypeRef-clause-locs t c =
 pub qualify_type-returns-in_err-ty-in-Plain-clause-refused : goal.qualify_type-returns-in_err-ty-in-Plain-clause-refused
 qualify_type-returns-in_err-ty-in-Plain-clause-refused t c =
     let names = held_names c.args.all_defs.now in
-    let same = ap placed_expr c.in-Plain.is ∙ type-Plain ConditionalName placed_reference c.in-Plain.ty c.in-Plain.loc in
-    let refused : IsRefusedAmong names (Refers (placed_expr c.args.ty)) c.in_err-ty-in-Plain.field-0.0 =
-    refused_wider names (Refers (placed_variant c.in-Plain.ty)) (Refers (placed_expr c.args.ty)) (refers_as same) _
+    let same = ap positional_expr c.in-Plain.is ∙ type-Plain ConditionalName positional_reference c.in-Plain.ty c.in-Plain.loc in
+    let refused : IsRefusedAmong names (Refers (positional_expr c.args.ty)) c.in_err-ty-in-Plain.field-0.0 =
+    refused_wider names (Refers (positional_variant c.in-Plain.ty)) (Refers (positional_expr c.args.ty)) (refers_as same) _
     c.in_err-ty-in-Plain.ensures.refused in
     let p = err_from_is_err_and c.from_residual.result c.from_residual.ensures.1 in
     rw (p.1, p.2) refused
@@ -101,29 +101,29 @@ pub qualify_type-returns-in_err-type_name-in-CommonTypeRef-clause-refused :
     goal.qualify_type-returns-in_err-type_name-in-CommonTypeRef-clause-refused
 qualify_type-returns-in_err-type_name-in-CommonTypeRef-clause-refused t c =
     let names = held_names c.args.all_defs.now in
-    let same = ap placed_expr c.in-CommonTypeRef.is ∙ type-CommonTypeRef ConditionalName placed_reference c.in-CommonTypeRef.type_name c.in-CommonTypeRef.loc in
-    let refused : IsRefusedAmong names (Refers (placed_expr c.args.ty)) (c.in_err-type_name-in-CommonTypeRef).field-0.0 =
-    refused_one names (Refers (placed_expr c.args.ty)) (placed_reference Common c.in-CommonTypeRef.type_name) (refers_name same) _
+    let same = ap positional_expr c.in-CommonTypeRef.is ∙ type-CommonTypeRef ConditionalName positional_reference c.in-CommonTypeRef.type_name c.in-CommonTypeRef.loc in
+    let refused : IsRefusedAmong names (Refers (positional_expr c.args.ty)) (c.in_err-type_name-in-CommonTypeRef).field-0.0 =
+    refused_one names (Refers (positional_expr c.args.ty)) (positional_reference Common c.in-CommonTypeRef.type_name) (refers_name same) _
     (c.in_err-type_name-in-CommonTypeRef).ensures.refused in
     let p = err_from_is_err_and (c.from_residual-in_err-type_name-in-CommonTypeRef).result (c.from_residual-in_err-type_name-in-CommonTypeRef).ensures.1 in
     rw (p.1, p.2) refused
 
-pub qualify_type-returns-in_ok-type_name-in-CommonTypeRef-clause-settled :
-    goal.qualify_type-returns-in_ok-type_name-in-CommonTypeRef-clause-settled
-qualify_type-returns-in_ok-type_name-in-CommonTypeRef-clause-settled t c =
+pub qualify_type-returns-in_ok-type_name-in-CommonTypeRef-clause-resolved :
+    goal.qualify_type-returns-in_ok-type_name-in-CommonTypeRef-clause-resolved
+qualify_type-returns-in_ok-type_name-in-CommonTypeRef-clause-resolved t c =
     let names = held_names c.args.all_defs.now in
-    settles_as names (ap placed_expr c.in-CommonTypeRef.is ∙ type-CommonTypeRef ConditionalName placed_reference c.in-CommonTypeRef.type_name c.in-CommonTypeRef.loc)
-    (type-CommonTypeRef InternalName settled_reference (c.in_ok-type_name-in-CommonTypeRef).type_name c.in-CommonTypeRef.loc)
-    (settles_name names Common c.in-CommonTypeRef.type_name (c.in_ok-type_name-in-CommonTypeRef).type_name
+    resolves_as names (ap positional_expr c.in-CommonTypeRef.is ∙ type-CommonTypeRef ConditionalName positional_reference c.in-CommonTypeRef.type_name c.in-CommonTypeRef.loc)
+    (type-CommonTypeRef InternalName resolved_reference (c.in_ok-type_name-in-CommonTypeRef).type_name c.in-CommonTypeRef.loc)
+    (resolves_name names Common c.in-CommonTypeRef.type_name (c.in_ok-type_name-in-CommonTypeRef).type_name
     (c.in_ok-type_name-in-CommonTypeRef).ensures.resolved)
 
 pub qualify_variant-returns-in_err-element-in-Set-clause-refused : goal.qualify_variant-returns-in_err-element-in-Set-clause-refused
 qualify_variant-returns-in_err-element-in-Set-clause-refused t c =
     let names = held_names c.args.all_defs.now in
-    let same = ap placed_variant c.in-Set.is ∙ (variant-Set ConditionalName placed_reference c.in-Set.element
-    ∙ ap (λ ty. set_expr (placed_expr ty)) (sym c.into_inner.ensures)) in
-    let refused : IsRefusedAmong names (Refers (placed_variant c.args.ty)) c.in_err-element-in-Set.field-0.0 =
-    refused_wider names (Refers (placed_expr c.into_inner.result)) (Refers (placed_variant c.args.ty)) (refers_as same) _
+    let same = ap positional_variant c.in-Set.is ∙ (variant-Set ConditionalName positional_reference c.in-Set.element
+    ∙ ap (λ ty. set_expr (positional_expr ty)) (sym c.into_inner.ensures)) in
+    let refused : IsRefusedAmong names (Refers (positional_variant c.args.ty)) c.in_err-element-in-Set.field-0.0 =
+    refused_wider names (Refers (positional_expr c.into_inner.result)) (Refers (positional_variant c.args.ty)) (refers_as same) _
     c.in_err-element-in-Set.ensures.refused in
     let p = err_from_is_err_and c.from_residual.result c.from_residual.ensures.1 in
     rw (p.1, p.2) refused
@@ -132,9 +132,9 @@ pub qualify_variant-returns-in_err-record_type-in-Record-clause-refused :
     goal.qualify_variant-returns-in_err-record_type-in-Record-clause-refused
 qualify_variant-returns-in_err-record_type-in-Record-clause-refused t c =
     let names = held_names c.args.all_defs.now in
-    let same = ap placed_variant c.in-Record.is ∙ variant-Record ConditionalName placed_reference c.in-Record.record_type in
-    let refused : IsRefusedAmong names (Refers (placed_variant c.args.ty)) (c.in_err-record_type-in-Record).field-0.0 =
-    refused_wider names (Refers (placed_record c.in-Record.record_type)) (Refers (placed_variant c.args.ty)) (refers_as same) _
+    let same = ap positional_variant c.in-Record.is ∙ variant-Record ConditionalName positional_reference c.in-Record.record_type in
+    let refused : IsRefusedAmong names (Refers (positional_variant c.args.ty)) (c.in_err-record_type-in-Record).field-0.0 =
+    refused_wider names (Refers (positional_record c.in-Record.record_type)) (Refers (positional_variant c.args.ty)) (refers_as same) _
     (c.in_err-record_type-in-Record).ensures.refused in
     let p = err_from_is_err_and (c.from_residual-in_err-record_type-in-Record).result (c.from_residual-in_err-record_type-in-Record).ensures.1 in
     rw (p.1, p.2) refused
@@ -142,9 +142,9 @@ qualify_variant-returns-in_err-record_type-in-Record-clause-refused t c =
 pub qualify_variant-returns-in_err-name-in-Entity-clause-refused : goal.qualify_variant-returns-in_err-name-in-Entity-clause-refused
 qualify_variant-returns-in_err-name-in-Entity-clause-refused t c =
     let names = held_names c.args.all_defs.now in
-    let same = ap placed_variant c.in-Entity.is ∙ variant-Entity ConditionalName placed_reference c.in-Entity.name in
-    let refused : IsRefusedAmong names (Refers (placed_variant c.args.ty)) (c.in_err-name-in-Entity).field-0.0 =
-    refused_one names (Refers (placed_variant c.args.ty)) (placed_reference Entity c.in-Entity.name) (refers_name same) _
+    let same = ap positional_variant c.in-Entity.is ∙ variant-Entity ConditionalName positional_reference c.in-Entity.name in
+    let refused : IsRefusedAmong names (Refers (positional_variant c.args.ty)) (c.in_err-name-in-Entity).field-0.0 =
+    refused_one names (Refers (positional_variant c.args.ty)) (positional_reference Entity c.in-Entity.name) (refers_name same) _
     (c.in_err-name-in-Entity).ensures.refused in
     let p = err_from_is_err_and (c.from_residual-in_err-name-in-Entity).result (c.from_residual-in_err-name-in-Entity).ensures.1 in
     rw (p.1, p.2) refused
@@ -153,59 +153,59 @@ pub qualify_variant-returns-in_err-type_name-in-EntityOrCommon-clause-refused :
     goal.qualify_variant-returns-in_err-type_name-in-EntityOrCommon-clause-refused
 qualify_variant-returns-in_err-type_name-in-EntityOrCommon-clause-refused t c =
     let names = held_names c.args.all_defs.now in
-    let same = ap placed_variant c.in-EntityOrCommon.is ∙ variant-EntityOrCommon ConditionalName placed_reference c.in-EntityOrCommon.type_name in
-    let refused : IsRefusedAmong names (Refers (placed_variant c.args.ty)) (c.in_err-type_name-in-EntityOrCommon).field-0.0 =
-    refused_one names (Refers (placed_variant c.args.ty)) (placed_reference CommonOrEntity c.in-EntityOrCommon.type_name) (refers_name same) _
+    let same = ap positional_variant c.in-EntityOrCommon.is ∙ variant-EntityOrCommon ConditionalName positional_reference c.in-EntityOrCommon.type_name in
+    let refused : IsRefusedAmong names (Refers (positional_variant c.args.ty)) (c.in_err-type_name-in-EntityOrCommon).field-0.0 =
+    refused_one names (Refers (positional_variant c.args.ty)) (positional_reference CommonOrEntity c.in-EntityOrCommon.type_name) (refers_name same) _
     (c.in_err-type_name-in-EntityOrCommon).ensures.refused in
     let p = err_from_is_err_and (c.from_residual-in_err-type_name-in-EntityOrCommon).result (c.from_residual-in_err-type_name-in-EntityOrCommon).ensures.1 in
     rw (p.1, p.2) refused
 
-pub qualify_variant-returns-in-String-clause-settled : goal.qualify_variant-returns-in-String-clause-settled
-qualify_variant-returns-in-String-clause-settled t c =
-    settles_as (held_names c.args.all_defs.now) (ap placed_variant c.in-String.is ∙ variant-String ConditionalName placed_reference)
-    (variant-String InternalName settled_reference) settles_text
+pub qualify_variant-returns-in-String-clause-resolved : goal.qualify_variant-returns-in-String-clause-resolved
+qualify_variant-returns-in-String-clause-resolved t c =
+    resolves_as (held_names c.args.all_defs.now) (ap positional_variant c.in-String.is ∙ variant-String ConditionalName positional_reference)
+    (variant-String InternalName resolved_reference) resolves_text
 
-pub qualify_variant-returns-in-Long-clause-settled : goal.qualify_variant-returns-in-Long-clause-settled
-qualify_variant-returns-in-Long-clause-settled t c =
-    settles_as (held_names c.args.all_defs.now) (ap placed_variant c.in-Long.is ∙ variant-Long ConditionalName placed_reference)
-    (variant-Long InternalName settled_reference) settles_long
+pub qualify_variant-returns-in-Long-clause-resolved : goal.qualify_variant-returns-in-Long-clause-resolved
+qualify_variant-returns-in-Long-clause-resolved t c =
+    resolves_as (held_names c.args.all_defs.now) (ap positional_variant c.in-Long.is ∙ variant-Long ConditionalName positional_reference)
+    (variant-Long InternalName resolved_reference) resolves_long
 
-pub qualify_variant-returns-in-Boolean-clause-settled : goal.qualify_variant-returns-in-Boolean-clause-settled
-qualify_variant-returns-in-Boolean-clause-settled t c =
-    settles_as (held_names c.args.all_defs.now) (ap placed_variant c.in-Boolean.is ∙ variant-Boolean ConditionalName placed_reference)
-    (variant-Boolean InternalName settled_reference) settles_truth
+pub qualify_variant-returns-in-Boolean-clause-resolved : goal.qualify_variant-returns-in-Boolean-clause-resolved
+qualify_variant-returns-in-Boolean-clause-resolved t c =
+    resolves_as (held_names c.args.all_defs.now) (ap positional_variant c.in-Boolean.is ∙ variant-Boolean ConditionalName positional_reference)
+    (variant-Boolean InternalName resolved_reference) resolves_truth
 
-pub qualify_variant-returns-in_ok-element-in-Set-2-clause-settled :
-    goal.qualify_variant-returns-in_ok-element-in-Set-2-clause-settled
-qualify_variant-returns-in_ok-element-in-Set-2-clause-settled t c =
-    settles_as (held_names c.args.all_defs.now)
-    (ap placed_variant c.in-Set.is ∙ (variant-Set ConditionalName placed_reference c.in-Set.element
-    ∙ ap (λ ty. set_expr (placed_expr ty)) (sym c.into_inner.ensures)))
-    (variant-Set InternalName settled_reference (c.in_ok-element-in-Set-2).element
-    ∙ ap (λ ty. set_expr (settled_expr ty)) (c.in_ok-element-in-Set-2).ensures.ok)
-    (settles_set (c.in_ok-element-in-Set).ensures.settled)
+pub qualify_variant-returns-in_ok-element-in-Set-2-clause-resolved :
+    goal.qualify_variant-returns-in_ok-element-in-Set-2-clause-resolved
+qualify_variant-returns-in_ok-element-in-Set-2-clause-resolved t c =
+    resolves_as (held_names c.args.all_defs.now)
+    (ap positional_variant c.in-Set.is ∙ (variant-Set ConditionalName positional_reference c.in-Set.element
+    ∙ ap (λ ty. set_expr (positional_expr ty)) (sym c.into_inner.ensures)))
+    (variant-Set InternalName resolved_reference (c.in_ok-element-in-Set-2).element
+    ∙ ap (λ ty. set_expr (resolved_expr ty)) (c.in_ok-element-in-Set-2).ensures.ok)
+    (resolves_set (c.in_ok-element-in-Set).ensures.resolved)
 
-pub qualify_variant-returns-in_ok-name-in-Entity-clause-settled :
-    goal.qualify_variant-returns-in_ok-name-in-Entity-clause-settled
-qualify_variant-returns-in_ok-name-in-Entity-clause-settled t c =
+pub qualify_variant-returns-in_ok-name-in-Entity-clause-resolved :
+    goal.qualify_variant-returns-in_ok-name-in-Entity-clause-resolved
+qualify_variant-returns-in_ok-name-in-Entity-clause-resolved t c =
     let names = held_names c.args.all_defs.now in
-    settles_as names (ap placed_variant c.in-Entity.is ∙ variant-Entity ConditionalName placed_reference c.in-Entity.name)
-    (variant-Entity InternalName settled_reference (c.in_ok-name-in-Entity).name)
-    (settles_name names Entity c.in-Entity.name (c.in_ok-name-in-Entity).name (c.in_ok-name-in-Entity).ensures.resolved)
+    resolves_as names (ap positional_variant c.in-Entity.is ∙ variant-Entity ConditionalName positional_reference c.in-Entity.name)
+    (variant-Entity InternalName resolved_reference (c.in_ok-name-in-Entity).name)
+    (resolves_name names Entity c.in-Entity.name (c.in_ok-name-in-Entity).name (c.in_ok-name-in-Entity).ensures.resolved)
 
-pub qualify_variant-returns-in_ok-type_name-in-EntityOrCommon-clause-settled :
-    goal.qualify_variant-returns-in_ok-type_name-in-EntityOrCommon-clause-settled
-qualify_variant-returns-in_ok-type_name-in-EntityOrCommon-clause-settled t c =
+pub qualify_variant-returns-in_ok-type_name-in-EntityOrCommon-clause-resolved :
+    goal.qualify_variant-returns-in_ok-type_name-in-EntityOrCommon-clause-resolved
+qualify_variant-returns-in_ok-type_name-in-EntityOrCommon-clause-resolved t c =
     let names = held_names c.args.all_defs.now in
-    settles_as names (ap placed_variant c.in-EntityOrCommon.is ∙ variant-EntityOrCommon ConditionalName placed_reference c.in-EntityOrCommon.type_name)
-    (variant-EntityOrCommon InternalName settled_reference (c.in_ok-type_name-in-EntityOrCommon).type_name)
-    (settles_name names CommonOrEntity c.in-EntityOrCommon.type_name (c.in_ok-type_name-in-EntityOrCommon).type_name
+    resolves_as names (ap positional_variant c.in-EntityOrCommon.is ∙ variant-EntityOrCommon ConditionalName positional_reference c.in-EntityOrCommon.type_name)
+    (variant-EntityOrCommon InternalName resolved_reference (c.in_ok-type_name-in-EntityOrCommon).type_name)
+    (resolves_name names CommonOrEntity c.in-EntityOrCommon.type_name (c.in_ok-type_name-in-EntityOrCommon).type_name
     (c.in_ok-type_name-in-EntityOrCommon).ensures.resolved)
 
-pub qualify_variant-returns-in-Extension-clause-settled : goal.qualify_variant-returns-in-Extension-clause-settled
-qualify_variant-returns-in-Extension-clause-settled t c =
-    settles_as (held_names c.args.all_defs.now) (ap placed_variant c.in-Extension.is ∙ variant-Extension ConditionalName placed_reference c.in-Extension.name)
-    (variant-Extension InternalName settled_reference c.in-Extension.name) (settles_extension _)
+pub qualify_variant-returns-in-Extension-clause-resolved : goal.qualify_variant-returns-in-Extension-clause-resolved
+qualify_variant-returns-in-Extension-clause-resolved t c =
+    resolves_as (held_names c.args.all_defs.now) (ap positional_variant c.in-Extension.is ∙ variant-Extension ConditionalName positional_reference c.in-Extension.name)
+    (variant-Extension InternalName resolved_reference c.in-Extension.name) (resolves_extension _)
 
 pub qualify_variant-returns-in-String-clause-locs : goal.qualify_variant-returns-in-String-clause-locs
 qualify_variant-returns-in-String-clause-locs t c =

@@ -1,6 +1,6 @@
-use Rattle.cedar_fragments.proofs.InTurn.{RelatedSoFar}
+use Rattle.cedar_fragments.proofs.Pairwise.{RelatedSoFar}
 use Rattle.cedar_fragments.proofs.LocLemmas.{KeepsAttribute}
-use Rattle.cedar_fragments.proofs.QualifiedLemmas.{SettlesAttribute}
+use Rattle.cedar_fragments.proofs.QualifiedLemmas.{ResolvesAttribute}
 use Rattle.cedar_fragments.specs.HeldNames.{held_names}
 use Rattle.cedar_names.specs.declared.json_schema.conditional_name.ConditionalName.{ConditionalName}
 use Rattle.cedar_names.specs.declared.json_schema.type_of.RecordType.{out-RecordType}
@@ -8,6 +8,6 @@ use Rattle.cedar_fragments.proofs.namespace.qualify_types.+qualify.Given as goal
 
 abbrev pub invariant-qualify_record-loop-name : goal.invariant-qualify_record-loop-name
 invariant-qualify_record-loop-name l =
-    RelatedSoFar (SettlesAttribute (held_names l.all_defs)) (out-RecordType ConditionalName l.fn.record_type).attributes.entries
+    RelatedSoFar (ResolvesAttribute (held_names l.all_defs)) (out-RecordType ConditionalName l.fn.record_type).attributes.entries
     l.attributes.entries l.name-iterator
     × RelatedSoFar KeepsAttribute (out-RecordType ConditionalName l.fn.record_type).attributes.entries l.attributes.entries l.name-iterator

@@ -3,7 +3,7 @@ use Rattle.std.specs.String.{string_cmp_total}
 use Rattle.std.specs.declared.alloc.Global.{Global}
 use Rattle.std.specs.declared.string.String.{String}
 use Rattle.cedar_names.proofs.Converted.{ConvertedSoFar, ConvertedSoFar-more, converted_all}
-use Rattle.cedar_names.proofs.QualifyLemmas.{Made, both_ways, written_both_ways, same_both_ways, own_record, placed_in_record}
+use Rattle.cedar_names.proofs.QualifyLemmas.{Made, both_ways, written_both_ways, same_both_ways, own_record, positional_in_record}
 use Rattle.cedar_names.specs.NamespaceName.{namespace_name}
 use Rattle.cedar_names.specs.declared.json_schema.conditional_name.ConditionalName.{ConditionalName}
 use Rattle.cedar_names.specs.declared.json_schema.raw_name.RawName.{RawName}
@@ -41,5 +41,5 @@ qualify_record-returns-clause-placed t c =
       attributes = c.loop-name.attributes;
       additional_attributes = (out-RecordType RawName c.args.record_type).additional_attributes;
     } in
-    placed_in_record namespace c.args.record_type it refl
+    positional_in_record namespace c.args.record_type it refl
     (converted_all (written_both_ways namespace) both_ways _ _ _ c.in-None.ensures.steps.0 c.loop-name.invariant)

@@ -4,7 +4,7 @@ use Rattle.std.proofs.lemmas.List.Sorted.{IsPermutation-to_front}
 use Rattle.std.specs.List.Sorted.{IsPermutation}
 use Rattle.cedar_queries.proofs.LeafLemmas.{leaves-opened, leaves-taken, parts-opened, parts-taken}
 use Rattle.cedar_queries.specs.Leaves.{leaves_of, shown_types}
-use Rattle.cedar_rules.specs.Ty.{Ty}
+use Rattle.cedar_type_rules.specs.Ty.{Ty}
 use Rattle.cedar_types.specs.Meaning.{ty_of}
 use Rattle.cedar_queries.proofs.leaves.TypeIteratorIterator.next.Goals as goal
 

@@ -1,9 +1,9 @@
 use Rattle.std.proofs.Common.{map}
 use Rattle.std.proofs.lemmas.Result.{IfOk-weaker}
 use Rattle.cedar_below.specs.Entities.{entities_of}
-use Rattle.cedar_declared.specs.ActionEntities.{AreActionEntities}
-use Rattle.cedar_derived.specs.ActionEntities.{schema_with}
-use Rattle.cedar_entities.specs.ValidatorEntityType.{plain_entry}
+use Rattle.cedar_declarations.specs.ActionEntities.{AreActionEntities}
+use Rattle.cedar_schema_elements.specs.ActionEntities.{schema_with}
+use Rattle.cedar_schema_elements.specs.ValidatorEntityType.{plain_entry}
 use Rattle.cedar_schema.specs.ValidatorSchema.{action_entries}
 use Rattle.cedar_schema.proofs.schema.ValidatorSchema.action_entities.Goals as goal
 

@@ -3,7 +3,7 @@ use Rattle.std.specs.List.Sorted.{IsStrictlySortedBy}
 use Rattle.cedar_below.specs.EntityUID.{uid_loc, uid_of, uid_type_loc}
 use Rattle.cedar_below.specs.PlainUid.{uid_cmp}
 use Rattle.cedar_below.specs.declared.entity_uid.EntityUID.{EntityUID}
-use Rattle.cedar_actions.specs.ValidatorActionId.{name_loc, name_type_loc}
+use Rattle.cedar_schema_elements.specs.ValidatorActionId.{name_loc, name_type_loc}
 use Rattle.cedar_schema.proofs.SchemaKeys.{agreed_on}
 use Rattle.cedar_schema.proofs.SchemaNames.{action_keys_ascend}
 use Rattle.cedar_schema.specs.ValidatorSchema.{action_entries}

@@ -1,6 +1,6 @@
 use Rattle.std.proofs.Common.{◌&&◌, subst, sym}
 use Rattle.std.specs.List.Sorted.{IsStrictlySortedBy}
-use Rattle.cedar_actions.specs.ActionKind.{kind_principals, kind_resources}
+use Rattle.cedar_schema_elements.specs.ActionKind.{kind_principals, kind_resources}
 use Rattle.cedar_below.specs.EntityType.{type_name}
 use Rattle.cedar_below.specs.PlainUid.{uid_cmp}
 use Rattle.cedar_queries.proofs.SelectedLemmas.{keys_where-ascend}

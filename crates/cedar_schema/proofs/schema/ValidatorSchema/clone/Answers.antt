@@ -1,18 +1,18 @@
 use Rattle.std.proofs.Common.{map, subst, sym}
 use Rattle.std.proofs.lemmas.Result.{IfOk-weaker}
 use Rattle.cedar_below.specs.Entities.{entities_of}
-use Rattle.cedar_declared.specs.PlainSchema.{PlainSchema}
-use Rattle.cedar_declared.specs.SameSchema.{SameSchema}
-use Rattle.cedar_derived.specs.ActionEntities.{schema_with}
-use Rattle.cedar_entities.specs.ValidatorEntityType.{plain_entry}
-use Rattle.cedar_laws.proofs.MereLemmas.{known_entities}
-use Rattle.cedar_laws.proofs.SameEntities.{same_entities}
-use Rattle.cedar_actions.specs.ValidatorActionId.{plain_action_entry}
+use Rattle.cedar_declarations.specs.PlainSchema.{PlainSchema}
+use Rattle.cedar_declarations.specs.SameSchema.{SameSchema}
+use Rattle.cedar_schema_elements.specs.ActionEntities.{schema_with}
+use Rattle.cedar_schema_elements.specs.ValidatorEntityType.{plain_entry}
+use Rattle.cedar_declaration_laws.proofs.MereLemmas.{known_entities}
+use Rattle.cedar_declaration_laws.proofs.SameEntities.{same_entities}
+use Rattle.cedar_schema_elements.specs.ValidatorActionId.{plain_action_entry}
 use Rattle.cedar_schema.proofs.SchemaNames.{known_names, same_under_names}
 use Rattle.cedar_schema.proofs.SchemaKeys.{keys_given}
 use Rattle.cedar_schema.proofs.schema.ValidatorSchema.clone.Goals as goal
 use Rattle.cedar_schema.specs.ValidatorSchema.{schema_of}
-use Rattle.cedar_validated.proofs.CopyLemmas.{action_copies_located, actions_same, type_copies_located, types_same}
+use Rattle.cedar_validation.proofs.CopyLemmas.{action_copies_located, actions_same, type_copies_located, types_same}
 
 pub from_parts-requires-clause-entities : goal.from_parts-requires-clause-entities
 from_parts-requires-clause-entities c = c.in_ok-action_entities.ensures (map plain_entry c.in_ok-copied_types.field-0.entries)
@@ -23,9 +23,9 @@ from_parts-requires-clause-under_names c =
     let types = c.in_ok-copied_types.field-0.entries in
     let actions = c.in_ok-actions.actions.entries in
     same_under_names (map plain_entry self.entity_types.entries) (map plain_entry types)
-    (map plain_action_entry self.actions.entries) (map plain_action_entry actions) (schema_of self).action_entities _
+    (map plain_action_entry self.action_ids.entries) (map plain_action_entry actions) (schema_of self).action_entities _
     (types_same self.entity_types.entries types c.in_ok-copied_types.ensures)
-    (actions_same self.actions.entries actions c.in_ok-actions.ensures) (known_names self)
+    (actions_same self.action_ids.entries actions c.in_ok-actions.ensures) (known_names self)
 
 pub returns-clause-schema : goal.returns-clause-schema
 returns-clause-schema c =
@@ -33,7 +33,7 @@ returns-clause-schema c =
     let types = c.in_ok-copied_types.field-0.entries in
     let actions = c.in_ok-actions.actions.entries in
     let copied : PlainSchema = schema_with (map plain_entry types) actions (entities_of c.in_ok-action_entities.action_entities) in
-    let turn = actions_same self.actions.entries actions c.in_ok-actions.ensures in
+    let turn = actions_same self.action_ids.entries actions c.in_ok-actions.ensures in
     let same : SameSchema copied (schema_of self) = record {
       entity_types = types_same self.entity_types.entries types c.in_ok-copied_types.ensures;
       actions = turn;
@@ -52,6 +52,6 @@ from_parts-requires-clause-keys c =
     record {
       of_types = type_copies_located self.entity_types.entries c.in_ok-copied_types.field-0.entries c.in_ok-copied_types.ensures
           self.types_located;
-      of_actions = action_copies_located self.actions.entries c.in_ok-actions.actions.entries c.in_ok-actions.ensures
+      of_actions = action_copies_located self.action_ids.entries c.in_ok-actions.actions.entries c.in_ok-actions.ensures
           self.actions_located;
     }

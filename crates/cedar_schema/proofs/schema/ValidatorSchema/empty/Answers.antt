@@ -1,8 +1,8 @@
 use Rattle.std.proofs.lemmas.Grind.{merely}
-use Rattle.cedar_actions.specs.ValidatorActionId as actions
+use Rattle.cedar_schema_elements.specs.ValidatorActionId as actions
 use Rattle.cedar_below.specs.Entities.{entities_of}
-use Rattle.cedar_closure.proofs.MovedMaps.{empty_lacks}
-use Rattle.cedar_entities.specs.ValidatorEntityType as types
+use Rattle.cedar_graph.proofs.MovedMaps.{empty_lacks}
+use Rattle.cedar_schema_elements.specs.ValidatorEntityType as types
 use Rattle.cedar_schema.proofs.SchemaNames.{schema_in_order}
 use Rattle.cedar_schema.proofs.schema.ValidatorSchema.empty.Goals as goal
 

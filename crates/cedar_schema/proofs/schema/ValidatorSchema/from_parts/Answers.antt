@@ -1,7 +1,7 @@
 use Rattle.std.proofs.Common.{map}
 use Rattle.std.proofs.lemmas.Grind.{merely}
 use Rattle.cedar_below.specs.Entities.{entities_of}
-use Rattle.cedar_entities.specs.ValidatorEntityType.{plain_entry}
+use Rattle.cedar_schema_elements.specs.ValidatorEntityType.{plain_entry}
 use Rattle.cedar_schema.proofs.SchemaNames.{schema_in_order}
 use Rattle.cedar_schema.proofs.schema.ValidatorSchema.from_parts.Goals as goal
 

@@ -1,11 +1,11 @@
 use Rattle.std.proofs.Common.{◌∙◌, ◌++◌, ◌∷◌, [], List, IfErr, IfOk, ap, subst}
 use Rattle.std.proofs.lemmas.List.{append-nil}
 use Rattle.std.specs.Result.{result_map_both}
-use Rattle.cedar_declared.specs.Bag.{Bag}
-use Rattle.cedar_declared.specs.SchemaError.{fault_of}
+use Rattle.cedar_declarations.specs.Bag.{Bag}
+use Rattle.cedar_declarations.specs.SchemaError.{fault_of}
 use Rattle.cedar_fragments.specs.FragmentFault.{NamesAllOfADefinition}
-use Rattle.cedar_laws.specs.EndToEnd.{IsBuiltFrom}
-use Rattle.cedar_located.specs.Located.{ShowsWritten}
+use Rattle.cedar_declaration_laws.specs.EndToEnd.{IsBuiltFrom}
+use Rattle.cedar_schema.specs.Located.{ShowsWritten}
 use Rattle.cedar_names.specs.Declaration.{raw_bag, raw_fragment}
 use Rattle.cedar_names.specs.declared.json_schema.fragment.Fragment.{Fragment}
 use Rattle.cedar_names.specs.declared.json_schema.raw_name.RawName.{RawName}

@@ -1,5 +1,5 @@
 use Rattle.cedar_fragments.specs.FragmentDeclarations.{conditional_bag}
-use Rattle.cedar_laws.proofs.ComeBack.{declared_under_names}
+use Rattle.cedar_declaration_laws.proofs.ComeBack.{declared_under_names}
 use Rattle.cedar_schema.proofs.schema.ValidatorSchema.from_schema_fragments.Goals as goal
 use Rattle.cedar_schema.specs.SchemaParts.{parts_schema}
 

@@ -7,9 +7,9 @@ use Rattle.cedar_below.specs.EntityType.{type_name}
 use Rattle.cedar_below.specs.EntityUID.{uid_of}
 use Rattle.cedar_below.specs.PlainName.{name_cmp}
 use Rattle.cedar_below.specs.PlainUid.{uid_cmp}
-use Rattle.cedar_entities.specs.ValidatorEntityType.{plain_entry}
-use Rattle.cedar_located.specs.Located.{common_entries, namespace_entries}
-use Rattle.cedar_validated.specs.LastNamed.{last_named, last_of_uid}
+use Rattle.cedar_schema_elements.specs.ValidatorEntityType.{plain_entry}
+use Rattle.cedar_schema.specs.Located.{common_entries, namespace_entries}
+use Rattle.cedar_validation.specs.LastNamed.{last_named, last_of_uid}
 use Rattle.cedar_schema.proofs.SchemaKeys.{keys_given}
 use Rattle.cedar_schema.proofs.SchemaNames.{schema_under_names}
 use Rattle.cedar_schema.proofs.schema.ValidatorSchema.new.Goals as goal

@@ -1,7 +1,7 @@
 use Rattle.std.proofs.Common.{ap, sym, ◌∙◌}
 use Rattle.cedar_types.specs.Attributes.{plain_attributes}
-use Rattle.cedar_rules.specs.Ty.{fields_from}
-use Rattle.cedar_types.specs.Layers.{IsAscending-fields, fields_of-pairs}
+use Rattle.cedar_type_rules.specs.Ty.{fields_from}
+use Rattle.cedar_types.specs.Layers.{IsSortedByName-fields, fields_of-pairs}
 use Rattle.cedar_types.proofs.attributes.Attributes.iter.Goals as goal
 
 pub returns-clause-attributes : goal.returns-clause-attributes
@@ -9,5 +9,5 @@ returns-clause-attributes c =
     ap (λ entries. fields_from (plain_attributes entries)) (c.new.ensures ∙ (c.as_slice.ensures ∙ ap (λ all. all.entries.items) c.deref.ensures))
     ∙ sym (fields_of-pairs c.args.self.now)
 
-pub returns-clause-ascending : goal.returns-clause-ascending
-returns-clause-ascending c = IsAscending-fields c.args.self.now
+pub returns-clause-sorted_by_name : goal.returns-clause-sorted_by_name
+returns-clause-sorted_by_name c = IsSortedByName-fields c.args.self.now

@@ -1,7 +1,7 @@
 use Rattle.std.proofs.Common.{ap, sym, ◌∙◌, map, string_bytes}
 use Rattle.std.proofs.lemmas.Simd.{map-map}
 use Rattle.std.specs.Map.{keys_of}
-use Rattle.cedar_types.specs.Layers.{IsAscending-fields, field_names-pairs}
+use Rattle.cedar_types.specs.Layers.{IsSortedByName-fields, field_names-pairs}
 use Rattle.cedar_types.proofs.attributes.Attributes.keys.Goals as goal
 
 pub returns-clause-names : goal.returns-clause-names
@@ -10,5 +10,5 @@ returns-clause-names c =
     ∙ (map-map string_bytes (λ entry. entry.0) _
     ∙ sym (field_names-pairs c.args.self.now))
 
-pub returns-clause-ascending : goal.returns-clause-ascending
-returns-clause-ascending c = IsAscending-fields c.args.self.now
+pub returns-clause-sorted_by_name : goal.returns-clause-sorted_by_name
+returns-clause-sorted_by_name c = IsSortedByName-fields c.args.self.now

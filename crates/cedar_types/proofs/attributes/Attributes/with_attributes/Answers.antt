@@ -1,5 +1,5 @@
-use Rattle.cedar_types.proofs.FieldLemmas.{IfOk-ascending}
+use Rattle.cedar_types.proofs.FieldLemmas.{IfOk-sorted_by_name}
 use Rattle.cedar_types.proofs.attributes.Attributes.with_attributes.Goals as goal
 
-pub returns-clause-ascending : goal.returns-clause-ascending
-returns-clause-ascending g c = IfOk-ascending c.from_entries.result
+pub returns-clause-sorted_by_name : goal.returns-clause-sorted_by_name
+returns-clause-sorted_by_name g c = IfOk-sorted_by_name c.from_entries.result

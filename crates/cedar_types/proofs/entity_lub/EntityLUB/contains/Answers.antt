@@ -18,4 +18,4 @@ returns c =
     × IsBinarySearchResult (λ y. (entity_type_ord.ghosts).cmp y ty) types r in
     let both = subst Q c.deref.ensures.value (c.binary_search.ensures.bound, c.binary_search.ensures.position) in
     subst P (sym c.is_ok.ensures.value)
-    (searched-Decides (lub_types c.args.self.now) c.args.self.now.ascending ty r both.0 both.1)
+    (searched-Decides (lub_types c.args.self.now) c.args.self.now.sorted_by_name ty r both.0 both.1)

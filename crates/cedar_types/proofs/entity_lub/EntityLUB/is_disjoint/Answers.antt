@@ -7,8 +7,8 @@ use Rattle.cedar_below.specs.EntityType.{type_name}
 use Rattle.cedar_below.specs.PlainName.{name_cmp}
 use Rattle.cedar_below.specs.declared.entity_type.EntityType.{EntityType}
 use Rattle.cedar_types.specs.EntityLUB.{lub_types, lub_names}
-use Rattle.cedar_rules.specs.EntityUnion.{AreDisjoint}
-use Rattle.cedar_sorted.proofs.RisingLemmas.{Ahead, sought-Decides, sought-next}
+use Rattle.cedar_type_rules.specs.EntityUnion.{AreDisjoint}
+use Rattle.cedar_name_map.proofs.RisingLemmas.{Ahead, sought-Decides, sought-next}
 use Rattle.cedar_types.proofs.UnionLemmas.{AreDisjoint-more, Contains-names}
 use Rattle.cedar_types.proofs.entity_lub.EntityLUB.is_disjoint.Goals as goal
 
@@ -18,7 +18,7 @@ returns-then-is_at c =
     let P : List EntityType → Type 0 = λ types. AreDisjoint (map type_name types) (lub_names other) in
     let Q : List EntityType → Type 0 = Ahead type_name type_name name_cmp (lub_types other) c.loop-ty.at in
     let ahead = subst Q (drop-at _ c.loop-ty.ty-index c.ty-item.result c.loop-ty-test.true c.ty-item.is) c.loop-ty.invariant.1 in
-    let there = sought-Decides type_name type_name name_cmp name_cmp-total (lub_types other) other.ascending c.loop-ty.at c.seek-at.result c.ty-item.result _ ahead
+    let there = sought-Decides type_name type_name name_cmp name_cmp-total (lub_types other) other.sorted_by_name c.loop-ty.at c.seek-at.result c.ty-item.result _ ahead
     c.seek-at.ensures.passed c.seek-at.ensures.stays c.is_at.result c.is_at.ensures in (
       λ wrong. absurd (false≢true wrong),
       λ apart. absurd (subst P (sym c.deref-ty-items.ensures.value) apart
@@ -31,12 +31,12 @@ loop-ty-preserved c =
     let other = c.args.other.now in
     let Q : List EntityType → Type 0 = Ahead type_name type_name name_cmp (lub_types other) c.loop-ty.at in
     let ahead = subst Q (drop-at _ c.loop-ty.ty-index c.ty-item.result c.loop-ty-test.true c.ty-item.is) c.loop-ty.invariant.1 in
-    let there = sought-Decides type_name type_name name_cmp name_cmp-total (lub_types other) other.ascending c.loop-ty.at c.seek-at.result c.ty-item.result _ ahead
+    let there = sought-Decides type_name type_name name_cmp name_cmp-total (lub_types other) other.sorted_by_name c.loop-ty.at c.seek-at.result c.ty-item.result _ ahead
     c.seek-at.ensures.passed c.seek-at.ensures.stays c.is_at.result c.is_at.ensures in (
       AreDisjoint-more c.deref-ty-items.result.now (lub_names other) c.loop-ty.ty-index c.ty-item.result
           c.loop-ty-test.true c.ty-item.is c.loop-ty.invariant.0
           (λ among. false≢true (sym c.if-is_at.false ∙ there.1 among)),
-      sought-next type_name type_name name_cmp name_cmp-total (lub_types other) other.ascending c.loop-ty.at c.seek-at.result c.ty-item.result _ ahead
+      sought-next type_name type_name name_cmp name_cmp-total (lub_types other) other.sorted_by_name c.loop-ty.at c.seek-at.result c.ty-item.result _ ahead
           c.seek-at.ensures.passed c.seek-at.ensures.stays,
     )
 

@@ -3,7 +3,7 @@ use Rattle.std.specs.declared.cmp.Ordering.TheVariants.{Less}
 use Rattle.cedar_below.specs.EntityType.{type_name}
 use Rattle.cedar_below.specs.PlainName.{PlainName, name_cmp}
 use Rattle.cedar_below.specs.declared.entity_type.EntityType.{EntityType}
-use Rattle.cedar_sorted.proofs.RisingLemmas.{Passed-next}
+use Rattle.cedar_name_map.proofs.RisingLemmas.{Passed-next}
 use Rattle.cedar_types.proofs.UnionSteps.{below-Decides, name_at}
 use Rattle.cedar_types.proofs.entity_lub.EntityLUB.seek.Goals as goal
 

@@ -1,5 +1,5 @@
 use Rattle.std.proofs.Common.{sym}
-use Rattle.cedar_rules.proofs.DisjointLemmas.{disjoint-unions}
+use Rattle.cedar_type_rules.proofs.DisjointLemmas.{disjoint-unions}
 use Rattle.cedar_types.specs.EntityLUB.{lub_names}
 use Rattle.cedar_types.specs.Meaning.{ty_of}
 use Rattle.cedar_types.proofs.types.Type.are_types_disjoint.Goals as goal

@@ -1,4 +1,4 @@
-use Rattle.cedar_rules.proofs.StatedLemmas.{IsStated-with}
+use Rattle.cedar_type_rules.proofs.StatedLemmas.{IsStated-with}
 use Rattle.cedar_types.specs.Meaning.{ty_of}
 use Rattle.cedar_types.specs.Samples.{value_trees}
 use Rattle.cedar_types.proofs.types.Type.is_stated.Goals as goal

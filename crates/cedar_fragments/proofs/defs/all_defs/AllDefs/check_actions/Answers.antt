@@ -4,7 +4,7 @@ use Rattle.cedar_below.specs.EntityUID.{uid_of}
 use Rattle.cedar_below.specs.PlainName.{IsUnqualified}
 use Rattle.cedar_below.specs.PlainUid.{PlainUid}
 use Rattle.cedar_below.specs.Text.{Text}
-use Rattle.cedar_declared.specs.Shadowing.{ShadowsAction}
+use Rattle.cedar_declarations.specs.Shadowing.{ShadowsAction}
 use Rattle.cedar_fragments.specs.HeldNames.{held_names}
 use Rattle.cedar_fragments.specs.ShadowedNames.{IsPlainAction}
 use Rattle.cedar_fragments.proofs.ShadowLemmas.{ids_of, PassedSoFar-more, passed_all, passed_next, looked_up, not_looked_up, unqualified_is_not_shadowed, not_shadowed}
@@ -28,7 +28,7 @@ returns-in-Some-get-clause-fault c =
     (sym c.in-Some-get.ensures.value) in
     let qualified : ¬ IsUnqualified uid.ty = λ unqualified. false≢true (sym c.if-is_unqualified.false
     ∙ c.is_unqualified.ensures.1 (subst IsUnqualified (sym (c.name.ensures.name ∙ c.entity_type.ensures.name)) unqualified)) in
-    let among : Contains actions uid = passed_next _ _ c.args.self.now.actions.keys c.loop-uid.uid-iterator c.next.new.self c.in-Some.uid.now
+    let among : Contains actions uid = passed_next _ _ c.args.self.now.action_defs.keys c.loop-uid.uid-iterator c.next.new.self c.in-Some.uid.now
     c.in-Some.ensures.steps c.loop-uid.invariant in
     let pair : P other uid = (found.0, among, (found.1, qualified, found.2 ∙ (c.as_str.ensures ∙ c.eid.ensures))) in
     let Q : PlainUid → Type 0 = λ each. P other each in

@@ -1,7 +1,7 @@
 use Rattle.std.specs.Prelude.{Contains}
 use Rattle.cedar_below.specs.EntityUID.{uid_of}
 use Rattle.cedar_below.specs.PlainUid.{PlainUid}
-use Rattle.cedar_declared.specs.Shadowing.{ShadowsAction}
+use Rattle.cedar_declarations.specs.Shadowing.{ShadowsAction}
 use Rattle.cedar_fragments.proofs.ShadowLemmas.{PassedSoFar}
 use Rattle.cedar_fragments.specs.HeldNames.{held_names}
 use Rattle.cedar_fragments.proofs.defs.all_defs.AllDefs.check_actions.Given as goal
@@ -9,4 +9,4 @@ use Rattle.cedar_fragments.proofs.defs.all_defs.AllDefs.check_actions.Given as g
 abbrev pub invariant-loop-uid : goal.invariant-loop-uid
 invariant-loop-uid l =
     PassedSoFar (λ uid. (plain : PlainUid) → Contains (held_names l.self).actions plain → ¬ ShadowsAction plain uid)
-    uid_of l.self.actions.keys l.uid-iterator
+    uid_of l.self.action_defs.keys l.uid-iterator

@@ -3,7 +3,7 @@ use Rattle.std.specs.Option.{MatchOption}
 use Rattle.cedar_below.specs.InternalName.{name_of}
 use Rattle.cedar_below.specs.PlainName.{PlainName}
 use Rattle.cedar_below.specs.declared.internal_name.InternalName.{InternalName}
-use Rattle.cedar_declared.specs.Shadowing.{ShadowsType}
+use Rattle.cedar_declarations.specs.Shadowing.{ShadowsType}
 use Rattle.cedar_fragments.specs.HeldNames.{held_names}
 use Rattle.cedar_fragments.specs.ShadowedNames.{type_names}
 use Rattle.cedar_fragments.proofs.ShadowLemmas.{PassedSoFar-more, passed_all, passed_next}

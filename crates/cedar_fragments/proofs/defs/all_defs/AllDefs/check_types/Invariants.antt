@@ -1,7 +1,7 @@
 use Rattle.cedar_below.specs.InternalName.{name_of}
 use Rattle.cedar_below.specs.PlainName.{PlainName}
 use Rattle.std.specs.Prelude.{Contains}
-use Rattle.cedar_declared.specs.Shadowing.{ShadowsType}
+use Rattle.cedar_declarations.specs.Shadowing.{ShadowsType}
 use Rattle.cedar_fragments.proofs.ShadowLemmas.{PassedSoFar}
 use Rattle.cedar_fragments.specs.HeldNames.{held_names}
 use Rattle.cedar_fragments.specs.ShadowedNames.{type_names}

@@ -7,6 +7,6 @@ use Rattle.cedar_fragments.proofs.defs.all_defs.AllDefs.is_defined_as_action.Goa
 
 pub returns : goal.returns
 returns c =
-    let P : Bool → Type 0 = λ found. IsTrue found ↔ Contains (map uid_of c.args.self.now.actions.keys) (uid_of c.args.uid.now) in
+    let P : Bool → Type 0 = λ found. IsTrue found ↔ Contains (map uid_of c.args.self.now.action_defs.keys) (uid_of c.args.uid.now) in
     subst P (sym c.contains.ensures)
-    (found-Decides ((order.ghosts).cmp) uid_of entity_uid_ord-Equal c.args.self.now.actions.keys c.args.uid.now)
+    (found-Decides ((order.ghosts).cmp) uid_of entity_uid_ord-Equal c.args.self.now.action_defs.keys c.args.uid.now)

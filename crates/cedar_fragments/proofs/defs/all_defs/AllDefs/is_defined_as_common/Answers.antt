@@ -7,6 +7,6 @@ use Rattle.cedar_fragments.proofs.defs.all_defs.AllDefs.is_defined_as_common.Goa
 
 pub returns : goal.returns
 returns c =
-    let P : Bool → Type 0 = λ found. IsTrue found ↔ Contains (map name_of c.args.self.now.common_types.keys) (name_of c.args.name.now) in
+    let P : Bool → Type 0 = λ found. IsTrue found ↔ Contains (map name_of c.args.self.now.common_defs.keys) (name_of c.args.name.now) in
     subst P (sym c.contains.ensures)
-    (found-Decides ((order.ghosts).cmp) name_of internal_name_ord-Equal c.args.self.now.common_types.keys c.args.name.now)
+    (found-Decides ((order.ghosts).cmp) name_of internal_name_ord-Equal c.args.self.now.common_defs.keys c.args.name.now)

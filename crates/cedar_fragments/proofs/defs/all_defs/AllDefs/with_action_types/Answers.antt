@@ -18,6 +18,6 @@ loop-uid-preserved c =
 
 pub returns-clause-entities : goal.returns-clause-entities
 returns-clause-entities c =
-    let P : List PlainName → Type 0 = HasAlso (map name_of c.loop-uid.entity_types.keys) (map name_of c.args.self.entity_types.keys) in
-    subst P (sym (map-map _ _ c.args.self.actions.keys))
-    (added_all (λ uid. (uid_of uid).ty) (map name_of c.args.self.entity_types.keys) c.args.self.actions.keys c.loop-uid.uid-iterator _ c.in-None.ensures.steps.0 c.loop-uid.invariant)
+    let P : List PlainName → Type 0 = HasAlso (map name_of c.loop-uid.entity_defs.keys) (map name_of c.args.self.entity_defs.keys) in
+    subst P (sym (map-map _ _ c.args.self.action_defs.keys))
+    (added_all (λ uid. (uid_of uid).ty) (map name_of c.args.self.entity_defs.keys) c.args.self.action_defs.keys c.loop-uid.uid-iterator _ c.in-None.ensures.steps.0 c.loop-uid.invariant)

@@ -6,5 +6,5 @@ use Rattle.cedar_fragments.proofs.defs.all_defs.AllDefs.with_action_types.Given 
 
 abbrev pub invariant-loop-uid : goal.invariant-loop-uid
 invariant-loop-uid l =
-    AddedSoFar (λ uid. (uid_of uid).ty) (map name_of l.initial.entity_types.keys) l.fn.self.actions.keys
-    (map name_of l.entity_types.keys) l.uid-iterator
+    AddedSoFar (λ uid. (uid_of uid).ty) (map name_of l.initial.entity_defs.keys) l.fn.self.action_defs.keys
+    (map name_of l.entity_defs.keys) l.uid-iterator

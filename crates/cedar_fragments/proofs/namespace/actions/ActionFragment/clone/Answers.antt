@@ -1,5 +1,5 @@
 use Rattle.std.proofs.Common.{◌∷◌, ◌++◌, ap, ◌∙◌, false}
-use Rattle.cedar_copied.proofs.ShownLemmas.{same_shown}
+use Rattle.cedar_below.proofs.ShownLemmas.{same_shown}
 use Rattle.cedar_fragments.proofs.CopyLemmas.{same_flat}
 use Rattle.cedar_fragments.specs.ActionDeclarations.{fragment_parent}
 use Rattle.cedar_fragments.specs.FragmentLocs.{parent_locs}

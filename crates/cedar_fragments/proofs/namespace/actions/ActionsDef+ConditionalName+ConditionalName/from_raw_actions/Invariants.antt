@@ -5,7 +5,7 @@ use Rattle.cedar_fragments.specs.ActionDeclarations.{action_fragment_body}
 use Rattle.cedar_fragments.specs.DeclaredAs.{declared_action}
 use Rattle.cedar_fragments.specs.DefinitionFault.{IsSound}
 use Rattle.cedar_names.specs.ActionBody.{action_body}
-use Rattle.cedar_names.specs.ConditionalExpr.{placed_reference}
+use Rattle.cedar_names.specs.ConditionalExpr.{positional_reference}
 use Rattle.cedar_names.specs.Declaration.{action}
 use Rattle.cedar_names.specs.NamespaceName.{namespace_name}
 use Rattle.cedar_names.specs.RawExpr.{raw_reference}
@@ -22,5 +22,5 @@ invariant-loop-id l =
       body = action (action_body RawName (raw_reference (namespace_name l.namespace)) (namespace_name l.namespace) entry.1);
     })
     (λ def. declared_action (uid_of def.uid)
-    (action (action_fragment_body ConditionalName placed_reference ConditionalName placed_reference def.fragment)))
+    (action (action_fragment_body ConditionalName positional_reference ConditionalName positional_reference def.fragment)))
     l.fn.written.entries l.defs.items l.id-iterator

@@ -4,8 +4,8 @@ use Rattle.std.specs.List.{AllByRecursion}
 use Rattle.std.specs.Option.{option_map}
 use Rattle.cedar_below.specs.InternalName.{name_of}
 use Rattle.cedar_below.specs.PlainName.{PlainName}
-use Rattle.cedar_declared.specs.Fault.{Fault, want_of_memory}
-use Rattle.cedar_declared.specs.SchemaError.{fault_of}
+use Rattle.cedar_declarations.specs.Fault.{Fault, out_of_memory}
+use Rattle.cedar_declarations.specs.SchemaError.{fault_of}
 use Rattle.cedar_fragments.proofs.AttributeLemmas.{none_named, named_in_all, no_actions_among}
 use Rattle.cedar_fragments.proofs.FragmentLemmas.{refusal_included, second_included, third_included}
 use Rattle.cedar_fragments.proofs.SoundLemmas.{sound_bag, common_sound, AllByRecursion-append}
@@ -19,10 +19,10 @@ pub returns-in_err-entity_types-clause-fault : goal.returns-in_err-entity_types-
 returns-in_err-entity_types-clause-fault c =
     let it = c.args.definition in
     let fault = fault_of c.in_err-entity_types.field-0.0 in
-    let P : Option PlainName → Type 0 = λ namespace. (fault ≡ want_of_memory)
+    let P : Option PlainName → Type 0 = λ namespace. (fault ≡ out_of_memory)
     ⊎ IsDefinitionFault (entity_declarations RawName (raw_reference namespace) namespace it.entity_types.entries) fault in
     let namespace = option_map name_of c.args.namespace in
-    let at_fault : (fault ≡ want_of_memory) ⊎ IsDefinitionFault (raw_declarations namespace it) fault =
+    let at_fault : (fault ≡ out_of_memory) ⊎ IsDefinitionFault (raw_declarations namespace it) fault =
     refusal_included (entity_declarations RawName (raw_reference namespace) namespace it.entity_types.entries) _
     (second_included (common_declarations RawName (raw_reference namespace) namespace it.common_types.entries) _
     (action_declarations RawName (raw_reference namespace) namespace it.actions.entries)) fault
@@ -42,10 +42,10 @@ pub returns-in_err-actions-clause-fault : goal.returns-in_err-actions-clause-fau
 returns-in_err-actions-clause-fault c =
     let it = c.args.definition in
     let fault = fault_of c.in_err-actions.field-0.0 in
-    let P : Option PlainName → Type 0 = λ namespace. (fault ≡ want_of_memory)
+    let P : Option PlainName → Type 0 = λ namespace. (fault ≡ out_of_memory)
     ⊎ IsDefinitionFault (action_declarations RawName (raw_reference namespace) namespace it.actions.entries) fault in
     let namespace = option_map name_of c.args.namespace in
-    let at_fault : (fault ≡ want_of_memory) ⊎ IsDefinitionFault (raw_declarations namespace it) fault =
+    let at_fault : (fault ≡ out_of_memory) ⊎ IsDefinitionFault (raw_declarations namespace it) fault =
     refusal_included (action_declarations RawName (raw_reference namespace) namespace it.actions.entries) _
     (third_included (common_declarations RawName (raw_reference namespace) namespace it.common_types.entries)
     (entity_declarations RawName (raw_reference namespace) namespace it.entity_types.entries) _) fault

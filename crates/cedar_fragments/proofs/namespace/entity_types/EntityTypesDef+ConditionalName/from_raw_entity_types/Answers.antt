@@ -1,6 +1,6 @@
 use Rattle.std.proofs.Common.{◌≡◌, ◌⊎◌, sym, ap}
-use Rattle.cedar_declared.specs.Fault.{Fault, want_of_memory}
-use Rattle.cedar_declared.specs.SchemaError.{fault_of}
+use Rattle.cedar_declarations.specs.Fault.{Fault, out_of_memory}
+use Rattle.cedar_declarations.specs.SchemaError.{fault_of}
 use Rattle.cedar_fragments.specs.DefinitionFault.{IsDefinitionFault, NamesNoAttributes}
 use Rattle.std.proofs.lemmas.Result.{err_from_is_err_and}
 use Rattle.cedar_below.specs.UnreservedId.{unreserved_id_text}
@@ -22,7 +22,7 @@ pub returns-in_err-name-clause-fault : goal.returns-in_err-name-clause-fault
 returns-in_err-name-clause-fault c =
     let namespace = namespace_name c.args.namespace in
     let bag = entity_declarations RawName (raw_reference namespace) namespace c.args.written.entries in
-    let P : Fault → Type 0 = λ fault. (fault ≡ want_of_memory) ⊎ IsDefinitionFault bag fault in
+    let P : Fault → Type 0 = λ fault. (fault ≡ out_of_memory) ⊎ IsDefinitionFault bag fault in
     let at_fault : P (fault_of c.in_err-name.field-0.0) = fault_of_entity bag namespace (unreserved_id_text c.in-Some.id) (raw_entity_body namespace c.in-Some.declared) _
     (listed_next _ _ _ _ _ c.next.new.self _ (c.in-Some.id, c.in-Some.declared) c.in-Some.ensures.steps c.loop-id.invariant)
     c.in_err-name.ensures.fault in

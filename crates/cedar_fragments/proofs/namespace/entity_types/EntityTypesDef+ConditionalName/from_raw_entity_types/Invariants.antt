@@ -4,7 +4,7 @@ use Rattle.cedar_fragments.proofs.ListedSoFar.{ListedSoFar}
 use Rattle.cedar_fragments.specs.DeclaredAs.{declared_as}
 use Rattle.cedar_fragments.specs.DefinitionFault.{IsSound}
 use Rattle.cedar_fragments.specs.TypeDeclarations.{fragment_body}
-use Rattle.cedar_names.specs.ConditionalExpr.{placed_reference}
+use Rattle.cedar_names.specs.ConditionalExpr.{positional_reference}
 use Rattle.cedar_names.specs.Declaration.{entity_type}
 use Rattle.cedar_names.specs.EntityBody.{raw_entity_body}
 use Rattle.cedar_names.specs.NamespaceName.{namespace_name}
@@ -19,5 +19,5 @@ invariant-loop-id l =
       id = unreserved_id_text entry.0;
       body = entity_type (raw_entity_body (namespace_name l.namespace) entry.1);
     })
-    (λ def. declared_as (type_name def.name) (entity_type (fragment_body ConditionalName placed_reference def.fragment)))
+    (λ def. declared_as (type_name def.name) (entity_type (fragment_body ConditionalName positional_reference def.fragment)))
     l.fn.written.entries l.defs.items l.id-iterator

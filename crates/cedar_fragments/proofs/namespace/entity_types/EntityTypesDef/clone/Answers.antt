@@ -1,5 +1,5 @@
 use Rattle.std.proofs.Common.{ap, ◌∙◌}
-use Rattle.cedar_copied.proofs.ShownLemmas.{same_shown}
+use Rattle.cedar_below.proofs.ShownLemmas.{same_shown}
 use Rattle.cedar_fragments.proofs.CopyLemmas.{same_flat}
 use Rattle.cedar_fragments.specs.FragmentLocs.{entity_type_locs}
 use Rattle.cedar_fragments.specs.TypeDeclarations.{entity_type_declaration}

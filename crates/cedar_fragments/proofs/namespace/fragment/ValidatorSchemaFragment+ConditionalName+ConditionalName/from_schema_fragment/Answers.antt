@@ -8,8 +8,8 @@ use Rattle.cedar_names.specs.declared.json_schema.conditional_name.ConditionalNa
 use Rattle.cedar_names.specs.declared.json_schema.conditional_name.ConditionalName.{ConditionalName}
 use Rattle.cedar_names.specs.declared.json_schema.fragment.NamespaceDefinition.{NamespaceDefinition}
 use Rattle.cedar_names.specs.declared.json_schema.raw_name.RawName.{RawName}
-use Rattle.cedar_declared.specs.Fault.{want_of_memory}
-use Rattle.cedar_declared.specs.SchemaError.{fault_of}
+use Rattle.cedar_declarations.specs.Fault.{out_of_memory}
+use Rattle.cedar_declarations.specs.SchemaError.{fault_of}
 use Rattle.cedar_fragments.proofs.FragmentLemmas.{refusal_included, flat_map-included, flat_map-each, flat_map-same}
 use Rattle.cedar_fragments.proofs.FragmentsSoFar.{next_entry}
 use Rattle.cedar_fragments.proofs.ListedSoFar.{ListedSoFar-none, ListedSoFar-more, listed_same, listed_each}
@@ -17,7 +17,7 @@ use Rattle.cedar_fragments.proofs.NamedOfDefinition.{named_of_definition}
 use Rattle.cedar_fragments.proofs.OneMore.{flat_one_more, one_more}
 use Rattle.cedar_fragments.proofs.SoundLemmas.{sound_bag}
 use Rattle.cedar_fragments.specs.DefinitionFault.{IsDefinitionFault, IsSound, NamesAllWithAttributes}
-use Rattle.cedar_fragments.specs.DefinitionsInTurn.{entry_declarations, entry_namespace, located_namespace}
+use Rattle.cedar_fragments.specs.DefinitionsPairwise.{entry_declarations, entry_namespace, located_namespace}
 use Rattle.cedar_fragments.specs.FragmentDeclarations.{conditional_definition}
 use Rattle.cedar_fragments.specs.FragmentFault.{NamesAllOfADefinition}
 use Rattle.cedar_fragments.specs.Located.{definition_common_names, definition_namespaces, entry_common_names, entry_namespaces, named_namespace, written_common_names}
@@ -37,11 +37,11 @@ pub returns-in_err-definition-clause-fault : goal.returns-in_err-definition-clau
 returns-in_err-definition-clause-fault c =
     let entry : Option Name × NamespaceDefinition RawName = (c.in-Some.name, c.in-Some.written) in
     let fault = fault_of c.in_err-definition.field-0.0 in
-    let P : Option PlainName → Type 0 = λ namespace. (fault ≡ want_of_memory)
+    let P : Option PlainName → Type 0 = λ namespace. (fault ≡ out_of_memory)
     ⊎ IsDefinitionFault (raw_declarations namespace c.in-Some.written) fault in
     let among = next_entry c.args.fragment.0.entries c.loop-name.name-iterator c.next.new.self c.loop-name.definitions.items
     entry c.in-Some.ensures.steps c.loop-name.invariant.0 in
-    let at_fault : (fault ≡ want_of_memory) ⊎ IsDefinitionFault (raw_fragment c.args.fragment) fault =
+    let at_fault : (fault ≡ out_of_memory) ⊎ IsDefinitionFault (raw_fragment c.args.fragment) fault =
     refusal_included (entry_declarations entry) (raw_fragment c.args.fragment)
     (flat_map-included entry_declarations c.args.fragment.0.entries entry among) fault
     (subst P c.internal_namespace-namespace.ensures.name c.in_err-definition.ensures.fault) in
@@ -103,5 +103,5 @@ returns-clause-no_fault c =
     sound_bag (raw_fragment c.args.fragment)
     (flat_map-each entry_declarations IsSound _ (listed_each _ _ _ _ _ _ c.in-None.ensures.steps.0 c.loop-name.invariant.0))
 
-pub returns-clause-in_turn : goal.returns-clause-in_turn
-returns-clause-in_turn c = listed_same _ _ _ _ _ _ c.in-None.ensures.steps.0 c.loop-name.invariant.0
+pub returns-clause-pairwise : goal.returns-clause-pairwise
+returns-clause-pairwise c = listed_same _ _ _ _ _ _ c.in-None.ensures.steps.0 c.loop-name.invariant.0

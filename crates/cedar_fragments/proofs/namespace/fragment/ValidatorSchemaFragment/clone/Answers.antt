@@ -1,5 +1,5 @@
 use Rattle.std.proofs.Common.{ap, ◌∙◌}
-use Rattle.cedar_copied.proofs.ShownLemmas.{same_shown}
+use Rattle.cedar_below.proofs.ShownLemmas.{same_shown}
 use Rattle.cedar_fragments.proofs.CopyLemmas.{same_flat, same_namespace}
 use Rattle.cedar_fragments.specs.FragmentDeclarations.{definition_declarations, definition_namespace}
 use Rattle.cedar_fragments.specs.FragmentLocs.{definition_locs}
@@ -12,8 +12,8 @@ returns-clause-declarations g c refer refer_action fair fair_action =
     same_flat _ shown (λ def copy ran. ran.says.met.0 refer refer_action fair fair_action ∙ ap shown ran.shows)
     c.args.self.now.definitions.items c.in_ok-definitions.definitions.items c.in_ok-definitions.ensures
 
-pub returns-clause-in_turn : goal.returns-clause-in_turn
-returns-clause-in_turn g c refer refer_action fair fair_action =
+pub returns-clause-pairwise : goal.returns-clause-pairwise
+returns-clause-pairwise g c refer refer_action fair fair_action =
     let shown = definition_declarations g.row.N.Denot refer g.row.A.Denot refer_action in
     same_shown _ shown (λ def copy ran. ran.says.met.0 refer refer_action fair fair_action ∙ ap shown ran.shows)
     c.args.self.now.definitions.items c.in_ok-definitions.definitions.items c.in_ok-definitions.ensures

@@ -5,19 +5,19 @@ use Rattle.std.specs.List.{flat_map}
 use Rattle.cedar_below.specs.EntityUID.{uid_loc, uid_of, uid_type_loc}
 use Rattle.cedar_below.specs.declared.entity_type.EntityType.{EntityType}
 use Rattle.cedar_below.specs.declared.internal_name.InternalName.{InternalName}
-use Rattle.cedar_declared.proofs.OccurrenceLemmas.{Contains-image}
-use Rattle.cedar_declared.specs.SchemaError.{fault_of}
-use Rattle.cedar_declared.specs.SettledExpr.{settled_reference}
-use Rattle.cedar_fragments.proofs.InTurn.{turn_none, turn_more, turn_all, turn_next}
+use Rattle.cedar_declarations.proofs.OccurrenceLemmas.{Contains-image}
+use Rattle.cedar_declarations.specs.SchemaError.{fault_of}
+use Rattle.cedar_declarations.specs.ResolvedExpr.{resolved_reference}
+use Rattle.cedar_fragments.proofs.Pairwise.{turn_none, turn_more, turn_all, turn_next}
 use Rattle.cedar_fragments.proofs.OneMore.{flat_one_more}
-use Rattle.cedar_fragments.proofs.SettledBags.{settled_turn, unsettled_declaration}
-use Rattle.cedar_fragments.proofs.UnsettledLemmas.{settles_declared_action}
+use Rattle.cedar_fragments.proofs.ResolvedBags.{resolved_turn, unresolvable_declaration}
+use Rattle.cedar_fragments.proofs.UnresolvableLemmas.{resolves_declared_action}
 use Rattle.cedar_fragments.specs.ActionDeclarations.{action_fragment_body, action_fragment_declarations}
-use Rattle.cedar_fragments.specs.FragmentDeclarations.{settled_action_type}
+use Rattle.cedar_fragments.specs.FragmentDeclarations.{resolved_action_type}
 use Rattle.cedar_fragments.specs.FragmentLocs.{action_def_locs, no_locs}
 use Rattle.cedar_fragments.specs.HeldNames.{held_names}
-use Rattle.cedar_fragments.specs.QualifyFault.{IsUnsettledBag}
-use Rattle.cedar_names.specs.ConditionalExpr.{placed_reference}
+use Rattle.cedar_fragments.specs.QualifyFault.{IsUnresolvableBag}
+use Rattle.cedar_names.specs.ConditionalExpr.{positional_reference}
 use Rattle.cedar_names.specs.Declaration.{action}
 use Rattle.cedar_names.specs.declared.json_schema.conditional_name.ConditionalName.{ConditionalName}
 use Rattle.cedar_fragments.proofs.namespace.qualify_actions.ActionsDef+ConditionalName+ConditionalName.fully_qualify_type_references.Goals as goal
@@ -31,11 +31,11 @@ loop-def-init c = (
 pub returns-in_err-fragment-clause-fault : goal.returns-in_err-fragment-clause-fault
 returns-in_err-fragment-clause-fault c =
     let names = held_names c.args.all_defs.now in
-    let bag = action_fragment_declarations ConditionalName placed_reference ConditionalName placed_reference c.args.self in
+    let bag = action_fragment_declarations ConditionalName positional_reference ConditionalName positional_reference c.args.self in
     let among = Contains-image _ c.args.self.defs.items c.in-Some.def
     (turn_next _ _ _ _ _ _ _ c.in-Some.def c.in-Some.ensures.steps.0 c.loop-def.invariant.0) in
-    let at_fault : IsUnsettledBag names bag (fault_of c.in_err-fragment.field-0.0) =
-    unsettled_declaration names bag _ among _ c.in_err-fragment.ensures.fault in
+    let at_fault : IsUnresolvableBag names bag (fault_of c.in_err-fragment.field-0.0) =
+    unresolvable_declaration names bag _ among _ c.in_err-fragment.ensures.fault in
     let p = err_from_is_err_and c.from_residual.result c.from_residual.ensures.1 in
     rw (p.1, p.2) at_fault
 
@@ -43,10 +43,10 @@ pub loop-def-preserved : goal.loop-def-preserved
 loop-def-preserved c =
     let uid = c.in-Some.def.uid in (
       turn_more _ _ _ _ _ _ _ _ c.in-Some.def _ c.in-Some.ensures.steps.0 c.in_ok-push.ensures.items (
-        settles_declared_action (held_names c.args.all_defs.now) (uid_of uid)
-            (action (action_fragment_body ConditionalName placed_reference ConditionalName placed_reference c.in-Some.def.fragment))
-            (action (action_fragment_body InternalName settled_reference EntityType settled_action_type c.in_ok-fragment.fragment))
-            c.in_ok-fragment.ensures.settled,
+        resolves_declared_action (held_names c.args.all_defs.now) (uid_of uid)
+            (action (action_fragment_body ConditionalName positional_reference ConditionalName positional_reference c.in-Some.def.fragment))
+            (action (action_fragment_body InternalName resolved_reference EntityType resolved_action_type c.in_ok-fragment.fragment))
+            c.in_ok-fragment.ensures.resolved,
         c.in_ok-fragment.ensures.unreserved,
       ) c.loop-def.invariant.0,
       flat_one_more (action_def_locs InternalName no_locs EntityType no_locs) (action_def_locs ConditionalName no_locs ConditionalName no_locs)
@@ -54,12 +54,12 @@ loop-def-preserved c =
           (ap (λ locs. uid_loc uid ∷ uid_type_loc uid ∷ locs) c.in_ok-fragment.ensures.locs),
     )
 
-pub returns-clause-settled : goal.returns-clause-settled
-returns-clause-settled c =
-    (settled_turn (held_names c.args.all_defs.now) _ _
+pub returns-clause-resolved : goal.returns-clause-resolved
+returns-clause-resolved c =
+    (resolved_turn (held_names c.args.all_defs.now) _ _
     (turn_all _ _ _ _ _ _ (nil_from_length _ (omega (arith, c.in-None.ensures.steps.0, c.loop-def.def-iterator.rest.ok.0))) c.loop-def.invariant.0)).0
 
 pub returns-clause-unreserved : goal.returns-clause-unreserved
 returns-clause-unreserved c =
-    (settled_turn (held_names c.args.all_defs.now) _ _
+    (resolved_turn (held_names c.args.all_defs.now) _ _
     (turn_all _ _ _ _ _ _ (nil_from_length _ (omega (arith, c.in-None.ensures.steps.0, c.loop-def.def-iterator.rest.ok.0))) c.loop-def.invariant.0)).1

@@ -2,36 +2,36 @@ use Rattle.std.proofs.Common.{◌++◌}
 use Rattle.std.proofs.lemmas.Result.{err_from_is_err_and}
 use Rattle.cedar_below.specs.declared.entity_type.EntityType.{EntityType}
 use Rattle.cedar_below.specs.declared.internal_name.InternalName.{InternalName}
-use Rattle.cedar_declared.specs.Bag.{Bag}
-use Rattle.cedar_declared.specs.SchemaError.{fault_of, qualify_fault}
-use Rattle.cedar_declared.specs.SettledExpr.{settled_reference}
+use Rattle.cedar_declarations.specs.Bag.{Bag}
+use Rattle.cedar_declarations.specs.SchemaError.{fault_of, qualify_fault}
+use Rattle.cedar_declarations.specs.ResolvedExpr.{resolved_reference}
 use Rattle.cedar_fragments.proofs.FragmentLemmas.{first_included, second_included, third_included}
-use Rattle.cedar_fragments.proofs.SettledBags.{SettlesUnreservedBag, unsettled_included, refused_included, settled_append, none_requested}
+use Rattle.cedar_fragments.proofs.ResolvedBags.{ResolvesUnreservedBag, unresolvable_included, refused_included, resolved_append, none_requested}
 use Rattle.cedar_fragments.specs.ActionDeclarations.{action_fragment_declarations}
-use Rattle.cedar_fragments.specs.FragmentDeclarations.{conditional_definition, settled_definition, settled_action_type}
+use Rattle.cedar_fragments.specs.FragmentDeclarations.{conditional_definition, resolved_definition, resolved_action_type}
 use Rattle.cedar_fragments.specs.HeldNames.{held_names}
-use Rattle.cedar_fragments.specs.QualifyFault.{IsUnsettledBag}
+use Rattle.cedar_fragments.specs.QualifyFault.{IsUnresolvableBag}
 use Rattle.cedar_fragments.specs.TypeDeclarations.{common_type_declarations, entity_type_declarations}
 use Rattle.cedar_fragments.specs.declared.namespace.definition.ValidatorNamespaceDef.{ValidatorNamespaceDef}
-use Rattle.cedar_names.specs.ConditionalExpr.{placed_reference}
+use Rattle.cedar_names.specs.ConditionalExpr.{positional_reference}
 use Rattle.cedar_names.specs.declared.json_schema.conditional_name.ConditionalName.{ConditionalName}
 use Rattle.cedar_fragments.proofs.namespace.qualify_definitions.ValidatorNamespaceDef+ConditionalName+ConditionalName.fully_qualify_type_references.Goals as goal
 
 -- the declarations of a definition, by sort
 module _ (it : ValidatorNamespaceDef ConditionalName ConditionalName) where
   abbrev common : Bag
-  common = common_type_declarations ConditionalName placed_reference it.common_types
+  common = common_type_declarations ConditionalName positional_reference it.common_types
 
   abbrev entities : Bag
-  entities = entity_type_declarations ConditionalName placed_reference it.entity_types
+  entities = entity_type_declarations ConditionalName positional_reference it.entity_types
 
   abbrev actions : Bag
-  actions = action_fragment_declarations ConditionalName placed_reference ConditionalName placed_reference it.actions
+  actions = action_fragment_declarations ConditionalName positional_reference ConditionalName positional_reference it.actions
 
 pub returns-in_err-common_types-clause-fault : goal.returns-in_err-common_types-clause-fault
 returns-in_err-common_types-clause-fault c =
     let it = c.args.self in
-    let at_fault : IsUnsettledBag (held_names c.args.all_defs.now) (conditional_definition it) (qualify_fault c.in_err-common_types.field-0.0) =
+    let at_fault : IsUnresolvableBag (held_names c.args.all_defs.now) (conditional_definition it) (qualify_fault c.in_err-common_types.field-0.0) =
     refused_included (held_names c.args.all_defs.now) (common it) (conditional_definition it)
     (first_included (common it) (entities it) (actions it)) _ c.in_err-common_types.ensures.refused in
     let p = err_from_is_err_and c.from_residual.result c.from_residual.ensures.1 in
@@ -40,7 +40,7 @@ returns-in_err-common_types-clause-fault c =
 pub returns-in_err-entity_types-clause-fault : goal.returns-in_err-entity_types-clause-fault
 returns-in_err-entity_types-clause-fault c =
     let it = c.args.self in
-    let at_fault : IsUnsettledBag (held_names c.args.all_defs.now) (conditional_definition it) (qualify_fault c.in_err-entity_types.field-0.0) =
+    let at_fault : IsUnresolvableBag (held_names c.args.all_defs.now) (conditional_definition it) (qualify_fault c.in_err-entity_types.field-0.0) =
     refused_included (held_names c.args.all_defs.now) (entities it) (conditional_definition it)
     (second_included (common it) (entities it) (actions it)) _ c.in_err-entity_types.ensures.refused in
     let p = err_from_is_err_and c.from_residual-in_err-entity_types.result c.from_residual-in_err-entity_types.ensures.1 in
@@ -49,15 +49,15 @@ returns-in_err-entity_types-clause-fault c =
 pub returns-in_err-actions-clause-fault : goal.returns-in_err-actions-clause-fault
 returns-in_err-actions-clause-fault c =
     let it = c.args.self in
-    let at_fault : IsUnsettledBag (held_names c.args.all_defs.now) (conditional_definition it) (fault_of c.in_err-actions.field-0.0) =
-    unsettled_included (held_names c.args.all_defs.now) (actions it) (conditional_definition it)
+    let at_fault : IsUnresolvableBag (held_names c.args.all_defs.now) (conditional_definition it) (fault_of c.in_err-actions.field-0.0) =
+    unresolvable_included (held_names c.args.all_defs.now) (actions it) (conditional_definition it)
     (third_included (common it) (entities it) (actions it)) _ c.in_err-actions.ensures.fault in
     let p = err_from_is_err_and c.from_residual-in_err-actions.result c.from_residual-in_err-actions.ensures.1 in
     rw (p.1, p.2) at_fault
 
--- the parts that are settled, together
-whole : (c : goal.In_ok-actions) → SettlesUnreservedBag (held_names c.args.all_defs.now) (conditional_definition c.args.self)
-    (settled_definition (record {
+-- the parts that are resolved, together
+whole : (c : goal.In_ok-actions) → ResolvesUnreservedBag (held_names c.args.all_defs.now) (conditional_definition c.args.self)
+    (resolved_definition (record {
       namespace = c.args.self.namespace;
       common_types = c.in_ok-common_types.common_types;
       entity_types = c.in_ok-entity_types.entity_types;
@@ -67,17 +67,17 @@ whole : (c : goal.In_ok-actions) → SettlesUnreservedBag (held_names c.args.all
 whole c =
     let names = held_names c.args.all_defs.now in
     let it = c.args.self in
-    let common' = common_type_declarations InternalName settled_reference c.in_ok-common_types.common_types in
-    let entities' = entity_type_declarations InternalName settled_reference c.in_ok-entity_types.entity_types in
-    let actions' = action_fragment_declarations InternalName settled_reference EntityType settled_action_type c.in_ok-actions.actions in
-    settled_append names (common it ++ entities it) (actions it) (common' ++ entities') actions'
-    (settled_append names (common it) (entities it) common' entities'
-    (c.in_ok-common_types.ensures.settled, none_requested names _ it.common_types.defs.items (λ def reference none. none))
-    (c.in_ok-entity_types.ensures.settled, none_requested names _ it.entity_types.defs.items (λ def reference none. none)))
-    (c.in_ok-actions.ensures.settled, c.in_ok-actions.ensures.unreserved)
+    let common' = common_type_declarations InternalName resolved_reference c.in_ok-common_types.common_types in
+    let entities' = entity_type_declarations InternalName resolved_reference c.in_ok-entity_types.entity_types in
+    let actions' = action_fragment_declarations InternalName resolved_reference EntityType resolved_action_type c.in_ok-actions.actions in
+    resolved_append names (common it ++ entities it) (actions it) (common' ++ entities') actions'
+    (resolved_append names (common it) (entities it) common' entities'
+    (c.in_ok-common_types.ensures.resolved, none_requested names _ it.common_types.defs.items (λ def reference none. none))
+    (c.in_ok-entity_types.ensures.resolved, none_requested names _ it.entity_types.defs.items (λ def reference none. none)))
+    (c.in_ok-actions.ensures.resolved, c.in_ok-actions.ensures.unreserved)
 
-pub returns-clause-settled : goal.returns-clause-settled
-returns-clause-settled c = (whole c).0
+pub returns-clause-resolved : goal.returns-clause-resolved
+returns-clause-resolved c = (whole c).0
 
 pub returns-clause-unreserved : goal.returns-clause-unreserved
 returns-clause-unreserved c = (whole c).1

@@ -3,18 +3,18 @@ use Rattle.std.proofs.lemmas.List.{nil_from_length}
 use Rattle.std.proofs.lemmas.Result.{err_from_is_err_and}
 use Rattle.cedar_below.specs.declared.entity_type.EntityType.{EntityType}
 use Rattle.cedar_below.specs.declared.internal_name.InternalName.{InternalName}
-use Rattle.cedar_declared.proofs.TurnLemmas.{turn_weaker}
-use Rattle.cedar_declared.specs.SchemaError.{fault_of}
-use Rattle.cedar_declared.specs.Settled.{SettlesBag}
+use Rattle.cedar_declarations.proofs.TurnLemmas.{turn_weaker}
+use Rattle.cedar_declarations.specs.SchemaError.{fault_of}
+use Rattle.cedar_declarations.specs.Resolved.{ResolvesBag}
 use Rattle.cedar_fragments.proofs.FragmentLemmas.{flat_map-included}
-use Rattle.cedar_fragments.proofs.InTurn.{turn_none, turn_more, turn_all, turn_next}
+use Rattle.cedar_fragments.proofs.Pairwise.{turn_none, turn_more, turn_all, turn_next}
 use Rattle.cedar_fragments.proofs.OneMore.{one_more}
-use Rattle.cedar_fragments.proofs.SettledBags.{SettlesUnreservedBag, settled_together, unsettled_included}
-use Rattle.cedar_fragments.specs.DefinitionsInTurn.{conditional_in_turn, located_namespace}
-use Rattle.cedar_fragments.specs.FragmentDeclarations.{conditional_definition, settled_definition, conditional_fragment}
+use Rattle.cedar_fragments.proofs.ResolvedBags.{ResolvesUnreservedBag, resolved_together, unresolvable_included}
+use Rattle.cedar_fragments.specs.DefinitionsPairwise.{conditional_pairwise, located_namespace}
+use Rattle.cedar_fragments.specs.FragmentDeclarations.{conditional_definition, resolved_definition, conditional_fragment}
 use Rattle.cedar_fragments.specs.FragmentLocs.{definition_locs, no_locs}
 use Rattle.cedar_fragments.specs.HeldNames.{held_names}
-use Rattle.cedar_fragments.specs.QualifyFault.{IsUnsettledBag}
+use Rattle.cedar_fragments.specs.QualifyFault.{IsUnresolvableBag}
 use Rattle.cedar_names.specs.declared.json_schema.conditional_name.ConditionalName.{ConditionalName}
 use Rattle.cedar_fragments.proofs.namespace.qualify_definitions.ValidatorSchemaFragment+ConditionalName+ConditionalName.fully_qualify_type_references.Goals as goal
 
@@ -30,8 +30,8 @@ returns-in_err-fully_qualify_type_references-clause-fault c =
     let names = held_names c.args.all_defs.now in
     let items = c.args.self.definitions.items in
     let among = turn_next _ _ _ _ _ _ _ c.in-Some.definition c.in-Some.ensures.steps.0 c.loop-definition.invariant.0 in
-    let at_fault : IsUnsettledBag names (conditional_fragment c.args.self) (fault_of c.in_err-fully_qualify_type_references.field-0.0) =
-    unsettled_included names (conditional_definition c.in-Some.definition) (conditional_fragment c.args.self)
+    let at_fault : IsUnresolvableBag names (conditional_fragment c.args.self) (fault_of c.in_err-fully_qualify_type_references.field-0.0) =
+    unresolvable_included names (conditional_definition c.in-Some.definition) (conditional_fragment c.args.self)
     (flat_map-included conditional_definition items c.in-Some.definition among) _ c.in_err-fully_qualify_type_references.ensures.fault in
     let p = err_from_is_err_and c.from_residual.result c.from_residual.ensures.1 in
     rw (p.1, p.2) at_fault
@@ -40,7 +40,7 @@ pub loop-definition-preserved : goal.loop-definition-preserved
 loop-definition-preserved c =
     let qualified = c.in_ok-fully_qualify_type_references in (
       turn_more _ _ _ _ _ _ _ _ c.in-Some.definition qualified.field-0 c.in-Some.ensures.steps.0 c.in_ok-push.ensures.items
-          (qualified.ensures.settled, qualified.ensures.unreserved) c.loop-definition.invariant.0,
+          (qualified.ensures.resolved, qualified.ensures.unreserved) c.loop-definition.invariant.0,
       one_more _ _ c.loop-definition.definitions.items _ c.loop-definition.yielded qualified.field-0 c.in-Some.definition
           c.in_ok-push.ensures.items c.loop-definition.invariant.1
           (λ i. record { name = qualified.ensures.name i; def_loc = qualified.ensures.loc i }),
@@ -49,24 +49,24 @@ loop-definition-preserved c =
           c.in_ok-push.ensures.items c.loop-definition.invariant.2 qualified.ensures.locs,
     )
 
-pub returns-clause-settled : goal.returns-clause-settled
-returns-clause-settled c =
-    (settled_together (held_names c.args.all_defs.now) conditional_definition settled_definition c.args.self.definitions.items
+pub returns-clause-resolved : goal.returns-clause-resolved
+returns-clause-resolved c =
+    (resolved_together (held_names c.args.all_defs.now) conditional_definition resolved_definition c.args.self.definitions.items
     c.loop-definition.definitions.items
     (turn_all _ _ _ _ _ _ (nil_from_length _ (omega (arith, c.in-None.ensures.steps.0, c.loop-definition.definition-iterator.rest.ok.0)))
     c.loop-definition.invariant.0)).0
 
-pub returns-clause-in_turn : goal.returns-clause-in_turn
-returns-clause-in_turn c =
+pub returns-clause-pairwise : goal.returns-clause-pairwise
+returns-clause-pairwise c =
     let names = held_names c.args.all_defs.now in
-    turn_weaker (SettlesUnreservedBag names) (SettlesBag names) (λ bag settled both. both.0) (conditional_in_turn c.args.self)
-    (map settled_definition c.loop-definition.definitions.items)
+    turn_weaker (ResolvesUnreservedBag names) (ResolvesBag names) (λ bag resolved both. both.0) (conditional_pairwise c.args.self)
+    (map resolved_definition c.loop-definition.definitions.items)
     (turn_all _ _ _ _ _ _ (nil_from_length _ (omega (arith, c.in-None.ensures.steps.0, c.loop-definition.definition-iterator.rest.ok.0)))
     c.loop-definition.invariant.0)
 
 pub returns-clause-unreserved : goal.returns-clause-unreserved
 returns-clause-unreserved c =
-    (settled_together (held_names c.args.all_defs.now) conditional_definition settled_definition c.args.self.definitions.items
+    (resolved_together (held_names c.args.all_defs.now) conditional_definition resolved_definition c.args.self.definitions.items
     c.loop-definition.definitions.items
     (turn_all _ _ _ _ _ _ (nil_from_length _ (omega (arith, c.in-None.ensures.steps.0, c.loop-definition.definition-iterator.rest.ok.0)))
     c.loop-definition.invariant.0)).1

@@ -4,19 +4,19 @@ use Rattle.std.proofs.lemmas.Result.{err_from_is_err_and}
 use Rattle.std.specs.List.{flat_map}
 use Rattle.cedar_below.specs.InternalName.{name_loc, name_of}
 use Rattle.cedar_below.specs.declared.internal_name.InternalName.{InternalName}
-use Rattle.cedar_declared.proofs.OccurrenceLemmas.{Contains-image}
-use Rattle.cedar_declared.specs.Counted.{HasToResolve}
-use Rattle.cedar_declared.specs.Mentions.{Refers}
-use Rattle.cedar_declared.specs.SettledExpr.{settled_expr}
-use Rattle.cedar_fragments.proofs.InTurn.{turn_none, turn_more, turn_all, turn_next}
+use Rattle.cedar_declarations.proofs.OccurrenceLemmas.{Contains-image}
+use Rattle.cedar_declarations.specs.Counted.{HasToResolve}
+use Rattle.cedar_declarations.specs.Mentions.{Refers}
+use Rattle.cedar_declarations.specs.ResolvedExpr.{resolved_expr}
+use Rattle.cedar_fragments.proofs.Pairwise.{turn_none, turn_more, turn_all, turn_next}
 use Rattle.cedar_fragments.proofs.OneMore.{flat_one_more}
 use Rattle.cedar_fragments.proofs.QualifiedLemmas.{refused_wider}
-use Rattle.cedar_fragments.proofs.UnsettledLemmas.{to_resolve, settles_declared}
+use Rattle.cedar_fragments.proofs.UnresolvableLemmas.{to_resolve, resolves_declared}
 use Rattle.cedar_fragments.specs.FragmentLocs.{common_type_locs, no_locs}
 use Rattle.cedar_fragments.specs.HeldNames.{held_names}
 use Rattle.cedar_fragments.specs.Refused.{IsRefusedAmong}
 use Rattle.cedar_fragments.specs.TypeDeclarations.{common_type_declarations}
-use Rattle.cedar_names.specs.ConditionalExpr.{placed_reference, placed_expr}
+use Rattle.cedar_names.specs.ConditionalExpr.{positional_reference, positional_expr}
 use Rattle.cedar_names.specs.Declaration.{common_type}
 use Rattle.cedar_names.specs.declared.json_schema.conditional_name.ConditionalName.{ConditionalName}
 use Rattle.cedar_fragments.proofs.namespace.qualify_entities.CommonTypeDefs+ConditionalName.fully_qualify_type_references.Goals as goal
@@ -30,25 +30,25 @@ loop-def-init c = (
 pub returns-in_err-ty-clause-refused : goal.returns-in_err-ty-clause-refused
 returns-in_err-ty-clause-refused c =
     let names = held_names c.args.all_defs.now in
-    let bag = common_type_declarations ConditionalName placed_reference c.args.self in
+    let bag = common_type_declarations ConditionalName positional_reference c.args.self in
     let among = Contains-image _ c.args.self.defs.items c.in-Some.def
     (turn_next _ _ _ _ _ _ _ c.in-Some.def c.in-Some.ensures.steps.0 c.loop-def.invariant.0) in
     let refused : IsRefusedAmong names (HasToResolve bag) c.in_err-ty.field-0.0 =
-    refused_wider names (Refers (placed_expr c.in-Some.def.ty)) (HasToResolve bag)
-    (λ reference refers. to_resolve bag _ among reference (inl (placed_expr c.in-Some.def.ty, refl, refers))) _ c.in_err-ty.ensures.refused in
+    refused_wider names (Refers (positional_expr c.in-Some.def.ty)) (HasToResolve bag)
+    (λ reference refers. to_resolve bag _ among reference (inl (positional_expr c.in-Some.def.ty, refl, refers))) _ c.in_err-ty.ensures.refused in
     let p = err_from_is_err_and c.from_residual.result c.from_residual.ensures.1 in
     rw (p.1, p.2) refused
 
 pub loop-def-preserved : goal.loop-def-preserved
 loop-def-preserved c = (
   turn_more _ _ _ _ _ _ _ _ c.in-Some.def _ c.in-Some.ensures.steps.0 c.in_ok-push.ensures.items
-      (settles_declared (held_names c.args.all_defs.now) (name_of c.in-Some.def.name) (common_type (placed_expr c.in-Some.def.ty))
-      (common_type (settled_expr c.in_ok-ty.ty)) c.in_ok-ty.ensures.settled) c.loop-def.invariant.0,
+      (resolves_declared (held_names c.args.all_defs.now) (name_of c.in-Some.def.name) (common_type (positional_expr c.in-Some.def.ty))
+      (common_type (resolved_expr c.in_ok-ty.ty)) c.in_ok-ty.ensures.resolved) c.loop-def.invariant.0,
   flat_one_more (common_type_locs InternalName no_locs) (common_type_locs ConditionalName no_locs) c.loop-def.defs.items _
       c.loop-def.yielded _ c.in-Some.def c.in_ok-push.ensures.items c.loop-def.invariant.1
       (ap (λ locs. name_loc c.in-Some.def.name ∷ locs) c.in_ok-ty.ensures.locs),
 )
 
-pub returns-clause-settled : goal.returns-clause-settled
-returns-clause-settled c =
+pub returns-clause-resolved : goal.returns-clause-resolved
+returns-clause-resolved c =
     turn_all _ _ _ _ _ _ (nil_from_length _ (omega (arith, c.in-None.ensures.steps.0, c.loop-def.def-iterator.rest.ok.0))) c.loop-def.invariant.0

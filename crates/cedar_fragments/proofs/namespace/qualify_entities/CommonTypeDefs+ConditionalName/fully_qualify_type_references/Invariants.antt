@@ -3,20 +3,20 @@ use Rattle.std.specs.List.{flat_map}
 use Rattle.std.specs.Vec.Iter.{into_iter_items}
 use Rattle.cedar_below.specs.InternalName.{name_of}
 use Rattle.cedar_below.specs.declared.internal_name.InternalName.{InternalName}
-use Rattle.cedar_declared.specs.Settled.{SettlesDeclaration}
-use Rattle.cedar_declared.specs.SettledExpr.{settled_expr}
-use Rattle.cedar_fragments.proofs.InTurn.{TurnSoFar}
+use Rattle.cedar_declarations.specs.Resolved.{ResolvesDeclaration}
+use Rattle.cedar_declarations.specs.ResolvedExpr.{resolved_expr}
+use Rattle.cedar_fragments.proofs.Pairwise.{TurnSoFar}
 use Rattle.cedar_fragments.specs.DeclaredAs.{declared_as}
 use Rattle.cedar_fragments.specs.FragmentLocs.{common_type_locs, no_locs}
 use Rattle.cedar_fragments.specs.HeldNames.{held_names}
-use Rattle.cedar_names.specs.ConditionalExpr.{placed_expr}
+use Rattle.cedar_names.specs.ConditionalExpr.{positional_expr}
 use Rattle.cedar_names.specs.Declaration.{common_type}
 use Rattle.cedar_names.specs.declared.json_schema.conditional_name.ConditionalName.{ConditionalName}
 use Rattle.cedar_fragments.proofs.namespace.qualify_entities.CommonTypeDefs+ConditionalName.fully_qualify_type_references.Given as goal
 
 abbrev pub invariant-loop-def : goal.invariant-loop-def
 invariant-loop-def l =
-    TurnSoFar (SettlesDeclaration (held_names l.all_defs)) (λ def. declared_as (name_of def.name) (common_type (placed_expr def.ty)))
-    (λ def. declared_as (name_of def.name) (common_type (settled_expr def.ty))) l.fn.self.defs.items l.defs.items
+    TurnSoFar (ResolvesDeclaration (held_names l.all_defs)) (λ def. declared_as (name_of def.name) (common_type (positional_expr def.ty)))
+    (λ def. declared_as (name_of def.name) (common_type (resolved_expr def.ty))) l.fn.self.defs.items l.defs.items
     (into_iter_items l.def-iterator)
     × (flat_map (common_type_locs InternalName no_locs) l.defs.items ≡ flat_map (common_type_locs ConditionalName no_locs) l.yielded)

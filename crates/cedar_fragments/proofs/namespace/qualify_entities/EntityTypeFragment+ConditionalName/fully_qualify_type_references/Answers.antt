@@ -3,7 +3,7 @@ use Rattle.std.proofs.lemmas.Result.{err_from_is_err_and}
 use Rattle.std.specs.List.{flat_map}
 use Rattle.std.specs.Option.{option_map}
 use Rattle.cedar_below.specs.declared.internal_name.InternalName.{InternalName}
-use Rattle.cedar_declared.specs.Mentions.{Refers}
+use Rattle.cedar_declarations.specs.Mentions.{Refers}
 use Rattle.cedar_fragments.proofs.LocLemmas.{none_in_names}
 use Rattle.cedar_fragments.proofs.QualifiedLemmas.{refused_wider}
 use Rattle.cedar_fragments.specs.FragmentLocs.{entity_fragment_locs, no_locs, tags_locs}
@@ -12,7 +12,7 @@ use Rattle.cedar_fragments.specs.QualifyFault.{HasToResolveIn}
 use Rattle.cedar_fragments.specs.Refused.{IsRefusedAmong}
 use Rattle.cedar_fragments.specs.TypeDeclarations.{fragment_body}
 use Rattle.cedar_fragments.specs.declared.namespace.entity_types.EntityTypeFragment.{EntityTypeFragment}
-use Rattle.cedar_names.specs.ConditionalExpr.{placed_reference, placed_expr}
+use Rattle.cedar_names.specs.ConditionalExpr.{positional_reference, positional_expr}
 use Rattle.cedar_names.specs.Declaration.{entity_type}
 use Rattle.cedar_names.specs.EntityBody.{EntityBody, standard, external}
 use Rattle.cedar_names.specs.Expr.{Expr}
@@ -26,10 +26,10 @@ pub returns-in_err-parents-in-Standard-clause-refused : goal.returns-in_err-pare
 returns-in_err-parents-in-Standard-clause-refused c =
     let names = held_names c.args.all_defs.now in
     let it = c.in-Standard in
-    let body = standard (map (placed_reference Entity) it.parents.items) (placed_expr it.attributes.0) (option_map placed_expr it.tags) in
+    let body = standard (map (positional_reference Entity) it.parents.items) (positional_expr it.attributes.0) (option_map positional_expr it.tags) in
     let P : EntityBody → Type 0 = λ each. IsRefusedAmong names (HasToResolveIn (entity_type each)) (c.in_err-parents-in-Standard).field-0.0 in
-    let refused = subst P (sym (ap (fragment_body ConditionalName placed_reference) it.is))
-    (refused_wider names (Contains (map (placed_reference Entity) it.parents.items)) (HasToResolveIn (entity_type body))
+    let refused = subst P (sym (ap (fragment_body ConditionalName positional_reference) it.is))
+    (refused_wider names (Contains (map (positional_reference Entity) it.parents.items)) (HasToResolveIn (entity_type body))
     (λ reference among. inr among) _ (c.in_err-parents-in-Standard).ensures.refused) in
     let p = err_from_is_err_and (c.from_residual).result (c.from_residual).ensures.1 in
     rw (p.1, p.2) refused
@@ -38,11 +38,11 @@ pub returns-in_err-attributes-in-Standard-clause-refused : goal.returns-in_err-a
 returns-in_err-attributes-in-Standard-clause-refused c =
     let names = held_names c.args.all_defs.now in
     let it = c.in-Standard in
-    let body = standard (map (placed_reference Entity) it.parents.items) (placed_expr it.attributes.0) (option_map placed_expr it.tags) in
+    let body = standard (map (positional_reference Entity) it.parents.items) (positional_expr it.attributes.0) (option_map positional_expr it.tags) in
     let P : EntityBody → Type 0 = λ each. IsRefusedAmong names (HasToResolveIn (entity_type each)) (c.in_err-attributes-in-Standard).field-0.0 in
-    let refused = subst P (sym (ap (fragment_body ConditionalName placed_reference) it.is))
-    (refused_wider names (Refers (placed_expr it.attributes.0)) (HasToResolveIn (entity_type body))
-    (λ reference refers. inl (placed_expr it.attributes.0, inl refl, refers)) _ (c.in_err-attributes-in-Standard).ensures.refused) in
+    let refused = subst P (sym (ap (fragment_body ConditionalName positional_reference) it.is))
+    (refused_wider names (Refers (positional_expr it.attributes.0)) (HasToResolveIn (entity_type body))
+    (λ reference refers. inl (positional_expr it.attributes.0, inl refl, refers)) _ (c.in_err-attributes-in-Standard).ensures.refused) in
     let p = err_from_is_err_and (c.from_residual-in_err-attributes-in-Standard).result (c.from_residual-in_err-attributes-in-Standard).ensures.1 in
     rw (p.1, p.2) refused
 
@@ -50,10 +50,10 @@ pub returns-in_err-tags-in-Standard-clause-refused : goal.returns-in_err-tags-in
 returns-in_err-tags-in-Standard-clause-refused c =
     let names = held_names c.args.all_defs.now in
     let it = c.in-Standard in
-    let body = standard (map (placed_reference Entity) it.parents.items) (placed_expr it.attributes.0) (option_map placed_expr it.tags) in
+    let body = standard (map (positional_reference Entity) it.parents.items) (positional_expr it.attributes.0) (option_map positional_expr it.tags) in
     let P : EntityBody → Type 0 = λ each. IsRefusedAmong names (HasToResolveIn (entity_type each)) (c.in_err-tags-in-Standard).field-0.0 in
-    let Q : Reference → Type 0 = λ reference. (expr : Expr) × (option_map placed_expr it.tags ≡ Some expr) × Refers expr reference in
-    let refused = subst P (sym (ap (fragment_body ConditionalName placed_reference) it.is))
+    let Q : Reference → Type 0 = λ reference. (expr : Expr) × (option_map positional_expr it.tags ≡ Some expr) × Refers expr reference in
+    let refused = subst P (sym (ap (fragment_body ConditionalName positional_reference) it.is))
     (refused_wider names Q (HasToResolveIn (entity_type body))
     (λ reference found. inl (found.0, inr found.1, found.2)) _ (c.in_err-tags-in-Standard).ensures.refused) in
     let p = err_from_is_err_and (c.from_residual-in_err-tags-in-Standard).result (c.from_residual-in_err-tags-in-Standard).ensures.1 in
@@ -64,9 +64,9 @@ returns-in_err-parents-in-External-clause-refused c =
     let names = held_names c.args.all_defs.now in
     let it = c.in-External in
     let P : EntityBody → Type 0 = λ each. IsRefusedAmong names (HasToResolveIn (entity_type each)) (c.in_err-parents-in-External).field-0.0 in
-    let refused = subst P (sym (ap (fragment_body ConditionalName placed_reference) it.is))
-    (refused_wider names (Contains (map (placed_reference Entity) it.parents.items))
-    (HasToResolveIn (entity_type (external (map (placed_reference Entity) it.parents.items))))
+    let refused = subst P (sym (ap (fragment_body ConditionalName positional_reference) it.is))
+    (refused_wider names (Contains (map (positional_reference Entity) it.parents.items))
+    (HasToResolveIn (entity_type (external (map (positional_reference Entity) it.parents.items))))
     (λ reference among. inr among) _ (c.in_err-parents-in-External).ensures.refused) in
     let p = err_from_is_err_and (c.from_residual-in_err-parents-in-External).result (c.from_residual-in_err-parents-in-External).ensures.1 in
     rw (p.1, p.2) refused

@@ -4,19 +4,19 @@ use Rattle.std.proofs.lemmas.Result.{err_from_is_err_and}
 use Rattle.std.specs.List.{flat_map}
 use Rattle.cedar_below.specs.EntityType.{type_loc, type_name}
 use Rattle.cedar_below.specs.declared.internal_name.InternalName.{InternalName}
-use Rattle.cedar_declared.proofs.OccurrenceLemmas.{Contains-image}
-use Rattle.cedar_declared.specs.Counted.{HasToResolve}
-use Rattle.cedar_declared.specs.SettledExpr.{settled_reference}
-use Rattle.cedar_fragments.proofs.InTurn.{turn_none, turn_more, turn_all, turn_next}
+use Rattle.cedar_declarations.proofs.OccurrenceLemmas.{Contains-image}
+use Rattle.cedar_declarations.specs.Counted.{HasToResolve}
+use Rattle.cedar_declarations.specs.ResolvedExpr.{resolved_reference}
+use Rattle.cedar_fragments.proofs.Pairwise.{turn_none, turn_more, turn_all, turn_next}
 use Rattle.cedar_fragments.proofs.OneMore.{flat_one_more}
 use Rattle.cedar_fragments.proofs.QualifiedLemmas.{refused_wider}
-use Rattle.cedar_fragments.proofs.UnsettledLemmas.{to_resolve, settles_declared}
+use Rattle.cedar_fragments.proofs.UnresolvableLemmas.{to_resolve, resolves_declared}
 use Rattle.cedar_fragments.specs.FragmentLocs.{entity_type_locs, no_locs}
 use Rattle.cedar_fragments.specs.HeldNames.{held_names}
 use Rattle.cedar_fragments.specs.QualifyFault.{HasToResolveIn}
 use Rattle.cedar_fragments.specs.Refused.{IsRefusedAmong}
 use Rattle.cedar_fragments.specs.TypeDeclarations.{fragment_body, entity_type_declarations}
-use Rattle.cedar_names.specs.ConditionalExpr.{placed_reference}
+use Rattle.cedar_names.specs.ConditionalExpr.{positional_reference}
 use Rattle.cedar_names.specs.Declaration.{entity_type}
 use Rattle.cedar_names.specs.declared.json_schema.conditional_name.ConditionalName.{ConditionalName}
 use Rattle.cedar_fragments.proofs.namespace.qualify_entities.EntityTypesDef+ConditionalName.fully_qualify_type_references.Goals as goal
@@ -30,8 +30,8 @@ loop-def-init c = (
 pub returns-in_err-fragment-clause-refused : goal.returns-in_err-fragment-clause-refused
 returns-in_err-fragment-clause-refused c =
     let names = held_names c.args.all_defs.now in
-    let bag = entity_type_declarations ConditionalName placed_reference c.args.self in
-    let body = entity_type (fragment_body ConditionalName placed_reference c.in-Some.def.fragment) in
+    let bag = entity_type_declarations ConditionalName positional_reference c.args.self in
+    let body = entity_type (fragment_body ConditionalName positional_reference c.in-Some.def.fragment) in
     let among = Contains-image _ c.args.self.defs.items c.in-Some.def
     (turn_next _ _ _ _ _ _ _ c.in-Some.def c.in-Some.ensures.steps.0 c.loop-def.invariant.0) in
     let refused : IsRefusedAmong names (HasToResolve bag) c.in_err-fragment.field-0.0 =
@@ -42,15 +42,15 @@ returns-in_err-fragment-clause-refused c =
 pub loop-def-preserved : goal.loop-def-preserved
 loop-def-preserved c = (
   turn_more _ _ _ _ _ _ _ _ c.in-Some.def _ c.in-Some.ensures.steps.0 c.in_ok-push.ensures.items
-      (settles_declared (held_names c.args.all_defs.now) (type_name c.in-Some.def.name)
-      (entity_type (fragment_body ConditionalName placed_reference c.in-Some.def.fragment))
-      (entity_type (fragment_body InternalName settled_reference c.in_ok-fragment.fragment)) c.in_ok-fragment.ensures.settled)
+      (resolves_declared (held_names c.args.all_defs.now) (type_name c.in-Some.def.name)
+      (entity_type (fragment_body ConditionalName positional_reference c.in-Some.def.fragment))
+      (entity_type (fragment_body InternalName resolved_reference c.in_ok-fragment.fragment)) c.in_ok-fragment.ensures.resolved)
       c.loop-def.invariant.0,
   flat_one_more (entity_type_locs InternalName no_locs) (entity_type_locs ConditionalName no_locs) c.loop-def.defs.items _
       c.loop-def.yielded _ c.in-Some.def c.in_ok-push.ensures.items c.loop-def.invariant.1
       (ap (λ locs. type_loc c.in-Some.def.name ∷ locs) c.in_ok-fragment.ensures.locs),
 )
 
-pub returns-clause-settled : goal.returns-clause-settled
-returns-clause-settled c =
+pub returns-clause-resolved : goal.returns-clause-resolved
+returns-clause-resolved c =
     turn_all _ _ _ _ _ _ (nil_from_length _ (omega (arith, c.in-None.ensures.steps.0, c.loop-def.def-iterator.rest.ok.0))) c.loop-def.invariant.0

@@ -1,3 +1,0 @@
-pub mod ActionEquality
-pub mod NamedTypes
-pub mod SetLemmas

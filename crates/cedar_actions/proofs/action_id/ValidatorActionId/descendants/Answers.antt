@@ -1,5 +1,0 @@
-use Rattle.cedar_actions.proofs.SetLemmas.{uids_once}
-use Rattle.cedar_actions.proofs.action_id.ValidatorActionId.descendants.Goals as goal
-
-pub returns-clause-once : goal.returns-clause-once
-returns-clause-once c = uids_once c.args.self.now.descendants.keys c.iter.ensures.unique

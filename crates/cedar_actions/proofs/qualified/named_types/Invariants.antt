@@ -1,9 +1,0 @@
-use Rattle.std.proofs.Common.{map}
-use Rattle.cedar_actions.proofs.NamedTypes.{NamedSoFar}
-use Rattle.cedar_below.specs.EntityType.{type_name}
-use Rattle.cedar_fragments.specs.HeldNames.{held_names}
-use Rattle.cedar_actions.proofs.qualified.named_types.Given as goal
-
-abbrev pub invariant-loop-reference : goal.invariant-loop-reference
-invariant-loop-reference l =
-    NamedSoFar (held_names l.all_defs) l.fn.references.keys (map type_name l.types.keys) l.reference-iterator

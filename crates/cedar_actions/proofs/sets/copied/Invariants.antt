@@ -1,7 +1,0 @@
-use Rattle.std.proofs.Common.{map}
-use Rattle.std.specs.Map.Iter.{deref}
-use Rattle.cedar_actions.proofs.SetLemmas.{AnswersAlike}
-use Rattle.cedar_actions.proofs.sets.copied.Given as goal
-
-abbrev pub invariant-loop-item : goal.invariant-loop-item
-invariant-loop-item g l = AnswersAlike g.K.PartialEq.eq l.set.keys (map deref l.yielded)

@@ -1,9 +1,0 @@
-use Rattle.cedar_actions.proofs.SetLemmas.{SameItems-types}
-use Rattle.cedar_actions.proofs.sets.type_set.Goals as goal
-
-pub returns : goal.returns
-returns g c =
-    let ran = c.in_ok-from_iter.ensures.ran in
-    let ends = ran.3.2 tt in
-    let found = c.in_ok-from_iter.field-0.keys in
-    (ran.0, ran.1, ran.2, (ends.0, (ran.3.0, ran.3.1, ends.1)), SameItems-types found ran.1 ran.4.0)

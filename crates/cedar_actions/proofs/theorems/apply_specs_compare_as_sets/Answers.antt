@@ -1,5 +1,0 @@
-use Rattle.cedar_actions.proofs.ActionEquality.{apply_specs-Decides}
-use Rattle.cedar_actions.proofs.theorems.apply_specs_compare_as_sets.Goals as goal
-
-pub returns : goal.returns
-returns c = apply_specs-Decides

@@ -1,5 +1,0 @@
-use Rattle.cedar_actions.proofs.SetLemmas.{list_any-uids}
-use Rattle.cedar_actions.proofs.theorems.edges_are_descendants.Goals as goal
-
-pub returns : goal.returns
-returns c = λ node key. list_any-uids key node.descendants.keys

@@ -1,3 +1,0 @@
-pub mod ActionKind
-pub mod ValidatorActionId
-pub mod ValidatorApplySpec

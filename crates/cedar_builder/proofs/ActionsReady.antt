@@ -1,0 +1,510 @@
+-- What the steps promise, read of a bag for which they are ready.
+use Rattle.std.proofs.Common.{◌≡◌, ◌⊎◌, ◌↔◌, IsTrue, List, Option, None, Some, IsSome, IsSomeAnd, HashMap, map, ap, sym, subst, ◌∙◌, refl, inl, inr, ⊎_elim, arith, Contains}
+use Rattle.std.proofs.lemmas.List.Elements.{Contains-append_cases}
+use Rattle.std.proofs.lemmas.List.Folds.{flat_map-map}
+use Rattle.std.proofs.lemmas.Simd.{map-map}
+use Rattle.std.specs.BTreeMap.{BTreeMap}
+use Rattle.cedar_schema_elements.proofs.SetLemmas.{list_any-uids}
+use Rattle.cedar_schema_elements.specs.ValidatorActionId.{action_of, plain_action_entry}
+use Rattle.cedar_schema_elements.specs.declared.action_id.ValidatorActionId.{ValidatorActionId}
+use Rattle.cedar_below.proofs.Lists.{Contains-preimage}
+use Rattle.cedar_below.specs.EntityUID.{uid_of}
+use Rattle.cedar_below.specs.InternalName.{name_of}
+use Rattle.cedar_below.specs.PlainName.{PlainName, IsActionType}
+use Rattle.cedar_below.specs.PlainUid.{PlainUid}
+use Rattle.cedar_below.specs.declared.entity_type.EntityType.{EntityType}
+use Rattle.cedar_below.specs.declared.entity_uid.EntityUID.{EntityUID}
+use Rattle.cedar_below.specs.declared.extension.Extensions.{Extensions}
+use Rattle.cedar_below.specs.declared.internal_name.InternalName.{InternalName}
+use Rattle.cedar_declarations.proofs.DeclarationLemmas.{action_declaration}
+use Rattle.cedar_declarations.proofs.Definitions.{declared_definition, said_definition}
+use Rattle.cedar_declarations.proofs.OccurrenceLemmas.{Contains-image, Contains-single}
+use Rattle.cedar_declarations.proofs.ResolutionLemmas.{elaborated_once}
+use Rattle.cedar_declarations.specs.Bag.{Bag, action_uids, declared_actions, declared_entities, defined_names, definitions}
+use Rattle.cedar_declarations.specs.Counted.{CountsIn, CountsInRequests, IsCounted, IsEntityTypePosition, IsAtEntityTypePosition, IsPrincipalOrResource}
+use Rattle.cedar_declarations.specs.DeclaredSchema.{IsDeclaredAction, IsDeclaredActionKind, IsNamedBy}
+use Rattle.cedar_declarations.specs.Defined.{names_of}
+use Rattle.cedar_declarations.specs.Descent.{IsDescendantAction}
+use Rattle.cedar_declarations.specs.Fault.{Fault, action_attributes, open_record, undeclared_entity_types, type_not_defined, action_not_defined, type_shadowing, action_shadowing, duplicate_entity_type, duplicate_common_type, duplicate_action, action_cycle, common_type_cycle, action_entity_type, shape_not_record, context_not_record, unknown_extension_type, reserved_name, external_below_enumerated, enumerated_below, undeclared_action_descendant, invalid_action_type, common_type_left, action_left, out_of_memory}
+use Rattle.cedar_declarations.specs.IllFormed.{IsFault}
+use Rattle.cedar_declarations.specs.Names.{IsDefined, ResolvesTo}
+use Rattle.cedar_declarations.specs.Occurrences.{Twice}
+use Rattle.cedar_declarations.specs.PlainSchema.{ActionKind, defined_action, external_action}
+use Rattle.cedar_declarations.specs.Resolved.{reference_to_one}
+use Rattle.cedar_declarations.specs.ResolvedExpr.{resolved_reference}
+use Rattle.cedar_declarations.specs.Together.{ActionSays, action_definition_in, defined_actions}
+use Rattle.cedar_declarations.specs.ElaboratesTo.{IsRecordType}
+use Rattle.cedar_schema_elements.specs.declared.entity_type.ValidatorEntityType.{ValidatorEntityType}
+use Rattle.cedar_fragments.specs.ActionDeclarations.{action_fragment_body, fragment_requests}
+use Rattle.cedar_fragments.specs.FragmentDeclarations.{resolved_action_type}
+use Rattle.cedar_fragments.specs.declared.namespace.actions.ActionFragment.{ActionFragment}
+use Rattle.cedar_fragments.specs.declared.namespace.actions.ActionRequests.{ActionRequests}
+use Rattle.cedar_resolution.specs.Collected.{collected_actions}
+use Rattle.cedar_names.specs.ActionBody.{ActionBody, Requests, requests, elsewhere}
+use Rattle.cedar_names.specs.Declaration.{Body}
+use Rattle.cedar_names.specs.Expr.{Expr}
+use Rattle.cedar_names.specs.Reference.{Reference}
+use Rattle.cedar_names.specs.declared.json_schema.reference_type.ReferenceType.TheVariants.{Entity}
+use Rattle.cedar_type_rules.specs.Ty.{Ty}
+use Rattle.cedar_builder.proofs.ActionDescent.{chain_descends, chain_to_same, descendant_declared, descends_by_chain}
+use Rattle.cedar_builder.proofs.ActionParents.{edge_declared}
+use Rattle.cedar_builder.proofs.ActionsTogether.{of_actions}
+use Rattle.cedar_builder.specs.ActionNodes.{AreCollected, AreLinked, AreReady, AreTheSame, IsCollected, IsCollectedAt, IsLinkingFault, LeadsTo, has_descendant, node_at}
+use Rattle.cedar_builder.specs.ActionsReady.{AreActionsOf}
+use Rattle.cedar_builder.specs.SoundActions.{ActionsAreSound}
+use Rattle.cedar_builder.specs.ActionSteps.{AreNamed, AreSoundRequests, HasNoRecord, IsCollectingFault, IsNameFault, IsElaboratedKind, SaysTogether, definitions_in, entry_uids, names_in, parents_in, plain_edge, requests_in}
+use Rattle.cedar_elaboration.specs.Scope.{Covers, extension_name, extensions_in_scope}
+use Rattle.cedar_elaboration.specs.Refusals.{IsExprFault}
+use Rattle.cedar_elaboration.specs.declared.type_scope.TypeScope.{TypeScope}
+
+abbrev Entry : Type 0
+Entry = PlainUid × Requests
+
+-- a declaration with the requests that it is for
+abbrev requested : PlainUid × ActionBody → Entry
+requested it = (it.0, it.1.applies_to)
+
+-- what stands before an action that stands after
+same_before : (before : Option ValidatorActionId) (it : ValidatorActionId) → AreTheSame before (Some it)
+    → (old : ValidatorActionId) × (before ≡ Some old) × AreTheSame (Some old) (Some it)
+same_before None it same = absurd same
+same_before (Some old) it same = (old, refl, same)
+
+-- what stood before still stands
+same_after : (before after : Option ValidatorActionId) → AreTheSame before after → IsSome before → IsSome after
+same_after None None same there = there
+same_after None (Some new) same there = absurd same
+same_after (Some old) None same there = absurd same
+same_after (Some old) (Some new) same there = there
+
+-- what is some with a property
+with_property : {X : Type 0} (o : Option X) (x : X) (P : X → Type 0) → o ≡ Some x → IsSomeAnd o P → P x
+with_property {X = X} o x P is holds = let Q : Option X → Type 0 = λ each. IsSomeAnd each P in subst Q is holds
+
+-- no action's uid has another type
+action_type : (bag : Bag) (name : PlainName) → Contains (map (λ uid. uid.ty) (action_uids bag)) name → IsActionType name
+action_type bag name among =
+    let uid = Contains-preimage (λ (each : PlainUid). each.ty) (action_uids bag) name among in
+    let it = Contains-preimage (λ each. each.0) (declared_actions bag) uid.0 uid.1 in
+    let found = action_declaration bag it.0.0 it.0.1 it.1 in
+    sym (ap (λ (each : PlainUid). each.ty.base) (found.3 ∙ it.2) ∙ ap (λ (each : PlainName). each.base) uid.2)
+
+-- no action leads to another as they are collected
+collected_apart : {S : Type 0} (scope : TypeScope) (entries : List Entry) (nodes : HashMap EntityUID ValidatorActionId S)
+    → AreCollected scope entries nodes → (upper lower : EntityUID) → ¬ LeadsTo nodes upper lower
+collected_apart scope entries nodes collected upper lower leads = by (node_at nodes upper) (collected upper) leads where
+  by : (o : Option ValidatorActionId) → IsCollectedAt scope entries (uid_of upper) o
+      → ¬ IsSomeAnd o (λ node. IsTrue (has_descendant node lower))
+  by None none has = has
+  by (Some it) is has =
+      let P : List PlainUid → Type 0 = λ uids. Contains uids (uid_of lower) in
+      let none = subst P is.no_descendants ((list_any-uids lower it.descendants.keys).0 has) in
+      omega (arith, none.1)
+
+-- a principal or a resource over full names is a reference to one name
+one_place : (it : Option (ActionRequests InternalName)) (reference : Reference)
+    → IsPrincipalOrResource (fragment_requests InternalName resolved_reference it) reference
+    → (name : PlainName) × (reference ≡ reference_to_one Entity name)
+one_place None reference place = absurd place
+one_place (Some it) reference place = ⊎_elim (from it.principals.items) (from it.resources.items) place where
+  from : (names : List InternalName) → Contains (map (resolved_reference Entity) names) reference
+      → (name : PlainName) × (reference ≡ reference_to_one Entity name)
+  from names among =
+      let found = Contains-preimage (resolved_reference Entity) names reference among in (name_of found.0, sym found.2)
+
+-- what the declarations of a bag say together, the bag says
+bag_says : (bag : Bag) (uid : PlainUid) (applies_to : Requests) → SaysTogether (requests_in (declared_actions bag)) uid applies_to
+    → ActionSays bag uid applies_to
+bag_says bag uid applies_to says = by applies_to says where
+  same_uids : entry_uids (requests_in (declared_actions bag)) ≡ action_uids bag
+  same_uids = map-map _ _ (declared_actions bag)
+
+  same_definitions : definitions_in (requests_in (declared_actions bag)) ≡ defined_actions bag
+  same_definitions = flat_map-map (λ (it : Entry). action_definition_in it.0 it.1) requested (declared_actions bag)
+
+  P : List PlainUid → Type 0
+  P uids = Contains uids uid
+
+  by : (of : Requests) → SaysTogether (requests_in (declared_actions bag)) uid of → ActionSays bag uid of
+  by elsewhere there = (
+    subst P same_uids there.0,
+    λ among. there.1 (subst P (sym (ap entry_uids same_definitions)) among),
+  )
+  by (requests principals resources context) there =
+      let Q : List Entry → Type 0 = λ entries. Contains entries (uid, requests principals resources context) in
+      subst Q same_definitions there
+
+module _ (bag : Bag) (extensions : Extensions) (declared : List (EntityUID × ActionFragment InternalName EntityType))
+    (types : BTreeMap EntityType ValidatorEntityType) (scope : TypeScope)
+    (ready : AreActionsOf bag extensions declared types scope) where
+  abbrev Entries : List Entry
+  Entries = requests_in (collected_actions declared)
+
+  same_entries : Entries ≡ requests_in (declared_actions bag)
+  same_entries = ap requests_in ready.actions
+
+  -- a declared action of the bag is among those that are handed in
+  among_collected : (uid : PlainUid) (body : ActionBody) → Contains (declared_actions bag) (uid, body)
+      → Contains Entries (uid, body.applies_to)
+  among_collected uid body among =
+      let P : List Entry → Type 0 = λ entries. Contains entries (uid, body.applies_to) in
+      subst P (sym same_entries) (Contains-image requested (declared_actions bag) (uid, body) among)
+
+  -- and the other way round
+  among_declared : (uid : PlainUid) (applies_to : Requests) → Contains Entries (uid, applies_to)
+      → (body : ActionBody) × Contains (declared_actions bag) (uid, body) × (body.applies_to ≡ applies_to)
+  among_declared uid applies_to among =
+      let P : List Entry → Type 0 = λ entries. Contains entries (uid, applies_to) in
+      let it = Contains-preimage requested (declared_actions bag) (uid, applies_to) (subst P same_entries among) in
+      let Q : PlainUid → Type 0 = λ each. Contains (declared_actions bag) (each, it.0.1) in
+      (it.0.1, subst Q (ap (λ (each : Entry). each.0) it.2) it.1, ap (λ (each : Entry). each.1) it.2)
+
+  -- the uids that are handed in are those of the bag
+  same_uids : entry_uids Entries ≡ action_uids bag
+  same_uids = ap entry_uids same_entries ∙ map-map _ _ (declared_actions bag)
+
+  -- the definitions that are handed in are those of the bag
+  same_definitions : definitions_in Entries ≡ defined_actions bag
+  same_definitions =
+      ap definitions_in same_entries ∙ flat_map-map (λ (it : Entry). action_definition_in it.0 it.1) requested (declared_actions bag)
+
+  -- a declared uid is that of an action that is handed in
+  key_of : (uid : PlainUid) → Contains (action_uids bag) uid → (key : EntityUID) × (uid_of key ≡ uid)
+  key_of uid among =
+      let P : List PlainUid → Type 0 = λ uids. Contains uids uid in
+      let entry = Contains-preimage (λ (it : Entry). it.0) Entries uid (subst P (sym same_uids) among) in
+      let body = Contains-preimage requested (collected_actions declared) entry.0 entry.1 in
+      let item = Contains-preimage (λ (it : EntityUID × ActionFragment InternalName EntityType). (uid_of it.0, _)) declared body.0 body.1 in
+      (item.0.0, ap (λ (it : PlainUid × ActionBody). it.0) item.2 ∙ (ap (λ (it : Entry). it.0) body.2 ∙ entry.2))
+
+  -- a principal or a resource that is handed in is a reference to one name
+  one_placed : (uid : PlainUid) (applies_to : Requests) (reference : Reference) → Contains Entries (uid, applies_to)
+      → IsPrincipalOrResource applies_to reference → (name : PlainName) × (reference ≡ reference_to_one Entity name)
+  one_placed uid applies_to reference among place =
+      let body = Contains-preimage requested (collected_actions declared) (uid, applies_to) among in
+      let item = Contains-preimage
+      (λ (it : EntityUID × ActionFragment InternalName EntityType).
+      (uid_of it.0, action_fragment_body InternalName resolved_reference EntityType resolved_action_type it.1)) declared body.0 body.1 in
+      let P : Requests → Type 0 = λ each. IsPrincipalOrResource each reference in
+      one_place item.0.1.requests reference
+      (subst P (sym (ap (λ (it : PlainUid × ActionBody). it.1.applies_to) item.2 ∙ ap (λ (it : Entry). it.1) body.2)) place)
+
+  -- what counts in a declaration counts in the bag
+  counted : (uid : PlainUid) (applies_to : Requests) (expr : Expr) → Contains Entries (uid, applies_to)
+      → CountsInRequests applies_to expr → IsCounted bag expr
+  counted uid applies_to expr among counts =
+      let found = among_declared uid applies_to among in
+      let it = action_declaration bag uid found.0 found.1 in
+      let P : Body → Type 0 = λ each. CountsIn each expr in
+      let Q : Requests → Type 0 = λ each. CountsInRequests each expr in
+      (it.0, it.1, subst P (sym it.2) (subst Q (sym found.2) counts))
+
+  -- a principal or a resource of a declaration has to be an entity type
+  placed : (uid : PlainUid) (applies_to : Requests) (reference : Reference) → Contains Entries (uid, applies_to)
+      → IsPrincipalOrResource applies_to reference → IsAtEntityTypePosition bag reference
+  placed uid applies_to reference among place =
+      let found = among_declared uid applies_to among in
+      let it = action_declaration bag uid found.0 found.1 in
+      let P : Body → Type 0 = λ each. IsEntityTypePosition each reference in
+      let Q : Requests → Type 0 = λ each. IsPrincipalOrResource each reference in
+      (it.0, it.1, subst P (sym it.2) (subst Q (sym found.2) place))
+
+  -- enough is known for what counts in a declaration
+  known_counted : (uid : PlainUid) (applies_to : Requests) (expr : Expr) → Contains Entries (uid, applies_to)
+      → CountsInRequests applies_to expr → Covers (definitions bag extensions) scope expr
+  known_counted uid applies_to expr among counts = ready.knows expr (counted uid applies_to expr among counts)
+
+  -- a reference to one name that has to be an entity type resolves to it
+  one_resolves : (name : PlainName) → IsAtEntityTypePosition bag (reference_to_one Entity name)
+      → ResolvesTo (defined_names bag extensions) (reference_to_one Entity name) name
+  one_resolves name place =
+      let found = ready.placed (reference_to_one Entity name) place in
+      ⊎_elim (λ here. inl (refl, here.1)) (λ later. absurd later.1) found.1
+
+  -- the names of principals or resources are those that these resolve to
+  names_resolved : (uid : PlainUid) (applies_to : Requests) (references : List Reference) (names : List PlainName)
+      → Contains Entries (uid, applies_to)
+      → ((reference : Reference) → Contains references reference → IsPrincipalOrResource applies_to reference)
+      → AreNamed references names → (name : PlainName)
+      → Contains names name ↔ IsNamedBy (names_of (definitions bag extensions)) references name
+  names_resolved uid applies_to references names among place named name = (
+    λ there.
+        let it = (named name).0 there in (
+          reference_to_one Entity name,
+          it,
+          one_resolves name (placed uid applies_to (reference_to_one Entity name) among
+              (place (reference_to_one Entity name) it)),
+        ),
+    λ by.
+        let alone = one_placed uid applies_to by.0 among (place by.0 by.1) in
+        let P : Reference → Type 0 = Contains references in
+        let Q : Reference → Type 0 = λ each. ResolvesTo (defined_names bag extensions) each name in
+        let same : alone.0 ≡ name = ⊎_elim (λ here. here.0) (λ later. absurd later.1) (subst Q alone.1 by.2) in
+        let R : PlainName → Type 0 = λ each. Contains references (reference_to_one Entity each) in
+        (named name).1 (subst R same (subst P alone.1 by.1)),
+  )
+
+  -- the kind of an action is the declared one
+  said_kind : (uid : PlainUid) (applies_to : Requests) (kind : ActionKind) → SaysTogether Entries uid applies_to
+      → IsElaboratedKind scope applies_to kind → IsDeclaredActionKind (definitions bag extensions) applies_to kind
+  said_kind uid elsewhere (defined_action principal_types resource_types ty) says elaborated = elaborated
+  said_kind uid elsewhere external_action says elaborated = tt
+  said_kind uid (requests principals resources context) external_action says elaborated = elaborated
+  said_kind uid (requests principals resources context) (defined_action principal_types resource_types ty) says elaborated =
+      let all = requests principals resources context in
+      let among = said_definition of_actions Entries uid all tt says in (
+        names_resolved uid all principals principal_types among (λ reference there. inl there) elaborated.0,
+        names_resolved uid all resources resource_types among (λ reference there. inr there) elaborated.1,
+        elaborated.2 (definitions bag extensions) (known_counted uid all context among refl),
+      )
+
+  -- what is said of the declarations the bag says
+  said_in_bag : (uid : PlainUid) (applies_to : Requests) → SaysTogether Entries uid applies_to → ActionSays bag uid applies_to
+  said_in_bag uid applies_to says =
+      let P : List Entry → Type 0 = λ entries. SaysTogether entries uid applies_to in
+      bag_says bag uid applies_to (subst P same_entries says)
+
+  -- the refusal of an expression that counts is a fault of the bag
+  expr_fault : (expr : Expr) (fault : Fault) → IsCounted bag expr
+      → IsExprFault (definitions bag extensions) (extensions_in_scope scope) expr fault
+      → (fault ≡ out_of_memory) ⊎ IsFault bag extensions fault
+  expr_fault expr open_record counts refused = inr (expr, counts, refused)
+  expr_fault expr (type_not_defined references) counts refused = inr (
+    refused.0,
+    λ reference among. (inl (expr, counts, (refused.1 reference among).0), (refused.1 reference among).1),
+  )
+  expr_fault expr (unknown_extension_type name) counts refused = inr (
+    expr,
+    counts,
+    refused.0,
+    refused.1,
+    λ among. let P : List PlainName → Type 0 = λ names. Contains names name in refused.2 (subst P (sym ready.extensions) among),
+  )
+  expr_fault expr (reserved_name name) counts refused = absurd (ready.unreserved name refused.2.is_entity.1 refused.2.reserved)
+  expr_fault expr out_of_memory counts refused = inl refl
+  expr_fault expr (action_attributes ids) counts refused = absurd refused
+  expr_fault expr (undeclared_entity_types names) counts refused = absurd refused
+  expr_fault expr (action_not_defined actions) counts refused = absurd refused
+  expr_fault expr (type_shadowing plain qualified) counts refused = absurd refused
+  expr_fault expr (action_shadowing plain qualified) counts refused = absurd refused
+  expr_fault expr (duplicate_entity_type name) counts refused = absurd refused
+  expr_fault expr (duplicate_common_type name) counts refused = absurd refused
+  expr_fault expr (duplicate_action uid) counts refused = absurd refused
+  expr_fault expr (action_cycle uid) counts refused = absurd refused
+  expr_fault expr (common_type_cycle name) counts refused = absurd refused
+  expr_fault expr (action_entity_type name) counts refused = absurd refused
+  expr_fault expr (shape_not_record name) counts refused = absurd refused
+  expr_fault expr (context_not_record uid) counts refused = absurd refused
+  expr_fault expr (external_below_enumerated lower upper) counts refused = absurd refused
+  expr_fault expr (enumerated_below lower upper) counts refused = absurd refused
+  expr_fault expr (undeclared_action_descendant uid) counts refused = absurd refused
+  expr_fault expr (invalid_action_type uid) counts refused = absurd refused
+  expr_fault expr common_type_left counts refused = absurd refused
+  expr_fault expr action_left counts refused = absurd refused
+
+  -- a context that is no record type is a fault of the bag
+  context_fault : (uid : PlainUid) (applies_to : Requests) → Contains Entries (uid, applies_to) → HasNoRecord scope applies_to
+      → IsFault bag extensions (context_not_record uid)
+  context_fault uid elsewhere among none = absurd none
+  context_fault uid (requests principals resources context) among none =
+      let all = requests principals resources context in
+      let P : List Entry → Type 0 = λ entries. Contains entries (uid, requests principals resources context) in (
+        principals,
+        resources,
+        context,
+        subst P same_definitions (declared_definition of_actions Entries uid all tt among),
+        (none.0, none.1 (definitions bag extensions) (known_counted uid all context among refl), none.2),
+      )
+
+  -- a name that is no declared entity type's and yet resolves is that of a type of actions
+  undeclared_action_type : (name : PlainName) → ¬ Contains (names_in types) name
+      → IsDefined (defined_names bag extensions) Entity name → IsActionType name
+  undeclared_action_type name none is_defined =
+      ⊎_elim
+      (λ common. absurd common.0)
+      (λ is_entity. ⊎_elim
+      (λ among. absurd (none ((ready.entity_types name).1 among)))
+      (λ action. action_type bag name action)
+      (Contains-append_cases (map (λ it. it.0) (declared_entities bag)) (map (λ uid. uid.ty) (action_uids bag)) name is_entity.1))
+      is_defined
+
+  -- a refused name of a principal or a resource is a fault of the bag
+  name_fault : (uid : PlainUid) (applies_to : Requests) (name : PlainName) (fault : Fault) → Contains Entries (uid, applies_to)
+      → IsPrincipalOrResource applies_to (reference_to_one Entity name) → IsNameFault (names_in types) name fault
+      → IsFault bag extensions fault
+  name_fault uid applies_to name fault among place refused =
+      let P : Fault → Type 0 = IsFault bag extensions in
+      let is_placed = placed uid applies_to (reference_to_one Entity name) among place in
+      let resolves = one_resolves name is_placed in
+      let is_defined : IsDefined (defined_names bag extensions) Entity name =
+      ⊎_elim (λ here. here.1) (λ later. absurd later.1) resolves in
+      ⊎_elim
+      (λ reserved. absurd (⊎_elim
+      (λ common. common.0)
+      (λ is_entity. ready.unreserved name is_entity.1 reserved.1)
+      is_defined))
+      (λ undeclared. subst P (sym undeclared.0) (
+        (λ wrong. cc),
+        λ each there.
+            let Q : PlainName → Type 0 = λ other. IsActionType other × (reference : Reference) × IsAtEntityTypePosition bag reference
+            × ResolvesTo (defined_names bag extensions) reference other in
+            subst Q (Contains-single name each there)
+            (undeclared_action_type name undeclared.1 is_defined, reference_to_one Entity name, is_placed, resolves),
+      ))
+      refused
+
+  -- a refusal of declarations is a fault of the bag, unless memory ran out
+  pub collecting_fault : (fault : Fault) → IsCollectingFault scope (names_in types) Entries fault
+      → (fault ≡ out_of_memory) ⊎ IsFault bag extensions fault
+  collecting_fault fault refused =
+      let P : Fault → Type 0 = IsFault bag extensions in
+      let Q : List Entry → PlainUid → Type 0 = λ entries uid. Twice (entry_uids entries) uid in
+      ⊎_elim
+      (λ wanting. inl wanting)
+      (λ others. ⊎_elim
+      (λ one. ⊎_elim
+      (λ wanting. inl wanting)
+      (λ reasons. ⊎_elim
+      (λ expr. expr_fault expr.0 fault (counted one.0 one.1 expr.0 one.2 expr.1)
+      (expr.2.each (definitions bag extensions) (known_counted one.0 one.1 expr.0 one.2 expr.1)))
+      (λ rest. ⊎_elim
+      (λ context. inr (subst P (sym context.0) (context_fault one.0 one.1 one.2 context.1)))
+      (λ name. inr (name_fault one.0 one.1 name.0 fault one.2 name.1 name.2))
+      rest)
+      reasons)
+      one.3)
+      (λ twice. inr (subst P (sym twice.1) (subst (λ entries. Q entries twice.0) same_definitions twice.2)))
+      others)
+      refused
+
+  module _ {S : Type 0} (before : HashMap EntityUID ValidatorActionId S) (collected : AreCollected scope Entries before)
+      (once : (uid : PlainUid) → ¬ Twice (entry_uids (definitions_in Entries)) uid)
+      (edges : List (EntityUID × EntityUID)) (are : map plain_edge edges ≡ parents_in (collected_actions declared)) where
+    -- a declared uid has an action
+    stands : (key : EntityUID) → Contains (action_uids bag) (uid_of key) → IsSome (node_at before key)
+    stands key among = by (node_at before key) (collected key) where
+      P : List PlainUid → Type 0
+      P uids = Contains uids (uid_of key)
+
+      by : (o : Option ValidatorActionId) → IsCollectedAt scope Entries (uid_of key) o → IsSome o
+      by None none = absurd (none (subst P (sym same_uids) among))
+      by (Some it) is = refl
+
+    -- the nodes and the edges are ready to be linked
+    pub ready_to_link : AreReady edges before
+    ready_to_link = record {
+      apart = collected_apart scope Entries before collected;
+      uppers = λ upper lower above.
+          stands upper (edge_declared bag extensions declared types scope ready edges are upper lower above);
+    }
+
+    -- a refusal of edges is a fault of the bag, unless memory ran out
+    pub linking_fault : (fault : Fault) → IsLinkingFault edges fault → (fault ≡ out_of_memory) ⊎ IsFault bag extensions fault
+    linking_fault fault refused =
+        let P : Fault → Type 0 = IsFault bag extensions in
+        ⊎_elim
+        (λ wanting. inl wanting)
+        (λ cycle. inr (subst P (sym cycle.1) (chain_descends bag extensions declared types scope ready edges are cycle.2)))
+        refused
+
+    module _ (after : HashMap EntityUID ValidatorActionId S) (linked : AreLinked edges before after) where
+      -- the descendants of an action are the declared ones
+      descendants : (key : EntityUID) (it : ValidatorActionId) → node_at after key ≡ Some it → (lower : PlainUid)
+          → Contains (action_of it).descendants lower ↔ IsDescendantAction bag lower (uid_of key)
+      descendants key it found lower = (
+        λ among.
+            let named = Contains-preimage uid_of it.descendants.keys lower among in
+            let P : PlainUid → Type 0 = Contains (action_of it).descendants in
+            let has : IsTrue (has_descendant it named.0) =
+            (list_any-uids named.0 it.descendants.keys).1 (subst P (sym named.2) among) in
+            let Q : Option ValidatorActionId → Type 0 = λ o. IsSomeAnd o (λ node. IsTrue (has_descendant node named.0)) in
+            let R : PlainUid → Type 0 = λ each. IsDescendantAction bag each (uid_of key) in
+            subst R named.2
+            (chain_descends bag extensions declared types scope ready edges are
+            ((linked.linked key named.0).0 (subst Q (sym found) has))),
+        λ descends.
+            let chain = descends_by_chain bag extensions declared types scope ready edges are descends key refl in
+            let has : IsTrue (has_descendant it chain.0) =
+            with_property (node_at after key) it (λ node. IsTrue (has_descendant node chain.0)) found
+            ((linked.linked key chain.0).1 chain.2) in
+            let P : PlainUid → Type 0 = Contains (action_of it).descendants in
+            subst P chain.1 ((list_any-uids chain.0 it.descendants.keys).0 has),
+      )
+
+      -- what stands at a key after all is what the bag declares of the uid
+      pub declared_at : (key : EntityUID) (it : ValidatorActionId) → node_at after key ≡ Some it
+          → IsDeclaredAction bag extensions (plain_action_entry (key, it))
+      declared_at key it found =
+          let P : Option ValidatorActionId → Type 0 = AreTheSame (node_at before key) in
+          let old = same_before (node_at before key) it (subst P found (linked.same key)) in
+          let Q : Option ValidatorActionId → Type 0 = IsCollectedAt scope Entries (uid_of key) in
+          let is : IsCollected scope Entries (uid_of key) old.0 = subst Q old.1 (collected key) in
+          let R : ActionKind → Type 0 = IsDeclaredActionKind (definitions bag extensions) is.applies_to in
+          record {
+            applies_to = is.applies_to;
+            says = said_in_bag (uid_of key) is.applies_to is.says;
+            uid = sym old.2.0 ∙ is.uid;
+            kind = subst R old.2.1 (said_kind (uid_of key) is.applies_to (action_of old.0).kind is.says is.kind);
+            descendants = descendants key it found;
+          }
+
+      -- under each declared uid something stands after all
+      pub stands_after : (uid : PlainUid) → Contains (action_uids bag) uid
+          → (key : EntityUID) × (uid_of key ≡ uid) × IsSome (node_at after key)
+      stands_after uid among =
+          let key = key_of uid among in
+          let P : PlainUid → Type 0 = Contains (action_uids bag) in
+          let there = stands key.0 (subst P (sym key.1) among) in
+          (key.0, key.1, same_after (node_at before key.0) (node_at after key.0) (linked.same key.0) there)
+
+      -- no action is a descendant of itself
+      no_cycle : (uid : PlainUid) → ¬ IsDescendantAction bag uid uid
+      no_cycle uid descends =
+          let key = key_of uid (descendant_declared bag descends) in
+          let chain = descends_by_chain bag extensions declared types scope ready edges are descends key.0 (sym key.1) in
+          linked.acyclic key.0 (chain_to_same edges key.0 chain.2 (chain.1 ∙ sym key.1))
+
+      module _ (sound : (uid : PlainUid) (applies_to : Requests) → Contains Entries (uid, applies_to)
+          → AreSoundRequests scope (names_in types) applies_to) where
+        -- each context is a record type
+        no_context_fault : (uid : PlainUid) → ¬ IsFault bag extensions (context_not_record uid)
+        no_context_fault uid fault =
+            let P : List Entry → Type 0 = λ entries. Contains entries (uid, requests fault.0 fault.1 fault.2) in
+            let among = said_definition of_actions Entries uid (requests fault.0 fault.1 fault.2) tt (subst P (sym same_definitions) fault.3) in
+            let record_context = (sound uid (requests fault.0 fault.1 fault.2) among).record_context in
+            let Q : Ty → Type 0 = IsRecordType in
+            fault.4.2 (subst Q (elaborated_once (definitions bag extensions) ready.one_definition
+            (record_context.1 (definitions bag extensions)
+            (known_counted uid (requests fault.0 fault.1 fault.2) fault.2 among refl))
+            fault.4.1) record_context.2)
+
+        -- principals and resources are declared entity types
+        place_declared : (uid : PlainUid) (body : ActionBody) (reference : Reference) (name : PlainName)
+            → Contains (declared_actions bag) (uid, body) → IsPrincipalOrResource body.applies_to reference
+            → ResolvesTo (defined_names bag extensions) reference name → Contains (map (λ it. it.0) (declared_entities bag)) name
+        place_declared uid body reference name among place resolves =
+            let there = among_collected uid body among in
+            let alone = one_placed uid body.applies_to reference there place in
+            let P : Reference → Type 0 = IsPrincipalOrResource body.applies_to in
+            let Q : Reference → Type 0 = λ each. ResolvesTo (defined_names bag extensions) each name in
+            let same : alone.0 ≡ name = ⊎_elim (λ here. here.0) (λ later. absurd later.1) (subst Q alone.1 resolves) in
+            let R : PlainName → Type 0 = Contains (names_in types) in
+            (ready.entity_types name).0
+            (subst R same ((sound uid body.applies_to there).entity_types alone.0 (subst P alone.1 place)))
+
+        -- what is certain of the declarations
+        pub certain : ActionsAreSound bag extensions
+        certain = record {
+          once = λ uid twice. once uid
+              (let P : List Entry → Type 0 = λ entries. Twice (entry_uids entries) uid in
+              subst P (sym same_definitions) twice);
+          no_cycle = no_cycle;
+          records = no_context_fault;
+          closed = λ uid body expr among counts.
+              (sound uid body.applies_to (among_collected uid body among)).closed expr counts;
+          extension_types = λ uid body expr among counts word mentioned.
+              let P : List PlainName → Type 0 = λ names. Contains names (extension_name word) in
+              subst P ready.extensions
+              ((sound uid body.applies_to (among_collected uid body among)).extensions expr counts word mentioned);
+          entity_types = place_declared;
+        }

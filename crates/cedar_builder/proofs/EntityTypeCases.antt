@@ -1,0 +1,39 @@
+-- Types that stand for no record type.
+use Rattle.std.proofs.Common.{◌≡◌, Bool, Some, None, refl, ap, sym, subst, ◌∙◌}
+use Rattle.cedar_declarations.specs.ElaboratesTo.{IsRecordType}
+use Rattle.cedar_types.specs.Meaning.{ty_of, type_step, attribute_step, attributes_step, fields_of, attribute_of}
+use Rattle.cedar_type_rules.specs.Ty.{Ty, Fields}
+use Rattle.cedar_types.specs.declared.attributes.AttributeType.{AttributeType}
+use Rattle.cedar_types.specs.declared.attributes.Attributes.{Attributes}
+use Rattle.cedar_types.specs.declared.entity_kind.EntityKind.TheVariants as kind
+use Rattle.cedar_type_rules.specs.declared.open_tag.OpenTag.{OpenTag}
+use Rattle.cedar_types.specs.declared.types.Type.{«Type», Record, out-Type, roll-Type, roll-out-Type, fold_out-Type, map-Type}
+use Rattle.cedar_types.specs.declared.types.Type.TheOpen as layer
+use Rattle.cedar_types.specs.declared.types.Type.TheVariants.{rolls-Record}
+
+-- what one layer of a type stands for
+abbrev folded : layer.Type-F «Type» AttributeType Attributes → Ty
+folded it = type_step (map-Type «Type» AttributeType Attributes Ty (Bool × Ty) Fields ty_of attribute_of fields_of it)
+
+-- a type stands for what its layer does
+folded-out : (it : «Type») → ty_of it ≡ folded (out-Type it)
+folded-out it = fold_out-Type Ty (Bool × Ty) Fields type_step attribute_step attributes_step it
+
+-- a layer that is no record's stands for no record type
+no_record_layer : (it : «Type») → ((attrs : Attributes) (openness : OpenTag) → ¬ (it ≡ Record attrs openness))
+    → (part : layer.Type-F «Type» AttributeType Attributes) → out-Type it ≡ part → ¬ IsRecordType (folded part)
+no_record_layer it other layer.Never is holds = holds
+no_record_layer it other (layer.Bool scope) is holds = holds
+no_record_layer it other layer.Long is holds = holds
+no_record_layer it other layer.String is holds = holds
+no_record_layer it other (layer.Entity kind.AnyEntity) is holds = holds
+no_record_layer it other (layer.Entity (kind.Entity lub)) is holds = holds
+no_record_layer it other (layer.Set None) is holds = holds
+no_record_layer it other (layer.Set (Some element)) is holds = holds
+no_record_layer it other (layer.Record attrs openness) is holds =
+    other attrs openness (sym (roll-out-Type it) ∙ (ap roll-Type is ∙ rolls-Record attrs openness))
+no_record_layer it other (layer.ExtensionType name) is holds = holds
+
+-- a type that is no record type stands for none
+pub no_record : (it : «Type») → ((attrs : Attributes) (openness : OpenTag) → ¬ (it ≡ Record attrs openness)) → ¬ IsRecordType (ty_of it)
+no_record it other holds = no_record_layer it other (out-Type it) refl (subst IsRecordType (folded-out it) holds)

@@ -1,0 +1,76 @@
+-- Entity types that are linked, and what is checked of the links.
+use Rattle.std.proofs.Common.{◌≡◌, ◌↔◌, List, Option, None, Some, IsSome, HashMap, sym, subst, inr, Contains}
+use Rattle.cedar_below.specs.Chain.{Chain}
+use Rattle.cedar_below.specs.contracts.entity_type.EntityTypeEq.TheImpl as entity_type_equal
+use Rattle.cedar_below.specs.declared.entity_type.EntityType.{EntityType}
+use Rattle.cedar_graph.proofs.Numbers.{get_alike}
+use Rattle.cedar_declarations.specs.EntityTypeKind.{external_kind}
+use Rattle.cedar_declarations.specs.Fault.{Fault}
+use Rattle.cedar_schema_elements.specs.ValidatorEntityType.{PlainEntityType}
+use Rattle.cedar_schema_elements.specs.declared.entity_type.ValidatorEntityType.{ValidatorEntityType}
+use Rattle.cedar_builder.specs.EntityTypeNodes.{AreLinked, AreTheSame, IsAbove, IsEdgeSound, IsEnumerated, IsEnumeratedAt, IsExternalAt, IsLinkFault, IsLinkingFault, LeadsTo, node_at}
+
+-- an enumerated entity type stands at a key before and after
+enumerated_same : (o p : Option ValidatorEntityType) → AreTheSame o p → IsEnumeratedAt o ↔ IsEnumeratedAt p
+enumerated_same None None same = (λ there. there, λ there. there)
+enumerated_same None (Some it) same = absurd same
+enumerated_same (Some it) None same = absurd same
+enumerated_same (Some it) (Some other) same =
+    let P : PlainEntityType → Type 0 = λ each. IsEnumerated each.kind in
+    (λ there. subst P same there, λ there. subst P (sym same) there)
+
+-- an external entity type stands at a key before and after
+external_same : (o p : Option ValidatorEntityType) → AreTheSame o p → IsExternalAt o ↔ IsExternalAt p
+external_same None None same = (λ there. there, λ there. there)
+external_same None (Some it) same = absurd same
+external_same (Some it) None same = absurd same
+external_same (Some it) (Some other) same =
+    let P : PlainEntityType → Type 0 = λ each. each.kind ≡ external_kind in
+    (λ there. subst P same there, λ there. subst P (sym same) there)
+
+module _ {S : Type 0} (edges : List (EntityType × EntityType)) (before : HashMap EntityType ValidatorEntityType S)
+    (sound : (edge : EntityType × EntityType) → Contains edges edge → IsEdgeSound before edge.1 edge.0) where
+  -- an edge between entity types that are equal to its own is sound
+  above_sound : (upper lower : EntityType) → IsAbove edges upper lower
+      → IsSome (node_at before upper) × (¬ IsEnumeratedAt (node_at before lower))
+  above_sound upper lower above =
+      let edge = above.0 in
+      let one = sound edge above.1 in
+      let P : Option ValidatorEntityType → Type 0 = IsSome in
+      let Q : Option ValidatorEntityType → Type 0 = λ o. ¬ IsEnumeratedAt o in (
+        subst P (get_alike entity_type_equal.Laws.laws-law before edge.0 upper above.2) one.stands,
+        subst Q (get_alike entity_type_equal.Laws.laws-law before edge.1 lower above.3) one.not_enumerated,
+      )
+
+  -- the upper entity type of an edge stands in the map
+  pub upper_stands : (upper lower : EntityType) → IsAbove edges upper lower → IsSome (node_at before upper)
+  upper_stands upper lower above = (above_sound upper lower above).0
+
+  module _ (after : HashMap EntityType ValidatorEntityType S)
+      (same : (key : EntityType) → AreTheSame (node_at before key) (node_at after key))
+      (leads : (upper lower : EntityType) → LeadsTo after upper lower ↔ Chain (IsAbove edges) upper lower) where
+    -- the nodes are linked, where no external one stands below an enumerated one
+    pub are_linked : ((upper lower : EntityType) → LeadsTo after upper lower → IsEnumeratedAt (node_at after upper)
+        → ¬ IsExternalAt (node_at after lower)) → AreLinked edges before after
+    are_linked checked = record {
+      same = same;
+      linked = leads;
+      uppers = upper_stands;
+      lowers = λ upper lower above. (above_sound upper lower above).1;
+      external_above = λ upper lower chain is_enumerated is_external.
+          checked upper lower ((leads upper lower).1 chain)
+          ((enumerated_same (node_at before upper) (node_at after upper) (same upper)).0 is_enumerated)
+          ((external_same (node_at before lower) (node_at after lower) (same lower)).0 is_external);
+    }
+
+    -- an external one below an enumerated one is refused truly
+    pub below_fault : (upper lower : EntityType) → LeadsTo after upper lower → IsEnumeratedAt (node_at after upper)
+        → IsExternalAt (node_at after lower) → (fault : Fault) → IsLinkFault lower upper fault → IsLinkingFault edges before fault
+    below_fault upper lower led is_enumerated is_external fault is = inr (inr (
+      upper,
+      lower,
+      (leads upper lower).0 led,
+      (enumerated_same (node_at before upper) (node_at after upper) (same upper)).1 is_enumerated,
+      (external_same (node_at before lower) (node_at after lower) (same lower)).1 is_external,
+      is,
+    ))

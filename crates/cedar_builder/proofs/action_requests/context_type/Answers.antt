@@ -1,0 +1,15 @@
+use Rattle.std.proofs.Common.{ap, sym, ◌∙◌, inr}
+use Rattle.std.proofs.lemmas.Bool.{false≢true}
+use Rattle.cedar_declarations.specs.Fault.{context_not_record}
+use Rattle.cedar_types.specs.Meaning.{ty_of}
+use Rattle.cedar_builder.proofs.action_requests.context_type.Goals as goal
+
+pub returns-clause-fault : goal.returns-clause-fault
+returns-clause-fault c = inr (inr (
+  ap context_not_record c.in_ok-clone.ensures.uid,
+  (
+    ty_of c.in_ok-elaborated.elaborated,
+    c.in_ok-elaborated.ensures.elaborates,
+    λ is. false≢true (sym c.if-is_record.false ∙ c.is_record.ensures.1 is),
+  ),
+))

@@ -1,0 +1,13 @@
+use Rattle.std.proofs.Common.{map, Contains}
+use Rattle.std.specs.Map.Iter.{deref_pair}
+use Rattle.cedar_below.specs.declared.entity_type.EntityType.{EntityType}
+use Rattle.cedar_schema_elements.specs.ValidatorEntityType.{entity_type_of}
+use Rattle.cedar_schema_elements.specs.declared.entity_type.ValidatorEntityType.{ValidatorEntityType}
+use Rattle.cedar_builder.specs.EntityTypeNodes.{IsEnumerated, IsExternalAt, node_at}
+use Rattle.cedar_builder.proofs.entity_type_checks.check_descendants.Given as goal
+
+abbrev pub invariant-loop-name : goal.invariant-loop-name
+invariant-loop-name l =
+    (upper : EntityType) (it : ValidatorEntityType) → Contains (map deref_pair l.yielded) (upper, it)
+    → IsEnumerated (entity_type_of it).kind → (lower : EntityType) → Contains it.descendants.keys lower
+    → ¬ IsExternalAt (node_at l.nodes lower)

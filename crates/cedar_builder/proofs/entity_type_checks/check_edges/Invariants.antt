@@ -1,0 +1,7 @@
+use Rattle.std.proofs.Common.{take, Contains}
+use Rattle.cedar_below.specs.declared.entity_type.EntityType.{EntityType}
+use Rattle.cedar_builder.specs.EntityTypeNodes.{IsEdgeSound}
+use Rattle.cedar_builder.proofs.entity_type_checks.check_edges.Given as goal
+
+abbrev pub invariant-loop-edge : goal.invariant-loop-edge
+invariant-loop-edge l = (edge : EntityType × EntityType) → Contains (take l.edge-index l.edges) edge → IsEdgeSound l.nodes edge.1 edge.0

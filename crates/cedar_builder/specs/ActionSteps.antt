@@ -1,0 +1,119 @@
+-- What the private steps promise of declarations: those of one uid together, their parents, and what is elaborated.
+use Rattle.std.specs.Prelude.{◌≡◌, ◌⊎◌, ◌↔◌, ◌∷◌, [], List, Contains, map}
+use Rattle.std.specs.BTreeMap.{BTreeMap}
+use Rattle.std.specs.List.{flat_map}
+use Rattle.cedar_below.specs.EntityType.{type_name}
+use Rattle.cedar_below.specs.EntityUID.{uid_of}
+use Rattle.cedar_below.specs.PlainName.{PlainName, IsReserved}
+use Rattle.cedar_below.specs.PlainUid.{PlainUid}
+use Rattle.cedar_below.specs.declared.entity_type.EntityType.{EntityType}
+use Rattle.cedar_below.specs.declared.entity_uid.EntityUID.{EntityUID}
+use Rattle.cedar_declarations.specs.Counted.{CountsInRequests, IsPrincipalOrResource}
+use Rattle.cedar_declarations.specs.Fault.{Fault, context_not_record, duplicate_action, reserved_name, undeclared_entity_types, out_of_memory}
+use Rattle.cedar_declarations.specs.Mentions.{HasOpenRecord}
+use Rattle.cedar_declarations.specs.Occurrences.{Twice}
+use Rattle.cedar_declarations.specs.PlainSchema.{ActionKind, defined_action, external_action}
+use Rattle.cedar_declarations.specs.Resolved.{reference_to_one}
+use Rattle.cedar_declarations.specs.Together.{action_definition_in}
+use Rattle.cedar_declarations.specs.ElaboratesTo.{IsRecordType}
+use Rattle.cedar_schema_elements.specs.declared.entity_type.ValidatorEntityType.{ValidatorEntityType}
+use Rattle.cedar_names.specs.ActionBody.{ActionBody, Requests, requests, elsewhere}
+use Rattle.cedar_names.specs.Expr.{Expr}
+use Rattle.cedar_names.specs.Reference.{Reference, ActionReference}
+use Rattle.cedar_names.specs.declared.json_schema.reference_type.ReferenceType.TheVariants.{Entity}
+use Rattle.cedar_type_rules.specs.Ty.{Ty}
+use Rattle.cedar_elaboration.specs.Scope.{ElaboratesAs, CoversExtensions}
+use Rattle.cedar_elaboration.specs.Refusals.{IsRefusal}
+use Rattle.cedar_elaboration.specs.declared.type_scope.TypeScope.{TypeScope}
+
+-- the names of the entity types of a map
+abbrev pub names_in : BTreeMap EntityType ValidatorEntityType → List PlainName
+names_in types = map (λ it. type_name it.0) types.entries
+
+-- each declaration of an action, with the requests that it is for
+abbrev pub requests_in : List (PlainUid × ActionBody) → List (PlainUid × Requests)
+requests_in entries = map (λ it. (it.0, it.1.applies_to)) entries
+
+-- the uids of declarations
+abbrev pub entry_uids : List (PlainUid × Requests) → List PlainUid
+entry_uids entries = map (λ it. it.0) entries
+
+-- the declarations that aren't external
+abbrev pub definitions_in : List (PlainUid × Requests) → List (PlainUid × Requests)
+definitions_in entries = flat_map (λ it. action_definition_in it.0 it.1) entries
+
+-- what the declarations of a uid say together, parents aside: what its definition says, or that it is external
+abbrev pub SaysTogether : List (PlainUid × Requests) → PlainUid → Requests → Type 0
+SaysTogether entries uid elsewhere = Contains (entry_uids entries) uid × ¬ Contains (entry_uids (definitions_in entries)) uid
+SaysTogether entries uid applies_to = Contains (definitions_in entries) (uid, applies_to)
+
+-- a uid with each of some references
+abbrev pub parents_of : PlainUid → List ActionReference → List (PlainUid × ActionReference)
+parents_of uid references = map (λ reference. (uid, reference)) references
+
+-- each uid with each of its parents
+abbrev pub parents_in : List (PlainUid × ActionBody) → List (PlainUid × ActionReference)
+parents_in entries = flat_map (λ it. parents_of it.0 it.1.parents) entries
+
+-- the reference to the action of the uid alone
+abbrev pub reference_to_action : PlainUid → ActionReference
+reference_to_action uid = record { id = uid.eid; ty = reference_to_one Entity uid.ty }
+
+-- an edge from a parent to an action, as plain data: the uid of the action, with its parent
+abbrev pub plain_edge : EntityUID × EntityUID → PlainUid × ActionReference
+plain_edge edge = (uid_of edge.1, reference_to_action (uid_of edge.0))
+
+-- the names are just those that the references are to
+abbrev pub AreNamed : List Reference → List PlainName → Type 0
+AreNamed references names = (name : PlainName) → Contains names name ↔ Contains references (reference_to_one Entity name)
+
+-- the kind is the one that is declared: the names of the principals and of the resources, and the context elaborated;
+-- or external
+abbrev pub IsElaboratedKind : TypeScope → Requests → ActionKind → Type 0
+IsElaboratedKind scope (requests principals resources context) (defined_action principal_types resource_types ty) =
+    AreNamed principals principal_types × AreNamed resources resource_types × ElaboratesAs scope context ty
+IsElaboratedKind scope elsewhere external_action = Unit {0}
+IsElaboratedKind scope _ _ = ⊥
+
+-- the context is elaborated as a record type
+abbrev pub HasRecord : TypeScope → Requests → Type 0
+HasRecord scope (requests principals resources context) = (ty : Ty) × ElaboratesAs scope context ty × IsRecordType ty
+HasRecord scope elsewhere = Unit {0}
+
+-- what counts in the requests has no open record, its extension types are known, the context is a record type, and the
+-- principals and the resources are among these entity types
+pub record AreSoundRequests (scope : TypeScope) (types : List PlainName) (applies_to : Requests) : Type 0 where
+  pub closed : (expr : Expr) → CountsInRequests applies_to expr → ¬ HasOpenRecord expr
+  pub extensions : (expr : Expr) → CountsInRequests applies_to expr → CoversExtensions scope expr
+  pub record_context : HasRecord scope applies_to
+  pub entity_types : (name : PlainName) → IsPrincipalOrResource applies_to (reference_to_one Entity name) → Contains types name
+
+-- the context is elaborated as a type that is no record type
+abbrev pub HasNoRecord : TypeScope → Requests → Type 0
+HasNoRecord scope (requests principals resources context) = (ty : Ty) × ElaboratesAs scope context ty × ¬ IsRecordType ty
+HasNoRecord scope elsewhere = ⊥
+
+-- why the name of a principal or a resource is refused: it is reserved, or none of these entity types has it
+abbrev pub IsNameFault : List PlainName → PlainName → Fault → Type 0
+IsNameFault types name fault = ((fault ≡ reserved_name name) × IsReserved name)
+    ⊎ ((fault ≡ undeclared_entity_types (name ∷ [])) × ¬ Contains types name)
+
+-- why references to principals or resources are refused: the name of one is, or memory ran out
+abbrev pub IsRequestTypeFault : List PlainName → List Reference → Fault → Type 0
+IsRequestTypeFault types references fault = (fault ≡ out_of_memory)
+    ⊎ ((name : PlainName) × Contains references (reference_to_one Entity name) × IsNameFault types name fault)
+
+-- why the requests of an action are refused: what counts in them is, the context is no record type, or the name of a
+-- principal or a resource is refused; or memory ran out
+abbrev pub IsRequestsFault : TypeScope → List PlainName → PlainUid → Requests → Fault → Type 0
+IsRequestsFault scope types uid applies_to fault = (fault ≡ out_of_memory)
+    ⊎ (((expr : Expr) × CountsInRequests applies_to expr × IsRefusal scope expr fault)
+    ⊎ (((fault ≡ context_not_record uid) × HasNoRecord scope applies_to)
+    ⊎ ((name : PlainName) × IsPrincipalOrResource applies_to (reference_to_one Entity name) × IsNameFault types name fault)))
+
+-- why the declarations are refused: the requests of some one are, or a uid has two definitions; or memory ran out
+abbrev pub IsCollectingFault : TypeScope → List PlainName → List (PlainUid × Requests) → Fault → Type 0
+IsCollectingFault scope types entries fault = (fault ≡ out_of_memory)
+    ⊎ (((uid : PlainUid) × (applies_to : Requests) × Contains entries (uid, applies_to)
+    × IsRequestsFault scope types uid applies_to fault)
+    ⊎ ((uid : PlainUid) × (fault ≡ duplicate_action uid) × Twice (entry_uids (definitions_in entries)) uid))

@@ -1,0 +1,125 @@
+-- What the private steps promise of entity types as nodes of a graph, which stand in a map under their names.
+use Rattle.std.specs.Prelude.{◌≡◌, ◌⊎◌, ◌↔◌, Bool, List, [], ◌∷◌, Option, None, Some, IsSome, Contains}
+use Rattle.std.specs.HashMap.{HashMap, get}
+use Rattle.std.specs.HashSet.{contains}
+use Rattle.cedar_below.specs.Chain.{Chain}
+use Rattle.cedar_below.specs.EntityType.{type_name}
+use Rattle.cedar_below.specs.PlainName.{PlainName}
+use Rattle.cedar_below.specs.contracts.entity_type.EntityTypePartialEq.TheImpl as entity_type_eq
+use Rattle.cedar_below.specs.declared.entity_type.EntityType.{EntityType}
+use Rattle.cedar_graph.specs.Edges.{HasEdge, IsEdgeIn, AreAlike}
+use Rattle.cedar_declarations.specs.EntityTypeKind.{EntityTypeKind, enumerated_kind, external_kind}
+use Rattle.cedar_declarations.specs.Fault.{Fault, undeclared_entity_types, enumerated_below, external_below_enumerated, out_of_memory}
+use Rattle.cedar_declarations.specs.Together.{EntitiesSay}
+use Rattle.cedar_schema_elements.specs.ValidatorEntityType.{entity_type_of, descendant_names}
+use Rattle.cedar_schema_elements.specs.declared.entity_type.ValidatorEntityType.{ValidatorEntityType}
+use Rattle.cedar_names.specs.EntityBody.{EntityBody}
+use Rattle.cedar_builder.specs.EntityTypeSteps.{IsElaboratedKind, entry_names}
+use Rattle.cedar_elaboration.specs.declared.type_scope.TypeScope.{TypeScope}
+
+-- the kind is enumerated
+abbrev pub IsEnumerated : EntityTypeKind → Type 0
+IsEnumerated (enumerated_kind choices) = Unit {0}
+IsEnumerated _ = ⊥
+
+-- at a key stands an enumerated entity type
+abbrev pub IsEnumeratedAt : Option ValidatorEntityType → Type 0
+IsEnumeratedAt None = ⊥
+IsEnumeratedAt (Some it) = IsEnumerated (entity_type_of it).kind
+
+-- at a key stands an external entity type
+abbrev pub IsExternalAt : Option ValidatorEntityType → Type 0
+IsExternalAt None = ⊥
+IsExternalAt (Some it) = (entity_type_of it).kind ≡ external_kind
+
+-- at a key stands an entity type that isn't external
+abbrev pub IsDefinedAt : Option ValidatorEntityType → Type 0
+IsDefinedAt None = ⊥
+IsDefinedAt (Some it) = ¬ ((entity_type_of it).kind ≡ external_kind)
+
+-- the entity type is what a declaration of the name says alone, and has no descendants
+pub record IsElaboratedEntity (scope : TypeScope) (stated : PlainName) (body : EntityBody) (it : ValidatorEntityType) : Type 0 where
+  pub name : (entity_type_of it).name ≡ stated
+  pub kind : IsElaboratedKind scope body (entity_type_of it).kind
+  pub no_descendants : descendant_names it ≡ []
+
+-- the entity type is what the declarations of the name say together, and has no descendants
+pub record IsCollected (scope : TypeScope) (entries : List (PlainName × EntityBody)) (stated : PlainName)
+    (it : ValidatorEntityType) : Type 0 where
+  pub name : (entity_type_of it).name ≡ stated
+  pub body : EntityBody
+  pub says : EntitiesSay entries stated body
+  pub kind : IsElaboratedKind scope body (entity_type_of it).kind
+  pub no_descendants : descendant_names it ≡ []
+
+-- at a name stands what its declarations say together, or none where it has none
+abbrev pub IsCollectedAt : TypeScope → List (PlainName × EntityBody) → PlainName → Option ValidatorEntityType → Type 0
+IsCollectedAt scope entries name None = ¬ Contains (entry_names entries) name
+IsCollectedAt scope entries name (Some it) = IsCollected scope entries name it
+
+-- what stands at the name of an entity type before and after it is put there: an external one changes nothing where one
+-- stands, and any other replaces an external one
+abbrev pub IsPut : ValidatorEntityType → Option ValidatorEntityType → Option ValidatorEntityType → Type 0
+IsPut it None after = after ≡ Some it
+IsPut it (Some old) after = (((entity_type_of it).kind ≡ external_kind) × (after ≡ Some old))
+    ⊎ ((¬ ((entity_type_of it).kind ≡ external_kind)) × ((entity_type_of old).kind ≡ external_kind) × (after ≡ Some it))
+
+-- whether the one entity type is among the descendants of the other
+abbrev pub has_descendant : ValidatorEntityType → EntityType → Bool
+has_descendant it lower = contains (entity_type_eq.ghosts).eq it.descendants lower
+
+module _ {S : Type 0} where
+  -- what stands in the map at a key
+  abbrev pub node_at : HashMap EntityType ValidatorEntityType S → EntityType → Option ValidatorEntityType
+  node_at nodes key = get (entity_type_eq.ghosts).eq nodes key
+
+  -- the node at the first key has the second among its descendants
+  abbrev pub LeadsTo : HashMap EntityType ValidatorEntityType S → EntityType → EntityType → Type 0
+  LeadsTo nodes upper lower = HasEdge (entity_type_eq.ghosts).eq has_descendant nodes upper lower
+
+  -- at each name stands what its declarations say together
+  abbrev pub AreCollected : TypeScope → List (PlainName × EntityBody) → HashMap EntityType ValidatorEntityType S → Type 0
+  AreCollected scope entries nodes = (key : EntityType) → IsCollectedAt scope entries (type_name key) (node_at nodes key)
+
+-- the one is a parent of the other by some edge
+abbrev pub IsAbove : List (EntityType × EntityType) → EntityType → EntityType → Type 0
+IsAbove = IsEdgeIn (entity_type_eq.ghosts).eq
+
+-- what stands at a key before and after are entity types that are the same but for their descendants, or none
+abbrev pub AreTheSame : Option ValidatorEntityType → Option ValidatorEntityType → Type 0
+AreTheSame = AreAlike (λ before after. entity_type_of before ≡ entity_type_of after)
+
+module _ {S : Type 0} where
+  -- the upper entity type stands in the map, and the lower isn't enumerated
+  pub record IsEdgeSound (nodes : HashMap EntityType ValidatorEntityType S) (lower upper : EntityType) : Type 0 where
+    pub stands : IsSome (node_at nodes upper)
+    pub not_enumerated : ¬ IsEnumeratedAt (node_at nodes lower)
+
+  -- why an edge is refused: the upper entity type doesn't stand in the map, or the lower is enumerated
+  abbrev pub IsEdgeFault : HashMap EntityType ValidatorEntityType S → EntityType → EntityType → Fault → Type 0
+  IsEdgeFault nodes lower upper fault =
+      ((fault ≡ undeclared_entity_types (type_name upper ∷ [])) × (node_at nodes upper ≡ None))
+      ⊎ ((fault ≡ enumerated_below (type_name lower) (type_name upper)) × IsEnumeratedAt (node_at nodes lower))
+
+-- the fault is that the one entity type is external and stands below the other, which is enumerated
+abbrev pub IsLinkFault : EntityType → EntityType → Fault → Type 0
+IsLinkFault lower upper fault = fault ≡ external_below_enumerated (type_name lower) (type_name upper)
+
+module _ {S : Type 0} where
+  -- after as before, but for descendants, which are now those that chains of edges lead to; each edge leads from an
+  -- entity type that isn't enumerated to one that stands in the map, and no external one stands below an enumerated one
+  pub record AreLinked (edges : List (EntityType × EntityType)) (before after : HashMap EntityType ValidatorEntityType S) :
+      Type 0 where
+    pub same : (key : EntityType) → AreTheSame (node_at before key) (node_at after key)
+    pub linked : (upper lower : EntityType) → LeadsTo after upper lower ↔ Chain (IsAbove edges) upper lower
+    pub uppers : (upper lower : EntityType) → IsAbove edges upper lower → IsSome (node_at before upper)
+    pub lowers : (upper lower : EntityType) → IsAbove edges upper lower → ¬ IsEnumeratedAt (node_at before lower)
+    pub external_above : (upper lower : EntityType) → Chain (IsAbove edges) upper lower
+        → IsEnumeratedAt (node_at before upper) → ¬ IsExternalAt (node_at before lower)
+
+  -- why edges are refused: some one is, or an external entity type stands below an enumerated one; or memory ran out
+  abbrev pub IsLinkingFault : List (EntityType × EntityType) → HashMap EntityType ValidatorEntityType S → Fault → Type 0
+  IsLinkingFault edges nodes fault = (fault ≡ out_of_memory)
+      ⊎ (((edge : EntityType × EntityType) × Contains edges edge × IsEdgeFault nodes edge.1 edge.0 fault)
+      ⊎ ((upper lower : EntityType) × Chain (IsAbove edges) upper lower × IsEnumeratedAt (node_at nodes upper)
+      × IsExternalAt (node_at nodes lower) × IsLinkFault lower upper fault))

@@ -1,0 +1,88 @@
+-- What the private steps promise of declarations: those of one name together, their parents, and what is elaborated.
+use Rattle.std.specs.Prelude.{◌≡◌, ◌⊎◌, List, Option, Some, None, Contains, map}
+use Rattle.std.specs.List.{flat_map}
+use Rattle.cedar_below.specs.EntityType.{type_name}
+use Rattle.cedar_below.specs.PlainName.{PlainName, IsReserved}
+use Rattle.cedar_below.specs.declared.entity_type.EntityType.{EntityType}
+use Rattle.cedar_declarations.specs.Counted.{CountsInEntity, entity_parents}
+use Rattle.cedar_declarations.specs.EntityTypeKind.{EntityTypeKind, standard_kind, enumerated_kind, external_kind}
+use Rattle.cedar_declarations.specs.Fault.{Fault, duplicate_entity_type, reserved_name, shape_not_record, out_of_memory}
+use Rattle.cedar_declarations.specs.Mentions.{HasOpenRecord}
+use Rattle.cedar_declarations.specs.Occurrences.{Twice}
+use Rattle.cedar_declarations.specs.Resolved.{reference_to_one}
+use Rattle.cedar_declarations.specs.Together.{entity_definitions}
+use Rattle.cedar_declarations.specs.ElaboratesTo.{IsRecordType}
+use Rattle.cedar_names.specs.EntityBody.{EntityBody, standard, enumerated, external}
+use Rattle.cedar_names.specs.Expr.{Expr}
+use Rattle.cedar_names.specs.Reference.{Reference}
+use Rattle.cedar_names.specs.declared.json_schema.reference_type.ReferenceType.TheVariants.{Entity}
+use Rattle.cedar_type_rules.specs.Ty.{Ty, Fields, record_of}
+use Rattle.cedar_type_rules.specs.declared.open_tag.OpenTag.TheVariants.{ClosedAttributes}
+use Rattle.cedar_elaboration.specs.Scope.{ElaboratesAs, CoversExtensions}
+use Rattle.cedar_elaboration.specs.Refusals.{IsRefusal}
+use Rattle.cedar_elaboration.specs.declared.type_scope.TypeScope.{TypeScope}
+
+-- the names of declarations
+abbrev pub entry_names : List (PlainName × EntityBody) → List PlainName
+entry_names entries = map (λ it. it.0) entries
+
+-- a name with each of some references
+abbrev pub parents_of : PlainName → List Reference → List (PlainName × Reference)
+parents_of name references = map (λ reference. (name, reference)) references
+
+-- each name with each of its parents
+abbrev pub parents_in : List (PlainName × EntityBody) → List (PlainName × Reference)
+parents_in entries = flat_map (λ it. parents_of it.0 (entity_parents it.1)) entries
+
+-- an edge from a parent to an entity type, as plain data: the name of the entity type, with its parent
+abbrev pub plain_edge : EntityType × EntityType → PlainName × Reference
+plain_edge edge = (type_name edge.1, reference_to_one Entity (type_name edge.0))
+
+-- why parents are refused: one has a reserved name, or memory ran out
+abbrev pub IsParentFault : List (PlainName × Reference) → Fault → Type 0
+IsParentFault parents fault = (fault ≡ out_of_memory)
+    ⊎ ((lower name : PlainName) × (fault ≡ reserved_name name) × IsReserved name
+    × Contains parents (lower, reference_to_one Entity name))
+
+-- the type of tags is the one that is declared, elaborated, or there is none
+abbrev pub AreElaboratedTags : TypeScope → Option Expr → Option Ty → Type 0
+AreElaboratedTags scope (Some expr) (Some ty) = ElaboratesAs scope expr ty
+AreElaboratedTags scope None None = Unit {0}
+AreElaboratedTags scope _ _ = ⊥
+
+-- the kind is the one that is declared: closed attributes that are the shape elaborated, with its tags; the same
+-- choices; or external
+abbrev pub IsElaboratedKind : TypeScope → EntityBody → EntityTypeKind → Type 0
+IsElaboratedKind scope (standard parents shape tags) (standard_kind fields openness ty) =
+    ElaboratesAs scope shape (record_of fields ClosedAttributes) × (openness ≡ ClosedAttributes) × AreElaboratedTags scope tags ty
+IsElaboratedKind scope (enumerated ids) (enumerated_kind choices) = ids ≡ choices
+IsElaboratedKind scope (external parents) external_kind = Unit {0}
+IsElaboratedKind scope _ _ = ⊥
+
+-- the shape is elaborated as a record type
+abbrev pub HasRecord : TypeScope → EntityBody → Type 0
+HasRecord scope (standard parents shape tags) = (fields : Fields) × ElaboratesAs scope shape (record_of fields ClosedAttributes)
+HasRecord scope _ = Unit {0}
+
+-- what counts in the declaration has no open record, its extension types are known, and the shape is a record type
+pub record IsSoundBody (scope : TypeScope) (body : EntityBody) : Type 0 where
+  pub closed : (expr : Expr) → CountsInEntity body expr → ¬ HasOpenRecord expr
+  pub extensions : (expr : Expr) → CountsInEntity body expr → CoversExtensions scope expr
+  pub record_shape : HasRecord scope body
+
+-- the shape is elaborated as a type that is no record type
+abbrev pub HasNoRecord : TypeScope → EntityBody → Type 0
+HasNoRecord scope (standard parents shape tags) = (ty : Ty) × ElaboratesAs scope shape ty × ¬ IsRecordType ty
+HasNoRecord scope _ = ⊥
+
+-- why what is declared of a name is refused: what counts in it is, or its shape is no record type; or memory ran out
+abbrev pub IsBodyFault : TypeScope → PlainName → EntityBody → Fault → Type 0
+IsBodyFault scope name body fault = (fault ≡ out_of_memory)
+    ⊎ (((expr : Expr) × CountsInEntity body expr × IsRefusal scope expr fault)
+    ⊎ ((fault ≡ shape_not_record name) × HasNoRecord scope body))
+
+-- why the declarations are refused: some one is, or a name has two definitions; or memory ran out
+abbrev pub IsCollectingFault : TypeScope → List (PlainName × EntityBody) → Fault → Type 0
+IsCollectingFault scope entries fault = (fault ≡ out_of_memory)
+    ⊎ (((name : PlainName) × (body : EntityBody) × Contains entries (name, body) × IsBodyFault scope name body fault)
+    ⊎ ((name : PlainName) × (fault ≡ duplicate_entity_type name) × Twice (entry_names (entity_definitions entries)) name))

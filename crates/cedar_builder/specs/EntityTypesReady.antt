@@ -1,0 +1,30 @@
+-- When the entity types of a bag can be built.
+use Rattle.std.specs.Prelude.{◌≡◌, List, Contains}
+use Rattle.cedar_below.specs.Extensions.{extension_types}
+use Rattle.cedar_below.specs.PlainName.{PlainName, IsReserved}
+use Rattle.cedar_below.specs.declared.entity_type.EntityType.{EntityType}
+use Rattle.cedar_below.specs.declared.extension.Extensions.{Extensions}
+use Rattle.cedar_below.specs.declared.internal_name.InternalName.{InternalName}
+use Rattle.cedar_declarations.specs.Bag.{Bag, declared_entities, defined_names, definitions}
+use Rattle.cedar_declarations.specs.Counted.{IsCounted, IsAtEntityTypePosition}
+use Rattle.cedar_declarations.specs.Names.{ResolvesTo}
+use Rattle.cedar_fragments.specs.declared.namespace.entity_types.EntityTypeFragment.{EntityTypeFragment}
+use Rattle.cedar_names.specs.Expr.{Expr}
+use Rattle.cedar_names.specs.Reference.{Reference}
+use Rattle.cedar_resolution.specs.Collected.{collected_entities}
+use Rattle.cedar_elaboration.specs.Scope.{Covers, extensions_in_scope}
+use Rattle.cedar_elaboration.specs.declared.type_scope.TypeScope.{TypeScope}
+
+-- the declared entity types are those of the bag; its references to entity types resolve; enough is known of what it
+-- defines, with the extension types that it is over; no common type has two definitions; and no entity type and no type
+-- of actions has a reserved name
+pub record IsReady (bag : Bag) (given : Extensions) (declared : List (EntityType × EntityTypeFragment InternalName))
+    (scope : TypeScope) : Type 0 where
+  pub entities : collected_entities declared ≡ declared_entities bag
+  pub placed : (reference : Reference) → IsAtEntityTypePosition bag reference
+      → (name : PlainName) × ResolvesTo (defined_names bag given) reference name
+  pub knows : (expr : Expr) → IsCounted bag expr → Covers (definitions bag given) scope expr
+  pub extensions : extensions_in_scope scope ≡ extension_types given
+  pub one_definition : (name : PlainName) (body other : Expr) → Contains (definitions bag given).common (name, body)
+      → Contains (definitions bag given).common (name, other) → body ≡ other
+  pub unreserved : (name : PlainName) → Contains (definitions bag given).entities name → ¬ IsReserved name

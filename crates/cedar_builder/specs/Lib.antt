@@ -1,0 +1,10 @@
+pub mod ActionNodes
+pub mod ActionSteps
+pub mod ActionsReady
+pub mod DeclaredActions
+pub mod DeclaredEntityTypes
+pub mod EntityTypeNodes
+pub mod EntityTypeSteps
+pub mod EntityTypesReady
+pub mod SoundActions
+pub mod SoundEntityTypes

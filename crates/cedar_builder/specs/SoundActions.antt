@@ -1,0 +1,35 @@
+-- What is certain of the declarations of actions once these are built.
+use Rattle.std.specs.Prelude.{Contains, map}
+use Rattle.cedar_below.specs.Extensions.{extension_types}
+use Rattle.cedar_below.specs.PlainName.{PlainName}
+use Rattle.cedar_below.specs.PlainUid.{PlainUid}
+use Rattle.cedar_below.specs.Text.{Text}
+use Rattle.cedar_below.specs.declared.extension.Extensions.{Extensions}
+use Rattle.cedar_declarations.specs.Bag.{Bag, declared_actions, declared_entities, defined_names}
+use Rattle.cedar_declarations.specs.Counted.{CountsInRequests, IsPrincipalOrResource}
+use Rattle.cedar_declarations.specs.Descent.{IsDescendantAction}
+use Rattle.cedar_declarations.specs.Fault.{context_not_record}
+use Rattle.cedar_declarations.specs.IllFormed.{IsFault}
+use Rattle.cedar_declarations.specs.Mentions.{HasOpenRecord, MentionsExtension}
+use Rattle.cedar_declarations.specs.Names.{ResolvesTo}
+use Rattle.cedar_declarations.specs.Occurrences.{Twice}
+use Rattle.cedar_declarations.specs.Together.{defined_actions}
+use Rattle.cedar_names.specs.ActionBody.{ActionBody}
+use Rattle.cedar_names.specs.Expr.{Expr}
+use Rattle.cedar_names.specs.Reference.{Reference}
+use Rattle.cedar_elaboration.specs.Scope.{extension_name}
+
+-- no action has two definitions, and none is a descendant of itself; contexts are record types; what counts has no open
+-- record, and its extension types are handed in; principals and resources are declared entity types
+pub record ActionsAreSound (bag : Bag) (extensions : Extensions) : Type 0 where
+  pub once : (uid : PlainUid) → ¬ Twice (map (λ it. it.0) (defined_actions bag)) uid
+  pub no_cycle : (uid : PlainUid) → ¬ IsDescendantAction bag uid uid
+  pub records : (uid : PlainUid) → ¬ IsFault bag extensions (context_not_record uid)
+  pub closed : (uid : PlainUid) (body : ActionBody) (expr : Expr) → Contains (declared_actions bag) (uid, body)
+      → CountsInRequests body.applies_to expr → ¬ HasOpenRecord expr
+  pub extension_types : (uid : PlainUid) (body : ActionBody) (expr : Expr) → Contains (declared_actions bag) (uid, body)
+      → CountsInRequests body.applies_to expr → (word : Text) → MentionsExtension expr word
+      → Contains (extension_types extensions) (extension_name word)
+  pub entity_types : (uid : PlainUid) (body : ActionBody) (reference : Reference) (name : PlainName)
+      → Contains (declared_actions bag) (uid, body) → IsPrincipalOrResource body.applies_to reference
+      → ResolvesTo (defined_names bag extensions) reference name → Contains (map (λ it. it.0) (declared_entities bag)) name

@@ -1,0 +1,55 @@
+//! The actions of a schema.
+
+ghost use Rattle.std.specs.Prelude.{◌≡◌, ◌⊎◌, IfErr, IfOk, OnOk};
+ghost use Rattle.cedar_schema_elements.specs.ValidatorActionId.{AreLocatedAsKeys};
+ghost use Rattle.cedar_below.specs.declared.extension.Extensions.{Extensions};
+ghost use Rattle.cedar_declarations.specs.Bag.{Bag};
+ghost use Rattle.cedar_declarations.specs.Fault.{out_of_memory};
+ghost use Rattle.cedar_declarations.specs.IllFormed.{IsFault};
+ghost use Rattle.cedar_declarations.specs.SchemaError.{fault_of};
+ghost use Rattle.cedar_builder.specs.DeclaredActions.{AreDeclaredActions};
+ghost use Rattle.cedar_builder.specs.ActionsReady.{AreActionsOf};
+ghost use Rattle.cedar_builder.specs.SoundActions.{ActionsAreSound};
+
+use crate::action_links::linked_nodes;
+use crate::action_nodes::collected_nodes;
+use crate::action_parents::parent_edges;
+use cedar_below::{EntityType, EntityUID, InternalName};
+use cedar_declarations::SchemaError;
+use cedar_elaboration::TypeScope;
+use cedar_fragments::namespace::ActionFragment;
+use cedar_graph::into_btree_map;
+use cedar_schema_elements::{ValidatorActionId, ValidatorEntityType};
+use std::alloc::Global;
+use std::collections::BTreeMap;
+
+/// The actions of a schema, each with all its descendants: what the definition of a uid says, or an
+/// external one where there are only external declarations of it. A uid may have one definition and
+/// any number of external declarations beside it, and the parents of all of them count.
+///
+/// Given are the entity types of the schema too, among which principals and resources have to be.
+///
+/// It errs where a uid has two definitions, a context is no record type or can't be elaborated, a
+/// principal or a resource is no declared entity type or has a reserved name, an action is a
+/// descendant of itself, or memory runs out.
+pub fn actions(
+    alloc: Global,
+    declared: Vec<(EntityUID, ActionFragment<InternalName, EntityType>)>,
+    entity_types: &BTreeMap<EntityType, ValidatorEntityType>,
+    scope: &TypeScope,
+) -> Result<BTreeMap<EntityUID, ValidatorActionId>, SchemaError>
+    ensures declared { IfOk result (λ actions. (bag : Bag) (extensions : Extensions)
+        → AreActionsOf bag extensions declared.items entity_types.now scope.now
+        → AreDeclaredActions bag extensions actions.entries) }
+    ensures located { IfOk result (λ actions. AreLocatedAsKeys actions.entries) }
+    ensures sound { OnOk result ((bag : Bag) (extensions : Extensions)
+        → AreActionsOf bag extensions declared.items entity_types.now scope.now → ActionsAreSound bag extensions) }
+    ensures fault { IfErr result (λ error. (bag : Bag) (extensions : Extensions)
+        → AreActionsOf bag extensions declared.items entity_types.now scope.now
+        → (fault_of error ≡ out_of_memory) ⊎ IsFault bag extensions (fault_of error)) }
+{
+    let edges = parent_edges(alloc, &declared)?;
+    let nodes = collected_nodes(alloc, declared, entity_types, scope)?;
+    let linked = linked_nodes(alloc, nodes, edges)?;
+    Ok(into_btree_map(alloc, linked)?)
+}

@@ -1,0 +1,52 @@
+//! The entity types of a schema.
+
+ghost use Rattle.std.specs.Prelude.{◌≡◌, ◌⊎◌, IfErr, IfOk, OnOk};
+ghost use Rattle.cedar_schema_elements.specs.ValidatorEntityType.{AreLocatedAsKeys};
+ghost use Rattle.cedar_below.specs.declared.extension.Extensions.{Extensions};
+ghost use Rattle.cedar_declarations.specs.Bag.{Bag};
+ghost use Rattle.cedar_declarations.specs.Fault.{out_of_memory};
+ghost use Rattle.cedar_declarations.specs.IllFormed.{IsFault};
+ghost use Rattle.cedar_declarations.specs.SchemaError.{fault_of};
+ghost use Rattle.cedar_builder.specs.DeclaredEntityTypes.{AreDeclaredEntityTypes};
+ghost use Rattle.cedar_builder.specs.EntityTypesReady.{IsReady};
+ghost use Rattle.cedar_builder.specs.SoundEntityTypes.{EntityTypesAreSound};
+
+use crate::entity_type_links::linked_nodes;
+use crate::entity_type_nodes::collected_nodes;
+use crate::entity_type_parents::parent_edges;
+use cedar_below::{EntityType, InternalName};
+use cedar_declarations::SchemaError;
+use cedar_elaboration::TypeScope;
+use cedar_fragments::namespace::EntityTypeFragment;
+use cedar_graph::into_btree_map;
+use cedar_schema_elements::ValidatorEntityType;
+use std::alloc::Global;
+use std::collections::BTreeMap;
+
+/// The entity types of a schema, each with all its descendants: what the definition of a name says, or
+/// an external one where there are only external declarations of it. A name may have one definition and
+/// any number of external declarations beside it, and the parents of all of them count.
+///
+/// It errs where a name has two definitions, a shape is no record type, a shape or a type of tags
+/// can't be elaborated, a parent is no declared entity type or has a reserved name, an enumerated
+/// entity type has a parent, an external entity type has an enumerated one above it, or memory runs
+/// out.
+pub fn entity_types(
+    alloc: Global,
+    declared: Vec<(EntityType, EntityTypeFragment<InternalName>)>,
+    scope: &TypeScope,
+) -> Result<BTreeMap<EntityType, ValidatorEntityType>, SchemaError>
+    ensures declared { IfOk result (λ types. (bag : Bag) (extensions : Extensions)
+        → IsReady bag extensions declared.items scope.now → AreDeclaredEntityTypes bag extensions types.entries) }
+    ensures located { IfOk result (λ types. AreLocatedAsKeys types.entries) }
+    ensures sound { OnOk result ((bag : Bag) (extensions : Extensions)
+        → IsReady bag extensions declared.items scope.now → EntityTypesAreSound bag extensions) }
+    ensures fault { IfErr result (λ error. (bag : Bag) (extensions : Extensions)
+        → IsReady bag extensions declared.items scope.now
+        → (fault_of error ≡ out_of_memory) ⊎ IsFault bag extensions (fault_of error)) }
+{
+    let edges = parent_edges(alloc, &declared)?;
+    let nodes = collected_nodes(alloc, declared, scope)?;
+    let linked = linked_nodes(alloc, nodes, edges)?;
+    Ok(into_btree_map(alloc, linked)?)
+}

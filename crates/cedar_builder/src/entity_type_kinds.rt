@@ -1,0 +1,124 @@
+//! Entity types that are elaborated, each from one declaration.
+
+ghost use Rattle.std.specs.Prelude.{◌≡◌, ◌⊎◌, IfErr, IfOk, List, OnOk, Some};
+ghost use Rattle.std.specs.Option.{option_map};
+ghost use Rattle.cedar_below.specs.EntityType.{type_name};
+ghost use Rattle.cedar_below.specs.declared.internal_name.InternalName.{InternalName as Full};
+ghost use Rattle.cedar_declarations.specs.Fault.{shape_not_record, out_of_memory};
+ghost use Rattle.cedar_declarations.specs.Mentions.{HasOpenRecord};
+ghost use Rattle.cedar_declarations.specs.SchemaError.{fault_of};
+ghost use Rattle.cedar_declarations.specs.ResolvedExpr.{resolved_expr, resolved_reference};
+ghost use Rattle.cedar_declarations.specs.ElaboratesTo.{IsRecordType};
+ghost use Rattle.cedar_fragments.specs.TypeDeclarations.{fragment_body};
+ghost use Rattle.cedar_names.specs.EntityBody.{standard};
+ghost use Rattle.cedar_names.specs.Expr.{Expr};
+ghost use Rattle.cedar_names.specs.Reference.{Reference};
+ghost use Rattle.cedar_type_rules.specs.Ty.{Ty, record_of};
+ghost use Rattle.cedar_types.specs.Meaning.{fields_of, ty_of};
+ghost use Rattle.cedar_builder.specs.EntityTypeNodes.{IsElaboratedEntity};
+ghost use Rattle.cedar_builder.specs.EntityTypeSteps.{IsBodyFault, IsSoundBody, AreElaboratedTags};
+ghost use Rattle.cedar_elaboration.specs.Scope.{ElaboratesAs, CoversExtensions};
+ghost use Rattle.cedar_elaboration.specs.Refusals.{IsRefusal};
+
+use cedar_below::{EntityType, InternalName};
+use cedar_declarations::{ContextOrShape, SchemaError};
+use cedar_elaboration::{TypeScope, elaborate};
+use cedar_fragments::namespace::EntityTypeFragment;
+use cedar_names::json_schema;
+use cedar_schema_elements::ValidatorEntityType;
+use cedar_types::{Attributes, OpenTag, Type};
+use std::alloc::Global;
+
+/// The attributes of the shape of an entity type, which must be a record type.
+fn shape_attributes(
+    alloc: Global,
+    name: &EntityType,
+    shape: &json_schema::Type<InternalName>,
+    scope: &TypeScope,
+) -> Result<Attributes, SchemaError>
+    ensures elaborates { IfOk result (λ elaborated. ElaboratesAs scope.now (resolved_expr shape.now) (record_of (fields_of elaborated) OpenTag.ClosedAttributes)) }
+    ensures closed { OnOk result (¬ HasOpenRecord (resolved_expr shape.now)) }
+    ensures extensions { OnOk result (CoversExtensions scope.now (resolved_expr shape.now)) }
+    ensures fault { IfErr result (λ error. (fault_of error ≡ out_of_memory)
+        ⊎ (IsRefusal scope.now (resolved_expr shape.now) (fault_of error)
+        ⊎ ((fault_of error ≡ shape_not_record (type_name name.now))
+        × ((ty : Ty) × ElaboratesAs scope.now (resolved_expr shape.now) ty × ¬ IsRecordType ty)))) }
+{
+    let elaborated = elaborate(alloc, shape, scope)?;
+    if let Type::Record { attrs, .. } = elaborated {
+        return Ok(attrs);
+    }
+    Err(SchemaError::ContextOrShapeNotRecord(ContextOrShape::EntityTypeShape(name.clone()?)))
+}
+
+/// The type of the tags, if there is one.
+fn tags_type(
+    alloc: Global,
+    tags: &Option<json_schema::Type<InternalName>>,
+    scope: &TypeScope,
+) -> Result<Option<Type>, SchemaError>
+    ensures elaborates { IfOk result (λ elaborated. AreElaboratedTags scope.now (option_map resolved_expr tags.now) (option_map ty_of elaborated)) }
+    ensures closed { OnOk result ((expr : Expr) → option_map resolved_expr tags.now ≡ Some expr → ¬ HasOpenRecord expr) }
+    ensures extensions { OnOk result ((expr : Expr) → option_map resolved_expr tags.now ≡ Some expr → CoversExtensions scope.now expr) }
+    ensures fault { IfErr result (λ error. (fault_of error ≡ out_of_memory)
+        ⊎ ((expr : Expr) × (option_map resolved_expr tags.now ≡ Some expr) × IsRefusal scope.now expr (fault_of error))) }
+{
+    match tags {
+        None => Ok(None),
+        Some(ty) => Ok(Some(elaborate(alloc, ty, scope)?)),
+    }
+}
+
+/// The standard entity type of a name with this shape and this type of tags, as yet without descendants.
+fn standard_type(
+    alloc: Global,
+    name: EntityType,
+    shape: &json_schema::Type<InternalName>,
+    tags: &Option<json_schema::Type<InternalName>>,
+    scope: &TypeScope,
+) -> Result<ValidatorEntityType, SchemaError>
+    ensures elaborates { IfOk result (λ ty. (parents : List Reference) → IsElaboratedEntity scope.now (type_name name)
+        (standard parents (resolved_expr shape.now) (option_map resolved_expr tags.now)) ty) }
+    ensures sound { OnOk result ((parents : List Reference) → IsSoundBody scope.now
+        (standard parents (resolved_expr shape.now) (option_map resolved_expr tags.now))) }
+    ensures fault { IfErr result (λ error. (parents : List Reference) → IsBodyFault scope.now (type_name name)
+        (standard parents (resolved_expr shape.now) (option_map resolved_expr tags.now)) (fault_of error)) }
+{
+    let loc = name.loc();
+    let attributes = shape_attributes(alloc, &name, shape, scope)?;
+    let tags = tags_type(alloc, tags, scope)?;
+    let descendants: Vec<EntityType> = Vec::new(alloc);
+    let open = OpenTag::ClosedAttributes;
+    Ok(ValidatorEntityType::new_standard(alloc, name, descendants, attributes, open, tags, loc)?)
+}
+
+/// The entity type that a declaration of the name gives alone, as yet without descendants.
+pub(crate) fn elaborated_type(
+    alloc: Global,
+    name: EntityType,
+    fragment: EntityTypeFragment<InternalName>,
+    scope: &TypeScope,
+) -> Result<ValidatorEntityType, SchemaError>
+    ensures elaborates { IfOk result (λ ty.
+        IsElaboratedEntity scope.now (type_name name) (fragment_body Full resolved_reference fragment) ty) }
+    ensures sound { OnOk result (IsSoundBody scope.now (fragment_body Full resolved_reference fragment)) }
+    ensures fault { IfErr result (λ error.
+        IsBodyFault scope.now (type_name name) (fragment_body Full resolved_reference fragment) (fault_of error)) }
+{
+    let loc = name.loc();
+    match fragment {
+        EntityTypeFragment::Standard {
+            attributes,
+            parents: _parents,
+            tags,
+        } => standard_type(alloc, name, &attributes.0, &tags, scope),
+        EntityTypeFragment::Enum(choices) => {
+            let descendants: Vec<EntityType> = Vec::new(alloc);
+            Ok(ValidatorEntityType::new_enum(alloc, name, descendants, choices, loc)?)
+        }
+        EntityTypeFragment::External { parents: _parents } => {
+            let descendants: Vec<EntityType> = Vec::new(alloc);
+            Ok(ValidatorEntityType::new_external(alloc, name, descendants, loc)?)
+        }
+    }
+}

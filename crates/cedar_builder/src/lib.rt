@@ -1,0 +1,19 @@
+//! The entity types and the actions of a schema, built from what is declared of them.
+#![tactic(auto)]
+
+pub use action_building::actions;
+pub use entity_type_building::entity_types;
+
+mod action_building;
+mod action_links;
+mod action_nodes;
+mod action_parents;
+mod action_requests;
+mod entity_type_building;
+mod entity_type_checks;
+mod entity_type_kinds;
+mod entity_type_links;
+mod entity_type_nodes;
+mod entity_type_parents;
+mod named_type;
+mod request_types;

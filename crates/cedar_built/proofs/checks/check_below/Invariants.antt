@@ -1,8 +1,0 @@
-use Rattle.std.proofs.Common.{map, Contains}
-use Rattle.std.specs.Map.Iter.{deref}
-use Rattle.cedar_below.specs.declared.entity_type.EntityType.{EntityType}
-use Rattle.cedar_built.specs.Nodes.{IsExternalAt, node_at}
-use Rattle.cedar_built.proofs.checks.check_below.Given as goal
-
-abbrev pub invariant-loop-lower : goal.invariant-loop-lower
-invariant-loop-lower l = (lower : EntityType) → Contains (map deref l.yielded) lower → ¬ IsExternalAt (node_at l.nodes lower)

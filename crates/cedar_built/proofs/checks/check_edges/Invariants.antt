@@ -1,7 +1,0 @@
-use Rattle.std.proofs.Common.{take, Contains}
-use Rattle.cedar_below.specs.declared.entity_type.EntityType.{EntityType}
-use Rattle.cedar_built.specs.Nodes.{IsEdgeSound}
-use Rattle.cedar_built.proofs.checks.check_edges.Given as goal
-
-abbrev pub invariant-loop-edge : goal.invariant-loop-edge
-invariant-loop-edge l = (edge : EntityType × EntityType) → Contains (take l.edge-index l.edges) edge → IsEdgeSound l.nodes edge.1 edge.0

@@ -1,5 +1,0 @@
-pub mod DeclaredActions
-pub mod Nodes
-pub mod Ready
-pub mod Sound
-pub mod Steps

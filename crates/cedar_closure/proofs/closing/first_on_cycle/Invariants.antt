@@ -1,6 +1,0 @@
-use Rattle.std.proofs.Common.{ℕ, ◌<◌}
-use Rattle.cedar_closure.specs.Numbered.{InRow}
-use Rattle.cedar_closure.proofs.closing.first_on_cycle.Given as goal
-
-abbrev pub invariant-loop-i : goal.invariant-loop-i
-invariant-loop-i l = (k : ℕ) → k < l.i → ¬ InRow l.rows.items k k

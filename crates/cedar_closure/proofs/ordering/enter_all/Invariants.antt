@@ -1,6 +1,0 @@
-use Rattle.std.proofs.Common.{◌≡◌, ◌++◌, map, take}
-use Rattle.cedar_closure.specs.declared.ordering.Step.TheVariants.{Enter}
-use Rattle.cedar_closure.proofs.ordering.enter_all.Given as goal
-
-abbrev pub invariant-loop-number : goal.invariant-loop-number
-invariant-loop-number l = l.steps.items ≡ l.initial.steps.items ++ map Enter (take l.number-index l.numbers)

@@ -1,4 +1,0 @@
-pub mod AliasLemmas
-pub mod CommonFaults
-pub mod Results
-pub mod TakenLemmas

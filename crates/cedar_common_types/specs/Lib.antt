@@ -1,3 +1,0 @@
-pub mod BuiltIn
-pub mod DeclaredTypes
-pub mod SoundTypes

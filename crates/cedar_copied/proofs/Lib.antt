@@ -1,3 +1,0 @@
-mod EntryLemmas
-pub mod ShownLemmas
-mod TurnLemmas

@@ -1,0 +1,244 @@
+-- Records that are filled up with samples.
+use Rattle.std.proofs.Common.{◌≡◌, ◌≢◌, ◌⊎◌, inl, inr, ⊎_elim, Bool, true, false, refl, sym, subst, ◌∙◌, List, [], Option, Some, None, Contains, arith, Global}
+use Rattle.std.proofs.lemmas.Slice.Eq.{bytes_eq-Decides}
+use Rattle.std.specs.BTreeMap.{BTreeMap, get_by_text}
+use Rattle.std.specs.Option.{is_some, option_map}
+use Rattle.std.specs.Str.{bytes_eq}
+use Rattle.std.specs.declared.string.String.{String}
+use Rattle.cedar_below.proofs.Inclusion.{Included-none}
+use Rattle.cedar_below.proofs.Lists.{Contains-cons, Contains-cons_cases}
+use Rattle.cedar_below.proofs.TreeLemmas.{entry_at-entries}
+use Rattle.cedar_below.proofs.ValueLemmas.{IsName-type_name}
+use Rattle.cedar_below.specs.EntityType.{type_name}
+use Rattle.cedar_below.specs.Fits.{Gives, NamesListed}
+use Rattle.cedar_below.specs.IsValue.{AreEntries}
+use Rattle.cedar_below.specs.PlainName.{PlainName}
+use Rattle.cedar_below.specs.RestrictedExpr.{entries_of, tree_of}
+use Rattle.cedar_below.specs.Text.{Text}
+use Rattle.cedar_below.specs.Tree.{Entries, Tree, entry, entry_at, entry_names, map_value, no_entry, uid_value}
+use Rattle.cedar_below.specs.declared.entity_type.EntityType.{EntityType}
+use Rattle.cedar_below.specs.declared.value.RestrictedExpr.{RestrictedExpr}
+use Rattle.cedar_below.specs.declared.extension.Extensions.{Extensions}
+use Rattle.cedar_type_rules.proofs.Extensional.{rest_sorted_by_name}
+use Rattle.cedar_type_rules.proofs.RecordAnswers.{decide_texts}
+use Rattle.cedar_type_rules.proofs.SampleValues.{HasFields-from, entry_here, entry_named, entry_there, first_absent, fits_some, only_listed, uid_is_value}
+use Rattle.cedar_type_rules.proofs.SubtypeLaws.{FieldsWithin, HasField-name}
+use Rattle.cedar_type_rules.proofs.SubtypeLemmas.{chosen_first, unchosen}
+use Rattle.cedar_type_rules.specs.Below.{HasField}
+use Rattle.cedar_type_rules.specs.Fields.{IsSortedByName, field_names}
+use Rattle.cedar_type_rules.specs.Has.{Has, HasUid}
+use Rattle.cedar_type_rules.specs.OpenTag.{is_open}
+use Rattle.cedar_type_rules.specs.Stated.{AreStatedWith, IsStatedWith}
+use Rattle.cedar_type_rules.specs.Ty.{Fields, Ty, end, field, record_of}
+use Rattle.cedar_type_rules.specs.declared.open_tag.OpenTag.{OpenTag}
+use Rattle.cedar_type_rules.specs.declared.open_tag.OpenTag.TheVariants.{ClosedAttributes, OpenAttributes}
+use Rattle.cedar_counterexample.specs.Filling.{IsFilled, IsPut}
+use Rattle.cedar_counterexample.specs.Counterexample.{IsValueOf}
+use Rattle.cedar_types.specs.EntityKind.{kind_ty}
+use Rattle.cedar_types.specs.declared.entity_kind.EntityKind.{EntityKind}
+
+-- what is found is nothing or a value
+pub nothing_or : (found : Option Tree) → (found ≡ None) ⊎ ((value : Tree) × (found ≡ Some value))
+nothing_or None = inl refl
+nothing_or (Some value) = inr (value, refl)
+
+-- at a name that is there is a value
+pub named_entry : (name : Text) (values : Entries) → Contains (entry_names values) name → (value : Tree) × (entry_at name values ≡ Some value)
+named_entry name no_entry among = absurd (omega (arith, among.1))
+named_entry name (entry other value rest) among =
+    ⊎_elim
+    (λ same. (value, entry_here name other value rest same))
+    (λ differ. (let there : Contains (entry_names rest) name = ⊎_elim (λ same. absurd (differ (sym same))) (λ there. there)
+    (Contains-cons_cases other (entry_names rest) name among) in
+    let found = named_entry name rest there in (found.0, entry_there name other value rest differ ∙ found.1)))
+    (decide_texts name other)
+
+-- where a value was put, it is
+pub put_here : (name : Text) (value : Tree) (old new : Entries) → IsPut name value old new → entry_at name new ≡ Some value
+put_here name value old new put =
+    put.found name ∙ chosen_first (bytes_eq name name) (Some value) (entry_at name old) ((bytes_eq-Decides name name).1 refl)
+
+-- at another name nothing changes
+pub put_there : (name : Text) (value : Tree) (old new : Entries) (other : Text) → IsPut name value old new → other ≢ name
+    → entry_at other new ≡ entry_at other old
+put_there name value old new other put differ =
+    put.found other ∙ unchosen (bytes_eq other name) (Some value) (entry_at other old) (λ e. differ ((bytes_eq-Decides other name).0 e))
+
+-- a value isn't at a name where there is none
+apart_from : (values : Entries) (name other : Text) (value : Tree) → entry_at name values ≡ None → entry_at other values ≡ Some value
+    → other ≢ name
+apart_from values name other value none found same =
+    let P : Text → Type 0 = λ n. entry_at n values ≡ Some value in
+    let wrong : None ≡ Some value = sym none ∙ subst P same found in
+    absurd cc
+
+-- values are filled up so far: for the attributes of which none is left
+pub record FillingSoFar (extensions : Extensions) (samples : List Tree) (all : Fields) (start : Entries) (left : Fields) (now : Entries) : Type 0 where
+  pub kept : (name : Text) (value : Tree) → entry_at name start ≡ Some value → entry_at name now ≡ Some value
+  pub filled : (name : Text) (required : Bool) (ty : Ty) → HasField all name required ty → entry_at name start ≡ None
+      → HasField left name required ty ⊎ ((value : Tree) × (entry_at name now ≡ Some value) × Has extensions value ty)
+  pub listed : (name : Text) (value : Tree) → entry_at name now ≡ Some value
+      → (entry_at name start ≡ Some value) ⊎ Contains (field_names all) name
+  pub real : AreEntries start → AreEntries now
+  pub fresh : (name : Text) → Contains (field_names left) name → entry_at name start ≡ None → entry_at name now ≡ None
+  pub sorted_by_name : IsSortedByName left
+  pub within : FieldsWithin left all
+  pub stated : AreStatedWith extensions samples left
+
+module _ (extensions : Extensions) (samples : List Tree) (all : Fields) (start : Entries) where
+  -- at first all are left
+  pub filling_first : IsSortedByName all → AreStatedWith extensions samples all → FillingSoFar extensions samples all start all start
+  filling_first sorted_by_name stated = record {
+    kept = λ name value found. found;
+    filled = λ name required ty has none. inl has;
+    listed = λ name value found. inl found;
+    real = λ real. real;
+    fresh = λ name among none. none;
+    sorted_by_name = sorted_by_name;
+    within = λ name required ty has. has;
+    stated = stated;
+  }
+
+  module _ (name : Text) (required : Bool) (ty : Ty) (rest : Fields) (now : Entries)
+      (so_far : FillingSoFar extensions samples all start (field name required ty rest) now) where
+    -- the type of the next attribute is stated
+    pub filling_stated : IsStatedWith extensions samples ty
+    filling_stated = so_far.stated.1
+
+    -- past a name that was there all else is left
+    pub filling_there : (value : Tree) → entry_at name now ≡ Some value → FillingSoFar extensions samples all start rest now
+    filling_there value found = record {
+      kept = so_far.kept;
+      filled = λ n r t has none. ⊎_elim
+          (λ still. ⊎_elim
+          (λ same. absurd (let P : Text → Type 0 = λ m. entry_at m start ≡ None in
+          let missed : entry_at name now ≡ None = so_far.fresh name (Contains-cons name (field_names rest) name (inl refl)) (subst P (sym same.0) none) in
+          let wrong : None ≡ Some value = sym missed ∙ found in cc))
+          (λ later. inl later)
+          still)
+          (λ done. inr done)
+          (so_far.filled n r t has none);
+      listed = so_far.listed;
+      real = so_far.real;
+      fresh = λ n among none. so_far.fresh n (Contains-cons name (field_names rest) n (inr among)) none;
+      sorted_by_name = rest_sorted_by_name name required ty rest so_far.sorted_by_name;
+      within = λ n r t has. so_far.within n r t (inr has);
+      stated = so_far.stated.2;
+    }
+
+    -- with a sample put under the next name all else is left
+    pub filling_put : (value : Tree) (new : Entries) → entry_at name now ≡ None → IsPut name value now new
+        → IsValueOf extensions ty value → FillingSoFar extensions samples all start rest new
+    filling_put value new none put sample =
+        let stays : (n : Text) (v : Tree) → entry_at n now ≡ Some v → entry_at n new ≡ Some v = λ n v found.
+        put_there name value now new n put (apart_from now name n v none found) ∙ found in
+        record {
+          kept = λ n v found. stays n v (so_far.kept n v found);
+          filled = λ n r t has nothing. ⊎_elim
+              (λ still. ⊎_elim
+              (λ same. inr (let P : Text → Type 0 = λ m. entry_at m new ≡ Some value in
+              (value, subst P same.0 (put_here name value now new put), subst (Has extensions value) same.2 sample.1)))
+              (λ later. inl later)
+              still)
+              (λ done. inr (done.0, stays n done.0 done.1, done.2))
+              (so_far.filled n r t has nothing);
+          listed = λ n v found. ⊎_elim
+              (λ same. inr (subst (Contains (field_names all)) (sym same)
+              (HasField-name all name required ty (so_far.within name required ty (inl (refl, refl, refl))))))
+              (λ differ. so_far.listed n v (sym (put_there name value now new n put differ) ∙ found))
+              (decide_texts n name);
+          real = λ real. put.real (so_far.real real) sample.0;
+          fresh = λ n among nothing.
+              let differ : n ≢ name = λ same. first_absent name required ty rest so_far.sorted_by_name (subst (Contains (field_names rest)) same among) in
+              put_there name value now new n put differ ∙ so_far.fresh n (Contains-cons name (field_names rest) n (inr among)) nothing;
+          sorted_by_name = rest_sorted_by_name name required ty rest so_far.sorted_by_name;
+          within = λ n r t has. so_far.within n r t (inr has);
+          stated = so_far.stated.2;
+        }
+
+  -- where none is left, all is filled up
+  pub filling_all : (left : Fields) (now : Entries) → left ≡ end → FillingSoFar extensions samples all start left now
+      → IsFilled extensions all start now
+  filling_all left now nothing so_far =
+      let P : Fields → Type 0 = λ fields. FillingSoFar extensions samples all start fields now in
+      let done = subst P nothing so_far in
+      record {
+        kept = done.kept;
+        filled = λ n r t has none. ⊎_elim (λ still. absurd still) (λ found. found) (done.filled n r t has none);
+        listed = done.listed;
+        real = done.real;
+      }
+
+-- what is filled up has listed names where what it began with had
+filled_listed : (extensions : Extensions) (fields : Fields) (openness : OpenTag) (start whole : Entries) → IsFilled extensions fields start whole
+    → NamesListed (is_open openness) (entry_names start) (field_names fields)
+    → NamesListed (is_open openness) (entry_names whole) (field_names fields)
+filled_listed extensions fields OpenAttributes start whole filled listed = tt
+filled_listed extensions fields ClosedAttributes start whole filled listed = λ name among.
+    let found = named_entry name whole among in
+    ⊎_elim (λ there. listed name (entry_named name start found.0 there)) (λ own. own) (filled.listed name found.0 found.1)
+
+-- what is filled up is a value of the record if what it began with fits
+pub filled_has : (extensions : Extensions) (fields : Fields) (openness : OpenTag) (start whole : Entries) → IsFilled extensions fields start whole
+    → ((name : Text) (value : Tree) (required : Bool) (ty : Ty) → entry_at name start ≡ Some value
+    → HasField fields name required ty → Has extensions value ty)
+    → NamesListed (is_open openness) (entry_names start) (field_names fields) → Has extensions (map_value whole) (record_of fields openness)
+filled_has extensions fields openness start whole filled fits listed = (
+  filled_listed extensions fields openness start whole filled listed,
+  HasFields-from (Gives extensions) whole fields
+      (λ n r t has. ⊎_elim
+      (λ none. (let found = filled.filled n r t has none in
+      fits_some (λ v. Has extensions v t) r (entry_at n whole) found.0 found.1 found.2))
+      (λ there. fits_some (λ v. Has extensions v t) r (entry_at n whole) there.0 (filled.kept n there.0 there.1)
+      (fits n there.0 r t there.1 has))
+      (nothing_or (entry_at n start))),
+)
+
+-- what is filled up from nothing is a value of the record
+pub record_sample : (extensions : Extensions) (fields : Fields) (openness : OpenTag) (start whole : Entries) → start ≡ no_entry
+    → IsFilled extensions fields start whole → IsValueOf extensions (record_of fields openness) (map_value whole)
+record_sample extensions fields openness start whole nothing filled =
+    let P : Entries → Type 0 = λ begun. IsFilled extensions fields begun whole in
+    let all = subst P nothing filled in (
+      all.real tt,
+      filled_has extensions fields openness no_entry whole all (λ n v r t found has. absurd cc)
+          (only_listed openness no_entry fields (Included-none (field_names fields))),
+    )
+
+-- where nothing is found in a map, there is no value
+pub missing_entry : (name : Text) (values : BTreeMap (String Global) RestrictedExpr) → is_some (get_by_text values name) ≡ false
+    → entry_at name (entries_of values) ≡ None
+missing_entry name values none = at_found (get_by_text values name) (entry_at-entries name values.entries) none
+  where
+    at_found : (found : Option RestrictedExpr) → entry_at name (entries_of values) ≡ option_map tree_of found → is_some found ≡ false
+        → entry_at name (entries_of values) ≡ None
+    at_found None is missed = is
+    at_found (Some value) is missed = absurd cc
+
+-- where something is found in a map, there is a value
+pub present_entry : (name : Text) (values : BTreeMap (String Global) RestrictedExpr) → is_some (get_by_text values name) ≡ true
+    → (value : Tree) × (entry_at name (entries_of values) ≡ Some value)
+present_entry name values some = at_found (get_by_text values name) (entry_at-entries name values.entries) some
+  where
+    at_found : (found : Option RestrictedExpr) → entry_at name (entries_of values) ≡ option_map tree_of found → is_some found ≡ true
+        → (value : Tree) × (entry_at name (entries_of values) ≡ Some value)
+    at_found None is missed = absurd cc
+    at_found (Some value) is missed = (tree_of value, is)
+
+-- an entity whose type is of a kind is a real value of the kind
+pub entity_sample : (extensions : Extensions) (of : EntityKind) (ty : EntityType) (name : PlainName) (value : Tree)
+    → value ≡ uid_value (record { ty = type_name ty; eid = [] }) → type_name ty ≡ name
+    → HasUid (record { ty = name; eid = [] }) (kind_ty of) → IsValueOf extensions (kind_ty of) value
+entity_sample extensions of ty name value is named has =
+    let P : Tree → Type 0 = IsValueOf extensions (kind_ty of) in
+    let Q : PlainName → Type 0 = λ n. HasUid (record { ty = n; eid = [] }) (kind_ty of) in
+    subst P (sym is) (uid_is_value (type_name ty) (IsName-type_name ty), subst Q (sym named) has)
+
+-- an entity whose type isn't of a kind isn't of the kind
+pub entity_apart : (extensions : Extensions) (of : EntityKind) (ty : EntityType) (name : PlainName) (value : Tree)
+    → value ≡ uid_value (record { ty = type_name ty; eid = [] }) → type_name ty ≡ name
+    → ¬ HasUid (record { ty = name; eid = [] }) (kind_ty of) → ¬ Has extensions value (kind_ty of)
+entity_apart extensions of ty name value is named lacks has =
+    let P : Tree → Type 0 = λ tree. Has extensions tree (kind_ty of) in
+    let Q : PlainName → Type 0 = λ n. HasUid (record { ty = n; eid = [] }) (kind_ty of) in
+    lacks (subst Q named (subst P is has))

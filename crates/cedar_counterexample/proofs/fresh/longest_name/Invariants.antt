@@ -1,0 +1,10 @@
+use Rattle.std.proofs.Common.{map, string_bytes}
+use Rattle.cedar_below.specs.Text.{Text}
+use Rattle.cedar_type_rules.specs.Fields.{field_names}
+use Rattle.cedar_types.specs.Meaning.{fields_of}
+use Rattle.cedar_counterexample.proofs.FreshLemmas.{LongestSoFar}
+use Rattle.cedar_counterexample.proofs.fresh.longest_name.Given as goal
+
+abbrev pub invariant-loop-name : goal.invariant-loop-name
+invariant-loop-name l =
+    LongestSoFar (λ (name : Text). name) (field_names (fields_of l.attrs)) (map string_bytes l.name-iterator) l.longest

@@ -1,0 +1,14 @@
+use Rattle.std.proofs.Common.{◌≡◌, string_bytes, subst, suc, sym, ◌∙◌}
+use Rattle.std.proofs.lemmas.Bool.{false≢true}
+use Rattle.cedar_below.proofs.ValueLemmas.{IsName-stretch, stretch}
+use Rattle.cedar_below.specs.Identifier.{IsIdentifier}
+use Rattle.cedar_below.specs.Text.{Text}
+use Rattle.cedar_counterexample.proofs.FreshLemmas.{underscores-stretch}
+use Rattle.cedar_counterexample.proofs.fresh.type_of_length.Goals as goal
+
+pub unreachable-requires : goal.unreachable-requires
+unreachable-requires c =
+    let text : string_bytes c.in_ok-underscores.field-0 ≡ stretch (suc c.args.count) =
+    c.in_ok-underscores.ensures ∙ underscores-stretch c.args.count in
+    let P : Text → Type 0 = IsIdentifier in
+    false≢true (c.in_default.ensures.valid.1 (subst P (sym text) (IsName-stretch c.args.count).0))

@@ -1,0 +1,33 @@
+use Rattle.std.proofs.Common.{◌≡◌, ◌∷◌, [], List, ap, inl, map, refl, subst, sym, ◌∙◌, Contains}
+use Rattle.std.specs.Slice.Iter.{iter_rest}
+use Rattle.cedar_below.proofs.Lists.{Contains-cons}
+use Rattle.cedar_below.specs.EntityType.{type_name}
+use Rattle.cedar_below.specs.PlainName.{PlainName}
+use Rattle.cedar_type_rules.specs.Has.{HasUid}
+use Rattle.cedar_types.specs.EntityKind.{kind_ty}
+use Rattle.cedar_types.specs.EntityLUB.{lub_names}
+use Rattle.cedar_types.specs.declared.entity_kind.EntityKind.{EntityKind}
+use Rattle.cedar_counterexample.proofs.FillingLemmas.{entity_sample}
+use Rattle.cedar_counterexample.proofs.samples.sample_entity.Goals as goal
+
+-- an entity of a name is of a kind
+abbrev IsOf : PlainName → EntityKind → Type 0
+IsOf name kind = HasUid (record { ty = name; eid = [] }) (kind_ty kind)
+
+pub returns-in_ok-type_of_length-in-AnyEntity : goal.returns-in_ok-type_of_length-in-AnyEntity
+returns-in_ok-type_of_length-in-AnyEntity c =
+    let ty = c.in_ok-type_of_length-in-AnyEntity.field-0 in
+    let P : EntityKind → Type 0 = IsOf (type_name ty) in
+    λ extensions. entity_sample extensions c.args.kind.now ty (type_name ty) _ c.entity_of.ensures refl (subst P (sym c.in-AnyEntity.is) tt)
+
+pub returns-in_ok-clone-in-Some : goal.returns-in_ok-clone-in-Some
+returns-in_ok-clone-in-Some c =
+    let ty = c.in-Some.ty.now in
+    let lub = c.in-Entity.lub in
+    let P : EntityKind → Type 0 = IsOf (type_name ty) in
+    let Q : List PlainName → Type 0 = λ names. Contains names (type_name ty) in
+    let names : type_name ty ∷ map type_name (iter_rest c.next.new.self) ≡ lub_names lub =
+    ap (map type_name) (sym c.in-Some.ensures.steps) ∙ c.iter.ensures.names in
+    let among = subst Q names (Contains-cons (type_name ty) _ (type_name ty) (inl refl)) in
+    λ extensions. entity_sample extensions c.args.kind.now c.in_ok-clone-in-Some.field-0 (type_name ty) _ c.entity_of-in-Some.ensures
+    c.in_ok-clone-in-Some.ensures.name (subst P (sym c.in-Entity.is) among)

@@ -1,0 +1,94 @@
+//! One value of a type, with no part that it doesn't need.
+
+ghost use Rattle.std.specs.Prelude.{◌≡◌, [], IfOk};
+ghost use Rattle.cedar_below.specs.EntityType.{type_name};
+ghost use Rattle.cedar_below.specs.RestrictedExpr.{entries_of, tree_of};
+ghost use Rattle.cedar_below.specs.Tree.{uid_value};
+ghost use Rattle.cedar_below.specs.declared.extension.Extensions.{Extensions};
+ghost use Rattle.cedar_type_rules.specs.Stated.{AreStatedWith, IsStatedWith};
+ghost use Rattle.cedar_counterexample.specs.Filling.{IsFilled};
+ghost use Rattle.cedar_counterexample.specs.Counterexample.{IsValueOf};
+ghost use Rattle.cedar_types.specs.EntityKind.{kind_ty};
+ghost use Rattle.cedar_types.specs.Meaning.{fields_of, ty_of};
+ghost use Rattle.cedar_types.specs.Samples.{value_trees};
+
+use crate::copying::copy_of;
+use crate::fresh::type_of_length;
+use crate::putting::put;
+use cedar_below::{Eid, EntityType, EntityUID, Extensions, M, RestrictedExpr, Value};
+use cedar_types::{Attributes, BoolType, EntityKind, Type};
+use std::alloc::Global;
+use std::collections::BTreeMap;
+
+/// The entity of a type with the empty id.
+pub(crate) fn entity_of(alloc: Global, ty: EntityType) -> RestrictedExpr
+    ensures { tree_of result ≡ uid_value (record { ty = type_name ty; eid = [] }) }
+{
+    let eid = Eid(String::new(alloc));
+    RestrictedExpr::EntityUid(EntityUID::new(ty, eid, None))
+}
+
+/// An entity of a kind.
+fn sample_entity(alloc: Global, kind: &EntityKind) -> M<RestrictedExpr>
+    ensures { IfOk result (λ sample. (extensions : Extensions) → IsValueOf extensions (kind_ty kind.now) (tree_of sample)) }
+{
+    match kind {
+        EntityKind::AnyEntity => Ok(entity_of(alloc, type_of_length(alloc, 0)?)),
+        EntityKind::Entity(lub) => match lub.iter().next() {
+            Some(ty) => Ok(entity_of(alloc, ty.clone()?)),
+            None => unreachable!(),
+        },
+    }
+}
+
+/// The values of a record, with a sample for each attribute whose name had none.
+#[cycle(samples)]
+pub(crate) fn fill(
+    alloc: Global,
+    start: BTreeMap<String, RestrictedExpr>,
+    attrs: &Attributes,
+    extensions: &Extensions,
+    samples: &[Value],
+) -> M<BTreeMap<String, RestrictedExpr>>
+    requires { AreStatedWith extensions.now (value_trees samples.now) (fields_of attrs.now) }
+    ensures { IfOk result (λ whole. IsFilled extensions.now (fields_of attrs.now) (entries_of start) (entries_of whole)) }
+{
+    let mut values = start;
+    for (name, attribute) in attrs.iter() {
+        if !values.contains_key(name.as_str()) {
+            let sample = sample_of(alloc, &attribute.attr_type, extensions, samples)?;
+            put(&mut values, name.clone()?, sample)?;
+        }
+    }
+    Ok(values)
+}
+
+/// A value of a type that is stated with samples: of an extension type a copy of a sample, of sets
+/// the empty one, and of a record one with the listed attributes alone.
+#[cycle(samples)]
+pub(crate) fn sample_of(
+    alloc: Global,
+    ty: &Type,
+    extensions: &Extensions,
+    samples: &[Value],
+) -> M<RestrictedExpr>
+    requires { IsStatedWith extensions.now (value_trees samples.now) (ty_of ty.now) }
+    ensures { IfOk result (λ sample. IsValueOf extensions.now (ty_of ty.now) (tree_of sample)) }
+{
+    match ty {
+        Type::Never => unreachable!(),
+        Type::Bool(known) => Ok(RestrictedExpr::Bool(*known != BoolType::False)),
+        Type::Long => Ok(RestrictedExpr::Long(0)),
+        Type::String => Ok(RestrictedExpr::String(String::new(alloc))),
+        Type::Entity(kind) => sample_entity(alloc, kind),
+        Type::Set { .. } => Ok(RestrictedExpr::Set(Vec::new(alloc))),
+        Type::Record { attrs, .. } => {
+            let values = fill(alloc, BTreeMap::new(alloc), attrs, extensions, samples)?;
+            Ok(RestrictedExpr::Record(values))
+        }
+        Type::ExtensionType { .. } => match ty.sample_among(extensions, samples) {
+            Some(sample) => copy_of(alloc, sample.expr()),
+            None => unreachable!(),
+        },
+    }
+}

@@ -1,0 +1,82 @@
+-- The schema that a bag declares meets what a schema has to that is converted back, so that it comes back.
+use Rattle.std.proofs.Common.{subst, inl, inr, ⊎_elim}
+use Rattle.cedar_below.specs.Extensions.{extension_types}
+use Rattle.cedar_below.specs.PlainUid.{PlainUid}
+use Rattle.cedar_below.specs.TypeNames.{TypeNamesFit}
+use Rattle.cedar_below.specs.declared.extension.Extensions.{Extensions}
+use Rattle.cedar_declarations.proofs.OccurrenceLemmas.{Contains-image}
+use Rattle.cedar_declarations.specs.Bag.{Bag, action_uids, definitions}
+use Rattle.cedar_declarations.specs.Counted.{PositionsFit}
+use Rattle.cedar_declarations.specs.DeclaredSchema.{IsDeclaredActionKind, IsDeclaredSchema}
+use Rattle.cedar_declarations.specs.Fault.{context_not_record, reserved_name}
+use Rattle.cedar_declarations.specs.IllFormed.{IsIllFormed}
+use Rattle.cedar_declarations.specs.PlainSchema.{ActionKind, PlainSchema, defined_action, external_action}
+use Rattle.cedar_declarations.specs.Together.{ActionSays}
+use Rattle.cedar_declarations.specs.ValidSchema.{IsContextOf}
+use Rattle.cedar_declarations.specs.ElaboratesTo.{IsRecordType}
+use Rattle.cedar_declaration_laws.proofs.DeclaredKinds.{decide_record}
+use Rattle.cedar_declaration_laws.proofs.FaultsConvertedBack.{converted_schemas_are_well_formed}
+use Rattle.cedar_declaration_laws.proofs.SchemasConvertedBack.{converted_schemas_are_declared}
+use Rattle.cedar_declaration_laws.proofs.ValidLaws.{declared_action_uid, declared_closed, declared_type, declared_valid}
+use Rattle.cedar_declaration_laws.specs.EndToEnd.{DeclaredSchemasComeBack, HasNoReservedName, HasRecordContexts, IsInOrder, StandsUnderItsNames}
+use Rattle.cedar_names.specs.ActionBody.{Requests, elsewhere, requests}
+use Rattle.cedar_type_rules.specs.Ty.{Ty}
+
+module _ (bag : Bag) (extensions : Extensions) (schema : PlainSchema) (declared : IsDeclaredSchema bag extensions schema) where
+  -- a declared schema is in order
+  declared_in_order : IsInOrder schema
+  declared_in_order = record { entity_types = declared.entity_types_in_order; actions = declared.actions_in_order }
+
+  -- and stands under its names
+  pub declared_under_names : StandsUnderItsNames schema
+  declared_under_names = record {
+    entity_types = λ it among. (declared.entity_types it among).name;
+    actions = λ it among. (declared.actions it among).uid;
+  }
+
+  -- where nothing is at fault, the context of a declared kind is a record
+  context_is_record : ¬ IsIllFormed bag extensions → (uid : PlainUid) (applies_to : Requests) (kind : ActionKind)
+      → ActionSays bag uid applies_to → IsDeclaredActionKind (definitions bag extensions) applies_to kind → (ty : Ty)
+      → IsContextOf kind ty → IsRecordType ty
+  context_is_record well uid (requests principals resources context) (defined_action ps rs other) says is ty same =
+      ⊎_elim
+      (λ is_record. subst IsRecordType same is_record)
+      (λ none. absurd (well (context_not_record uid, (principals, resources, context, says, (other, is.2, none)))))
+      (decide_record other)
+  context_is_record well uid (requests principals resources context) external_action says is ty same = absurd is
+  context_is_record well uid elsewhere (defined_action ps rs other) says is ty same = absurd is
+  context_is_record well uid elsewhere external_action says is ty same = absurd same
+
+  -- so are the contexts of a declared schema
+  declared_contexts : ¬ IsIllFormed bag extensions → HasRecordContexts schema
+  declared_contexts well it ty among of =
+      let action = declared.actions it among in
+      context_is_record well it.0 action.applies_to it.1.kind action.says action.kind ty of
+
+  -- and no name of it is reserved
+  declared_unreserved : TypeNamesFit (extension_types extensions) → PositionsFit bag → ¬ IsIllFormed bag extensions
+      → HasNoReservedName schema
+  declared_unreserved fit places well = record {
+    entity_types = λ name has reserved.
+        well (reserved_name name, (inl (declared_type bag extensions schema fit places well declared name has), reserved));
+    actions = λ uid has reserved. well (
+      reserved_name uid.ty,
+      (
+        inr (Contains-image (λ (each : PlainUid). each.ty) (action_uids bag) uid
+            (declared_action_uid bag extensions schema fit places well declared uid has)),
+        reserved,
+      ),
+    );
+  }
+
+-- so it comes back
+pub declared_schemas_come_back : DeclaredSchemasComeBack
+declared_schemas_come_back bag again extensions schema fit places well declared writable written =
+    let order = declared_in_order bag extensions schema declared in
+    let valid = declared_valid bag extensions schema fit places well declared in (
+      converted_schemas_are_well_formed schema again extensions fit order
+          (declared_unreserved bag extensions schema declared fit places well)
+          (declared_contexts bag extensions schema declared well) writable valid written,
+      converted_schemas_are_declared schema schema again extensions order (declared_under_names bag extensions schema declared)
+          writable valid written (declared_closed bag extensions schema declared),
+    )

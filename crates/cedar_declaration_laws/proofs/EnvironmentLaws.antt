@@ -1,0 +1,72 @@
+-- The environments of a declared schema are the declared ones.
+use Rattle.std.proofs.Common.{subst, Contains}
+use Rattle.cedar_below.proofs.Lists.{Contains-preimage}
+use Rattle.cedar_below.specs.Extensions.{extension_types}
+use Rattle.cedar_below.specs.PlainUid.{PlainUid}
+use Rattle.cedar_below.specs.TypeNames.{TypeNamesFit}
+use Rattle.cedar_below.specs.declared.extension.Extensions.{Extensions}
+use Rattle.cedar_declarations.proofs.BuiltInLemmas.{one_definition}
+use Rattle.cedar_declarations.proofs.OccurrenceLemmas.{Contains-image}
+use Rattle.cedar_declarations.proofs.TogetherLemmas.{defined_action_is_declared, action_definition_says, action_says_once}
+use Rattle.cedar_declarations.proofs.ResolutionLemmas.{HasOneDefinition, elaborated_once}
+use Rattle.cedar_declarations.specs.Bag.{Bag, definitions}
+use Rattle.cedar_declarations.specs.DeclaredSchema.{IsDeclaredActionKind, IsDeclaredSchema}
+use Rattle.cedar_declarations.specs.Defined.{Defined}
+use Rattle.cedar_declarations.specs.Environments.{Environment, IsRequestOf, IsEnvironmentOf, IsDeclaredRequest, IsDeclaredEnvironment}
+use Rattle.cedar_declarations.specs.Fault.{duplicate_common_type, duplicate_action}
+use Rattle.cedar_declarations.specs.IllFormed.{IsIllFormed}
+use Rattle.cedar_declarations.specs.PlainSchema.{ActionKind, defined_action, external_action, SchemaAction, PlainSchema}
+use Rattle.cedar_declarations.specs.Together.{defined_actions, ActionSays}
+use Rattle.cedar_declarations.specs.ElaboratesTo.{ElaboratesTo}
+use Rattle.cedar_names.specs.ActionBody.{Requests, requests, elsewhere}
+
+-- requests of a declared kind of action are declared
+declared_request : (defined : Defined) (declared : Requests) (kind : ActionKind) (it : Environment)
+    → IsDeclaredActionKind defined declared kind → IsRequestOf kind it → IsDeclaredRequest defined declared it
+declared_request defined (requests principals resources context) (defined_action ps rs ty) it fits request =
+    ((fits.0 it.principal).0 request.0, (fits.1 it.resource).0 request.1, subst (ElaboratesTo defined context) request.2 fits.2)
+declared_request defined (requests principals resources context) external_action it fits request = absurd fits
+declared_request defined elsewhere (defined_action ps rs ty) it fits request = absurd fits
+declared_request defined elsewhere external_action it fits request = absurd request
+
+-- requests that are declared are those of the declared kind of action
+request_of : (defined : Defined) → HasOneDefinition defined → (declared : Requests) (kind : ActionKind) (it : Environment)
+    → IsDeclaredActionKind defined declared kind → IsDeclaredRequest defined declared it → IsRequestOf kind it
+request_of defined one (requests principals resources context) (defined_action ps rs ty) it fits request =
+    ((fits.0 it.principal).1 request.0, (fits.1 it.resource).1 request.1, elaborated_once defined one fits.2 request.2)
+request_of defined one (requests principals resources context) external_action it fits request = absurd fits
+request_of defined one elsewhere kind it fits request = absurd request
+
+-- the requests of a declared kind of action whose environments there are, are those of its definition
+said_requests : (bag : Bag) (uid : PlainUid) (defined : Defined) (applies_to : Requests) (it : Environment)
+    → ActionSays bag uid applies_to → IsDeclaredRequest defined applies_to it → Contains (defined_actions bag) (uid, applies_to)
+said_requests bag uid defined (requests principals resources context) it says request = says
+said_requests bag uid defined elsewhere it says request = absurd request
+
+module _ (bag : Bag) (extensions : Extensions) (fit : TypeNamesFit (extension_types extensions))
+    (well : ¬ IsIllFormed bag extensions) (schema : PlainSchema) (declared : IsDeclaredSchema bag extensions schema) where
+  -- an environment of the schema is declared
+  pub environment_declared : (it : Environment) → IsEnvironmentOf schema it → IsDeclaredEnvironment bag extensions it
+  environment_declared it found =
+      let action = declared.actions (it.action, found.0) found.1 in
+      let request = declared_request (definitions bag extensions) action.applies_to found.0.kind it action.kind found.2 in (
+        action.applies_to,
+        said_requests bag it.action (definitions bag extensions) action.applies_to it action.says request,
+        request,
+      )
+
+  -- a declared environment is one of the schema
+  pub declared_environment : (it : Environment) → IsDeclaredEnvironment bag extensions it → IsEnvironmentOf schema it
+  declared_environment it found =
+      let defined = definitions bag extensions in
+      let named = declared.each_action it.action (defined_action_is_declared bag it.action
+      (Contains-image (λ (each : PlainUid × Requests). each.0) (defined_actions bag) (it.action, found.0) found.1)) in
+      let there = Contains-preimage (λ (each : PlainUid × SchemaAction). each.0) schema.actions it.action named in
+      let P : PlainUid → Type 0 = λ uid. Contains schema.actions (uid, there.0.1) in
+      let among = subst P there.2 there.1 in
+      let action = declared.actions (it.action, there.0.1) among in
+      let same = action_says_once bag (λ uid twice. well (duplicate_action uid, twice)) it.action action.applies_to found.0
+      action.says (action_definition_says bag it.action found.0 found.1) in
+      let Q : Requests → Type 0 = λ applies_to. IsDeclaredActionKind defined applies_to there.0.1.kind in
+      let one = one_definition bag extensions fit (λ name twice. well (duplicate_common_type name, twice)) in
+      (there.0.1, among, request_of defined one found.0 there.0.1.kind it (subst Q same action.kind) found.2)

@@ -1,0 +1,243 @@
+-- What stands in the expressions of types that are written, and which expressions count in the bag of a schema that is
+-- converted back.
+use Rattle.std.proofs.Common.{◌≡◌, false, List, [], ◌∷◌, Option, Some, None, ap, subst, ◌∙◌, refl, inl, inr, ⊎_elim, arith}
+use Rattle.std.proofs.lemmas.Bool.{false≢true}
+use Rattle.std.specs.Option.{option_zip}
+use Rattle.cedar_below.specs.PlainName.{PlainName}
+use Rattle.cedar_below.specs.Text.{Text}
+use Rattle.cedar_below.specs.declared.extension.Extensions.{Extensions}
+use Rattle.cedar_declarations.specs.Bag.{Bag, definitions}
+use Rattle.cedar_declarations.specs.Counted.{CountsIn, CountsInEntity, CountsInRequests, HasToResolve, IsCounted, IsEntityTypePosition, IsAtEntityTypePosition, IsPrincipalOrResource}
+use Rattle.cedar_declarations.specs.EntityTypeKind.{EntityTypeKind, enumerated_kind, external_kind, standard_kind}
+use Rattle.cedar_declarations.specs.Mentions.{HasOpenRecord, MembersHaveOpenRecord, MembersMentionExtension, MembersRefer, MentionsExtension, Refers}
+use Rattle.cedar_declarations.specs.PlainSchema.{ActionKind, PlainSchema, defined_action, external_action}
+use Rattle.cedar_declarations.specs.TypeMentions.{FieldsMentionEntity, FieldsMentionExtensionType, MentionsEntity, MentionsExtensionType}
+use Rattle.cedar_declarations.specs.ValidSchema.{HasEntityType, IsContextOf, IsPrincipalOrResourceOf, IsTypeOfKind, IsValidSchema, ListsDescendant}
+use Rattle.cedar_declarations.specs.ConvertedBack.{AreRequestsWritten, AreTagsWritten, IsKindWritten, IsNameWrittenIn, IsTypeWrittenIn, IsWritable, IsConvertedBack, extension_written, fields_written, full_name, type_written}
+use Rattle.cedar_declaration_laws.proofs.EntriesConvertedBack.{action_written_by, type_written_by}
+use Rattle.cedar_declaration_laws.proofs.KindsConvertedBack.{mentioned_again, request_known}
+use Rattle.cedar_declaration_laws.proofs.NamesConvertedBack.{from_schema}
+use Rattle.cedar_declaration_laws.proofs.ParentsConvertedBack.{parent_above, type_again, upper_there}
+use Rattle.cedar_declaration_laws.proofs.TypesConvertedBack.{map_some, zip_some}
+use Rattle.cedar_declaration_laws.specs.EndToEnd.{IsNamedAgain}
+use Rattle.cedar_names.specs.ActionBody.{Requests, elsewhere, requests}
+use Rattle.cedar_names.specs.Declaration.{Body}
+use Rattle.cedar_names.specs.EntityBody.{EntityBody, enumerated, external, standard}
+use Rattle.cedar_names.specs.Expr.{Expr, Members, extension_expr, long_expr, member, named, no_member, record_expr, set_expr, text_expr, truth_expr}
+use Rattle.cedar_names.specs.Reference.{Reference}
+use Rattle.cedar_type_rules.specs.Ty.{Fields, Ty, any_entity, any_set, end, extension_of, field, long, never, record_of, set_of, text, truth, union_of}
+use Rattle.cedar_type_rules.specs.declared.bool_type.BoolType.TheVariants.{AnyBool, False, True}
+use Rattle.cedar_type_rules.specs.declared.open_tag.OpenTag.TheVariants.{ClosedAttributes, OpenAttributes}
+
+module _ (namespace : Option PlainName) where
+  -- no open record stands in the expression, it refers to entity types of the type in full, and it mentions extension types of it
+  pub record SaysOf (ty : Ty) (expr : Expr) : Type 0 where
+    pub closed : ¬ HasOpenRecord expr
+    pub refers : (reference : Reference) → Refers expr reference
+        → (name : PlainName) × MentionsEntity ty name × (full_name namespace name ≡ reference)
+    pub mentions : (word : Text) → MentionsExtension expr word → MentionsExtensionType ty (record { base = word; path = [] })
+
+  -- the same of attributes
+  record MembersSayOf (fields : Fields) (members : Members) : Type 0 where
+    closed : ¬ MembersHaveOpenRecord members
+    refers : (reference : Reference) → MembersRefer members reference
+        → (name : PlainName) × FieldsMentionEntity fields name × (full_name namespace name ≡ reference)
+    mentions : (word : Text) → MembersMentionExtension members word
+        → FieldsMentionExtensionType fields (record { base = word; path = [] })
+
+  -- an extension type
+  extension_says : (base : Text) (path : List Text) (expr : Expr) → extension_written base path ≡ Some expr
+      → SaysOf (extension_of (record { base = base; path = path })) expr
+  extension_says base [] expr is =
+      let same : extension_expr base ≡ expr = cc in
+      subst (SaysOf (extension_of (record { base = base; path = [] }))) same (record {
+        closed = λ none. none;
+        refers = λ reference none. absurd none;
+        mentions = λ word same i. record { base = same i; path = [] };
+      })
+  extension_says base (part ∷ path) expr is = cc
+
+  mutual
+    -- the expression of a type says what it does of the type
+    pub type_says : (ty : Ty) (expr : Expr) → type_written namespace ty ≡ Some expr → SaysOf ty expr
+    type_says never expr is = cc
+    type_says (truth AnyBool) expr is =
+        let same : truth_expr ≡ expr = cc in
+        subst (SaysOf (truth AnyBool)) same
+        (record { closed = λ none. none; refers = λ reference none. absurd none; mentions = λ word none. absurd none })
+    type_says (truth True) expr is = cc
+    type_says (truth False) expr is = cc
+    type_says long expr is =
+        let same : long_expr ≡ expr = cc in
+        subst (SaysOf long) same
+        (record { closed = λ none. none; refers = λ reference none. absurd none; mentions = λ word none. absurd none })
+    type_says text expr is =
+        let same : text_expr ≡ expr = cc in
+        subst (SaysOf text) same
+        (record { closed = λ none. none; refers = λ reference none. absurd none; mentions = λ word none. absurd none })
+    type_says any_entity expr is = cc
+    type_says (union_of []) expr is = cc
+    type_says (union_of (name ∷ [])) expr is =
+        let same : named (full_name namespace name) ≡ expr = cc in
+        subst (SaysOf (union_of (name ∷ []))) same (record {
+          closed = λ none. none;
+          refers = λ reference full. (name, (0, omega arith, refl), full);
+          mentions = λ word none. absurd none;
+        })
+    type_says (union_of (name ∷ other ∷ rest)) expr is = cc
+    type_says any_set expr is = cc
+    type_says (set_of ty) expr is =
+        let of = map_some set_expr (type_written namespace ty) expr is in
+        let says = type_says ty of.0 of.1 in
+        subst (SaysOf (set_of ty)) of.2 (record { closed = says.closed; refers = says.refers; mentions = says.mentions })
+    type_says (record_of fields ClosedAttributes) expr is =
+        let of = map_some (λ members. record_expr members false) (fields_written namespace fields) expr is in
+        let says = fields_say fields of.0 of.1 in
+        subst (SaysOf (record_of fields ClosedAttributes)) of.2 (record {
+          closed = λ opened. ⊎_elim (λ additional. false≢true additional) says.closed opened;
+          refers = says.refers;
+          mentions = says.mentions;
+        })
+    type_says (record_of fields OpenAttributes) expr is = cc
+    type_says (extension_of name) expr is = extension_says name.base name.path expr is
+
+    -- the same of attributes
+    fields_say : (fields : Fields) (members : Members) → fields_written namespace fields ≡ Some members → MembersSayOf fields members
+    fields_say end members is =
+        let same : no_member ≡ members = cc in
+        subst (MembersSayOf end) same
+        (record { closed = λ none. none; refers = λ reference none. absurd none; mentions = λ word none. absurd none })
+    fields_say (field name required ty rest) members is =
+        let make : Expr × Members → Members = λ both. member name required both.0 both.1 in
+        let of = map_some make (option_zip (type_written namespace ty) (fields_written namespace rest)) members is in
+        let both = zip_some (type_written namespace ty) (fields_written namespace rest) of.0 of.1 in
+        let first = type_says ty of.0.0 both.0 in
+        let later = fields_say rest of.0.1 both.1 in
+        subst (MembersSayOf (field name required ty rest)) of.2 (record {
+          closed = λ opened. ⊎_elim first.closed later.closed opened;
+          refers = λ reference refers. ⊎_elim
+              (λ here. let found = first.refers reference here in (found.0, inl found.1, found.2))
+              (λ there. let found = later.refers reference there in (found.0, inr found.1, found.2))
+              refers;
+          mentions = λ word mentions. ⊎_elim (λ here. inl (first.mentions word here)) (λ there. inr (later.mentions word there)) mentions;
+        })
+
+  -- the type of tags that count is that of the kind
+  tags_count : (tags : Option Ty) (written : Option Expr) → AreTagsWritten namespace tags written → (expr : Expr) → written ≡ Some expr
+      → (ty : Ty) × (tags ≡ Some ty) × (type_written namespace ty ≡ Some expr)
+  tags_count (Some ty) (Some other) is expr same = (ty, refl, is ∙ same)
+  tags_count (Some ty) None is expr same = absurd is
+  tags_count None (Some other) is expr same = absurd is
+  tags_count None None is expr same = absurd cc
+
+  -- what counts in what is written of an entity type is the expression of a type of its kind
+  kind_counts : (IsAbove : PlainName → Type 0) (kind : EntityTypeKind) (body : EntityBody) → IsKindWritten namespace IsAbove kind body
+      → (expr : Expr) → CountsInEntity body expr → (ty : Ty) × IsTypeOfKind kind ty × (type_written namespace ty ≡ Some expr)
+  kind_counts IsAbove (standard_kind fields openness tags) (standard parents shape written) is expr counts =
+      ⊎_elim
+      (λ same. (record_of fields openness, inl refl, is.1 ∙ ap Some same))
+      (λ same. let found = tags_count tags written is.2 expr same in (found.0, inr found.1, found.2))
+      counts
+  kind_counts IsAbove (enumerated_kind choices) (standard parents shape written) is expr counts = absurd is
+  kind_counts IsAbove external_kind (standard parents shape written) is expr counts = absurd is
+  kind_counts IsAbove kind (enumerated ids) is expr counts = absurd counts
+  kind_counts IsAbove kind (external parents) is expr counts = absurd counts
+
+  -- what counts in the requests that are written of an action is the expression of its context
+  requests_count : (kind : ActionKind) (applies_to : Requests) → AreRequestsWritten namespace kind applies_to → (expr : Expr)
+      → CountsInRequests applies_to expr → (ty : Ty) × IsContextOf kind ty × (type_written namespace ty ≡ Some expr)
+  requests_count (defined_action ps rs ty) (requests principals resources context) is expr counts = (ty, refl, is.2 ∙ ap Some counts)
+  requests_count external_action (requests principals resources context) is expr counts = absurd is
+  requests_count kind elsewhere is expr counts = absurd counts
+
+  -- a principal or a resource that is written is the name in full of one of the action
+  request_placed_by : (kind : ActionKind) (applies_to : Requests) → AreRequestsWritten namespace kind applies_to → (reference : Reference)
+      → IsPrincipalOrResource applies_to reference
+      → (name : PlainName) × IsPrincipalOrResourceOf kind name × (full_name namespace name ≡ reference)
+  request_placed_by (defined_action ps rs ty) (requests principals resources context) is reference placed =
+      ⊎_elim
+      (λ principal. let found = (is.0 reference).0 principal in (found.0, inl found.1, found.2))
+      (λ resource. let found = (is.1 reference).0 resource in (found.0, inr found.1, found.2))
+      placed
+  request_placed_by external_action (requests principals resources context) is reference placed = absurd is
+  request_placed_by kind elsewhere is reference placed = absurd placed
+
+-- a type that is written in a namespace as the expression
+pub record IsExpressionOf (schema : PlainSchema) (expr : Expr) : Type 0 where
+  pub namespace : Option PlainName
+  pub ty : Ty
+  pub place : IsTypeWrittenIn schema namespace ty
+  pub is : type_written namespace ty ≡ Some expr
+
+-- an entity type of the schema that the reference names in full in a namespace
+pub record IsFullNameOf (schema : PlainSchema) (reference : Reference) : Type 0 where
+  pub namespace : Option PlainName
+  pub name : PlainName
+  pub place : IsNameWrittenIn schema namespace name
+  pub there : HasEntityType schema name
+  pub is : full_name namespace name ≡ reference
+
+module _ (schema : PlainSchema) (bag : Bag) (extensions : Extensions) (written : IsConvertedBack schema bag) where
+  -- an expression that counts is that of a type which is written
+  pub counted_of : (expr : Expr) → IsCounted bag expr → IsExpressionOf schema expr
+  counted_of expr (d, among, counts) =
+      let P : Body → Type 0 = λ body. CountsIn body expr in
+      ⊎_elim
+      (λ from.
+      let entry = type_written_by schema from.0 d from.2 in
+      let found = kind_counts entry.namespace (λ upper. ListsDescendant schema from.0.0 upper) from.0.1.kind from.2.body entry.kind expr
+      (subst P from.2.declares counts) in
+      record { namespace = entry.namespace; ty = found.0; place = inl (from.0, from.1, entry.path, found.1); is = found.2 })
+      (λ from.
+      let entry = action_written_by schema from.0 d from.2 in
+      let found = requests_count entry.namespace from.0.1.kind from.2.applies_to entry.applies_to expr (subst P from.2.declares counts) in
+      record { namespace = entry.namespace; ty = found.0; place = inr (from.0, from.1, entry.path, found.1); is = found.2 })
+      (from_schema schema bag written d among)
+
+  -- a reference at the place of an entity type names one of the schema in full
+  pub placed_of : IsValidSchema extensions schema → (reference : Reference) → IsAtEntityTypePosition bag reference → IsFullNameOf schema reference
+  placed_of valid reference (d, among, placed) =
+      let P : Body → Type 0 = λ body. IsEntityTypePosition body reference in
+      ⊎_elim
+      (λ from.
+      let entry = type_written_by schema from.0 d from.2 in
+      let found = parent_above entry.namespace (λ upper. ListsDescendant schema from.0.0 upper) from.0.1.kind from.2.body entry.kind
+      reference (subst P from.2.declares placed) in
+      record {
+        namespace = entry.namespace;
+        name = found.0;
+        place = inr (inl (from.0.0, entry.path, found.1));
+        there = upper_there schema from.0.0 found.0 found.1;
+        is = found.2;
+      })
+      (λ from.
+      let entry = action_written_by schema from.0 d from.2 in
+      let found = request_placed_by entry.namespace from.0.1.kind from.2.applies_to entry.applies_to reference
+      (subst P from.2.declares placed) in
+      record {
+        namespace = entry.namespace;
+        name = found.0;
+        place = inr (inr (from.0, from.1, entry.path, found.1));
+        there = request_known schema extensions valid from.0 from.1 found.0 found.1;
+        is = found.2;
+      })
+      (from_schema schema bag written d among)
+
+  -- a reference that has to name something names again what it names in full
+  pub resolves_again : IsWritable schema → IsValidSchema extensions schema → (reference : Reference) → HasToResolve bag reference
+      → (namespace : Option PlainName) × (name : PlainName) × IsNamedAgain (definitions bag extensions) namespace name
+      × (full_name namespace name ≡ reference)
+  resolves_again writable valid reference has =
+      ⊎_elim
+      (λ counted.
+      let of = counted_of counted.0 counted.1 in
+      let found = (type_says of.namespace of.ty counted.0 of.is).refers reference counted.2 in (
+        of.namespace,
+        found.0,
+        mentioned_again schema bag extensions writable written valid of.namespace of.ty of.place found.0 found.1,
+        found.2,
+      ))
+      (λ placed.
+      let of = placed_of valid reference placed in
+      (of.namespace, of.name, type_again schema bag extensions writable written of.namespace of.name of.place of.there, of.is))
+      has

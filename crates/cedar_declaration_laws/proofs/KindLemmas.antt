@@ -1,0 +1,80 @@
+-- The kind that fits what is declared fits what is the same, where the same names are defined.
+use Rattle.std.proofs.Common.{◌↔◌, List, Option, Some, None, sym, subst, ◌∙◌, Contains}
+use Rattle.cedar_below.specs.Lists.{SameItems}
+use Rattle.cedar_below.specs.PlainName.{PlainName}
+use Rattle.cedar_names.specs.ActionBody.{Requests, requests, elsewhere}
+use Rattle.cedar_names.specs.EntityBody.{EntityBody, standard, enumerated, external}
+use Rattle.cedar_names.specs.Expr.{Expr}
+use Rattle.cedar_names.specs.Reference.{Reference}
+use Rattle.cedar_declarations.proofs.DefinedLemmas.{SameDefined, resolves_there, elaborated_there}
+use Rattle.cedar_declarations.specs.DeclaredSchema.{IsNamedBy, IsDeclaredActionKind, IsDeclaredKind, AreDeclaredTags}
+use Rattle.cedar_declarations.specs.Defined.{Defined, names_of}
+use Rattle.cedar_declarations.specs.EntityTypeKind.{EntityTypeKind, standard_kind, enumerated_kind, external_kind}
+use Rattle.cedar_declarations.specs.PlainSchema.{ActionKind, defined_action, external_action}
+use Rattle.cedar_declarations.specs.SameBag.{SameEntityBody, SameRequests}
+use Rattle.cedar_declarations.specs.ElaboratesTo.{ElaboratesTo}
+use Rattle.cedar_type_rules.specs.Ty.{Ty, record_of}
+use Rattle.cedar_type_rules.specs.declared.open_tag.OpenTag.TheVariants.{ClosedAttributes}
+
+module _ (defined other : Defined) (same : SameDefined defined other) where
+  -- tags fit alike
+  tags_there : (tags : Option Expr) (ty : Option Ty) → AreDeclaredTags defined tags ty → AreDeclaredTags other tags ty
+  tags_there None None fits = tt
+  tags_there (Some expr) (Some ty) fits = elaborated_there defined other same fits
+  tags_there None (Some ty) fits = absurd fits
+  tags_there (Some expr) None fits = absurd fits
+
+  -- a kind fits what is the same
+  pub kind_there : (body found : EntityBody) (kind : EntityTypeKind) → SameEntityBody body found
+      → IsDeclaredKind defined body kind → IsDeclaredKind other found kind
+  kind_there (standard ps shape tags) (standard ps' shape' tags') (standard_kind fields openness ty) alike fits =
+      let P : Expr → Type 0 = λ each. ElaboratesTo other each (record_of fields ClosedAttributes) in
+      let Q : Option Expr → Type 0 = λ each. AreDeclaredTags other each ty in
+      (subst P alike.0 (elaborated_there defined other same fits.0), fits.1, subst Q alike.1 (tags_there tags ty fits.2))
+  kind_there (enumerated choices) (enumerated others) (enumerated_kind ids) alike fits = sym alike ∙ fits
+  kind_there (external ps) (external ps') external_kind alike fits = tt
+  kind_there (standard ps shape tags) found (enumerated_kind ids) alike fits = absurd fits
+  kind_there (standard ps shape tags) found external_kind alike fits = absurd fits
+  kind_there (standard ps shape tags) (enumerated choices) kind alike fits = absurd alike
+  kind_there (standard ps shape tags) (external ps') kind alike fits = absurd alike
+  kind_there (enumerated choices) found (standard_kind fields openness ty) alike fits = absurd fits
+  kind_there (enumerated choices) found external_kind alike fits = absurd fits
+  kind_there (enumerated choices) (standard ps shape tags) kind alike fits = absurd alike
+  kind_there (enumerated choices) (external ps) kind alike fits = absurd alike
+  kind_there (external ps) found (standard_kind fields openness ty) alike fits = absurd fits
+  kind_there (external ps) found (enumerated_kind ids) alike fits = absurd fits
+  kind_there (external ps) (standard ps' shape tags) kind alike fits = absurd alike
+  kind_there (external ps) (enumerated choices) kind alike fits = absurd alike
+
+  -- what some references name the same name
+  named_there : (references others : List Reference) (name : PlainName) → SameItems references others
+      → IsNamedBy (names_of defined) references name → IsNamedBy (names_of other) others name
+  named_there references others name alike (reference, among, resolves) =
+      (reference, (alike reference).0 among, resolves_there defined other same reference name resolves)
+
+-- and the other way round
+named_both : (defined other : Defined) → SameDefined defined other → SameDefined other defined
+    → (references others names : List _) → SameItems references others
+    → ((name : PlainName) → Contains names name ↔ IsNamedBy (names_of defined) references name) → (name : PlainName)
+    → Contains names name ↔ IsNamedBy (names_of other) others name
+named_both defined other same back references others names alike each name = (
+  λ among. named_there defined other same references others name alike ((each name).0 among),
+  λ named. (each name).1 (named_there other defined back others references name (λ item. ((alike item).1, (alike item).0)) named),
+)
+
+-- the kind of an action fits what is the same
+pub action_kind_there : (defined other : Defined) → SameDefined defined other → SameDefined other defined
+    → (body found : Requests) (kind : ActionKind) → SameRequests body found → IsDeclaredActionKind defined body kind
+    → IsDeclaredActionKind other found kind
+action_kind_there defined other same back (requests ps rs context) (requests ps' rs' context')
+    (defined_action principals resources ty) alike fits =
+    let P : Expr → Type 0 = λ each. ElaboratesTo other each ty in (
+      named_both defined other same back ps ps' principals alike.0 fits.0,
+      named_both defined other same back rs rs' resources alike.1 fits.1,
+      subst P alike.2 (elaborated_there defined other same fits.2),
+    )
+action_kind_there defined other same back elsewhere elsewhere external_action alike fits = tt
+action_kind_there defined other same back (requests ps rs context) found external_action alike fits = absurd fits
+action_kind_there defined other same back (requests ps rs context) elsewhere kind alike fits = absurd alike
+action_kind_there defined other same back elsewhere found (defined_action principals resources ty) alike fits = absurd fits
+action_kind_there defined other same back elsewhere (requests ps rs context) kind alike fits = absurd alike

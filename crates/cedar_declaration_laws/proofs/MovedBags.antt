@@ -1,0 +1,300 @@
+-- What bags define and declare whose declarations are alike pairwise.
+use Rattle.std.proofs.Common.{◌≡◌, zero, suc, List, [], ◌∷◌, ◌++◌, map, not, ap, sym, subst, ◌∙◌, refl, ⊎_elim, arith, Contains}
+use Rattle.std.proofs.lemmas.List.{map-append}
+use Rattle.std.proofs.lemmas.List.Elements.{Contains-append_left, Contains-append_right, Contains-append_cases}
+use Rattle.std.specs.List.{flat_map, filter, list_any}
+use Rattle.std.specs.Ordering.{is_eq}
+use Rattle.cedar_below.proofs.Lists.{Contains-preimage}
+use Rattle.cedar_below.specs.Extensions.{extension_types}
+use Rattle.cedar_below.specs.Lists.{HoldsPairwise}
+use Rattle.cedar_below.specs.PlainName.{PlainName, name_cmp}
+use Rattle.cedar_below.specs.PlainUid.{PlainUid}
+use Rattle.cedar_below.specs.Text.{Text}
+use Rattle.cedar_below.specs.declared.extension.Extensions.{Extensions}
+use Rattle.cedar_names.specs.ActionBody.{ActionBody, Requests, requests, elsewhere}
+use Rattle.cedar_names.specs.Declaration.{Declaration, Body, common_type, entity_type, action}
+use Rattle.cedar_names.specs.EntityBody.{EntityBody, standard, enumerated, external}
+use Rattle.cedar_names.specs.Expr.{Expr, extension_expr}
+use Rattle.cedar_declarations.proofs.BuiltInLemmas.{alias_of}
+use Rattle.cedar_declarations.proofs.DeclarationLemmas.{entity_declaration, action_declaration, common_declaration, declares_entity, declares_action, declares_common}
+use Rattle.cedar_declaration_laws.proofs.MeaningLemmas.{AreAlike, alike_text, alike_long, alike_truth, alike_extension}
+use Rattle.cedar_declarations.proofs.TurnLemmas.{turn_forth}
+use Rattle.cedar_declaration_laws.proofs.MovedLemmas.{keys_pairwise, DeclarationsAlike, BodiesAlike, EntitiesAlike, RequestsAlike, alike_name, alike_uid, common_keys, entity_keys, action_keys}
+use Rattle.cedar_declaration_laws.proofs.OrderLaws.{nested}
+use Rattle.cedar_declarations.specs.Bag.{Bag, common_in, entity_in, action_in, declared_name, declared_uid, declared_common, declared_entities, declared_actions, declared_types, action_uids, built_in_types, built_in_name, built_ins, alias_name, aliases, definitions, defined_names}
+use Rattle.cedar_declarations.specs.Names.{Names}
+use Rattle.cedar_declarations.specs.Together.{entity_definition_in, defined_entities, action_definition_in, defined_actions}
+
+-- what is declared of entity types that are alike is defined under the same key
+entity_definition_keys : (names others : Names) (name name' : PlainName) → name ≡ name' → (body body' : EntityBody)
+    → EntitiesAlike names others body body' → map (λ (each : PlainName × EntityBody). each.0) (entity_definition_in name body)
+    ≡ map (λ (each : PlainName × EntityBody). each.0) (entity_definition_in name' body')
+entity_definition_keys names others name name' same (standard ps shape tags) (standard ps' shape' tags') like = ap
+    (λ each. each ∷ []) same
+entity_definition_keys names others name name' same (enumerated choices) (enumerated choices') like = ap (λ each. each ∷ []) same
+entity_definition_keys names others name name' same (external ps) (external ps') like = refl
+entity_definition_keys names others name name' same (standard ps shape tags) (enumerated choices) like = absurd like
+entity_definition_keys names others name name' same (standard ps shape tags) (external ps') like = absurd like
+entity_definition_keys names others name name' same (enumerated choices) (standard ps shape tags) like = absurd like
+entity_definition_keys names others name name' same (enumerated choices) (external ps) like = absurd like
+entity_definition_keys names others name name' same (external ps) (standard ps' shape tags) like = absurd like
+entity_definition_keys names others name name' same (external ps) (enumerated choices) like = absurd like
+
+-- requests that are alike are defined under the same key
+action_definition_keys : (names others : Names) (uid uid' : PlainUid) → uid ≡ uid' → (it it' : Requests)
+    → RequestsAlike names others it it'
+    → map (λ (each : PlainUid × Requests). each.0) (action_definition_in uid it)
+    ≡ map (λ (each : PlainUid × Requests). each.0) (action_definition_in uid' it')
+action_definition_keys names others uid uid' same (requests ps rs context) (requests ps' rs' context') like = ap (λ each. each ∷ []) same
+action_definition_keys names others uid uid' same elsewhere elsewhere like = refl
+action_definition_keys names others uid uid' same (requests ps rs context) elsewhere like = absurd like
+action_definition_keys names others uid uid' same elsewhere (requests ps rs context) like = absurd like
+
+-- a list with nothing after it
+nothing_after : {A : Type 0} (xs : List A) → xs ++ [] ≡ xs
+nothing_after [] = refl
+nothing_after (x ∷ xs) = ap (λ rest. x ∷ rest) (nothing_after xs)
+
+-- the entity types that a declaration defines
+abbrev entity_defined_by : Declaration → List (PlainName × EntityBody)
+entity_defined_by it = flat_map (λ (each : PlainName
+    × EntityBody). entity_definition_in each.0 each.1) (entity_in (declared_name it) it.body)
+
+-- the actions that a declaration defines
+abbrev action_defined_by : Declaration → List (PlainUid × Requests)
+action_defined_by it = flat_map (λ (each : PlainUid
+    × ActionBody). action_definition_in each.0 each.1.applies_to) (action_in (declared_uid it) it.body)
+
+module _ (names others : Names) where
+  entity_defined_keys : (it other : Declaration) → DeclarationsAlike names others it other
+      → map (λ (each : PlainName × EntityBody). each.0) (entity_defined_by it) ≡ map (λ (each : PlainName
+      × EntityBody). each.0) (entity_defined_by other)
+  entity_defined_keys it other like = by it.body other.body like.2 where
+    key : PlainName × EntityBody → PlainName
+    key each = each.0
+
+    by : (body body' : Body) → BodiesAlike names others body body'
+        → map (λ (each : PlainName × EntityBody). each.0) (flat_map (λ (each : PlainName
+        × EntityBody). entity_definition_in each.0 each.1) (entity_in (declared_name it) body))
+        ≡ map (λ (each : PlainName × EntityBody). each.0) (flat_map (λ (each : PlainName
+        × EntityBody). entity_definition_in each.0 each.1) (entity_in (declared_name other) body'))
+    by (common_type definition) (common_type definition') alike = refl
+    by (entity_type body) (entity_type body') alike =
+        ap (map (λ (each : PlainName × EntityBody). each.0)) (nothing_after (entity_definition_in (declared_name it) body))
+        ∙ (entity_definition_keys names others (declared_name it) (declared_name other)
+        (alike_name names others it other like) body body' alike
+        ∙ sym (ap (map (λ (each : PlainName × EntityBody). each.0)) (nothing_after (entity_definition_in (declared_name other) body'))))
+    by (action body) (action body') alike = refl
+    by (common_type definition) (entity_type body') alike = absurd alike
+    by (common_type definition) (action body') alike = absurd alike
+    by (entity_type body) (common_type definition') alike = absurd alike
+    by (entity_type body) (action body') alike = absurd alike
+    by (action body) (common_type definition') alike = absurd alike
+    by (action body) (entity_type body') alike = absurd alike
+
+  action_defined_keys : (it other : Declaration) → DeclarationsAlike names others it other
+      → map (λ (each : PlainUid × Requests). each.0) (action_defined_by it) ≡ map (λ (each : PlainUid
+      × Requests). each.0) (action_defined_by other)
+  action_defined_keys it other like = by it.body other.body like.2 where
+    by : (body body' : Body) → BodiesAlike names others body body'
+        → map (λ (each : PlainUid × Requests). each.0) (flat_map (λ (each : PlainUid
+        × ActionBody). action_definition_in each.0 each.1.applies_to) (action_in (declared_uid it) body))
+        ≡ map (λ (each : PlainUid × Requests). each.0) (flat_map (λ (each : PlainUid
+        × ActionBody). action_definition_in each.0 each.1.applies_to) (action_in (declared_uid other) body'))
+    by (common_type definition) (common_type definition') alike = refl
+    by (entity_type body) (entity_type body') alike = refl
+    by (action body) (action body') alike =
+        ap (map (λ (each : PlainUid × Requests). each.0)) (nothing_after (action_definition_in (declared_uid it) body.applies_to))
+        ∙ (action_definition_keys names others (declared_uid it) (declared_uid other)
+        (alike_uid names others it other like) body.applies_to body'.applies_to alike.2
+        ∙ sym (ap (map (λ (each : PlainUid
+        × Requests). each.0)) (nothing_after (action_definition_in (declared_uid other) body'.applies_to))))
+    by (common_type definition) (entity_type body') alike = absurd alike
+    by (common_type definition) (action body') alike = absurd alike
+    by (entity_type body) (common_type definition') alike = absurd alike
+    by (entity_type body) (action body') alike = absurd alike
+    by (action body) (common_type definition') alike = absurd alike
+    by (action body) (entity_type body') alike = absurd alike
+
+module _ (names others : Names) (bag other : Bag) (turn : HoldsPairwise (DeclarationsAlike names others) bag other) where
+  -- the same keys are declared, and defined
+  pub common_same : map (λ (each : PlainName × Expr). each.0) (declared_common bag) ≡ map (λ (each : PlainName
+      × Expr). each.0) (declared_common other)
+  common_same = keys_pairwise (DeclarationsAlike names others) (λ it. common_in (declared_name it) it.body) (λ (each : PlainName
+      × Expr). each.0)
+      (common_keys names others) bag other turn
+
+  pub entity_same : map (λ (each : PlainName × EntityBody). each.0) (declared_entities bag) ≡ map (λ (each : PlainName
+      × EntityBody). each.0) (declared_entities other)
+  entity_same = keys_pairwise (DeclarationsAlike names others) (λ it. entity_in (declared_name it) it.body) (λ (each : PlainName
+      × EntityBody). each.0)
+      (entity_keys names others) bag other turn
+
+  pub action_same : action_uids bag ≡ action_uids other
+  action_same = keys_pairwise (DeclarationsAlike names others) (λ it. action_in (declared_uid it) it.body) (λ (each : PlainUid
+      × ActionBody). each.0)
+      (action_keys names others) bag other turn
+
+  pub defined_entity_same : map (λ (each : PlainName × EntityBody). each.0) (defined_entities bag)
+      ≡ map (λ (each : PlainName × EntityBody). each.0) (defined_entities other)
+  defined_entity_same =
+      let key = λ (each : PlainName × EntityBody). each.0 in
+      let given = λ (it : Declaration). entity_in (declared_name it) it.body in
+      let defined = λ (each : PlainName × EntityBody). entity_definition_in each.0 each.1 in
+      ap (map key) (nested given defined bag)
+      ∙ (keys_pairwise (DeclarationsAlike names others) entity_defined_by key (entity_defined_keys names others) bag other turn
+      ∙ sym (ap (map key) (nested given defined other)))
+
+  pub defined_action_same : map (λ (each : PlainUid × Requests). each.0) (defined_actions bag)
+      ≡ map (λ (each : PlainUid × Requests). each.0) (defined_actions other)
+  defined_action_same =
+      let key = λ (each : PlainUid × Requests). each.0 in
+      let given = λ (it : Declaration). action_in (declared_uid it) it.body in
+      let defined = λ (each : PlainUid × ActionBody). action_definition_in each.0 each.1.applies_to in
+      ap (map key) (nested given defined bag)
+      ∙ (keys_pairwise (DeclarationsAlike names others) action_defined_by key (action_defined_keys names others) bag other turn
+      ∙ sym (ap (map key) (nested given defined other)))
+
+  pub types_same : declared_types bag ≡ declared_types other
+  types_same i = common_same i ++ entity_same i
+
+  aliases_same : (extensions : Extensions) → aliases bag extensions ≡ aliases other extensions
+  aliases_same extensions i =
+      map (λ (it : Text × Expr). (alias_name it.0, it.1))
+      (filter (λ (it : Text × Expr). not (list_any
+      (λ name. is_eq (name_cmp (alias_name it.0) name)) (types_same i))) (built_in_types extensions))
+
+  -- the names of the three parts of common names
+  parts : (some : Bag) (extensions : Extensions) → (defined_names some extensions).common
+      ≡ (map (λ (each : PlainName × Expr). each.0) (declared_common some) ++ map (λ (each : PlainName
+      × Expr). each.0) (built_ins extensions))
+      ++ map (λ (each : PlainName × Expr). each.0) (aliases some extensions)
+  parts some extensions =
+      let key = λ (each : PlainName × Expr). each.0 in
+      map-append key (declared_common some ++ built_ins extensions) (aliases some extensions)
+      ∙ ap (λ list. list ++ map key (aliases some extensions)) (map-append key (declared_common some) (built_ins extensions))
+
+  -- the same names are defined
+  pub names_same : (extensions : Extensions) → defined_names bag extensions ≡ defined_names other extensions
+  names_same extensions =
+      let key = λ (each : PlainName × Expr). each.0 in
+      let common : (defined_names bag extensions).common ≡ (defined_names other extensions).common =
+      parts bag extensions
+      ∙ ((λ i. (common_same i ++ map key (built_ins extensions)) ++ map key (aliases_same extensions i)) ∙ sym
+      (parts other extensions)) in
+      λ i. record {
+        common = common i;
+        entities = entity_same i ++ map (λ uid. uid.ty) (action_same i);
+        actions = action_same i;
+      }
+
+  -- an entity type that the one declares the other does, alike
+  pub entity_moved : (name : PlainName) (body : EntityBody) → Contains (declared_entities bag) (name, body) → (found : EntityBody)
+      × Contains (declared_entities other) (name, found) × EntitiesAlike names others body found
+  entity_moved name body among =
+      let it = entity_declaration bag name body among in
+      let found = turn_forth (DeclarationsAlike names others) bag other turn it.0 it.1 in
+      let P : Body → Type 0 = λ each. BodiesAlike names others each found.0.body in
+      let like = by found.0.body refl (subst P it.2 found.2.2) in
+      let Q : PlainName → Type 0 = λ each. Contains (declared_entities other) (each, like.0) in (
+        like.0,
+        subst Q (sym (alike_name names others it.0 found.0 found.2) ∙ it.3)
+            (declares_entity other found.0 like.0 found.1 like.1),
+        like.2,
+      )
+    where
+      by : (body' : Body) {of : Body} → of ≡ body' → BodiesAlike names others (entity_type body) body' → (found : EntityBody)
+          × (of ≡ entity_type found) × EntitiesAlike names others body found
+      by (entity_type found) is like = (found, is, like)
+      by (common_type definition) is like = absurd like
+      by (action found) is like = absurd like
+
+  -- an action that the one declares the other does, alike
+  pub action_moved : (uid : PlainUid) (body : ActionBody) → Contains (declared_actions bag) (uid, body) → (found : ActionBody)
+      × Contains (declared_actions other) (uid, found) × BodiesAlike names others (action body) (action found)
+  action_moved uid body among =
+      let it = action_declaration bag uid body among in
+      let found = turn_forth (DeclarationsAlike names others) bag other turn it.0 it.1 in
+      let P : Body → Type 0 = λ each. BodiesAlike names others each found.0.body in
+      let like = by found.0.body refl (subst P it.2 found.2.2) in
+      let Q : PlainUid → Type 0 = λ each. Contains (declared_actions other) (each, like.0) in (
+        like.0,
+        subst Q (sym (alike_uid names others it.0 found.0 found.2) ∙ it.3)
+            (declares_action other found.0 like.0 found.1 like.1),
+        like.2,
+      )
+    where
+      by : (body' : Body) {of : Body} → of ≡ body' → BodiesAlike names others (action body) body' → (found : ActionBody)
+          × (of ≡ action found) × BodiesAlike names others (action body) (action found)
+      by (action found) is like = (found, is, like)
+      by (common_type definition) is like = absurd like
+      by (entity_type found) is like = absurd like
+
+  -- a common type that the one declares the other does, alike
+  pub common_moved : (name : PlainName) (definition : Expr) → Contains (declared_common bag) (name, definition) → (found : Expr)
+      × Contains (declared_common other) (name, found) × AreAlike names others definition found
+  common_moved name definition among =
+      let it = common_declaration bag name definition among in
+      let found = turn_forth (DeclarationsAlike names others) bag other turn it.0 it.1 in
+      let P : Body → Type 0 = λ each. BodiesAlike names others each found.0.body in
+      let like = by found.0.body refl (subst P it.2 found.2.2) in
+      let Q : PlainName → Type 0 = λ each. Contains (declared_common other) (each, like.0) in (
+        like.0,
+        subst Q (sym (alike_name names others it.0 found.0 found.2) ∙ it.3)
+            (declares_common other found.0 like.0 found.1 like.1),
+        like.2,
+      )
+    where
+      by : (body' : Body) {of : Body} → of ≡ body' → BodiesAlike names others (common_type definition) body' → (found : Expr)
+          × (of ≡ common_type found) × AreAlike names others definition found
+      by (common_type found) is like = (found, is, like)
+      by (entity_type found) is like = absurd like
+      by (action found) is like = absurd like
+
+-- what a built-in base name stands for is alike itself
+built_in_alike : (names others : Names) (extensions : Extensions) (word : Text) (body : Expr)
+    → Contains (built_in_types extensions) (word, body) → AreAlike names others body body
+built_in_alike names others extensions word body (zero, below, is) =
+    let P : Text × Expr → Type 0 = λ each. AreAlike names others each.1 each.1 in subst P is alike_truth
+built_in_alike names others extensions word body (suc zero, below, is) =
+    let P : Text × Expr → Type 0 = λ each. AreAlike names others each.1 each.1 in subst P is alike_long
+built_in_alike names others extensions word body (suc (suc zero), below, is) =
+    let P : Text × Expr → Type 0 = λ each. AreAlike names others each.1 each.1 in subst P is alike_text
+built_in_alike names others extensions word body (suc (suc (suc k)), below, is) =
+    let P : Text × Expr → Type 0 = λ each. AreAlike names others each.1 each.1 in
+    let found = Contains-preimage (λ name. (name.base, extension_expr name.base)) (extension_types extensions)
+    (word, body) (k, omega (arith, below), is) in
+    subst P found.2 (alike_extension found.0.base)
+
+module _ (names others : Names) (bag other : Bag) (extensions : Extensions) (turn : HoldsPairwise
+    (DeclarationsAlike names others) bag other) where
+  -- a common type that the one defines the other does, alike
+  pub definition_moved : (name : PlainName) (body : Expr) → Contains (definitions bag extensions).common (name, body) → (found : Expr)
+      × Contains (definitions other extensions).common (name, found) × AreAlike names others body found
+  definition_moved name body among =
+      ⊎_elim
+      (λ here. ⊎_elim
+      (λ declared. let found = common_moved names others bag other turn name body declared in (
+        found.0,
+        Contains-append_left (declared_common other ++ built_ins extensions) (aliases other extensions) (name, found.0)
+            (Contains-append_left (declared_common other) (built_ins extensions) (name, found.0) found.1),
+        found.2,
+      ))
+      (λ built_in.
+      let entry = Contains-preimage (λ (it : Text
+      × Expr). (built_in_name it.0, it.1)) (built_in_types extensions) (name, body) built_in in
+      let P : Expr → Type 0 = λ each. AreAlike names others each each in (
+        body,
+        Contains-append_left (declared_common other ++ built_ins extensions) (aliases other extensions) (name, body)
+            (Contains-append_right (declared_common other) (built_ins extensions) (name, body) built_in),
+        subst P (ap (λ (each : PlainName × Expr). each.1) entry.2) (built_in_alike names others extensions entry.0.0 entry.0.1 entry.1),
+      ))
+      (Contains-append_cases (declared_common bag) (built_ins extensions) (name, body) here))
+      (λ alias.
+      let Q : List (PlainName × Expr) → Type 0 = λ list. Contains list (name, body) in (
+        body,
+        Contains-append_right (declared_common other ++ built_ins extensions) (aliases other extensions) (name, body)
+            (subst Q (aliases_same names others bag other turn extensions) alias),
+        built_in_alike names others extensions name.base body (alias_of bag extensions name body alias).0,
+      ))
+      (Contains-append_cases (declared_common bag ++ built_ins extensions) (aliases bag extensions) (name, body) among)

@@ -1,0 +1,595 @@
+-- Resolving the references of a bag changes none of its faults, and no schema that it declares.
+use Rattle.std.proofs.Common.{◌≡◌, ◌≢◌, ◌⊎◌, List, [], ◌∷◌, ◌++◌, Option, Some, None, map, sym, subst, ◌∙◌, refl, inl, inr, ⊎_elim, arith, Contains}
+use Rattle.std.proofs.lemmas.List.{map-append}
+use Rattle.cedar_below.proofs.Chains.{refined}
+use Rattle.cedar_below.proofs.Lists.{Contains-cons}
+use Rattle.cedar_below.specs.Chain.{one}
+use Rattle.cedar_below.specs.Lists.{HoldsPairwise}
+use Rattle.cedar_below.specs.PlainName.{PlainName}
+use Rattle.cedar_below.specs.PlainUid.{PlainUid}
+use Rattle.cedar_below.specs.Text.{Text}
+use Rattle.cedar_below.specs.declared.extension.Extensions.{Extensions}
+use Rattle.cedar_names.specs.ActionBody.{Requests, requests, elsewhere}
+use Rattle.cedar_names.specs.Declaration.{Declaration, Body, common_type, entity_type, action}
+use Rattle.cedar_names.specs.EntityBody.{EntityBody, standard, enumerated, external}
+use Rattle.cedar_names.specs.Expr.{Expr}
+use Rattle.cedar_names.specs.Reference.{Reference, ActionReference}
+use Rattle.cedar_declaration_laws.proofs.MeaningLemmas.{MeansTheSame, MeansTheSame-sym, AreAlike, open_alike, extension_alike, refers_alike, MovesTo, elaborated_alike, no_record_alike}
+use Rattle.cedar_declaration_laws.proofs.MovedBags.{common_same, entity_same, action_same, defined_entity_same, defined_action_same, types_same, names_same, entity_moved, action_moved, definition_moved}
+use Rattle.cedar_declaration_laws.proofs.MovedLemmas.{NamesTheSame, TagsAlike, EntitiesAlike, RequestsAlike, BodiesAlike, DeclarationsAlike, declarations-sym, resolved_declaration}
+use Rattle.cedar_declarations.proofs.ResolutionLemmas.{first_defined}
+use Rattle.cedar_declarations.proofs.TurnLemmas.{turn_forth, turn_back, turn_weaker}
+use Rattle.cedar_declarations.proofs.TogetherLemmas.{AreRequests, declared_definition, definition_declared, declared_action_definition, action_definition_declared}
+use Rattle.cedar_declarations.specs.Bag.{Bag, action_uids, declared_common, declared_entities, built_ins, definitions, defined_names}
+use Rattle.cedar_declarations.specs.Counted.{CountsInEntity, CountsInRequests, CountsIn, IsCounted, entity_parents, IsPrincipalOrResource, IsEntityTypePosition, IsAtEntityTypePosition, HasToResolve}
+use Rattle.cedar_declarations.specs.DeclaredSchema.{AreDeclaredTags, IsDeclaredKind, IsDeclaredEntityType, IsNamedBy, IsDeclaredActionKind, IsDeclaredAction, IsDeclaredSchema}
+use Rattle.cedar_declarations.specs.Descent.{HasParent, HasParentAction, IsDescendant, IsDescendantAction}
+use Rattle.cedar_declaration_laws.specs.EndToEnd.{ResolutionChangesNothing}
+use Rattle.cedar_declarations.specs.EntityTypeKind.{EntityTypeKind, standard_kind, enumerated_kind, external_kind}
+use Rattle.cedar_declarations.specs.Fault.{Fault, action_attributes, open_record, undeclared_entity_types, type_not_defined, action_not_defined, type_shadowing, action_shadowing, duplicate_entity_type, duplicate_common_type, duplicate_action, action_cycle, common_type_cycle, action_entity_type, shape_not_record, context_not_record, unknown_extension_type, reserved_name, external_below_enumerated, enumerated_below}
+use Rattle.cedar_declarations.specs.IllFormed.{HasAttributes, RefersToCommon, IsFault}
+use Rattle.cedar_declarations.specs.Names.{Names, MayNameCommon, ResolvesTo, IsUnresolved, NamesAction, NamesNoAction}
+use Rattle.cedar_declarations.specs.Occurrences.{Twice, IsFirst}
+use Rattle.cedar_declarations.specs.PlainSchema.{SchemaEntityType, ActionKind, defined_action, external_action, SchemaAction, PlainSchema}
+use Rattle.cedar_declarations.specs.Resolved.{ResolvesBag, ResolvesDeclaration}
+use Rattle.cedar_declarations.specs.Together.{defined_actions, IsExternalType, IsParent, IsActionParent, EntitySays, ActionSays}
+use Rattle.cedar_type_rules.specs.Ty.{Ty}
+
+-- some list isn't none
+pub some_first : {A : Type 0} (items : List A) → items ≢ [] → (item : A) × Contains items item
+some_first [] some = absurd (some refl)
+some_first (first ∷ rest) some = (first, Contains-cons first rest first (inl refl))
+
+-- what a reference resolves to is among its possibilities and defined, so it isn't unresolved
+pub resolved : (names : Names) (reference : Reference) → ((name : PlainName) × ResolvesTo names reference name)
+    → ¬ IsUnresolved names reference
+resolved names reference (name, resolves) unresolved =
+    let found = first_defined names reference.kind reference.possibilities name resolves in unresolved name found.0 found.1
+
+-- a reference to an action that names one doesn't name none
+pub named : (actions : List PlainUid) (reference : ActionReference) → ((uid : PlainUid) × NamesAction actions reference uid)
+    → ¬ NamesNoAction actions reference
+named actions reference (uid, names) none = by reference.ty.possibilities names.0 none where
+  by : (xs : List PlainName) → IsFirst (λ ty. Contains actions (record { ty = ty; eid = reference.id })) xs uid.ty
+      → ¬ ((ty : PlainName) → Contains xs ty → ¬ Contains actions (record { ty = ty; eid = reference.id }))
+  by [] first nothing = first
+  by (x ∷ xs) first nothing =
+      ⊎_elim (λ here. nothing x (Contains-cons x xs x (inl refl)) here.1)
+      (λ later. by xs later.1 (λ ty among. nothing ty (Contains-cons x xs ty (inr among)))) first
+
+module _ (bag other : Bag) (extensions : Extensions)
+    (turn : HoldsPairwise (DeclarationsAlike (defined_names bag extensions) (defined_names other extensions)) bag other) where
+  -- the names of the one, and of the other
+  abbrev ours : Names
+  ours = defined_names bag extensions
+
+  abbrev theirs : Names
+  theirs = defined_names other extensions
+
+  -- and the other way round
+  back : HoldsPairwise (DeclarationsAlike theirs ours) other bag
+  back = turn_back (DeclarationsAlike ours theirs) (DeclarationsAlike theirs ours) (declarations-sym ours theirs) bag other turn
+
+  -- what the one defines the other does
+  moves : MovesTo (definitions bag extensions) (definitions other extensions)
+  moves = record {
+    common = definition_moved ours theirs bag other extensions turn;
+    common_back = λ name found among. let body = definition_moved theirs ours other bag extensions back name found among in
+        (body.0, body.1);
+    entities = λ name among. let P : Names → Type 0 = λ names. Contains names.entities name in
+        subst P (names_same ours theirs bag other turn extensions) among;
+  }
+
+  -- a parent of an entity type moves
+  parents_moved : (body found : EntityBody) → EntitiesAlike ours theirs body found → (reference : Reference)
+      → Contains (entity_parents body) reference
+      → (moved : Reference) × Contains (entity_parents found) moved × MeansTheSame ours theirs reference moved
+  parents_moved (standard ps shape tags) (standard ps' shape' tags') like reference among = turn_forth
+      (MeansTheSame ours theirs) ps ps' like.0 reference among
+  parents_moved (external ps) (external ps') like reference among = turn_forth (MeansTheSame ours theirs) ps ps' like reference among
+  parents_moved (enumerated choices) found like reference among = absurd (omega (arith, among.1))
+  parents_moved (standard ps shape tags) (enumerated choices) like reference among = absurd like
+  parents_moved (standard ps shape tags) (external ps') like reference among = absurd like
+  parents_moved (external ps) (standard ps' shape tags) like reference among = absurd like
+  parents_moved (external ps) (enumerated choices) like reference among = absurd like
+
+  parent_moved : (name : PlainName) (reference : Reference) → IsParent bag name reference
+      → (moved : Reference) × IsParent other name moved
+      × MeansTheSame ours theirs reference moved
+  parent_moved name reference (body, among, parent) =
+      let there = entity_moved ours theirs bag other turn name body among in
+      let found = parents_moved body there.0 there.2 reference parent in (found.0, (there.0, there.1, found.1), found.2)
+
+  -- a parent of an action moves
+  action_parent_moved : (uid : PlainUid) (parent : ActionReference) → IsActionParent bag uid parent → (moved : ActionReference)
+      × IsActionParent other uid moved × NamesTheSame ours.actions theirs.actions parent moved
+  action_parent_moved uid parent (body, among, stands) =
+      let there = action_moved ours theirs bag other turn uid body among in
+      let found = turn_forth (NamesTheSame ours.actions theirs.actions) body.parents there.0.parents there.2.1 parent stands in
+      (found.0, (there.0, there.1, found.1), found.2)
+
+  -- a principal or a resource moves
+  request_moved : (it found : Requests) → RequestsAlike ours theirs it found → (reference : Reference)
+      → IsPrincipalOrResource it reference
+      → (moved : Reference) × IsPrincipalOrResource found moved × MeansTheSame ours theirs reference moved
+  request_moved (requests ps rs context) (requests ps' rs' context') like reference place =
+      ⊎_elim
+      (λ principal. let found = turn_forth (MeansTheSame ours theirs) ps ps' like.0 reference principal in
+      (found.0, inl found.1, found.2))
+      (λ resource. let found = turn_forth (MeansTheSame ours theirs) rs rs' like.1 reference resource in (found.0, inr found.1, found.2))
+      place
+  request_moved (requests ps rs context) elsewhere like reference place = absurd like
+  request_moved elsewhere found like reference place = absurd place
+
+  -- a place of an entity type moves
+  placed_moved : (reference : Reference) → IsAtEntityTypePosition bag reference
+      → (moved : Reference) × IsAtEntityTypePosition other moved × MeansTheSame ours theirs reference moved
+  placed_moved reference (it, among, place) =
+      let there = turn_forth (DeclarationsAlike ours theirs) bag other turn it among in
+      let found = by it.body there.0.body there.2.2 place in (found.0, (there.0, there.1, found.1), found.2)
+    where
+      by : (body found : Body) → BodiesAlike ours theirs body found → IsEntityTypePosition body reference → (moved : Reference)
+          × IsEntityTypePosition found moved × MeansTheSame ours theirs reference moved
+      by (common_type definition) found like place = absurd place
+      by (entity_type body) (entity_type found) like place = parents_moved body found like reference place
+      by (action body) (action found) like place = request_moved body.applies_to found.applies_to like.2 reference place
+      by (entity_type body) (common_type definition) like place = absurd like
+      by (entity_type body) (action found) like place = absurd like
+      by (action body) (common_type definition) like place = absurd like
+      by (action body) (entity_type found) like place = absurd like
+
+  -- what counts in an entity type moves
+  entity_count_moved : (body found : EntityBody) → EntitiesAlike ours theirs body found → (expr : Expr) → CountsInEntity body expr
+      → (moved : Expr) × CountsInEntity found moved × AreAlike ours theirs expr moved
+  entity_count_moved (standard ps shape tags) (standard ps' shape' tags') like expr counts =
+      let P : Expr → Type 0 = λ each. AreAlike ours theirs each shape' in
+      ⊎_elim (λ is. (shape', inl refl, subst P is like.1)) (λ is. of_tags tags tags' like.2 is) counts
+    where
+      of_tags : (tags tags' : Option Expr) → TagsAlike ours theirs tags tags' → tags ≡ Some expr → (moved : Expr)
+          × ((shape' ≡ moved) ⊎ (tags' ≡ Some moved)) × AreAlike ours theirs expr moved
+      of_tags (Some it) (Some found) alike is =
+          let Q : Option Expr → Type 0 = λ each. TagsAlike ours theirs each (Some found) in (found, inr refl, subst Q is alike)
+      of_tags None None alike is = absurd cc
+      of_tags (Some it) None alike is = absurd alike
+      of_tags None (Some found) alike is = absurd alike
+  entity_count_moved (standard ps shape tags) (enumerated choices) like expr counts = absurd like
+  entity_count_moved (standard ps shape tags) (external ps') like expr counts = absurd like
+  entity_count_moved (enumerated choices) found like expr counts = absurd counts
+  entity_count_moved (external ps) found like expr counts = absurd counts
+
+  -- what counts moves
+  counted_moved : (expr : Expr) → IsCounted bag expr → (moved : Expr) × IsCounted other moved × AreAlike ours theirs expr moved
+  counted_moved expr (it, among, counts) =
+      let there = turn_forth (DeclarationsAlike ours theirs) bag other turn it among in
+      let found = by it.body there.0.body there.2.2 counts in (found.0, (there.0, there.1, found.1), found.2)
+    where
+      of_requests : (it found : Requests) → RequestsAlike ours theirs it found → CountsInRequests it expr → (moved : Expr)
+          × CountsInRequests found moved × AreAlike ours theirs expr moved
+      of_requests (requests ps rs context) (requests ps' rs' context') like counts =
+          let P : Expr → Type 0 = λ each. AreAlike ours theirs each context' in (context', refl, subst P counts like.2)
+      of_requests (requests ps rs context) elsewhere like counts = absurd like
+      of_requests elsewhere found like counts = absurd counts
+
+      by : (body found : Body) → BodiesAlike ours theirs body found → CountsIn body expr → (moved : Expr)
+          × CountsIn found moved × AreAlike ours theirs expr moved
+      by (common_type definition) (common_type found) like counts =
+          let P : Expr → Type 0 = λ each. AreAlike ours theirs each found in (found, refl, subst P counts like)
+      by (entity_type body) (entity_type found) like counts = entity_count_moved body found like expr counts
+      by (action body) (action found) like counts = of_requests body.applies_to found.applies_to like.2 counts
+      by (common_type definition) (entity_type found) like counts = absurd like
+      by (common_type definition) (action found) like counts = absurd like
+      by (entity_type body) (common_type definition) like counts = absurd like
+      by (entity_type body) (action found) like counts = absurd like
+      by (action body) (common_type definition) like counts = absurd like
+      by (action body) (entity_type found) like counts = absurd like
+
+  -- what has to resolve does
+  has_to_resolves : (reference : Reference) → HasToResolve bag reference → (name : PlainName) × ResolvesTo ours reference name
+  has_to_resolves reference has =
+      ⊎_elim
+      (λ counts. (refers_alike ours theirs (counted_moved counts.0 counts.1).2 reference counts.2).2.2)
+      (λ placed. (placed_moved reference placed).2.2)
+      has
+
+  -- a descendant moves
+  descendant_moved : (lower upper : PlainName) → IsDescendant bag extensions lower upper → IsDescendant other extensions lower upper
+  descendant_moved lower upper = refined (λ a b (step : HasParent bag extensions a b).
+      (let found = parent_moved a step.0 step.1 in one (found.0, found.1, (found.2.1 b).0 step.2)))
+
+  -- the same of actions
+  descendant_action_moved : (lower upper : PlainUid) → IsDescendantAction bag lower upper → IsDescendantAction other lower upper
+  descendant_action_moved lower upper = refined (λ a b (step : HasParentAction bag a b).
+      (let found = action_parent_moved a step.0 step.1 in one (found.0, found.1, (found.2.1 b).0 step.2)))
+
+  -- a common type of the one refers to another as in the other
+  refers_moved : (name to : PlainName) → RefersToCommon (definitions bag extensions) name to
+      → RefersToCommon (definitions other extensions) name to
+  refers_moved name to (definition, reference, body, among, refers, resolves, is_common) =
+      let there = moves.common name definition among in
+      let found = refers_alike ours theirs there.2 reference refers in
+      let target = moves.common to body is_common.1 in (
+        there.0,
+        found.0,
+        target.0,
+        there.1,
+        found.1,
+        (found.2.1 to).0 resolves,
+        (subst MayNameCommon found.2.0 is_common.0, target.1),
+      )
+
+  -- an enumerated entity type moves
+  enumerated_moved : (name : PlainName) (choices : List Text) → Contains (declared_entities bag) (name, enumerated choices)
+      → Contains (declared_entities other) (name, enumerated choices)
+  enumerated_moved name choices among =
+      let there = entity_moved ours theirs bag other turn name (enumerated choices) among in by there.0 there.1 there.2 where
+        by : (found : EntityBody) → Contains (declared_entities other) (name, found)
+            → EntitiesAlike ours theirs (enumerated choices) found
+            → Contains (declared_entities other) (name, enumerated choices)
+        by (enumerated others) there like = let P : List Text
+            → Type 0 = λ each. Contains (declared_entities other) (name, enumerated each) in
+            subst P (sym like) there
+        by (standard ps shape tags) there like = absurd like
+        by (external ps) there like = absurd like
+
+  -- an external declaration moves
+  external_moved : (name : PlainName) (parents : List Reference) → Contains (declared_entities bag) (name, external parents)
+      → (found : List Reference) × Contains (declared_entities other) (name, external found)
+      × HoldsPairwise (MeansTheSame ours theirs) parents found
+  external_moved name parents among =
+      let there = entity_moved ours theirs bag other turn name (external parents) among in by there.0 there.1 there.2 where
+        by : (found : EntityBody) → Contains (declared_entities other) (name, found) → EntitiesAlike ours theirs (external parents) found
+            → (found : List Reference) × Contains (declared_entities other) (name, external found)
+            × HoldsPairwise (MeansTheSame ours theirs) parents found
+        by (external ps) there like = (ps, there, like)
+        by (standard ps shape tags) there like = absurd like
+        by (enumerated choices) there like = absurd like
+
+  -- an external entity type is one
+  external_type_moved : (name : PlainName) → IsExternalType bag name → IsExternalType other name
+  external_type_moved name is_external =
+      let P : List PlainName → Type 0 = λ names. Contains names name in (
+        subst P (entity_same ours theirs bag other turn) is_external.0,
+        λ defined. is_external.1 (subst P (sym (defined_entity_same ours theirs bag other turn)) defined),
+      )
+
+  -- the requests of a definition move
+  definition_requests_moved : (uid : PlainUid) (it : Requests) → Contains (defined_actions bag) (uid, it) → (found : Requests)
+      × Contains (defined_actions other) (uid, found) × RequestsAlike ours theirs it found
+  definition_requests_moved uid it among =
+      let body = action_definition_declared bag uid it among in
+      let there = action_moved ours theirs bag other turn uid body.0 body.1 in
+      let P : Requests → Type 0 = λ each. RequestsAlike ours theirs each there.0.applies_to in
+      let like = subst P body.2 there.2.2 in (
+        there.0.applies_to,
+        declared_action_definition other uid there.0 there.0.applies_to there.1 refl
+            (are it there.0.applies_to like body.3),
+        like,
+      )
+    where
+      are : (it found : Requests) → RequestsAlike ours theirs it found → AreRequests it → AreRequests found
+      are (requests ps rs context) (requests ps' rs' context') like is = tt
+      are (requests ps rs context) elsewhere like is = absurd like
+      are elsewhere found like is = absurd is
+
+  -- an action with attributes moves
+  attributes_moved : (namespace : _) (id : Text) → HasAttributes bag namespace id → HasAttributes other namespace id
+  attributes_moved namespace id (body, among, has) =
+      let it : Declaration = record { namespace = namespace; id = id; body = action body } in
+      let there = turn_forth (DeclarationsAlike ours theirs) bag other turn it among in
+      by there.0 there.1 there.2.0 there.2.1 there.0.body refl there.2.2
+    where
+      by : (y : Declaration) → Contains other y → namespace ≡ y.namespace → id ≡ y.id → (found : Body) → y.body ≡ found
+          → BodiesAlike ours theirs (action body) found → HasAttributes other namespace id
+      by y there same_namespace same_id (action found) is like =
+          let P : Declaration → Type 0 = Contains other in
+          (found, subst P (λ i. record { namespace = sym same_namespace i; id = sym same_id i; body = is i }) there, sym like.0 ∙ has)
+      by y there same_namespace same_id (common_type definition) is like = absurd like
+      by y there same_namespace same_id (entity_type found) is like = absurd like
+
+  -- a shape that is no record moves
+  shape_moved : (name : PlainName) → IsFault bag extensions (shape_not_record name) → IsFault other extensions (shape_not_record name)
+  shape_moved name (parents, shape, tags, among, none) =
+      let there = entity_moved ours theirs bag other turn name (standard parents shape tags) among in by there.0 there.1 there.2 where
+        by : (found : EntityBody) → Contains (declared_entities other) (name, found)
+            → EntitiesAlike ours theirs (standard parents shape tags) found
+            → IsFault other extensions (shape_not_record name)
+        by (standard ps' shape' tags') there like =
+            (ps', shape', tags', there, no_record_alike (definitions bag extensions) (definitions other extensions) moves like.1 none)
+        by (enumerated choices) there like = absurd like
+        by (external ps') there like = absurd like
+
+  -- a context that is no record moves
+  context_moved : (uid : PlainUid) → IsFault bag extensions (context_not_record uid) → IsFault other extensions (context_not_record uid)
+  context_moved uid (principals, resources, context, among, none) =
+      let there = definition_requests_moved uid (requests principals resources context) among in by there.0 there.1 there.2 where
+        by : (found : Requests) → Contains (defined_actions other) (uid, found)
+            → RequestsAlike ours theirs (requests principals resources context) found
+            → IsFault other extensions (context_not_record uid)
+        by (requests ps' rs' context') there like =
+            (ps', rs', context', there, no_record_alike (definitions bag extensions) (definitions other extensions) moves like.2 none)
+        by elsewhere there like = absurd like
+
+  -- a fault of the one is one of the other
+  pub fault_moved : (fault : Fault) → IsFault bag extensions fault → IsFault other extensions fault
+  fault_moved (action_attributes ids) at_fault =
+      (at_fault.0, at_fault.1, at_fault.2, λ id among. attributes_moved at_fault.2 id (at_fault.3 id among))
+  fault_moved open_record at_fault =
+      let counted = counted_moved at_fault.0 at_fault.1 in (counted.0, counted.1, open_alike ours theirs counted.2 at_fault.2)
+  fault_moved (undeclared_entity_types names) at_fault = (
+    at_fault.0,
+    λ name among.
+        (let found = at_fault.1 name among in
+        let placed = placed_moved found.1 found.2 in
+        (found.0, placed.0, placed.1, (placed.2.1 name).0 found.3)),
+  )
+  fault_moved (type_not_defined references) at_fault =
+      let found = some_first references at_fault.0 in
+      let has = at_fault.1 found.0 found.1 in
+      absurd (resolved ours found.0 (has_to_resolves found.0 has.0) has.1)
+  fault_moved (action_not_defined actions) at_fault =
+      let found = some_first actions at_fault.0 in
+      let unknown = at_fault.1 found.0 found.1 in
+      absurd (named ours.actions unknown.1 (action_parent_moved unknown.0 unknown.1 unknown.2).2.2 unknown.4)
+  fault_moved (type_shadowing name qualified) at_fault =
+      let P : PlainName → List PlainName → Type 0 = λ each list. Contains list each in
+      let same = types_same ours theirs bag other turn in
+      (subst (P name) same at_fault.0, subst (P qualified) same at_fault.1, at_fault.2)
+  fault_moved (action_shadowing uid qualified) at_fault =
+      let P : PlainUid → List PlainUid → Type 0 = λ each list. Contains list each in
+      let same = action_same ours theirs bag other turn in
+      (subst (P uid) same at_fault.0, subst (P qualified) same at_fault.1, at_fault.2)
+  fault_moved (duplicate_entity_type name) at_fault =
+      let P : List PlainName → Type 0 = λ list. Twice list name in subst P (defined_entity_same ours theirs bag other turn) at_fault
+  fault_moved (duplicate_common_type name) at_fault =
+      let P : List PlainName → Type 0 = λ list. Twice list name in
+      let key = λ (each : PlainName × Expr). each.0 in
+      let same : map key (declared_common bag ++ built_ins extensions) ≡ map key (declared_common other ++ built_ins extensions) =
+      map-append key (declared_common bag) (built_ins extensions)
+      ∙ ((λ i. common_same ours theirs bag other turn i ++ map key (built_ins extensions))
+      ∙ sym (map-append key (declared_common other) (built_ins extensions))) in
+      subst P same at_fault
+  fault_moved (duplicate_action uid) at_fault =
+      let P : List PlainUid → Type 0 = λ list. Twice list uid in subst P (defined_action_same ours theirs bag other turn) at_fault
+  fault_moved (action_cycle uid) at_fault = descendant_action_moved uid uid at_fault
+  fault_moved (common_type_cycle name) at_fault = refined (λ a b step. one (refers_moved a b step)) at_fault
+  fault_moved (action_entity_type name) at_fault =
+      let there = entity_moved ours theirs bag other turn name at_fault.0 at_fault.1 in (there.0, there.1, at_fault.2)
+  fault_moved (shape_not_record name) at_fault = shape_moved name at_fault
+  fault_moved (context_not_record uid) at_fault = context_moved uid at_fault
+  fault_moved (unknown_extension_type name) at_fault =
+      let counted = counted_moved at_fault.0 at_fault.1 in
+      (counted.0, counted.1, extension_alike ours theirs counted.2 name.base at_fault.2, at_fault.3, at_fault.4)
+  fault_moved (reserved_name name) at_fault =
+      let P : List PlainName → Type 0 = λ list. Contains list name in (
+        ⊎_elim
+            (λ is_entity. inl (subst P (entity_same ours theirs bag other turn) is_entity))
+            (λ of_action. inr (subst P (λ i. map (λ uid. uid.ty) (action_same ours theirs bag other turn i)) of_action))
+            at_fault.0,
+        at_fault.1,
+      )
+  fault_moved (external_below_enumerated lower upper) at_fault = (
+    at_fault.0,
+    external_type_moved lower at_fault.1,
+    enumerated_moved upper at_fault.0 at_fault.2,
+    descendant_moved lower upper at_fault.3,
+  )
+  fault_moved (enumerated_below lower upper) at_fault =
+      let there = external_moved lower at_fault.1 at_fault.4 in
+      let parent = turn_forth (MeansTheSame ours theirs) at_fault.1 there.0 there.2 at_fault.2 at_fault.5 in (
+        at_fault.0,
+        there.0,
+        parent.0,
+        enumerated_moved lower at_fault.0 at_fault.3,
+        there.1,
+        parent.1,
+        (parent.2.1 upper).0 at_fault.6,
+      )
+  fault_moved _ at_fault = absurd at_fault
+
+  -- what some references name, those that mean the same do
+  named_moved : (references others : List Reference) → HoldsPairwise (MeansTheSame ours theirs) references others → (name : PlainName)
+      → IsNamedBy ours references name → IsNamedBy theirs others name
+  named_moved references others like name (reference, among, resolves) =
+      let found = turn_forth (MeansTheSame ours theirs) references others like reference among in (
+        found.0,
+        found.1,
+        (found.2.1 name).0 resolves,
+      )
+
+  -- and the other way round
+  named_back : (references others : List Reference) → HoldsPairwise (MeansTheSame ours theirs) references others → (name : PlainName)
+      → IsNamedBy theirs others name → IsNamedBy ours references name
+  named_back references others like name (reference, among, resolves) =
+      let found = turn_forth (MeansTheSame theirs ours) others references
+      (turn_back (MeansTheSame ours theirs) (MeansTheSame theirs ours)
+      (MeansTheSame-sym ours theirs) references others like) reference among in
+      (found.0, found.1, (found.2.1 name).0 resolves)
+
+  -- tags that are alike are declared alike
+  tags_moved : (tags found : Option Expr) (ty : Option Ty) → TagsAlike ours theirs tags found
+      → AreDeclaredTags (definitions bag extensions) tags ty
+      → AreDeclaredTags (definitions other extensions) found ty
+  tags_moved None None None like fits = tt
+  tags_moved (Some expr) (Some found) (Some ty) like fits =
+      elaborated_alike (definitions bag extensions) (definitions other extensions) moves fits like
+  tags_moved None None (Some ty) like fits = absurd fits
+  tags_moved (Some expr) (Some found) None like fits = absurd fits
+  tags_moved None (Some found) ty like fits = absurd like
+  tags_moved (Some expr) None ty like fits = absurd like
+
+  -- what the declarations of an entity type say moves, with its kind
+  says_moved : (name : PlainName) (body : EntityBody) (kind : EntityTypeKind) → EntitySays bag name body
+      → IsDeclaredKind (definitions bag extensions) body kind → (found : EntityBody) × EntitySays other name found
+      × IsDeclaredKind (definitions other extensions) found kind
+  says_moved name (external ps) external_kind says fits = (external ps, external_type_moved name says, tt)
+  says_moved name (external ps) (standard_kind fields openness ty) says fits = absurd fits
+  says_moved name (external ps) (enumerated_kind choices) says fits = absurd fits
+  says_moved name (enumerated choices) kind says fits =
+      let there = enumerated_moved name choices (definition_declared bag name (enumerated choices) says).0 in
+      (enumerated choices, declared_definition other name (enumerated choices) tt there, by kind fits)
+    where
+      by : (kind : EntityTypeKind) → IsDeclaredKind (definitions bag extensions) (enumerated choices) kind
+          → IsDeclaredKind (definitions other extensions) (enumerated choices) kind
+      by (enumerated_kind ids) fits = fits
+      by (standard_kind fields openness ty) fits = absurd fits
+      by external_kind fits = absurd fits
+  says_moved name (standard ps shape tags) kind says fits =
+      let there = entity_moved ours theirs bag other turn name (standard ps shape tags) (definition_declared bag name
+      (standard ps shape tags) says).0 in
+      by there.0 there.1 there.2 kind fits
+    where
+      by : (found : EntityBody) → Contains (declared_entities other) (name, found)
+          → EntitiesAlike ours theirs (standard ps shape tags) found
+          → (kind : EntityTypeKind) → IsDeclaredKind (definitions bag extensions) (standard ps shape tags) kind → (found : EntityBody)
+          × EntitySays other name found × IsDeclaredKind (definitions other extensions) found kind
+      by (standard ps' shape' tags') there like (standard_kind fields openness ty) fits = (
+        standard ps' shape' tags',
+        declared_definition other name (standard ps' shape' tags') tt there,
+        (
+          elaborated_alike (definitions bag extensions) (definitions other extensions) moves fits.0 like.1,
+          fits.1,
+          tags_moved tags tags' ty like.2 fits.2,
+        ),
+      )
+      by (standard ps' shape' tags') there like (enumerated_kind choices) fits = absurd fits
+      by (standard ps' shape' tags') there like external_kind fits = absurd fits
+      by (enumerated choices) there like kind fits = absurd like
+      by (external ps') there like kind fits = absurd like
+
+  -- what the declarations of an action say moves, with its kind
+  action_says_moved : (uid : PlainUid) (it : Requests) (kind : ActionKind) → ActionSays bag uid it
+      → IsDeclaredActionKind (definitions bag extensions) it kind → (found : Requests) × ActionSays other uid found
+      × IsDeclaredActionKind (definitions other extensions) found kind
+  action_says_moved uid elsewhere external_action says fits =
+      let P : List PlainUid → Type 0 = λ uids. Contains uids uid in (
+        elsewhere,
+        (
+          subst P (action_same ours theirs bag other turn) says.0,
+          λ defined. says.1 (subst P (sym (defined_action_same ours theirs bag other turn)) defined),
+        ),
+        tt,
+      )
+  action_says_moved uid elsewhere (defined_action ps rs ty) says fits = absurd fits
+  action_says_moved uid (requests ps rs context) kind says fits =
+      let there = definition_requests_moved uid (requests ps rs context) says in by there.0 there.1 there.2 kind fits where
+        by : (found : Requests) → Contains (defined_actions other) (uid, found) → RequestsAlike ours theirs (requests ps rs context) found
+            → (kind : ActionKind) → IsDeclaredActionKind (definitions bag extensions) (requests ps rs context) kind → (found : Requests)
+            × ActionSays other uid found × IsDeclaredActionKind (definitions other extensions) found kind
+        by (requests ps' rs' context') there like (defined_action principals resources ty) fits = (
+          requests ps' rs' context',
+          there,
+          (
+            λ name. (
+              λ among. named_moved ps ps' like.0 name ((fits.0 name).0 among),
+              λ named. (fits.0 name).1
+                  (named_back ps ps' like.0 name named),
+            ),
+            λ name. (
+              λ among. named_moved rs rs' like.1 name ((fits.1 name).0 among),
+              λ named. (fits.1 name).1
+                  (named_back rs rs' like.1 name named),
+            ),
+            elaborated_alike (definitions bag extensions) (definitions other extensions) moves fits.2 like.2,
+          ),
+        )
+        by (requests ps' rs' context') there like external_action fits = absurd fits
+        by elsewhere there like kind fits = absurd like
+
+-- the other way round
+reversed : (bag other : Bag) (extensions : Extensions)
+    → HoldsPairwise (DeclarationsAlike (defined_names bag extensions) (defined_names other extensions)) bag other
+    → HoldsPairwise (DeclarationsAlike (defined_names other extensions) (defined_names bag extensions)) other bag
+reversed bag other extensions turn =
+    let ours = defined_names bag extensions in
+    let theirs = defined_names other extensions in
+    turn_back (DeclarationsAlike ours theirs) (DeclarationsAlike theirs ours) (declarations-sym ours theirs) bag other turn
+
+module _ (bag other : Bag) (extensions : Extensions)
+    (turn : HoldsPairwise (DeclarationsAlike (defined_names bag extensions) (defined_names other extensions)) bag other) where
+  -- an entity type that the one declares the other does
+  type_moved : (it : PlainName × SchemaEntityType) → IsDeclaredEntityType bag extensions it → IsDeclaredEntityType other extensions it
+  type_moved it declared =
+      let found = says_moved bag other extensions turn it.0 declared.body it.1.kind declared.says declared.kind in
+      record {
+        body = found.0;
+        says = found.1;
+        name = declared.name;
+        kind = found.2;
+        descendants = λ lower. (
+          λ among. descendant_moved bag other extensions turn lower it.0 ((declared.descendants lower).0 among),
+          λ below. (declared.descendants lower).1
+              (descendant_moved other bag extensions (reversed bag other extensions turn) lower it.0 below),
+        );
+      }
+
+  -- an action that the one declares the other does
+  declared_action_moved : (it : PlainUid × SchemaAction) → IsDeclaredAction bag extensions it → IsDeclaredAction other extensions it
+  declared_action_moved it declared =
+      let found = action_says_moved bag other extensions turn it.0 declared.applies_to it.1.kind declared.says declared.kind in
+      record {
+        applies_to = found.0;
+        says = found.1;
+        uid = declared.uid;
+        kind = found.2;
+        descendants = λ lower. (
+          λ among. descendant_action_moved bag other extensions turn lower it.0 ((declared.descendants lower).0 among),
+          λ below. (declared.descendants lower).1
+              (descendant_action_moved other bag extensions (reversed bag other extensions turn) lower it.0 below),
+        );
+      }
+
+  -- a schema that the one declares the other does
+  schema_moved : (schema : PlainSchema) → IsDeclaredSchema bag extensions schema → IsDeclaredSchema other extensions schema
+  schema_moved schema declared =
+      let ours = defined_names bag extensions in
+      let theirs = defined_names other extensions in
+      let P : PlainName → List PlainName → Type 0 = λ name list. Contains list name in
+      let Q : PlainUid → List PlainUid → Type 0 = λ uid list. Contains list uid in
+      record {
+        entity_types = λ it among. type_moved it (declared.entity_types it among);
+        each_entity_type = λ name among. declared.each_entity_type name (subst (P name) (sym
+            (entity_same ours theirs bag other turn)) among);
+        entity_types_in_order = declared.entity_types_in_order;
+        actions = λ it among. declared_action_moved it (declared.actions it among);
+        each_action = λ uid among. declared.each_action uid (subst (Q uid) (sym (action_same ours theirs bag other turn)) among);
+        actions_in_order = declared.actions_in_order;
+        action_entities = declared.action_entities;
+      }
+
+-- a bag and the resolved one are alike pairwise, each over the names that it defines
+resolved_turn : (bag resolved : Bag) (extensions : Extensions) → ResolvesBag (defined_names bag extensions) bag resolved
+    → HoldsPairwise (DeclarationsAlike (defined_names bag extensions) (defined_names resolved extensions)) bag resolved
+resolved_turn bag resolved extensions it =
+    let names = defined_names bag extensions in
+    let alike = turn_weaker (ResolvesDeclaration names) (DeclarationsAlike names names) (resolved_declaration names) bag resolved it in
+    let P : Names → Type 0 = λ others. HoldsPairwise (DeclarationsAlike names others) bag resolved in
+    subst P (names_same names names bag resolved alike extensions) alike
+
+-- resolving the references of a bag changes nothing
+pub resolution : ResolutionChangesNothing
+resolution bag resolved extensions it =
+    let turn = resolved_turn bag resolved extensions it in
+    let back = reversed bag resolved extensions turn in (
+      λ fault. (fault_moved bag resolved extensions turn fault, fault_moved resolved bag extensions back fault),
+      λ schema. (schema_moved bag resolved extensions turn schema, schema_moved resolved bag extensions back schema),
+    )
+
+module _ (bag resolved : Bag) (extensions : Extensions) (it : ResolvesBag (defined_names bag extensions) bag resolved) where
+  -- what has to name something in the resolved bag does
+  pub resolved_still_resolves : (reference : Reference) → HasToResolve resolved reference
+      → (name : PlainName) × ResolvesTo (defined_names resolved extensions) reference name
+  resolved_still_resolves = has_to_resolves resolved bag extensions (reversed bag resolved extensions (resolved_turn bag resolved extensions it))
+
+  -- a parent of an action in the resolved bag names one
+  pub resolved_parent_names : (uid : PlainUid) (parent : ActionReference) → IsActionParent resolved uid parent
+      → (upper : PlainUid) × NamesAction (action_uids resolved) parent upper
+  resolved_parent_names uid parent is =
+      (action_parent_moved resolved bag extensions (reversed bag resolved extensions (resolved_turn bag resolved extensions it))
+      uid parent is).2.2
+
+  -- it defines what the bag does
+  pub resolved_defines : defined_names bag extensions ≡ defined_names resolved extensions
+  resolved_defines =
+      let names = defined_names bag extensions in
+      names_same names names bag resolved
+      (turn_weaker (ResolvesDeclaration names) (DeclarationsAlike names names) (resolved_declaration names) bag resolved it) extensions

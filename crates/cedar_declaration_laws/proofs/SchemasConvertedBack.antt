@@ -1,0 +1,202 @@
+-- The bag of a valid schema that is converted back declares the schema with its descendants closed.
+use Rattle.std.proofs.Common.{◌≡◌, ◌↔◌, List, [], ◌∷◌, Option, map, sym, subst, ◌∙◌, refl, ⊎_elim, Contains}
+use Rattle.std.specs.List.Sorted.{IsStrictlySortedBy}
+use Rattle.cedar_below.proofs.Lists.{Contains-preimage}
+use Rattle.cedar_below.proofs.PlainNames.{name_cmp-total, uid_cmp-total}
+use Rattle.cedar_below.specs.Lists.{HoldsPairwise}
+use Rattle.cedar_below.specs.PlainName.{PlainName, name_cmp}
+use Rattle.cedar_below.specs.PlainUid.{PlainUid, uid_cmp}
+use Rattle.cedar_below.specs.declared.extension.Extensions.{Extensions}
+use Rattle.cedar_declarations.proofs.OccurrenceLemmas.{Contains-image, Twice-sorted_by_name, value_once}
+use Rattle.cedar_declarations.proofs.TogetherLemmas.{AreRequests, IsDefinition, action_definition_declared, action_definition_says, declared_action_definition, declared_definition, definition_declared, definition_or_external, definition_says, requests_or_elsewhere}
+use Rattle.cedar_declarations.proofs.TurnLemmas.{turn_back, turn_forth}
+use Rattle.cedar_declarations.specs.Bag.{Bag, declared_actions, declared_entities}
+use Rattle.cedar_declarations.specs.ClosedSchema.{ClosesAction, ClosesType}
+use Rattle.cedar_declarations.specs.DeclaredSchema.{IsDeclaredAction, IsDeclaredActionKind, IsDeclaredEntityType, IsDeclaredKind}
+use Rattle.cedar_declarations.specs.Descent.{IsDescendant, IsDescendantAction}
+use Rattle.cedar_declarations.specs.EntityTypeKind.{EntityTypeKind, enumerated_kind, external_kind, standard_kind}
+use Rattle.cedar_declarations.specs.PlainSchema.{ActionKind, PlainSchema, SchemaAction, SchemaEntityType, defined_action, external_action}
+use Rattle.cedar_declarations.specs.Together.{ActionSays, EntitySays, defined_actions, defined_entities}
+use Rattle.cedar_declarations.specs.ValidSchema.{IsExternal, IsValidSchema, ListsDescendant}
+use Rattle.cedar_declarations.specs.ConvertedBack.{AreRequestsWritten, IsKindWritten, IsWritable, IsConvertedBack}
+use Rattle.cedar_declaration_laws.proofs.EntriesConvertedBack.{IsActionWritten, IsTypeWritten, action_declared, declared_action_from, declared_type_from, same_types, same_uids, type_declared}
+use Rattle.cedar_declaration_laws.proofs.KindsConvertedBack.{action_kind_declared, kind_declared}
+use Rattle.cedar_declaration_laws.proofs.ParentsConvertedBack.{same_action_descendants, same_descendants}
+use Rattle.cedar_declaration_laws.specs.EndToEnd.{IsInOrder, ConvertedDescendantsAreReached, ConvertedSchemasAreDeclared}
+use Rattle.cedar_names.specs.ActionBody.{ActionBody, Requests, elsewhere, requests}
+use Rattle.cedar_names.specs.EntityBody.{EntityBody, enumerated, external, standard}
+
+module _ (namespace : Option PlainName) where
+  -- what is written as external is
+  pub external_written : (IsAbove : PlainName → Type 0) (kind : EntityTypeKind) (parents : List _)
+      → IsKindWritten namespace IsAbove kind (external parents) → IsExternal kind
+  external_written IsAbove (standard_kind fields openness tags) parents is = absurd is
+  external_written IsAbove (enumerated_kind choices) parents is = absurd is
+  external_written IsAbove external_kind parents is = tt
+
+  -- what is written as defined isn't external
+  defined_written : (IsAbove : PlainName → Type 0) (kind : EntityTypeKind) (body : EntityBody) → IsKindWritten namespace IsAbove kind body
+      → IsDefinition body → ¬ IsExternal kind
+  defined_written IsAbove (standard_kind fields openness tags) body is definition other = other
+  defined_written IsAbove (enumerated_kind choices) body is definition other = other
+  defined_written IsAbove external_kind (standard parents shape tags) is definition other = is
+  defined_written IsAbove external_kind (enumerated ids) is definition other = is
+  defined_written IsAbove external_kind (external parents) is definition other = definition
+
+  -- an action that is written as external isn't also written as defined
+  requests_written_once : (kind : ActionKind) (applies_to : Requests) → AreRequests applies_to
+      → AreRequestsWritten namespace kind applies_to → (other : Option PlainName) → ¬ AreRequestsWritten other kind elsewhere
+  requests_written_once (defined_action ps rs ty) applies_to are is other is' = is'
+  requests_written_once external_action (requests principals resources context) are is other is' = is
+  requests_written_once external_action elsewhere are is other is' = are
+
+module _ (schema : PlainSchema) (bag : Bag) (extensions : Extensions) (order : IsInOrder schema)
+    (written : IsConvertedBack schema bag) where
+  -- an entity type of the schema has one entry
+  one_type : (name : PlainName) (it other : SchemaEntityType) → Contains schema.entity_types (name, it)
+      → Contains schema.entity_types (name, other) → it ≡ other
+  one_type =
+      value_once schema.entity_types
+      (λ name twice. Twice-sorted_by_name name_cmp name_cmp-total (map (λ it. it.0) schema.entity_types) name order.entity_types twice)
+
+  -- so has an action
+  one_action : (uid : PlainUid) (it other : SchemaAction) → Contains schema.actions (uid, it) → Contains schema.actions (uid, other)
+      → it ≡ other
+  one_action =
+      value_once schema.actions
+      (λ uid twice. Twice-sorted_by_name uid_cmp uid_cmp-total (map (λ it. it.0) schema.actions) uid order.actions twice)
+
+  -- an entity type of the schema that is external has no definition
+  pub external_undefined : (name : PlainName) (it : SchemaEntityType) → Contains schema.entity_types (name, it) → IsExternal it.kind
+      → ¬ Contains (map (λ each. each.0) (defined_entities bag)) name
+  external_undefined name it there is_external among =
+      let found = Contains-preimage (λ (each : PlainName × EntityBody). each.0) (defined_entities bag) name among in
+      let P : PlainName → Type 0 = λ each. Contains (defined_entities bag) (each, found.0.1) in
+      let definition = definition_declared bag name found.0.1 (subst P found.2 found.1) in
+      let from = declared_type_from schema bag written name found.0.1 definition.0 in
+      let entry = from.2 in
+      let Q : SchemaEntityType → Type 0 = λ each. IsExternal each.kind in
+      defined_written entry.namespace (λ upper. ListsDescendant schema name upper) from.0.kind found.0.1 entry.kind definition.1
+      (subst Q (one_type name it from.0 there from.1) is_external)
+
+  -- what is declared of an entity type of the schema is what is said of it
+  type_said : (it : PlainName × SchemaEntityType) → Contains schema.entity_types it → (body : EntityBody)
+      → Contains (declared_entities bag) (it.0, body) → IsTypeWritten schema it body → EntitySays bag it.0 body
+  type_said it there body among entry =
+      ⊎_elim
+      (λ definition. definition_says bag it.0 body (declared_definition bag it.0 body definition among))
+      (λ is_external.
+      let P : EntityBody → Type 0 = EntitySays bag it.0 in
+      let Q : EntityBody → Type 0 = IsKindWritten entry.namespace (λ upper. ListsDescendant schema it.0 upper) it.1.kind in
+      let kind = external_written entry.namespace (λ upper. ListsDescendant schema it.0 upper) it.1.kind is_external.0
+      (subst Q is_external.1 entry.kind) in
+      subst P (sym is_external.1) (
+        Contains-image (λ (each : PlainName × EntityBody). each.0) (declared_entities bag) (it.0, body) among,
+        external_undefined it.0 it.1 there kind,
+      ))
+      (definition_or_external body)
+
+  -- an action of the schema that is written as external has no definition
+  elsewhere_undefined : (uid : PlainUid) (it : SchemaAction) → Contains schema.actions (uid, it) → (namespace : Option PlainName)
+      → AreRequestsWritten namespace it.kind elsewhere → ¬ Contains (map (λ each. each.0) (defined_actions bag)) uid
+  elsewhere_undefined uid it there namespace is among =
+      let found = Contains-preimage (λ (each : PlainUid × Requests). each.0) (defined_actions bag) uid among in
+      let P : PlainUid → Type 0 = λ each. Contains (defined_actions bag) (each, found.0.1) in
+      let definition = action_definition_declared bag uid found.0.1 (subst P found.2 found.1) in
+      let from = declared_action_from schema bag written uid definition.0 definition.1 in
+      let entry = from.2 in
+      let Q : Requests → Type 0 = AreRequestsWritten entry.namespace from.0.kind in
+      let R : SchemaAction → Type 0 = λ each. AreRequestsWritten namespace each.kind elsewhere in
+      requests_written_once entry.namespace from.0.kind found.0.1 definition.3 (subst Q definition.2 entry.applies_to) namespace
+      (subst R (one_action uid it from.0 there from.1) is)
+
+  -- what is declared of an action of the schema is what is said of it
+  action_said : (it : PlainUid × SchemaAction) → Contains schema.actions it → (body : ActionBody)
+      → Contains (declared_actions bag) (it.0, body) → IsActionWritten schema it body → ActionSays bag it.0 body.applies_to
+  action_said it there body among entry =
+      ⊎_elim
+      (λ are. action_definition_says bag it.0 body.applies_to (declared_action_definition bag it.0 body body.applies_to among refl are))
+      (λ is_elsewhere.
+      let P : Requests → Type 0 = ActionSays bag it.0 in
+      let Q : Requests → Type 0 = AreRequestsWritten entry.namespace it.1.kind in
+      subst P (sym is_elsewhere) (
+        Contains-image (λ (each : PlainUid × ActionBody). each.0) (declared_actions bag) (it.0, body) among,
+        elsewhere_undefined it.0 it.1 there entry.namespace (subst Q is_elsewhere entry.applies_to),
+      ))
+      (requests_or_elsewhere body.applies_to)
+
+  module _ (writable : IsWritable schema) (valid : IsValidSchema extensions schema) where
+    -- an entity type of the schema, closed, is the declared one
+    closed_type_declared : (it closed : PlainName × SchemaEntityType) → Contains schema.entity_types it → it.1.name ≡ it.0
+        → ClosesType schema it closed → IsDeclaredEntityType bag extensions closed
+    closed_type_declared it closed there named closes =
+        let found = type_declared schema bag written it there in
+        let P : PlainName → Type 0 = λ name. EntitySays bag name found.0 in
+        let Q : EntityTypeKind → Type 0 = IsDeclaredKind _ found.0 in record {
+          body = found.0;
+          says = subst P closes.key (type_said it there found.0 found.1 found.2);
+          name = sym closes.name ∙ (named ∙ closes.key);
+          kind = subst Q closes.kind (kind_declared schema bag extensions writable written valid it there found.0 found.2);
+          descendants = λ lower.
+              let R : PlainName → Type 0 = λ name. Contains closed.1.descendants lower ↔ IsDescendant bag extensions lower name in
+              let same = same_descendants schema bag extensions writable written lower it.0 in
+              let reached = closes.descendants lower in
+              subst R closes.key (λ among. same.1 (reached.0 among), λ below. reached.1 (same.0 below));
+        }
+
+    -- an action of the schema, closed, is the declared one
+    closed_action_declared : (it closed : PlainUid × SchemaAction) → Contains schema.actions it → it.1.uid ≡ it.0
+        → ClosesAction schema it closed → IsDeclaredAction bag extensions closed
+    closed_action_declared it closed there named closes =
+        let found = action_declared schema bag written it there in
+        let P : PlainUid → Type 0 = λ uid. ActionSays bag uid found.0.applies_to in
+        let Q : ActionKind → Type 0 = IsDeclaredActionKind _ found.0.applies_to in record {
+          applies_to = found.0.applies_to;
+          says = subst P closes.key (action_said it there found.0 found.1 found.2);
+          uid = sym closes.uid ∙ (named ∙ closes.key);
+          kind = subst Q closes.kind (action_kind_declared schema bag extensions writable written valid it there found.0 found.2);
+          descendants = λ lower.
+              let R : PlainUid → Type 0 = λ uid. Contains closed.1.descendants lower ↔ IsDescendantAction bag lower uid in
+              let same = same_action_descendants schema bag extensions writable written lower it.0 in
+              let reached = closes.descendants lower in
+              subst R closes.key (λ among. same.1 (reached.0 among), λ below. reached.1 (same.0 below));
+        }
+
+-- where entries hold pairwise under the same keys, these are the same
+same_keys : {K V W : Type 0} (R : K × V → K × W → Type 0) → ((it : K × V) (other : K × W) → R it other → it.0 ≡ other.0)
+    → (xs : List (K × V)) (ys : List (K × W)) → HoldsPairwise R xs ys → map (λ it. it.0) xs ≡ map (λ it. it.0) ys
+same_keys R key [] [] turn = refl
+same_keys R key [] (y ∷ ys) turn = absurd turn
+same_keys R key (x ∷ xs) [] turn = absurd turn
+same_keys R key (x ∷ xs) (y ∷ ys) turn = λ i. key x y turn.0 i ∷ same_keys R key xs ys turn.1 i
+
+-- so the bag declares the schema closed
+pub converted_schemas_are_declared : ConvertedSchemasAreDeclared
+converted_schemas_are_declared schema closed bag extensions order named writable valid written closes =
+    let types = same_keys (ClosesType schema) (λ it other is. is.key) schema.entity_types closed.entity_types closes.entity_types in
+    let actions = same_keys (ClosesAction schema) (λ it other is. is.key) schema.actions closed.actions closes.actions in record {
+      entity_types = λ it among.
+          let from = turn_forth (λ (y : PlainName × SchemaEntityType) (x : PlainName × SchemaEntityType). ClosesType schema x y)
+          closed.entity_types schema.entity_types
+          (turn_back (ClosesType schema) (λ (y : PlainName × SchemaEntityType) (x : PlainName × SchemaEntityType). ClosesType schema x y)
+          (λ x y is. is) schema.entity_types closed.entity_types closes.entity_types) it among in
+          closed_type_declared schema bag extensions order written writable valid from.0 it from.1
+          (named.entity_types from.0 from.1) from.2;
+      each_entity_type = λ name among. subst (λ keys. Contains keys name) types ((same_types schema bag written name).0 among);
+      entity_types_in_order = subst (IsStrictlySortedBy name_cmp) types order.entity_types;
+      actions = λ it among.
+          let from = turn_forth (λ (y : PlainUid × SchemaAction) (x : PlainUid × SchemaAction). ClosesAction schema x y)
+          closed.actions schema.actions
+          (turn_back (ClosesAction schema) (λ (y : PlainUid × SchemaAction) (x : PlainUid × SchemaAction). ClosesAction schema x y)
+          (λ x y is. is) schema.actions closed.actions closes.actions) it among in
+          closed_action_declared schema bag extensions order written writable valid from.0 it from.1
+          (named.actions from.0 from.1) from.2;
+      each_action = λ uid among. subst (λ keys. Contains keys uid) actions ((same_uids schema bag written uid).0 among);
+      actions_in_order = subst (IsStrictlySortedBy uid_cmp) actions order.actions;
+      action_entities = closes.action_entities;
+    }
+
+-- and descendants are those that are reached
+pub converted_descendants_are_reached : ConvertedDescendantsAreReached
+converted_descendants_are_reached schema bag extensions writable written =
+    (same_descendants schema bag extensions writable written, same_action_descendants schema bag extensions writable written)

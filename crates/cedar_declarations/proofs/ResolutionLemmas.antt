@@ -1,0 +1,101 @@
+-- References resolve to one name, and an expression is elaborated as one type.
+use Rattle.std.proofs.Common.{◌≡◌, List, [], ◌∷◌, ap, sym, subst, ◌∙◌, refl, inl, inr, ⊎_elim, Contains, suc, arith}
+use Rattle.cedar_below.specs.PlainName.{PlainName}
+use Rattle.cedar_names.specs.Expr.{Expr}
+use Rattle.cedar_names.specs.Reference.{Reference}
+use Rattle.cedar_declarations.specs.Defined.{Defined, IsCommon, names_of}
+use Rattle.cedar_declarations.specs.Names.{Names, MayNameCommon, IsDefined, ResolvesTo}
+use Rattle.cedar_declarations.specs.Occurrences.{IsFirst}
+use Rattle.cedar_declarations.specs.ElaboratesTo.{ElaboratesTo, MembersElaborateTo, as_text, as_long, as_truth, as_set, as_record, as_entity, as_common, as_extension, as_no_member, as_member}
+use Rattle.cedar_type_rules.specs.Ty.{Ty, Fields, set_of, record_of, union_of, field}
+use Rattle.cedar_type_rules.specs.declared.open_tag.OpenTag.TheVariants.{ClosedAttributes}
+use Rattle.cedar_names.specs.declared.json_schema.reference_type.ReferenceType.{ReferenceType}
+use Rattle.cedar_names.specs.declared.json_schema.reference_type.ReferenceType.TheVariants.{Common, Entity, CommonOrEntity}
+
+-- there is one first item of which a fact holds
+pub IsFirst-same : {A : Type 0} (P : A → Type 0) (xs : List A) (x y : A) → IsFirst P xs x → IsFirst P xs y → x ≡ y
+IsFirst-same P [] x y one other = absurd one
+IsFirst-same P (first ∷ rest) x y one other =
+    ⊎_elim
+    (λ here. ⊎_elim (λ there. sym here.0 ∙ there.0) (λ later. absurd (later.0 here.1)) other)
+    (λ later. ⊎_elim (λ there. absurd (later.0 there.1)) (λ there. IsFirst-same P rest x y later.1 there.1) other)
+    one
+
+-- where two facts hold of the same items, they hold first of the same
+pub IsFirst-like : {A : Type 0} (P Q : A → Type 0) → ((x : A) → P x → Q x) → ((x : A) → Q x → P x)
+    → (xs : List A) (x : A) → IsFirst P xs x → IsFirst Q xs x
+IsFirst-like P Q to from [] x first = absurd first
+IsFirst-like P Q to from (y ∷ rest) x first =
+    ⊎_elim (λ here. inl (here.0, to y here.1)) (λ later. inr
+    (λ holds. later.0 (from y holds), IsFirst-like P Q to from rest x later.1)) first
+
+-- no common name has two definitions
+abbrev pub HasOneDefinition : Defined → Type 0
+HasOneDefinition defined =
+    (name : PlainName) (body other : Expr) → Contains defined.common (name, body) → Contains defined.common (name, other) → body ≡ other
+
+-- the definitions that a reference names are the same
+pub same_definition : (defined : Defined) → HasOneDefinition defined
+    → (reference : Reference) (name name' : PlainName) (body body' : Expr) → ResolvesTo (names_of defined) reference name
+    → ResolvesTo (names_of defined) reference name' → IsCommon defined reference.kind name body
+    → IsCommon defined reference.kind name' body' → body ≡ body'
+same_definition defined one reference name name' body body' resolves resolves' common common' =
+    let same : name ≡ name' = IsFirst-same (IsDefined (names_of defined) reference.kind) reference.possibilities name name' resolves resolves' in
+    let P : PlainName → Type 0 = λ each. Contains defined.common (each, body') in
+    one name body body' common.1 (subst P (sym same) common'.1)
+
+mutual
+  -- where no common name has two definitions, an expression is elaborated as one type
+  pub elaborated_once : (defined : Defined) → HasOneDefinition defined → {expr : Expr} {ty ty' : Ty}
+      → ElaboratesTo defined expr ty → ElaboratesTo defined expr ty' → ty ≡ ty'
+  elaborated_once defined one as_text as_text = refl
+  elaborated_once defined one as_long as_long = refl
+  elaborated_once defined one as_truth as_truth = refl
+  elaborated_once defined one (as_set element) (as_set other) = ap set_of (elaborated_once defined one element other)
+  elaborated_once defined one (as_record members) (as_record others) =
+      ap (λ fields. record_of fields ClosedAttributes) (members_elaborated_once defined one members others)
+  elaborated_once defined one (as_entity reference name resolves is_entity no_common)
+      (as_entity reference' name' resolves' is_entity' no_common') =
+      ap (λ each. union_of (each ∷ [])) (IsFirst-same (IsDefined (names_of defined) reference.kind) reference.possibilities name
+      name' resolves resolves')
+  elaborated_once defined one (as_entity reference name resolves is_entity no_common)
+      (as_common reference' name' body resolves' is_common written) =
+      let same : name ≡ name' = IsFirst-same (IsDefined (names_of defined) reference.kind) reference.possibilities name name' resolves resolves' in
+      let P : PlainName → Type 0 = λ each. IsCommon defined reference.kind each body in
+      absurd (no_common body (subst P (sym same) is_common))
+  elaborated_once defined one (as_common reference name body resolves is_common written)
+      (as_entity reference' name' resolves' is_entity' no_common) =
+      let same : name ≡ name' = IsFirst-same (IsDefined (names_of defined) reference.kind) reference.possibilities name name' resolves resolves' in
+      let P : PlainName → Type 0 = λ each. IsCommon defined reference.kind each body in
+      absurd (no_common body (subst P same is_common))
+  elaborated_once defined one {ty = ty} {ty' = ty'} (as_common reference name body resolves is_common written)
+      (as_common reference' name' body' resolves' is_common' written') =
+      let same : body ≡ body' = same_definition defined one reference name name' body body' resolves resolves' is_common is_common' in
+      let P : Expr → Type 0 = λ each. ElaboratesTo defined each ty' in
+      elaborated_once defined one written (subst P (sym same) written')
+  elaborated_once defined one (as_extension name) (as_extension name') = refl
+
+  -- the same of the attributes of a record
+  members_elaborated_once : (defined : Defined) → HasOneDefinition defined → {members : _} {fields fields' : Fields}
+      → MembersElaborateTo defined members fields → MembersElaborateTo defined members fields' → fields ≡ fields'
+  members_elaborated_once defined one as_no_member as_no_member = refl
+  members_elaborated_once defined one (as_member {name = name} {required = required} {ty = ty} first rest)
+      (as_member {fields = others} first' rest') =
+      ap (λ fields. field name required ty fields) (members_elaborated_once defined one rest rest')
+      ∙ ap (λ each. field name required each others) (elaborated_once defined one first first')
+
+-- the name that a list of possibilities resolves to is one of them, and is defined
+pub first_defined : (defined : Names) (kind : ReferenceType) (names : List PlainName) (name : PlainName)
+    → IsFirst (IsDefined defined kind) names name → Contains names name × IsDefined defined kind name
+first_defined defined kind [] name none = absurd none
+first_defined defined kind (first ∷ rest) name found =
+    ⊎_elim
+    (λ here. let P : PlainName → Type 0 = IsDefined defined kind in ((0, omega arith, here.0), subst P here.0 here.1))
+    (λ later. let tail = first_defined defined kind rest name later.1 in ((suc tail.0.0, omega (arith, tail.0.1), tail.0.2), tail.1))
+    found
+
+-- a reference to an entity type names no common type
+pub names_no_common : (kind : ReferenceType) → kind ≡ Entity → ¬ MayNameCommon kind
+names_no_common Common is may = cc
+names_no_common Entity is may = may
+names_no_common CommonOrEntity is may = cc

@@ -1,0 +1,31 @@
+-- What holds of two lists pairwise.
+use Rattle.std.proofs.Common.{List, [], ◌∷◌, subst, refl, inl, inr, ⊎_elim, arith, Contains}
+use Rattle.cedar_below.proofs.Lists.{Contains-cons, Contains-cons_cases}
+use Rattle.cedar_below.specs.Lists.{HoldsPairwise}
+
+-- what holds of lists in turn holds of each item and another
+pub turn_forth : {A B : Type 0} (R : A → B → Type 0) (xs : List A) (ys : List B) → HoldsPairwise R xs ys → (x : A) → Contains xs x
+    → (y : B) × Contains ys y × R x y
+turn_forth R [] ys turn x among = absurd (omega (arith, among.1))
+turn_forth R (x' ∷ xs) [] turn x among = absurd turn
+turn_forth {A = A} R (x' ∷ xs) (y ∷ ys) turn x among =
+    ⊎_elim
+    (λ here. let P : A → Type 0 = λ each. R each y in (y, Contains-cons y ys y (inl refl), subst P here turn.0))
+    (λ later. let found = turn_forth R xs ys turn.1 x later in (found.0, Contains-cons y ys found.0 (inr found.1), found.2))
+    (Contains-cons_cases x' xs x among)
+
+-- what holds of lists in turn holds the other way round of those the other way round
+pub turn_back : {A B : Type 0} (R : A → B → Type 0) (S : B → A → Type 0) → ((x : A) (y : B) → R x y → S y x) → (xs : List A)
+    (ys : List B) → HoldsPairwise R xs ys → HoldsPairwise S ys xs
+turn_back R S back [] [] turn = tt
+turn_back R S back [] (y ∷ ys) turn = absurd turn
+turn_back R S back (x ∷ xs) [] turn = absurd turn
+turn_back R S back (x ∷ xs) (y ∷ ys) turn = (back x y turn.0, turn_back R S back xs ys turn.1)
+
+-- where a relation implies another, so it does in turn
+pub turn_weaker : {A B : Type 0} (R S : A → B → Type 0) → ((x : A) (y : B) → R x y → S x y) → (xs : List A) (ys : List B)
+    → HoldsPairwise R xs ys → HoldsPairwise S xs ys
+turn_weaker R S to [] [] turn = tt
+turn_weaker R S to [] (y ∷ ys) turn = absurd turn
+turn_weaker R S to (x ∷ xs) [] turn = absurd turn
+turn_weaker R S to (x ∷ xs) (y ∷ ys) turn = (to x y turn.0, turn_weaker R S to xs ys turn.1)

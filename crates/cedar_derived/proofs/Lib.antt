@@ -1,5 +1,0 @@
-mod EntityLemmas
-mod EnvironmentLemmas
-mod GivenLemmas
-mod UidLemmas
-mod UpperLemmas

@@ -1,3 +1,0 @@
-pub mod ActionEntities
-pub mod RequestEnvironments
-pub mod Uppers

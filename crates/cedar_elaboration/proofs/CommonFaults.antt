@@ -1,0 +1,156 @@
+-- What common types that are elaborated say of the bag, and what it says that they are refused.
+use Rattle.std.proofs.Common.{◌≡◌, ◌⊎◌, List, ◌++◌, map, sym, subst, ◌∙◌, refl, inl, inr, ⊎_elim, Contains}
+use Rattle.std.proofs.lemmas.List.{map-append}
+use Rattle.std.proofs.lemmas.List.Elements.{Contains-append_left}
+use Rattle.std.specs.BTreeSet.{BTreeSet}
+use Rattle.cedar_below.proofs.Chains.{refined}
+use Rattle.cedar_below.specs.Chain.{Chain, one}
+use Rattle.cedar_below.specs.Extensions.{extension_types}
+use Rattle.cedar_below.specs.Lists.{SameItems}
+use Rattle.cedar_below.specs.PlainName.{PlainName}
+use Rattle.cedar_below.specs.declared.entity_type.EntityType.{EntityType}
+use Rattle.cedar_below.specs.declared.extension.Extensions.{Extensions}
+use Rattle.cedar_below.specs.declared.internal_name.InternalName.{InternalName}
+use Rattle.cedar_elaboration.proofs.AliasLemmas.{built_in_closed, declared_or_built_in, defined_twice}
+use Rattle.cedar_elaboration.specs.BuiltIn.{free_aliases}
+use Rattle.cedar_elaboration.specs.DeclaredTypes.{AreTypesOf, AreElaborated, names_of_types}
+use Rattle.cedar_elaboration.specs.SoundTypes.{CommonTypesAreSound}
+use Rattle.cedar_declarations.proofs.BuiltInLemmas.{refers_declared}
+use Rattle.cedar_declarations.proofs.DeclarationLemmas.{common_declaration}
+use Rattle.cedar_declarations.proofs.DefinedLemmas.{SameDefined, SameDefined-sym, resolves_there, unresolved_there, elaborated_there}
+use Rattle.cedar_declarations.proofs.OccurrenceLemmas.{Contains-image, Twice-left}
+use Rattle.cedar_declarations.specs.Bag.{Bag, declared_common, declared_types, aliases, built_in_types, built_ins, definitions}
+use Rattle.cedar_declarations.specs.Counted.{CountsIn, IsCounted}
+use Rattle.cedar_declarations.specs.Defined.{Defined}
+use Rattle.cedar_declarations.specs.Fault.{Fault, out_of_memory, open_record, type_not_defined, unknown_extension_type, reserved_name, duplicate_common_type, common_type_cycle}
+use Rattle.cedar_declarations.specs.IllFormed.{IsFault, RefersToCommon}
+use Rattle.cedar_declarations.specs.Occurrences.{Twice}
+use Rattle.cedar_fragments.specs.declared.namespace.entity_types.EntityTypeFragment.{EntityTypeFragment}
+use Rattle.cedar_declaration_laws.proofs.MentionLemmas.{known_built_in}
+use Rattle.cedar_names.specs.Declaration.{Body}
+use Rattle.cedar_names.specs.Expr.{Expr}
+use Rattle.cedar_names.specs.declared.json_schema.type_of.Type.{«Type»}
+use Rattle.cedar_type_rules.specs.Ty.{Ty}
+use Rattle.cedar_elaboration.specs.Common.{AreSound, IsCommonFault}
+use Rattle.cedar_elaboration.specs.Scope.{HoldsElaborated}
+use Rattle.cedar_elaboration.specs.Indices.{common_items, defined_by, item_names}
+
+-- a step from a common type to one that it refers to is one where the same is defined
+refers_there : (defined other : Defined) → SameDefined defined other → (name to : PlainName)
+    → RefersToCommon defined name to → RefersToCommon other name to
+refers_there defined other same name to (definition, reference, body, stands, refers, resolves, is_common) = (
+  definition,
+  reference,
+  body,
+  same.common (name, definition) stands,
+  refers,
+  resolves_there defined other same reference to resolves,
+  (is_common.0, same.common (to, body) is_common.1),
+)
+
+-- a common type that is declared counts
+common_counts : (bag : Bag) (it : PlainName × Expr) → Contains (declared_common bag) it → IsCounted bag it.1
+common_counts bag it among =
+    let found = common_declaration bag it.0 it.1 among in
+    let P : Body → Type 0 = λ each. CountsIn each it.1 in
+    (found.0, found.1, subst P (sym found.2) refl)
+
+module _ (bag : Bag) (extensions : Extensions) (declared : List (InternalName × «Type» InternalName))
+    (entity_types : List (EntityType × EntityTypeFragment InternalName)) (entity_names : BTreeSet InternalName)
+    (are : AreTypesOf bag extensions declared entity_types entity_names)
+    (types : List (InternalName × «Type» InternalName))
+    (all : common_items types ≡ common_items declared ++ built_ins extensions
+    ++ free_aliases (names_of_types declared entity_types) (built_in_types extensions)) where
+  -- the names are those of the types that the bag declares
+  names_declared : names_of_types declared entity_types ≡ declared_types bag
+  names_declared = (λ i. item_names (are.common i) ++ are.entities i)
+
+  -- the types are those that the bag defines
+  all_defined : common_items types ≡ (definitions bag extensions).common
+  all_defined = all ∙ (λ i. are.common i ++ built_ins extensions ++ free_aliases (names_declared i) (built_in_types extensions))
+
+  -- they define the same as the bag, actions aside
+  same_defined : SameDefined (defined_by types entity_names) (definitions bag extensions)
+  same_defined =
+      record {
+        common = λ it among. let P : List (PlainName × Expr) → Type 0 = λ items. Contains items it in subst P all_defined among;
+        common_back = λ it among. let P : List (PlainName × Expr) → Type 0 = λ items. Contains items it in subst P (sym all_defined) among;
+        entities = λ name. (are.names name).1;
+        entities_back = λ name. (are.names name).0;
+      }
+
+  -- what is refused of them is a fault of the bag
+  pub common_fault : (fault : Fault) → IsCommonFault (defined_by types entity_names) (extension_types extensions) fault
+      → (fault ≡ out_of_memory) ⊎ IsFault bag extensions fault
+  common_fault (duplicate_common_type name) twice =
+      let P : List (PlainName × Expr) → Type 0 = λ items. Twice (item_names items) name in
+      inr (defined_twice bag extensions are.fit name (subst P all_defined twice))
+  common_fault (common_type_cycle name) cycle =
+      inr (refined (λ from to step. one (refers_there _ _ same_defined from to step)) cycle)
+  common_fault out_of_memory fault = inl refl
+  common_fault open_record (it, stands, is_open) =
+      ⊎_elim
+      (λ declared. inr (it.1, common_counts bag it declared, is_open))
+      (λ built_in. absurd (built_in_closed extensions built_in.0 it.1 built_in.1 is_open))
+      (declared_or_built_in bag extensions it (same_defined.common it stands))
+  common_fault (type_not_defined references) (it, stands, (some, each)) =
+      inr (
+        some,
+        λ reference among.
+            let unresolved = each reference among in (
+              inl (
+                it.1,
+                common_counts bag it (refers_declared bag extensions it.0 it.1 reference
+                    (same_defined.common it stands) unresolved.0),
+                unresolved.0,
+              ),
+              unresolved_there _ _ same_defined reference unresolved.1,
+            ),
+      )
+  common_fault (unknown_extension_type name) (it, stands, (mentions, unqualified, unknown)) =
+      ⊎_elim
+      (λ declared. inr (it.1, common_counts bag it declared, mentions, unqualified, unknown))
+      (λ built_in.
+      let P : PlainName → Type 0 = Contains (extension_types extensions) in
+      absurd (unknown (subst P (λ i. record { base = name.base; path = sym unqualified i })
+      (known_built_in extensions are.fit built_in.0 it.1 built_in.1 name.base mentions))))
+      (declared_or_built_in bag extensions it (same_defined.common it stands))
+  common_fault (reserved_name name) (it, stands, (reference, refers, reserved)) =
+      absurd (are.unreserved name (same_defined.entities name reserved.is_entity.1) reserved.reserved)
+  common_fault _ fault = absurd fault.2
+
+  -- what is sure of them is sure of the bag
+  pub common_sound : ((name : PlainName) → ¬ Twice (item_names (common_items types)) name)
+      → ((name : PlainName) → ¬ Chain (RefersToCommon (defined_by types entity_names)) name name)
+      → AreSound (defined_by types entity_names) (extension_types extensions)
+      → CommonTypesAreSound bag extensions
+  common_sound once no_cycle sound =
+      let key = λ (it : PlainName × Expr). it.0 in
+      let front = declared_common bag ++ built_ins extensions in
+      let stands : (it : PlainName × Expr) → Contains (declared_common bag) it → Contains (definitions bag extensions).common it =
+      λ it among. Contains-append_left front (aliases bag extensions) it
+      (Contains-append_left (declared_common bag) (built_ins extensions) it among) in
+      record {
+        once = λ name twice.
+            let P : List PlainName → Type 0 = λ names. Twice names name in
+            let Q : List (PlainName × Expr) → Type 0 = λ items. Twice (item_names items) name in
+            once name (subst Q (sym all_defined) (subst P (sym (map-append key front (aliases bag extensions)))
+            (Twice-left (map key front) (map key (aliases bag extensions)) name twice)));
+        no_cycle = λ name cycle. no_cycle name (refined (λ from to step. one
+            (refers_there _ _ (SameDefined-sym _ _ same_defined) from to step)) cycle);
+        closed = λ it among. (sound it (same_defined.common_back it (stands it among))).closed;
+        known = λ it among. (sound it (same_defined.common_back it (stands it among))).known;
+      }
+
+  -- what they are elaborated as is what those of the bag are
+  pub common_elaborated : (elaborated : List (PlainName × Ty))
+      → SameItems (map (λ it. it.0) elaborated) (item_names (common_items types))
+      → HoldsElaborated (defined_by types entity_names) elaborated → AreElaborated bag extensions elaborated
+  common_elaborated elaborated names holds =
+      record {
+        each = λ it among. (names it.0).1 (Contains-image (λ (each : PlainName × Expr). each.0) (common_items types) it
+            (same_defined.common_back it among));
+        elaborated = λ name ty among.
+            let found = holds name ty among in
+            (found.0, same_defined.common (name, found.0) found.1, elaborated_there _ _ same_defined found.2);
+      }

@@ -1,0 +1,165 @@
+-- Common types that are elaborated one after another.
+use Rattle.std.proofs.Common.{◌≡◌, ◌⊎◌, ◌++◌, ℕ, List, [], ◌∷◌, map, Some, ap, sym, subst, ◌∙◌, inl, inr, ⊎_elim, Contains, arith, Result, Ok, Err, IfOk}
+use Rattle.std.proofs.lemmas.List.Elements.{Contains-append_cases}
+use Rattle.std.specs.BTreeMap.{BTreeMap, insert_entry}
+use Rattle.std.specs.Prelude.{slice_get}
+use Rattle.cedar_below.proofs.Lists.{Contains-preimage}
+use Rattle.cedar_below.proofs.Names.{internal_name_ord-Equal}
+use Rattle.cedar_below.specs.InternalName.{name_of}
+use Rattle.cedar_below.specs.Lists.{Included, SameItems}
+use Rattle.cedar_below.specs.PlainName.{PlainName}
+use Rattle.cedar_below.specs.contracts.internal_name.InternalNameOrd.TheImpl as order
+use Rattle.cedar_below.specs.declared.internal_name.InternalName.{InternalName}
+use Rattle.cedar_declarations.proofs.OccurrenceLemmas.{Contains-image, Contains-single, value_once}
+use Rattle.cedar_declarations.specs.Fault.{Fault, common_type_cycle, duplicate_common_type, out_of_memory}
+use Rattle.cedar_declarations.specs.Occurrences.{Twice}
+use Rattle.cedar_declarations.specs.ElaboratesTo.{ElaboratesTo}
+use Rattle.cedar_names.specs.Expr.{Expr}
+use Rattle.cedar_type_rules.specs.Ty.{Ty}
+use Rattle.cedar_types.specs.Meaning.{ty_of}
+use Rattle.cedar_types.specs.declared.types.Type.{«Type»}
+use Rattle.cedar_elaboration.proofs.Entries.{inserted_cases, inserted_names, seen, seen_names}
+use Rattle.cedar_elaboration.proofs.IndexLemmas.{Contains-at}
+use Rattle.cedar_elaboration.specs.Common.{IsCommonFault, IsSoundExpr}
+use Rattle.cedar_elaboration.specs.Scope.{HoldsElaborated, Covers, set_names, elaborated_types}
+use Rattle.cedar_elaboration.specs.Order.{IsElaborationOrder}
+use Rattle.cedar_elaboration.specs.Indices.{defined_over, item_names}
+use Rattle.cedar_elaboration.specs.Refusals.{IsExprFault}
+use Rattle.cedar_elaboration.specs.declared.type_scope.TypeScope.{TypeScope}
+
+-- the types of some entries, each with the name that it stands under
+abbrev pub types_seen : List (InternalName × «Type») → List (PlainName × Ty)
+types_seen entries = seen name_of ty_of entries
+
+-- the common types of some indices are elaborated, and their definitions are sound
+pub record ElaboratedInOrder (items : List (PlainName × Expr)) (entities extensions : List PlainName) (before : List ℕ)
+    (types : List (PlainName × Ty)) : Type 0 where
+  pub holds : HoldsElaborated (defined_over items entities) types
+  pub there : (item_index : ℕ) → Contains before item_index → (name : PlainName) → slice_get (item_names items) item_index ≡ Some name
+      → Contains (map (λ it. it.0) types) name
+  pub sound : (item_index : ℕ) → Contains before item_index → (item : PlainName × Expr) → slice_get items item_index ≡ Some item
+      → IsSoundExpr (defined_over items entities) extensions item.1
+
+module _ (items : List (PlainName × Expr)) (entities extensions : List PlainName) where
+  -- at first none is
+  pub ElaboratedInOrder-none : (entries : List (InternalName × «Type»)) → entries ≡ []
+      → ElaboratedInOrder items entities extensions [] (types_seen entries)
+  ElaboratedInOrder-none entries nothing =
+      let P : List (InternalName × «Type») → Type 0 = λ each. ElaboratedInOrder items entities extensions [] (types_seen each) in
+      subst P (sym nothing) (record {
+        holds = λ name ty among. absurd (omega (arith, among.1));
+        there = λ item_index among. absurd (omega (arith, among.1));
+        sound = λ item_index among. absurd (omega (arith, among.1));
+      })
+
+  -- enough is known for the next definition
+  pub Covers-next : (order before rest : List ℕ) (item_index : ℕ) (item : PlainName × Expr) (scope : TypeScope)
+      → IsElaborationOrder items order → order ≡ before ++ item_index ∷ rest → slice_get items item_index ≡ Some item
+      → set_names scope.entities.now ≡ entities
+      → ElaboratedInOrder items entities extensions before (elaborated_types scope.common.now)
+      → Covers (defined_over items entities) scope item.1
+  Covers-next order before rest item_index item scope in_order split is same so_far = record {
+    entities = λ name. let P : List PlainName → Type 0 = λ each. Contains each name in
+        (λ among. subst P (sym same) among, λ among. subst P same among);
+    elaborated = so_far.holds;
+    referred = λ reference refers name body among is_common.
+        let found = in_order.after before rest item_index item split is reference refers is_common.0 name among
+        (Contains-image (λ it. it.0) items (name, body) is_common.1) in
+        so_far.there found.0 found.1 name found.2;
+  }
+
+  -- the next is elaborated too
+  pub ElaboratedInOrder-more : (before : List ℕ) (item_index : ℕ) (item : PlainName × Expr) (entries : List (InternalName × «Type»))
+      (key : InternalName) (ty : «Type») → slice_get items item_index ≡ Some item → name_of key ≡ item.0
+      → ElaboratesTo (defined_over items entities) item.1 (ty_of ty)
+      → IsSoundExpr (defined_over items entities) extensions item.1
+      → ElaboratedInOrder items entities extensions before (types_seen entries)
+      → ElaboratedInOrder items entities extensions (before ++ item_index ∷ [])
+      (types_seen (insert_entry ((order.ghosts).cmp) entries key ty))
+  ElaboratedInOrder-more before item_index item entries key ty is same elaborated sound so_far =
+      let cmp = (order.ghosts).cmp in
+      let defined = defined_over items entities in
+      let more : List (PlainName × Ty) = types_seen (insert_entry cmp entries key ty) in
+      let there : (name : PlainName) → Contains (map (λ it. it.0) (types_seen entries)) name ⊎ (name_of key ≡ name)
+      → Contains (map (λ it. it.0) more) name =
+      λ name among. let Q : List PlainName → Type 0 = λ all. Contains all name in
+      subst Q (sym (seen_names name_of ty_of (insert_entry cmp entries key ty)))
+      (inserted_names cmp name_of internal_name_ord-Equal ty_of entries key ty name
+      (⊎_elim (λ old. inl (subst Q (seen_names name_of ty_of entries) old)) (λ new. inr new) among)) in
+      record {
+        holds = λ name other among. ⊎_elim (λ old. so_far.holds name other old)
+            (λ new. let P : PlainName → Type 0 = λ each. Contains items (each, item.1) in
+            let Q : Ty → Type 0 = ElaboratesTo defined item.1 in (
+              item.1,
+              subst P (sym same ∙ ap (λ pair. pair.0) new) (Contains-at items item_index item is),
+              subst Q (ap (λ pair. pair.1) new) elaborated,
+            ))
+            (inserted_cases cmp name_of internal_name_ord-Equal ty_of entries key ty (name, other) among);
+        there = λ at among name stands. ⊎_elim (λ old. there name (inl (so_far.there at old name stands)))
+            (λ last. let P : ℕ → Type 0 = λ each. slice_get (item_names items) each ≡ Some name in
+            let here : slice_get (item_names items) item_index ≡ Some name = subst P (sym (Contains-single item_index at last)) stands in
+            let it : item.0 ≡ name = name_same items item_index item name is here in
+            there name (inr (same ∙ it))) (Contains-append_cases before (item_index ∷ []) at among);
+        sound = λ at among other stands. ⊎_elim (λ old. so_far.sound at old other stands)
+            (λ last. let P : ℕ → Type 0 = λ each. slice_get items each ≡ Some other in
+            let here : slice_get items item_index ≡ Some other = subst P (sym (Contains-single item_index at last)) stands in
+            let it : item ≡ other = cc in
+            let Q : PlainName × Expr → Type 0 = λ each. IsSoundExpr defined extensions each.1 in
+            subst Q it sound) (Contains-append_cases before (item_index ∷ []) at among);
+      }
+    where
+      name_same : (all : List (PlainName × Expr)) (i : ℕ) (it : PlainName × Expr) (name : PlainName)
+          → slice_get all i ≡ Some it → slice_get (item_names all) i ≡ Some name → it.0 ≡ name
+      name_same [] i it name at named = cc
+      name_same (first ∷ rest) ℕ.zero it name at named =
+          let one : first ≡ it = cc in
+          let other : first.0 ≡ name = cc in
+          sym (ap (λ each. each.0) one) ∙ other
+      name_same (first ∷ rest) (ℕ.suc i) it name at named = name_same rest i it name at named
+
+  -- the refusal of a definition is one of the common types
+  fault_of_definition : (item : PlainName × Expr) → Contains items item → (fault : Fault)
+      → IsExprFault (defined_over items entities) extensions item.1 fault
+      → IsCommonFault (defined_over items entities) extensions fault
+  fault_of_definition item among (duplicate_common_type name) at_fault = absurd at_fault
+  fault_of_definition item among (common_type_cycle name) at_fault = absurd at_fault
+  fault_of_definition item among out_of_memory at_fault = tt
+  fault_of_definition item among _ at_fault = (item, among, at_fault)
+
+  -- the refusal of the definition at an index is one of the common types
+  pub fault_at : (item_index : ℕ) (item : PlainName × Expr) → slice_get items item_index ≡ Some item → (fault : Fault)
+      → IsExprFault (defined_over items entities) extensions item.1 fault
+      → IsCommonFault (defined_over items entities) extensions fault
+  fault_at item_index item is fault at_fault = fault_of_definition item (Contains-at items item_index item is) fault at_fault
+
+module _ (items : List (PlainName × Expr)) (entities : List PlainName) {E : Type 0} where
+  -- the names under which the common types stand are just their own
+  pub names_kept : (result : Result (BTreeMap InternalName «Type») E)
+      → IfOk result (λ types. HoldsElaborated (defined_over items entities) (elaborated_types types))
+      → IfOk result (λ types. Included (item_names items) (map (λ it. it.0) (elaborated_types types)))
+      → IfOk result (λ types. SameItems (map (λ it. it.0) (elaborated_types types)) (item_names items))
+  names_kept (Ok types) holds each = λ name. (
+    λ among. let entry = Contains-preimage (λ it. it.0) (elaborated_types types) name among in
+        let elaborated = holds entry.0.0 entry.0.1 entry.1 in
+        let P : PlainName → Type 0 = Contains (item_names items) in
+        subst P entry.2 (Contains-image (λ it. it.0) items (entry.0.0, elaborated.0) elaborated.1),
+    λ among. each name among,
+  )
+  names_kept (Err error) holds each = tt
+
+  -- where no name stands twice, each common type stands under its name
+  pub elaborated_each : (result : Result (BTreeMap InternalName «Type») E) → ((name : PlainName) → ¬ Twice (item_names items) name)
+      → IfOk result (λ types. HoldsElaborated (defined_over items entities) (elaborated_types types))
+      → IfOk result (λ types. Included (item_names items) (map (λ it. it.0) (elaborated_types types)))
+      → IfOk result (λ types. (name : PlainName) (expr : Expr) → Contains items (name, expr)
+      → (ty : Ty) × Contains (elaborated_types types) (name, ty) × ElaboratesTo (defined_over items entities) expr ty)
+  elaborated_each (Ok types) once holds each = λ name expr among.
+      let entry = Contains-preimage (λ it. it.0) (elaborated_types types) name
+      (each name (Contains-image (λ it. it.0) items (name, expr) among)) in
+      let P : PlainName → Type 0 = λ it. Contains (elaborated_types types) (it, entry.0.1) in
+      let stands : Contains (elaborated_types types) (name, entry.0.1) = subst P entry.2 entry.1 in
+      let elaborated = holds name entry.0.1 stands in
+      let same : elaborated.0 ≡ expr = value_once items once name elaborated.0 expr elaborated.1 among in
+      let Q : Expr → Type 0 = λ it. ElaboratesTo (defined_over items entities) it entry.0.1 in
+      (entry.0.1, stands, subst Q same elaborated.2)
+  elaborated_each (Err error) once holds each = tt

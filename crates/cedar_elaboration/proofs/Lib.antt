@@ -1,0 +1,12 @@
+pub mod AliasLemmas
+pub mod CommonFaults
+mod ElaborationLemmas
+mod Entries
+mod IndexLemmas
+mod OrderLemmas
+mod RecordLemmas
+mod ReferringLemmas
+mod ResolvedLemmas
+pub mod Results
+mod ScopeLemmas
+pub mod TakenLemmas

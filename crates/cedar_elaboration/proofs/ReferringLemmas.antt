@@ -1,0 +1,162 @@
+-- Indices of common types that references may name, collected one after another.
+use Rattle.std.proofs.Common.{◌≡◌, ◌⊎◌, ℕ, List, [], ◌∷◌, ◌++◌, map, ap, sym, subst, ◌∙◌, refl, inl, inr, ⊎_elim, append_assoc, Contains, Result, Ok, Err, OnOk}
+use Rattle.std.proofs.lemmas.List.{append-nil}
+use Rattle.std.proofs.lemmas.List.Elements.{Contains-append_left, Contains-push, Contains-push_cases}
+use Rattle.cedar_below.specs.PlainName.{PlainName}
+use Rattle.cedar_below.specs.declared.internal_name.InternalName.{InternalName}
+use Rattle.cedar_declarations.proofs.OccurrenceLemmas.{Contains-single}
+use Rattle.cedar_declarations.specs.Mentions.{MembersRefer, Refers}
+use Rattle.cedar_declarations.specs.Names.{MayNameCommon}
+use Rattle.cedar_declarations.specs.Resolved.{reference_to_one}
+use Rattle.cedar_declarations.specs.ResolvedExpr.{resolved_record, resolved_reference}
+use Rattle.cedar_names.proofs.ExprLemmas.{record_type_expr-entries}
+use Rattle.cedar_names.specs.Expr.{Expr, Members, member, named, no_member, record_expr, set_expr}
+use Rattle.cedar_names.specs.Reference.{Reference}
+use Rattle.cedar_names.specs.declared.json_schema.reference_type.ReferenceType.{ReferenceType}
+use Rattle.cedar_names.specs.declared.json_schema.type_of.RecordType.{RecordType, out-RecordType}
+use Rattle.cedar_names.specs.declared.json_schema.type_of.TypeOfAttribute.{TypeOfAttribute, out-TypeOfAttribute}
+use Rattle.cedar_elaboration.proofs.RecordLemmas.{Entries, append_members, attribute_expr, entries_of, refer-cases, refer-right, resolved_members, resolved_members-append, resolved_members-one}
+use Rattle.cedar_elaboration.specs.Indices.{AddsIndices}
+use Rattle.std.proofs.Common.{string_bytes}
+use Rattle.std.specs.declared.alloc.Global.{Global}
+use Rattle.std.specs.declared.string.String.{String}
+
+module _ (indices : List (PlainName × ℕ)) where
+  -- where there is no reference, nothing is added
+  pub adds_nothing : (Refers : Reference → Type 0) (items : List ℕ) → ((reference : Reference) → ¬ Refers reference)
+      → AddsIndices indices Refers items items
+  adds_nothing Refers items none = record {
+    kept = λ item_index among. among;
+    only = λ item_index among. inl among;
+    each = λ reference refers. absurd (none reference refers);
+  }
+
+  -- what some references add, and then others, all of them add
+  pub adds_both : (First Second All : Reference → Type 0) (before middle after : List ℕ)
+      → ((reference : Reference) → All reference → First reference ⊎ Second reference)
+      → ((reference : Reference) → First reference → All reference)
+      → ((reference : Reference) → Second reference → All reference)
+      → AddsIndices indices First before middle → AddsIndices indices Second middle after → AddsIndices indices All before after
+  adds_both First Second All before middle after either first second one other = record {
+    kept = λ item_index among. other.kept item_index (one.kept item_index among);
+    only = λ item_index among. ⊎_elim
+        (λ there. ⊎_elim (λ old. inl old) (λ it. inr (it.0, first it.0 it.1, it.2)) (one.only item_index there))
+        (λ it. inr (it.0, second it.0 it.1, it.2)) (other.only item_index among);
+    each = λ reference refers may name among stands. ⊎_elim
+        (λ it. let found = one.each reference it may name among stands in (found.0, found.1, other.kept found.0 found.2))
+        (λ it. other.each reference it may name among stands) (either reference refers);
+  }
+
+  -- references that are the same add the same
+  pub adds_alike : (One Other : Reference → Type 0) (before after : List ℕ)
+      → ((reference : Reference) → One reference → Other reference)
+      → ((reference : Reference) → Other reference → One reference)
+      → AddsIndices indices One before after → AddsIndices indices Other before after
+  adds_alike One Other before after to from one = record {
+    kept = one.kept;
+    only = λ item_index among. ⊎_elim (λ old. inl old) (λ it. inr (it.0, to it.0 it.1, it.2)) (one.only item_index among);
+    each = λ reference refers. one.each reference (from reference refers);
+  }
+
+  -- the name of a reference to one name alone
+  name_alone : (kind : ReferenceType) (name other : PlainName) (reference : Reference) → reference_to_one kind name ≡ reference
+      → Contains reference.possibilities other → name ≡ other
+  name_alone kind name other reference same among =
+      let P : Reference → Type 0 = λ each. Contains each.possibilities other in
+      Contains-single name other (subst P (sym same) among)
+
+  -- a reference to a common type that has an index adds this
+  pub adds_index : (kind : ReferenceType) (name : PlainName) (item_index : ℕ) (items : List ℕ) → MayNameCommon kind
+      → Contains indices (name, item_index)
+      → AddsIndices indices (Refers (named (reference_to_one kind name))) items (items ++ item_index ∷ [])
+  adds_index kind name item_index items may stands = record {
+    kept = λ each among. Contains-append_left items (item_index ∷ []) each among;
+    only = λ each among. ⊎_elim (λ old. inl old)
+        (λ same. let P : ℕ → Type 0 = λ k. Contains indices (name, k) in
+        inr (reference_to_one kind name, refl, (may, name, refl, subst P same stands)))
+        (Contains-push_cases items item_index each among);
+    each = λ reference refers may' other among stands'. let same = name_alone kind name other reference refers among in
+        let P : PlainName → Type 0 = λ each. Contains indices (each, item_index) in
+        (item_index, subst P same stands, Contains-push items item_index);
+  }
+
+  -- a reference that may name no common type, or to none that has an index, adds nothing
+  pub adds_none : (kind : ReferenceType) (name : PlainName) (items : List ℕ)
+      → (MayNameCommon kind → ¬ Contains (map (λ it. it.0) indices) name)
+      → AddsIndices indices (Refers (named (reference_to_one kind name))) items items
+  adds_none kind name items absent = record {
+    kept = λ each among. among;
+    only = λ each among. inl among;
+    each = λ reference refers may other among stands. let same = name_alone kind name other reference refers among in
+        let P : Reference → Type 0 = λ each. MayNameCommon each.kind in
+        let Q : PlainName → Type 0 = λ each. Contains (map (λ it. it.0) indices) each in
+        absurd (absent (subst P (sym refers) may) (subst Q (sym same) stands));
+  }
+
+  -- what the elements of a set add, the set adds
+  pub set_adds : {E : Type 0} (result : Result Unit E) (expr element : Expr) (before after : List ℕ) → expr ≡ set_expr element
+      → OnOk result (AddsIndices indices (Refers element) before after) → OnOk result (AddsIndices indices (Refers expr) before after)
+  set_adds (Ok x) expr element before after same adds =
+      let P : Expr → Type 0 = λ each. AddsIndices indices (Refers each) before after in
+      subst P (sym same)
+      (adds_alike (Refers element) (Refers (set_expr element)) before after (λ reference it. it) (λ reference it. it) adds)
+  set_adds (Err x) expr element before after same adds = tt
+
+  -- of a record type some attributes have added their indices, and others are left
+  pub record AddedSoFar (it : RecordType InternalName) (before after : List ℕ) (left : Entries) : Type 0 where
+    pub done : Entries
+    pub split : entries_of it ≡ done ++ left
+    pub added : AddsIndices indices (MembersRefer (resolved_members done)) before after
+
+  -- at first none has
+  pub AddedSoFar-none : (it : RecordType InternalName) (items : List ℕ) (left : Entries) → entries_of it ≡ left
+      → AddedSoFar it items items left
+  AddedSoFar-none it items left same =
+      record { done = []; split = same; added = adds_nothing (MembersRefer no_member) items (λ reference none. none) }
+
+  -- a reference in attributes before others is one of all
+  refer-left : (members others : Members) (reference : Reference) → MembersRefer members reference
+      → MembersRefer (append_members members others) reference
+  refer-left no_member others reference refers = absurd refers
+  refer-left (member name required expr rest) others reference refers =
+      ⊎_elim (λ here. inl here) (λ later. inr (refer-left rest others reference later)) refers
+
+  -- one more has
+  pub AddedSoFar-more : (it : RecordType InternalName) (before middle after : List ℕ) (left rest : Entries) (name : String Global)
+      (attribute : TypeOfAttribute InternalName) → left ≡ (name, attribute) ∷ rest
+      → AddsIndices indices (Refers (attribute_expr attribute)) middle after → AddedSoFar it before middle left
+      → AddedSoFar it before after rest
+  AddedSoFar-more it before middle after left rest name attribute is adds so_far =
+      let front = resolved_members so_far.done in
+      let last : Members =
+      member (string_bytes name) (out-TypeOfAttribute InternalName attribute).required (attribute_expr attribute) no_member in
+      let members : resolved_members (so_far.done ++ (name, attribute) ∷ []) ≡ append_members front last =
+      resolved_members-append so_far.done ((name, attribute) ∷ [])
+      ∙ ap (append_members front) (resolved_members-one name attribute []) in
+      let P : Members → Type 0 = λ each. AddsIndices indices (MembersRefer each) before after in
+      record {
+        done = so_far.done ++ (name, attribute) ∷ [];
+        split = so_far.split ∙ (ap (λ others. so_far.done ++ others) is ∙ sym (append_assoc so_far.done ((name, attribute) ∷ []) rest));
+        added = subst P (sym members)
+            (adds_both (MembersRefer front) (Refers (attribute_expr attribute)) (MembersRefer (append_members front last))
+            before middle after
+            (λ reference refers. ⊎_elim (λ old. inl old) (λ new. ⊎_elim (λ here. inr here) (λ none. absurd none) new)
+            (refer-cases front last reference refers))
+            (λ reference refers. refer-left front last reference refers)
+            (λ reference refers. refer-right front last reference (inl refers))
+            so_far.added adds);
+      }
+
+  -- where no attribute is left, the record type has added its indices
+  pub record_adds : (it : RecordType InternalName) (before after : List ℕ) (left : Entries) → left ≡ []
+      → AddedSoFar it before after left → AddsIndices indices (Refers (resolved_record it)) before after
+  record_adds it before after left nothing so_far =
+      let all : so_far.done ≡ entries_of it =
+      sym (so_far.split ∙ (ap (λ others. so_far.done ++ others) nothing ∙ append-nil so_far.done)) in
+      let P : Entries → Type 0 = λ each. AddsIndices indices (MembersRefer (resolved_members each)) before after in
+      let Q : Expr → Type 0 = λ each. AddsIndices indices (Refers each) before after in
+      let whole = record_type_expr-entries InternalName resolved_reference it in
+      subst Q (sym whole)
+      (adds_alike (MembersRefer (resolved_members (entries_of it)))
+      (Refers (record_expr (resolved_members (entries_of it)) (out-RecordType InternalName it).additional_attributes)) before after (λ reference refers. refers)
+      (λ reference refers. refers) (subst P all so_far.added))

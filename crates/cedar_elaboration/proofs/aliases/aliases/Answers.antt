@@ -1,0 +1,36 @@
+use Rattle.std.proofs.Common.{◌≡◌, ◌↔◌, ◌++◌, [], ◌∷◌, IsTrue, Contains, ap, arith, cond, map, not, sym, subst, ◌∙◌}
+use Rattle.std.proofs.lemmas.List.{nil_from_length}
+use Rattle.cedar_below.specs.Id.{id_text}
+use Rattle.cedar_below.specs.InternalName.{name_of}
+use Rattle.cedar_below.specs.PlainName.{PlainName}
+use Rattle.cedar_elaboration.proofs.TakenLemmas.{KeptSoFar-none, KeptSoFar-next, KeptSoFar-all, taken_is}
+use Rattle.cedar_elaboration.specs.DeclaredTypes.{names_of_types}
+use Rattle.cedar_declarations.specs.Bag.{alias_name}
+use Rattle.cedar_declarations.specs.ResolvedExpr.{resolved_expr}
+use Rattle.cedar_elaboration.specs.Indices.{common_items}
+use Rattle.cedar_elaboration.proofs.aliases.aliases.Goals as goal
+
+pub loop-word-init : goal.loop-word-init
+loop-word-init c =
+    KeptSoFar-none _ _ _ _ _ _ (sym c.into_iter-word-iterator.ensures.into_iter_gives.0) (ap common_items c.new-named.ensures.items)
+
+pub loop-word-preserved : goal.loop-word-preserved
+loop-word-preserved c =
+    let names = names_of_types c.args.common_types.now c.args.entity_types.now in
+    let word = id_text c.in-Some.word in
+    let named : name_of c.new-name.result ≡ alias_name word =
+    (λ i. record {
+      base = c.new-name.ensures.base i;
+      path = (c.new-name.ensures.path ∙ ap (map id_text) c.new.ensures.items) i;
+    }) in
+    let P : PlainName → Type 0 = λ name. IsTrue c.is_declared-is_free.result ↔ Contains names name in
+    KeptSoFar-next _ _ _ _ _ _ _ _ (c.in-Some.word, c.in-Some.ty) (not c.is_declared-is_free.result) c.in-Some.ensures.steps.0
+    (ap not (taken_is names word c.is_declared-is_free.result (subst P named c.is_declared-is_free.ensures)))
+    (c.in_ok-add_free.ensures ∙ ap (λ name. cond (not c.is_declared-is_free.result)
+    (common_items c.loop-word.named.items ++ (name, resolved_expr c.in-Some.ty) ∷ []) (common_items c.loop-word.named.items)) named)
+    c.loop-word.invariant
+
+pub returns : goal.returns
+returns c =
+    KeptSoFar-all _ _ _ _ _ _ (nil_from_length _ (omega (arith, c.in-None.ensures.steps.0, c.loop-word.word-iterator.rest.ok.0)))
+    c.loop-word.invariant

@@ -1,0 +1,30 @@
+use Rattle.std.proofs.Common.{arith, sym, ◌∙◌}
+use Rattle.std.proofs.lemmas.List.{nil_from_length}
+use Rattle.std.proofs.lemmas.Simd.{map-map}
+use Rattle.cedar_below.specs.Id.{id_text}
+use Rattle.cedar_below.specs.PlainName.{PlainName}
+use Rattle.cedar_below.specs.Text.{Text}
+use Rattle.cedar_below.specs.declared.id.Id.{Id}
+use Rattle.cedar_below.specs.declared.internal_name.InternalName.{InternalName}
+use Rattle.cedar_declarations.specs.Bag.{built_in_name}
+use Rattle.cedar_declarations.specs.ResolvedExpr.{resolved_expr}
+use Rattle.cedar_fragments.proofs.ListedSoFar.{ListedSoFar-none, ListedSoFar-more, listed_same}
+use Rattle.cedar_names.specs.Expr.{Expr}
+use Rattle.cedar_names.specs.declared.json_schema.type_of.Type.{«Type»}
+use Rattle.cedar_elaboration.proofs.built_in.built_ins.Goals as goal
+
+pub loop-word-init : goal.loop-word-init
+loop-word-init c = ListedSoFar-none _ _ _ _ _ _ (sym c.into_iter-word-iterator.ensures.into_iter_gives.0) c.new-named.ensures.items
+
+pub loop-word-preserved : goal.loop-word-preserved
+loop-word-preserved c =
+    ListedSoFar-more _ _ _ _ _ _ _ _ (c.in-Some.word, c.in-Some.ty) _ c.in-Some.ensures.steps.0 c.in_ok-push.ensures.items
+    (λ i. (c.in_ok-built_in_type_name.ensures i, resolved_expr c.in-Some.ty)) tt c.loop-word.invariant
+
+pub returns : goal.returns
+returns c =
+    let named : Id × «Type» InternalName → Text × Expr = λ it. (id_text it.0, resolved_expr it.1) in
+    let under : Text × Expr → PlainName × Expr = λ it. (built_in_name it.0, it.1) in
+    listed_same _ _ _ _ _ _ (nil_from_length _ (omega (arith, c.in-None.ensures.steps.0, c.loop-word.word-iterator.rest.ok.0)))
+    c.loop-word.invariant
+    ∙ sym (map-map under named c.args.types.items)

@@ -1,0 +1,5 @@
+use Rattle.cedar_elaboration.proofs.RecordLemmas.{ElaboratedSoFar}
+use Rattle.cedar_elaboration.proofs.elaborating.+elaborate_type.Given as goal
+
+abbrev pub invariant-elaborate_attributes-loop-name : goal.invariant-elaborate_attributes-loop-name
+invariant-elaborate_attributes-loop-name l = ElaboratedSoFar l.scope l.record_type l.attributes.items l.name-iterator

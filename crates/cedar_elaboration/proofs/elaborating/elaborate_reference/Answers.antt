@@ -1,0 +1,42 @@
+use Rattle.std.proofs.Common.{sym, subst, rules}
+use Rattle.cedar_below.specs.InternalName.{name_of}
+use Rattle.cedar_declarations.specs.ResolvedExpr.{resolved_reference}
+use Rattle.cedar_declarations.specs.ElaboratesTo.{ElaboratesTo}
+use Rattle.cedar_names.specs.Expr.{named}
+use Rattle.cedar_type_rules.specs.Ty.{Ty}
+use Rattle.cedar_elaboration.proofs.ScopeLemmas.{common_elaborated, entity_elaborated, fault_of_entity, fault_of_reference}
+use Rattle.cedar_elaboration.specs.Refusals.{IsRefusal}
+use Rattle.cedar_declarations.specs.SchemaError.{fault_of}
+use Rattle.cedar_elaboration.proofs.elaborating.elaborate_reference.Goals as goal
+
+pub returns-in-Some-clause-elaborates : goal.returns-in-Some-clause-elaborates
+returns-in-Some-clause-elaborates c defined knows =
+    let found = rw c.in-Some.is at c.in_ok-ty.ensures in
+    common_elaborated defined c.args.scope.now c.args.kind (name_of c.args.name.now) knows _ found.0 found.1
+
+pub returns-in_err-ty-2-clause-fault : goal.returns-in_err-ty-2-clause-fault
+returns-in_err-ty-2-clause-fault c =
+    let absent = rw c.in_default.is at c.in_ok-ty.ensures in
+    let at_fault : IsRefusal c.args.scope.now (named (resolved_reference c.args.kind c.args.name.now)) (fault_of c.in_err-ty-2.field-0.0) =
+    record {
+      each = λ defined knows. fault_of_entity defined c.args.scope.now c.args.kind (name_of c.args.name.now) knows absent
+          _ c.in_err-ty-2.ensures.fault;
+    } in
+    search (rules, at_fault)
+
+pub returns-in-Some-2-clause-elaborates : goal.returns-in-Some-2-clause-elaborates
+returns-in-Some-2-clause-elaborates c defined knows =
+    let absent = rw c.in_default.is at c.in_ok-ty.ensures in
+    let found = rw c.in-Some-2.is at c.in_ok-ty-2.ensures.found in
+    let P : Ty → Type 0 = ElaboratesTo defined (named (resolved_reference c.args.kind c.args.name.now)) in
+    subst P (sym found.2)
+    (entity_elaborated defined c.args.scope.now c.args.kind (name_of c.args.name.now) knows absent found.0 found.1)
+
+pub returns-clause-fault : goal.returns-clause-fault
+returns-clause-fault c =
+    let absent = rw c.in_default.is at c.in_ok-ty.ensures in
+    let no_entity = rw c.in_default-2.is at c.in_ok-ty-2.ensures.found in
+    record {
+      each = λ defined knows. fault_of_reference defined c.args.scope.now c.args.kind (name_of c.args.name.now) knows absent
+          no_entity _ c.in_ok-undefined_type.ensures;
+    }

@@ -1,0 +1,55 @@
+use Rattle.std.proofs.Common.{◌<◌, ℕ, length, ap, sym, subst, ◌∙◌, rules}
+use Rattle.std.proofs.Math.ListN.{length-map}
+use Rattle.cedar_below.proofs.Chains.{last_step}
+use Rattle.cedar_below.specs.Chain.{Chain}
+use Rattle.cedar_below.specs.InternalName.{name_of}
+use Rattle.cedar_below.specs.PlainName.{PlainName}
+use Rattle.cedar_graph.specs.Order.{LeadsTo}
+use Rattle.cedar_declarations.specs.IllFormed.{RefersToCommon}
+use Rattle.cedar_declarations.specs.ResolvedExpr.{resolved_expr}
+use Rattle.cedar_elaboration.proofs.OrderLemmas.{as_many, cycle_found, name_at, no_cycle_among, order_of_indices}
+use Rattle.cedar_elaboration.proofs.IndexLemmas.{item_at_index}
+use Rattle.cedar_elaboration.specs.Indices.{common_items, defined_over, indexed_names}
+use Rattle.cedar_elaboration.proofs.ordering.elaboration_order.Goals as goal
+use Rattle.cedar_elaboration.proofs.ordering.elaboration_order.Goals.{In-Cycle}
+
+pub returns-in-Order-clause-order : goal.returns-in-Order-clause-order
+returns-in-Order-clause-order c =
+    let in_order = rw c.in-Order.is at c.in_ok-order.ensures in
+    order_of_indices (common_items c.args.declared.now) (indexed_names c.in_ok-indices.indices) c.in_ok-targets.targets.items
+    c.in_ok-indices.ensures.indices c.in_ok-targets.ensures c.in-Order.order.items in_order.0
+
+pub returns-in-Order-clause-no_cycle : goal.returns-in-Order-clause-no_cycle
+returns-in-Order-clause-no_cycle c =
+    let in_order = rw c.in-Order.is at c.in_ok-order.ensures in
+    no_cycle_among (common_items c.args.declared.now) (indexed_names c.in_ok-indices.indices) c.in_ok-targets.targets.items
+    c.in_ok-indices.ensures.indices c.in_ok-targets.ensures c.in_ok-indices.ensures.once in_order.1
+
+-- the index that is on a cycle is one of a common type
+within : (c : In-Cycle) → c.in-Cycle.item_index < length c.args.declared.now
+within c =
+    let chain = rw c.in-Cycle.is at c.in_ok-order.ensures in
+    let step = last_step (LeadsTo c.in_ok-targets.targets.items) c.in-Cycle.item_index c.in-Cycle.item_index chain in
+    let P : ℕ → Type 0 = λ each. c.in-Cycle.item_index < each in
+    subst P (sym (as_many (common_items c.args.declared.now) (indexed_names c.in_ok-indices.indices) c.in_ok-targets.targets.items
+    c.in_ok-indices.ensures.indices c.in_ok-targets.ensures)
+    ∙ length-map c.args.declared.now (λ it. (name_of it.0, resolved_expr it.1))) step.1.1
+
+pub bounds-declared-item_index : goal.bounds-declared-item_index
+bounds-declared-item_index c = within c
+
+pub offset_bounds-declared-item_index : goal.offset_bounds-declared-item_index
+offset_bounds-declared-item_index c = let below = within c in search (rules, below)
+
+pub returns-clause-fault : goal.returns-clause-fault
+returns-clause-fault c entities =
+    let items = common_items c.args.declared.now in
+    let item = c.index-declared-item_index.result in
+    let below : c.in-Cycle.item_index < length c.args.declared.now = within (goal.at.returns-clause-fault c).In-Cycle in
+    let stands = name_at items c.in-Cycle.item_index (name_of item.0, resolved_expr item.1)
+    (item_at_index c.args.declared.now c.in-Cycle.item_index item below c.index-declared-item_index.is) in
+    let chain = rw c.in-Cycle.is at c.in_ok-order.ensures in
+    let P : PlainName → Type 0 = λ each. Chain (RefersToCommon (defined_over items entities)) each each in
+    subst P (sym (c.in_ok-name-in-Cycle.ensures.name ∙ ap (λ it. name_of it.0) (sym c.index-declared-item_index.is)))
+    (cycle_found items (indexed_names c.in_ok-indices.indices) c.in_ok-targets.targets.items c.in_ok-indices.ensures.indices
+    c.in_ok-targets.ensures c.in-Cycle.item_index (name_of item.0) stands chain entities)

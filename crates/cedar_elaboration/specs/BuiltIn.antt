@@ -1,0 +1,25 @@
+-- Built-in types and aliases as lists of types under names.
+use Rattle.std.specs.Prelude.{Bool, not, List, map}
+use Rattle.std.specs.List.{filter, list_any}
+use Rattle.std.specs.Ordering.{is_eq}
+use Rattle.cedar_below.specs.Id.{id_text}
+use Rattle.cedar_below.specs.PlainName.{PlainName, name_cmp}
+use Rattle.cedar_below.specs.Text.{Text}
+use Rattle.cedar_below.specs.declared.id.Id.{Id}
+use Rattle.cedar_below.specs.declared.internal_name.InternalName.{InternalName}
+use Rattle.cedar_declarations.specs.Bag.{alias_name}
+use Rattle.cedar_declarations.specs.ResolvedExpr.{resolved_expr}
+use Rattle.cedar_names.specs.Expr.{Expr}
+use Rattle.cedar_names.specs.declared.json_schema.type_of.Type.{«Type»}
+
+-- types under base names, with what each stands for
+abbrev pub named_types : List (Id × «Type» InternalName) → List (Text × Expr)
+named_types types = map (λ it. (id_text it.0, resolved_expr it.1)) types
+
+-- the base name alone is among the names
+abbrev pub is_taken : List PlainName → Text → Bool
+is_taken names word = list_any (λ name. is_eq (name_cmp (alias_name word) name)) names
+
+-- of some built-in types the aliases beside types of these names: those whose base name isn't taken, under it alone
+abbrev pub free_aliases : List PlainName → List (Text × Expr) → List (PlainName × Expr)
+free_aliases names types = map (λ it. (alias_name it.0, it.1)) (filter (λ it. not (is_taken names it.0)) types)

@@ -1,0 +1,34 @@
+-- Common types in an order in which each comes after those that it refers to.
+use Rattle.std.specs.Prelude.{◌≡◌, ◌↔◌, ◌<◌, ◌++◌, ◌∷◌, ℕ, List, Some, Contains, length, slice_get}
+use Rattle.cedar_below.specs.Chain.{Chain}
+use Rattle.cedar_below.specs.PlainName.{PlainName}
+use Rattle.cedar_declarations.specs.Fault.{Fault, common_type_cycle, duplicate_common_type, out_of_memory}
+use Rattle.cedar_declarations.specs.IllFormed.{RefersToCommon}
+use Rattle.cedar_declarations.specs.Mentions.{Refers}
+use Rattle.cedar_declarations.specs.Names.{MayNameCommon}
+use Rattle.cedar_declarations.specs.Occurrences.{Twice}
+use Rattle.cedar_names.specs.Expr.{Expr}
+use Rattle.cedar_names.specs.Reference.{Reference}
+use Rattle.cedar_elaboration.specs.Indices.{defined_over, item_names}
+
+-- the indices are just those of the items, and each comes after those of the common types that its item refers to
+pub record IsElaborationOrder (items : List (PlainName × Expr)) (order : List ℕ) : Type 0 where
+  pub indices : (item_index : ℕ) → Contains order item_index ↔ (item_index < length items)
+  pub after : (before rest : List ℕ) (item_index : ℕ) (item : PlainName × Expr) → order ≡ before ++ item_index ∷ rest
+      → slice_get items item_index ≡ Some item → (reference : Reference) → Refers item.1 reference
+      → MayNameCommon reference.kind
+      → (name : PlainName) → Contains reference.possibilities name → Contains (item_names items) name
+      → (to : ℕ) × Contains before to × (slice_get (item_names items) to ≡ Some name)
+
+-- no common type is on a cycle, whatever entity types there are
+abbrev pub HasNoCycle : List (PlainName × Expr) → Type 0
+HasNoCycle items =
+    (entities : List PlainName) (name : PlainName) → ¬ Chain (RefersToCommon (defined_over items entities)) name name
+
+-- why common types have no order: a name stands twice, or it is on a cycle; or memory ran out
+abbrev pub IsOrderFault : List (PlainName × Expr) → Fault → Type 0
+IsOrderFault items (duplicate_common_type name) = Twice (item_names items) name
+IsOrderFault items (common_type_cycle name) =
+    (entities : List PlainName) → Chain (RefersToCommon (defined_over items entities)) name name
+IsOrderFault items out_of_memory = Unit {0}
+IsOrderFault items _ = ⊥

@@ -1,0 +1,38 @@
+//! The indices of common types among those that are declared.
+
+ghost use Rattle.std.specs.Prelude.{◌≡◌, ◌⊎◌, ◌+◌, IfErr, IfOk, OnOk};
+ghost use Rattle.cedar_below.specs.PlainName.{PlainName};
+ghost use Rattle.cedar_declarations.specs.Fault.{duplicate_common_type, out_of_memory};
+ghost use Rattle.cedar_declarations.specs.Occurrences.{Twice};
+ghost use Rattle.cedar_declarations.specs.SchemaError.{fault_of};
+ghost use Rattle.cedar_elaboration.specs.Indices.{AreIndices, common_items, item_names, indexed_names};
+
+use cedar_below::{InternalName, put};
+use cedar_declarations::SchemaError;
+use cedar_names::json_schema;
+use std::alloc::Global;
+use std::collections::BTreeMap;
+
+/// A common type that is declared: its full name, and its type.
+pub(crate) type CommonType = (InternalName, json_schema::Type<InternalName>);
+
+/// The indices of common types, each under the full name.
+pub(crate) type Indices = BTreeMap<InternalName, usize>;
+
+/// The index of each common type. A name that stands twice is refused.
+pub(crate) fn name_indices(alloc: Global, declared: &[CommonType]) -> Result<Indices, SchemaError>
+    ensures indices { IfOk result (λ indices. AreIndices (item_names (common_items declared.now)) (indexed_names indices)) }
+    ensures once { OnOk result ((name : PlainName) → ¬ Twice (item_names (common_items declared.now)) name) }
+    ensures fault { IfErr result (λ error. (fault_of error ≡ out_of_memory)
+        ⊎ ((name : PlainName) × (fault_of error ≡ duplicate_common_type name)
+        × Twice (item_names (common_items declared.now)) name)) }
+{
+    let mut indices = BTreeMap::new(alloc);
+    for (item_index, item) in declared.iter().enumerate() {
+        if indices.contains_key(&item.0) {
+            return Err(SchemaError::DuplicateCommonType(item.0.clone()?));
+        }
+        put(&mut indices, item.0.clone()?, item_index)?;
+    }
+    Ok(indices)
+}

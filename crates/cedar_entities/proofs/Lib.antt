@@ -1,3 +1,0 @@
-pub mod EntityTypeEquality
-pub mod MemberLemmas
-pub mod SetLemmas

@@ -1,5 +1,0 @@
-use Rattle.cedar_entities.proofs.EntityTypeEquality.{kinds-Decides}
-use Rattle.cedar_entities.proofs.theorems.entity_type_kinds_compare_as_plain_data.Goals as goal
-
-pub returns : goal.returns
-returns c = kinds-Decides

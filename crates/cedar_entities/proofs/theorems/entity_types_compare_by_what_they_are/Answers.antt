@@ -1,5 +1,0 @@
-use Rattle.cedar_entities.proofs.EntityTypeEquality.{entity_types-Same}
-use Rattle.cedar_entities.proofs.theorems.entity_types_compare_by_what_they_are.Goals as goal
-
-pub returns : goal.returns
-returns c = entity_types-Same

@@ -1,5 +1,0 @@
-use Rattle.cedar_entities.proofs.EntityTypeEquality.{standard-Decides}
-use Rattle.cedar_entities.proofs.theorems.standard_entity_types_compare_as_plain_data.Goals as goal
-
-pub returns : goal.returns
-returns c = standard-Decides

@@ -1,3 +1,0 @@
-pub mod EntityTypeKind
-pub mod RequestEnv
-pub mod ValidatorEntityType

@@ -1,0 +1,107 @@
+-- What can't be resolved in a part can't be in the whole.
+use Rattle.std.proofs.Common.{◌≡◌, List, [], ◌∷◌, map, ap, sym, subst, ◌∙◌, refl, inl, inr, ⊎_elim, Contains}
+use Rattle.cedar_below.proofs.Lists.{Contains-preimage}
+use Rattle.cedar_below.specs.EntityUID.{uid_of}
+use Rattle.cedar_below.specs.InternalName.{name_of}
+use Rattle.cedar_below.specs.Lists.{HoldsPairwise}
+use Rattle.cedar_below.specs.PlainName.{PlainName, IsReserved}
+use Rattle.cedar_below.specs.PlainUid.{PlainUid}
+use Rattle.cedar_below.specs.declared.entity_uid.EntityUID.{EntityUID}
+use Rattle.cedar_below.specs.declared.internal_name.InternalName.{InternalName}
+use Rattle.cedar_declarations.proofs.OccurrenceLemmas.{Contains-image}
+use Rattle.cedar_declarations.proofs.ResolutionLemmas.{IsFirst-same}
+use Rattle.cedar_declarations.proofs.TurnLemmas.{turn_forth, turn_back}
+use Rattle.cedar_declarations.specs.Bag.{Bag}
+use Rattle.cedar_declarations.specs.Counted.{HasToResolve}
+use Rattle.cedar_declarations.specs.Fault.{Fault, type_not_defined, action_not_defined, reserved_name, out_of_memory}
+use Rattle.cedar_declarations.specs.Names.{Names, IsDefined, ResolvesTo}
+use Rattle.cedar_declarations.specs.SchemaError.{qualify_fault}
+use Rattle.cedar_declarations.specs.Resolved.{reference_to_one, ResolvesReference, ResolvesBody, ResolvesDeclaration}
+use Rattle.cedar_declarations.specs.ResolvedExpr.{resolved_reference}
+use Rattle.cedar_fragments.proofs.SoundLemmas.{AllByRecursion-at}
+use Rattle.cedar_fragments.specs.DeclaredAs.{declared_as, declared_action}
+use Rattle.cedar_fragments.specs.HeldNames.{held_names}
+use Rattle.cedar_fragments.specs.QualifyFault.{HasToResolveIn, IsUnresolvable, NoneIsReserved}
+use Rattle.cedar_fragments.specs.Refused.{IsRefusedAmong}
+use Rattle.cedar_fragments.specs.declared.defs.all_defs.AllDefs.{AllDefs}
+use Rattle.cedar_names.specs.ConditionalExpr.{positional_reference}
+use Rattle.cedar_names.specs.Declaration.{Declaration, Body}
+use Rattle.cedar_names.specs.Reference.{Reference, ActionReference}
+use Rattle.cedar_names.specs.declared.json_schema.conditional_name.ConditionalName.{ConditionalName}
+use Rattle.cedar_names.specs.declared.json_schema.qualify_error.QualifyError.{QualifyError}
+use Rattle.cedar_names.specs.declared.json_schema.qualify_error.QualifyError.TheVariants as error
+use Rattle.cedar_names.specs.declared.json_schema.reference_type.ReferenceType.{ReferenceType}
+use Rattle.cedar_names.specs.declared.json_schema.reference_type.ReferenceType.TheVariants.{Entity}
+use Rattle.std.specs.List.{AllByRecursion}
+
+-- what has to resolve in a declaration has to in a bag that has it
+pub to_resolve : (bag : Bag) (it : Declaration) → Contains bag it → (reference : Reference) → HasToResolveIn it.body reference
+    → HasToResolve bag reference
+to_resolve bag it among reference = ⊎_elim (λ stands. inl (stands.0, (it, among, stands.1), stands.2)) (λ place. inr (it, among, place))
+
+-- what is declared under one name is resolved as its body is
+pub resolves_declared : (names : Names) (name : PlainName) (body resolved : Body) → ResolvesBody names body resolved
+    → ResolvesDeclaration names (declared_as name body) (declared_as name resolved)
+resolves_declared names name body resolved qualifies = record { namespace = refl; id = refl; body = qualifies }
+
+-- also under one uid
+pub resolves_declared_action : (names : Names) (uid : PlainUid) (body resolved : Body) → ResolvesBody names body resolved
+    → ResolvesDeclaration names (declared_action uid body) (declared_action uid resolved)
+resolves_declared_action names uid body resolved qualifies = record { namespace = refl; id = refl; body = qualifies }
+
+module _ (names : Names) where
+  -- what can't be resolved among some can't be among more
+  pub unresolvable_wider : (P P' : Reference → Type 0) (Q Q' : ActionReference → Type 0) (R R' : Reference → Type 0)
+      → ((reference : Reference) → P reference → P' reference) → ((parent : ActionReference) → Q parent → Q' parent)
+      → ((reference : Reference) → R reference → R' reference) → (fault : Fault) → IsUnresolvable names P Q R fault
+      → IsUnresolvable names P' Q' R' fault
+  unresolvable_wider P P' Q Q' R R' p q r (type_not_defined references) unresolvable =
+      (unresolvable.0, λ reference among. let each = unresolvable.1 reference among in (p reference each.0, each.1))
+  unresolvable_wider P P' Q Q' R R' p q r (action_not_defined actions) unresolvable =
+      (unresolvable.0, λ carried among. let each = unresolvable.1 carried among in (each.0, q each.0 each.1, each.2, each.3))
+  unresolvable_wider P P' Q Q' R R' p q r (reserved_name name) unresolvable = (unresolvable.0, r unresolvable.0 unresolvable.1, unresolvable.2, unresolvable.3)
+  unresolvable_wider P P' Q Q' R R' p q r out_of_memory unresolvable = tt
+  unresolvable_wider P P' Q Q' R R' p q r _ unresolvable = absurd unresolvable
+
+  -- references that are refused among some can't be resolved
+  pub refused_unresolvable : (P : Reference → Type 0) (Q : ActionReference → Type 0) (R : Reference → Type 0) (refused : QualifyError)
+      → IsRefusedAmong names P refused → IsUnresolvable names P Q R (qualify_fault refused)
+  refused_unresolvable P Q R (error.TypeNotDefined it) among = ((λ nothing. cc), among)
+  refused_unresolvable P Q R (error.Memory memory) among = tt
+
+-- no held action has a type that is reserved
+pub action_unreserved : (defs : AllDefs) (uid : PlainUid) → Contains (held_names defs).actions uid → ¬ IsReserved uid.ty
+action_unreserved defs uid among =
+    let found = Contains-preimage uid_of defs.action_defs.keys uid among in
+    let it : EntityUID = found.0 in
+    let P : PlainUid → Type 0 = λ each. ¬ IsReserved each.ty in subst P found.2 it.ty.0.unreserved
+
+-- references to one name each that are the same are to the same name
+same_name : (kind kind' : ReferenceType) (x y : PlainName) → reference_to_one kind x ≡ reference_to_one kind' y → x ≡ y
+same_name kind kind' x y is = let names : x ∷ [] ≡ y ∷ [] = ap (λ (it : Reference). it.possibilities) is in cc
+
+module _ (names : Names) (references : List ConditionalName) (resolved : List InternalName)
+    (turn : HoldsPairwise (ResolvesReference names) (map (positional_reference Entity) references) (map (resolved_reference Entity) resolved)) where
+  -- each name that some references are resolved by is one that a reference resolves to
+  pub resolved_by : (item : InternalName) → Contains resolved item
+      → (reference : Reference) × Contains (map (positional_reference Entity) references) reference × ResolvesTo names reference (name_of item)
+  resolved_by item among =
+      let back = turn_back (ResolvesReference names) (λ y x. ResolvesReference names x y) (λ x y qualifies. qualifies)
+      (map (positional_reference Entity) references) (map (resolved_reference Entity) resolved) turn in
+      let found = turn_forth (λ y x. ResolvesReference names x y) (map (resolved_reference Entity) resolved)
+      (map (positional_reference Entity) references) back (resolved_reference Entity item) (Contains-image (resolved_reference Entity) resolved item among) in
+      let P : PlainName → Type 0 = ResolvesTo names found.0 in
+      (found.0, found.1, subst P (sym (same_name Entity found.0.kind (name_of item) found.2.0 found.2.2)) found.2.1)
+
+  -- where none of the names is reserved, none of the references resolves to a reserved name
+  pub none_reserved : AllByRecursion (λ name. ¬ IsReserved name) (map name_of resolved)
+      → NoneIsReserved names (Contains (map (positional_reference Entity) references))
+  none_reserved unreserved reference name among resolves =
+      let found = turn_forth (ResolvesReference names) (map (positional_reference Entity) references) (map (resolved_reference Entity) resolved) turn
+      reference among in
+      let item = Contains-preimage (resolved_reference Entity) resolved found.0 found.1 in
+      let same : name_of item.0 ≡ found.2.0 = same_name Entity reference.kind (name_of item.0) found.2.0 (item.2 ∙ found.2.2) in
+      let one : name ≡ found.2.0 = IsFirst-same (IsDefined names reference.kind) reference.possibilities name found.2.0 resolves found.2.1 in
+      let P : PlainName → Type 0 = λ each. ¬ IsReserved each in
+      subst P (same ∙ sym one)
+      (AllByRecursion-at P (map name_of resolved) (name_of item.0) unreserved (Contains-image name_of resolved item.0 item.1))

@@ -1,0 +1,18 @@
+use Rattle.std.proofs.Common.{◌≡◌, ◌∙◌, ap, subst, inr, ⊎_elim}
+use Rattle.cedar_below.specs.InternalName.{name_of}
+use Rattle.cedar_below.specs.PlainName.{IsReserved}
+use Rattle.cedar_below.specs.UnreservedId.{unreserved_id_text}
+use Rattle.cedar_declarations.specs.Fault.{reserved_name}
+use Rattle.cedar_names.specs.NamespaceName.{namespace_name}
+use Rattle.cedar_names.specs.Reference.{name_within}
+use Rattle.cedar_fragments.proofs.namespace.entity_types.entity_type_name.Goals as goal
+
+pub returns-in-Err-clause-fault : goal.returns-in-Err-clause-fault
+returns-in-Err-clause-fault c =
+    let refused = c.in-Err.ensures.refused in
+    let within = name_within (namespace_name c.args.namespace) in
+    let named : name_of c.in_ok-name.name ≡ within (unreserved_id_text c.args.id) = c.in_ok-name.ensures.name ∙ ap within c.into_id.ensures.text in
+    inr (inr (
+      ap reserved_name (ap name_of refused.0 ∙ named),
+      ⊎_elim (λ base. absurd (c.args.id.unreserved base)) (λ path. path) (subst IsReserved named refused.1),
+    ))

@@ -1,8 +1,0 @@
-use Rattle.std.proofs.Common.{refl}
-use Rattle.cedar_fragments.proofs.PlacedFragments.{fragments_fit}
-use Rattle.cedar_names.specs.ConditionalExpr.{placed_reference}
-use Rattle.cedar_names.specs.declared.json_schema.conditional_name.ConditionalName.{ConditionalName}
-use Rattle.cedar_fragments.proofs.theorems.references_fit_their_places.Goals as goal
-
-pub returns : goal.returns
-returns c = fragments_fit ConditionalName placed_reference (λ name. refl) ConditionalName placed_reference

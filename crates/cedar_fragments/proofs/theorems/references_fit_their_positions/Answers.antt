@@ -1,0 +1,8 @@
+use Rattle.std.proofs.Common.{refl}
+use Rattle.cedar_fragments.proofs.PlacedFragments.{fragments_fit}
+use Rattle.cedar_names.specs.ConditionalExpr.{positional_reference}
+use Rattle.cedar_names.specs.declared.json_schema.conditional_name.ConditionalName.{ConditionalName}
+use Rattle.cedar_fragments.proofs.theorems.references_fit_their_positions.Goals as goal
+
+pub returns : goal.returns
+returns c = fragments_fit ConditionalName positional_reference (λ name. refl) ConditionalName positional_reference

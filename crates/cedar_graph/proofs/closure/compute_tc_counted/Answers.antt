@@ -1,0 +1,51 @@
+use Rattle.std.proofs.Common.{◌≡◌, ◌<◌, Some, length, slice_get, refl, arith, ⊎_elim}
+use Rattle.std.specs.HashMap.{get}
+use Rattle.std.proofs.lemmas.Option.{slice_get_read}
+use Rattle.cedar_below.specs.Chain.{one}
+use Rattle.cedar_graph.specs.Numbering.{RowHas}
+use Rattle.cedar_graph.proofs.Growing.{edge_sound}
+use Rattle.cedar_graph.proofs.KeyedEdges.{begins_at_node}
+use Rattle.cedar_graph.proofs.Numbers.{numbered_from_name}
+use Rattle.cedar_graph.proofs.closure.compute_tc_counted.Goals as goal
+
+pub returns-in_err-names-clause-sound : goal.returns-in_err-names-clause-sound
+returns-in_err-names-clause-sound g c = λ from to edge. one edge
+
+pub returns-in-Some-clause-sound : goal.returns-in-Some-clause-sound
+returns-in-Some-clause-sound g c = λ from to edge. one edge
+
+pub returns-in-Some-clause-fault : goal.returns-in-Some-clause-fault
+returns-in-Some-clause-fault g c =
+    let names = c.in_ok-names.field-0.names in
+    let number = c.in-Some.number in
+    let key = c.swap_remove.result in
+    let itself = c.in-Some.ensures.found in
+    let below = c.in_ok-names.ensures.within number number itself in
+    let within : number < length names.items = omega (arith, below, names.ok.0) in
+    let found : slice_get names.items number ≡ Some key =
+    slice_get_read names.items (length names.items) number key refl within c.swap_remove.ensures.value in
+    let numbered = numbered_from_name g.K.PartialEq.eq names.items key key number found (g.met.K.Eq.laws.refl key) in
+    (c.if-enforce_dag.true, c.in_ok-names.ensures.sound key key (number, numbered, (number, itself, numbered)))
+
+pub returns-in_err-add_all_row_edges-clause-sound : goal.returns-in_err-add_all_row_edges-clause-sound
+returns-in_err-add_all_row_edges-clause-sound g c = λ from to edge. ⊎_elim
+    (λ before. one before)
+    (λ may. c.in_ok-names.ensures.sound from to may)
+    (edge_sound g.V.TCNode.has_edge g.V.TCNode.is_alike
+    (RowHas g.K.PartialEq.eq c.in_ok-names.field-0.names.items c.in_ok-names.field-0.rows.items from)
+    (get g.K.PartialEq.eq c.args.nodes.now from) (get g.K.PartialEq.eq c.add_all_row_edges.new.nodes from) to
+    (c.in_err-add_all_row_edges.ensures.grows from) edge)
+
+pub returns-clause-sound : goal.returns-clause-sound
+returns-clause-sound g c = λ from to edge. ⊎_elim
+    (λ before. one before)
+    (λ may. c.in_ok-names.ensures.sound from to may)
+    (edge_sound g.V.TCNode.has_edge g.V.TCNode.is_alike
+    (RowHas g.K.PartialEq.eq c.in_ok-names.field-0.names.items c.in_ok-names.field-0.rows.items from)
+    (get g.K.PartialEq.eq c.args.nodes.now from) (get g.K.PartialEq.eq c.add_all_row_edges.new.nodes from) to
+    (c.in_ok-add_all_row_edges.ensures.grows from) edge)
+
+pub returns-clause-complete : goal.returns-clause-complete
+returns-clause-complete g c = λ from to chain.
+    c.in_ok-add_all_row_edges.ensures.complete from to (c.in_ok-names.ensures.complete from to chain)
+    (begins_at_node g.K.PartialEq.eq g.V.TCNode.has_edge c.args.nodes.now chain)

@@ -1,0 +1,52 @@
+use Rattle.std.proofs.Common.{◌≡◌, ◌∷◌, [], true, Contains, sym, ◌∙◌, ap, subst, inl, inr, ⊎_elim}
+use Rattle.std.specs.List.{list_any}
+use Rattle.std.specs.Map.Iter.{deref}
+use Rattle.std.proofs.lemmas.Bool.{or_cases, or_left, or_right}
+use Rattle.std.proofs.lemmas.List.Elements.{Contains-push, Contains-push_cases, Contains-append_left}
+use Rattle.std.proofs.lemmas.Map.Iter.{rest_more}
+use Rattle.cedar_graph.specs.Numbering.{IsNumbered}
+use Rattle.cedar_graph.proofs.Numbers.{number_alike}
+use Rattle.cedar_graph.proofs.targets.targets_of.Goals as goal
+
+pub loop-target-preserved : goal.loop-target-preserved
+loop-target-preserved g c =
+    let eq = g.K.PartialEq.eq in
+    let old = c.loop-target.invariant in
+    let target = c.in-Some.target.now in
+    let number = c.in_ok-number_of.field-0 in
+    let names = c.number_of.new.numbering.names.items in
+    let targets = c.loop-target.targets.items in
+    let kept = c.in_ok-number_of.ensures.kept in
+    let numbered = c.in_ok-number_of.ensures.numbered in
+    let pushed = c.in_ok-push.ensures.items in
+    let turn : c.loop-target.target-iterator ≡ target ∷ c.next.new.self =
+    rest_more deref c.loop-target.target-iterator c.next.new.self c.next.result c.in-Some.target c.in-Some.is
+    c.next.ensures.steps in
+    let here = old.rest target (ap (list_any (eq target)) turn ∙ or_left _ _ (g.met.K.Eq.laws.refl target)) in
+    record {
+      numbers = c.in_ok-number_of.ensures.numbers;
+      kept = λ key n stands. kept key n (old.kept key n stands);
+      sound = λ n inside. ⊎_elim
+          (λ (before : Contains targets n). let it = old.sound n before in (it.0, kept it.0 n it.1, it.2))
+          (λ (last : number ≡ n). (target, subst (IsNumbered eq names target) last numbered, here))
+          (Contains-push_cases targets number n (subst (λ xs. Contains xs n) pushed inside));
+      complete = λ key edge. ⊎_elim
+          (λ it. inl (
+            it.0,
+            kept key it.0 it.1,
+            subst (λ xs. Contains xs it.0) (sym pushed)
+                (Contains-append_left targets (number ∷ []) it.0 it.2),
+          ))
+          (λ (waits : list_any (eq key) c.loop-target.target-iterator ≡ true). ⊎_elim
+          (λ (same : eq key target ≡ true).
+          inl (
+            number,
+            number_alike g.met.K.Eq.laws names key target number same numbered,
+            subst
+                (λ xs. Contains xs number) (sym pushed) (Contains-push targets number),
+          ))
+          (λ later. inr later)
+          (or_cases _ _ (sym (ap (list_any (eq key)) turn) ∙ waits)))
+          (old.complete key edge);
+      rest = λ key later. old.rest key (ap (list_any (eq key)) turn ∙ or_right _ _ later);
+    }

@@ -1,0 +1,118 @@
+//! The closure of the edges of a map of nodes.
+
+ghost use Rattle.std.specs.Prelude.{◌≡◌, ℕ, ◌*◌, ◌^◌, ◌<◌, ◌≤◌, ◌↔◌, length, vec_len, IsTrue, IfOk, IfErr, OnOk};
+ghost use Rattle.std.specs.HashMap.{get, keys, hash_map_len};
+ghost use Rattle.cedar_graph.specs.Edges.{HasEdge, Reaches, AreAlike};
+ghost use Rattle.cedar_graph.specs.Numbered.{items_at, InRow};
+ghost use Rattle.cedar_graph.specs.TcError.{IsRefusal};
+ghost use Rattle.cedar_graph.specs.Numbering.{IsNumbered, RowHas};
+
+use crate::closing::{closed_rows, first_on_cycle};
+use crate::numbering::{Numbering, numbered_keys};
+use crate::row_edges::add_all_row_edges;
+use crate::targets::all_targets;
+use crate::tc_error::TcError;
+use crate::tc_node::TCNode;
+use cedar_below::M;
+use std::alloc::Global;
+use std::collections::HashMap;
+use std::hash::Hash;
+
+/// What chains of edges reach from each key of a map, by numbers.
+#[derive(Drop)]
+struct Closed<K> {
+    /// The keys by their numbers.
+    names: Vec<K>,
+    /// The numbers that chains reach from each key of the map.
+    rows: Vec<Vec<u64>>,
+    /// How many joins of two rows it took.
+    joins: u128,
+}
+
+/// What chains of edges reach from each key of the map.
+fn closed_names<K: Eq + Hash + Drop, V: TCNode<K>>(
+    alloc: Global,
+    nodes: &HashMap<K, V>,
+) -> M<Closed<K>>
+    ensures few { IfOk result (λ closed. vec_len closed.rows ≤ vec_len closed.names) }
+    ensures wide { IfOk result (λ closed. (i : ℕ) → i < vec_len closed.rows
+        → i < 64 * length (items_at closed.rows.items i)) }
+    ensures small { IfOk result (λ closed. (i : ℕ) → length (items_at closed.rows.items i) ≤ 2 ^ 58) }
+    ensures within { IfOk result (λ closed. (i j : ℕ) → InRow closed.rows.items i j → j < vec_len closed.names) }
+    ensures single { IfOk result (λ closed. (key : K) (i j : ℕ) → IsNumbered K.eq closed.names.items key i
+        → IsNumbered K.eq closed.names.items key j → i ≡ j) }
+    ensures sound { IfOk result (λ closed. (from to : K) → RowHas K.eq closed.names.items closed.rows.items from to
+        → Reaches K.eq V.has_edge nodes.now from to) }
+    ensures complete { IfOk result (λ closed. (from to : K) → Reaches K.eq V.has_edge nodes.now from to
+        → RowHas K.eq closed.names.items closed.rows.items from to) }
+    ensures count { IfOk result (λ closed. closed.joins ≤ hash_map_len nodes.now * hash_map_len nodes.now) }
+{
+    let mut numbering = numbered_keys::<K, V>(alloc, nodes)?;
+    let targets = all_targets(alloc, nodes, &mut numbering)?;
+    let (rows, joins) = closed_rows(alloc, &targets, numbering.names.len())?;
+    let Numbering {
+        names,
+        numbers: _numbers,
+    } = numbering;
+    Ok(Closed { names, rows, joins })
+}
+
+/// The closure of `compute_tc`, which answers how many joins of two rows of bits it made: at most the
+/// square of the number of keys.
+pub fn compute_tc_counted<K: Eq + Hash + Drop, V: TCNode<K>>(
+    alloc: Global,
+    nodes: &mut HashMap<K, V>,
+    enforce_dag: bool,
+) -> Result<u128, TcError<K>>
+    ensures keys { keys nodes.new ≡ keys nodes.old }
+    ensures alike { (key : K) → AreAlike V.is_alike (get K.eq nodes.old key) (get K.eq nodes.new key) }
+    ensures old_stay { (from to : K) → HasEdge K.eq V.has_edge nodes.old from to
+        → HasEdge K.eq V.has_edge nodes.new from to }
+    ensures sound { (from to : K) → HasEdge K.eq V.has_edge nodes.new from to
+        → Reaches K.eq V.has_edge nodes.old from to }
+    ensures complete { OnOk result ((from to : K) → Reaches K.eq V.has_edge nodes.old from to
+        → HasEdge K.eq V.has_edge nodes.new from to) }
+    ensures acyclic { OnOk result (IsTrue enforce_dag → (key : K) → ¬ Reaches K.eq V.has_edge nodes.old key key) }
+    ensures fault { IfErr result (IsRefusal (Reaches K.eq V.has_edge nodes.old) enforce_dag) }
+    ensures count { IfOk result (λ joins. joins ≤ hash_map_len nodes.old * hash_map_len nodes.old) }
+{
+    let Closed {
+        mut names,
+        rows,
+        joins,
+    } = closed_names(alloc, nodes)?;
+    if enforce_dag {
+        if let Some(number) = first_on_cycle(&rows) {
+            return Err(TcError::HasCycle(names.swap_remove(number)));
+        }
+    }
+    add_all_row_edges(nodes, &names, &rows)?;
+    Ok(joins)
+}
+
+/// Gives each node an edge to each key that a chain of one or more edges reaches from it.
+///
+/// A node is known by its key in the map. An edge to a key that is not in the map leads no further.
+/// Each node stays alike but for its edges. With `enforce_dag` it is refused with `HasCycle` where
+/// some node reaches itself. After `HasCycle`, as after out of memory, each old edge stands and
+/// each new one is of the closure. Of keys `Drop` is asked besides `Eq` and `Hash`, since copies of
+/// them are let go.
+pub fn compute_tc<K: Eq + Hash + Drop, V: TCNode<K>>(
+    alloc: Global,
+    nodes: &mut HashMap<K, V>,
+    enforce_dag: bool,
+) -> Result<(), TcError<K>>
+    ensures keys { keys nodes.new ≡ keys nodes.old }
+    ensures alike { (key : K) → AreAlike V.is_alike (get K.eq nodes.old key) (get K.eq nodes.new key) }
+    ensures old_stay { (from to : K) → HasEdge K.eq V.has_edge nodes.old from to
+        → HasEdge K.eq V.has_edge nodes.new from to }
+    ensures sound { (from to : K) → HasEdge K.eq V.has_edge nodes.new from to
+        → Reaches K.eq V.has_edge nodes.old from to }
+    ensures complete { OnOk result ((from to : K) → Reaches K.eq V.has_edge nodes.old from to
+        → HasEdge K.eq V.has_edge nodes.new from to) }
+    ensures acyclic { OnOk result (IsTrue enforce_dag → (key : K) → ¬ Reaches K.eq V.has_edge nodes.old key key) }
+    ensures fault { IfErr result (IsRefusal (Reaches K.eq V.has_edge nodes.old) enforce_dag) }
+{
+    compute_tc_counted(alloc, nodes, enforce_dag)?;
+    Ok(())
+}

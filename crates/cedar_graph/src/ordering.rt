@@ -1,0 +1,90 @@
+//! Numbers in an order in which each comes after those that it leads to.
+
+ghost use Rattle.std.specs.Prelude.{◌≡◌, ◌++◌, ◌<◌, ℕ, Contains, IfOk, OnOk, map};
+ghost use Rattle.cedar_graph.specs.Order.{IsOrdered};
+ghost use Rattle.cedar_graph.specs.declared.ordering.Step.TheVariants.{Enter, Leave};
+
+use cedar_below::M;
+use std::alloc::Global;
+
+/// Some numbers in order, or why there is none.
+#[derive(Debug, Drop)]
+pub enum Ordered {
+    /// Each number once, after those that it leads to.
+    Order(Vec<usize>),
+    /// There is no order: this number is on a cycle.
+    Cycle(usize),
+}
+
+/// How far a number is gone through.
+#[derive(Clone, Copy)]
+enum Mark {
+    /// It wasn't met yet.
+    Fresh,
+    /// What it leads to is gone through now.
+    Open,
+    /// It stands in the order.
+    Done,
+}
+
+/// What is to be done with a number.
+#[derive(Clone, Copy)]
+enum Step {
+    /// To go through what it leads to, if it wasn't met yet.
+    Enter(usize),
+    /// To put it into the order, since what it leads to stands there.
+    Leave(usize),
+}
+
+/// Adds that each of the numbers is to be entered.
+fn enter_all(steps: &mut Vec<Step>, numbers: &[usize]) -> M<()>
+    ensures { OnOk result (steps.new.items ≡ steps.old.items ++ map Enter numbers.now) }
+{
+    for number in numbers {
+        steps.push(Step::Enter(*number))?;
+    }
+    Ok(())
+}
+
+/// Steps that enter each number below the bound.
+fn enter_below(alloc: Global, bound: usize) -> M<Vec<Step>>
+    ensures each { IfOk result (λ steps. (number : ℕ) → number < bound → Contains steps.items (Enter number)) }
+    ensures only { IfOk result (λ steps. (number : ℕ) → ¬ Contains steps.items (Leave number)) }
+{
+    let mut steps = Vec::new(alloc);
+    for number in 0..bound {
+        steps.push(Step::Enter(number))?;
+    }
+    Ok(steps)
+}
+
+/// Orders the numbers of the lists, so that each comes after those of its list, or finds one that
+/// its list leads back to. A number without a list has no place in the order.
+///
+/// It takes time linear in the lengths of the lists together, and no recursion.
+pub fn topo_sort(alloc: Global, targets: &Vec<Vec<usize>>) -> M<Ordered>
+    ensures { IfOk result (IsOrdered targets.now.items) }
+{
+    let mut marks = vec![in alloc; Mark::Fresh; targets.len()]?;
+    let mut steps = enter_below(alloc, targets.len())?;
+    let mut order = Vec::new(alloc);
+    while let Some(step) = steps.pop() {
+        match step {
+            Step::Leave(number) => {
+                order.push(number)?;
+                marks[number] = Mark::Done;
+            }
+            Step::Enter(number) if number < marks.len() => match marks[number] {
+                Mark::Fresh => {
+                    marks[number] = Mark::Open;
+                    steps.push(Step::Leave(number))?;
+                    enter_all(&mut steps, &targets[number])?;
+                }
+                Mark::Open => return Ok(Ordered::Cycle(number)),
+                Mark::Done => {}
+            },
+            Step::Enter(_) => {}
+        }
+    }
+    Ok(Ordered::Order(order))
+}

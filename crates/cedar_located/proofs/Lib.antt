@@ -1,4 +1,0 @@
-pub mod Comparisons
-pub mod InOrder
-pub mod NamespaceLemmas
-pub mod ShownLemmas

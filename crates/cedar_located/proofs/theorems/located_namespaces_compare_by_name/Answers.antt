@@ -1,8 +1,0 @@
-use Rattle.cedar_located.proofs.Comparisons.{namespaces-Decides, namespaces-hash}
-use Rattle.cedar_located.proofs.theorems.located_namespaces_compare_by_name.Goals as goal
-
-pub returns-clause-equality : goal.returns-clause-equality
-returns-clause-equality c = namespaces-Decides
-
-pub returns-clause-hash : goal.returns-clause-hash
-returns-clause-hash c = namespaces-hash

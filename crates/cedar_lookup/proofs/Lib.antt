@@ -1,5 +1,0 @@
-mod AllLemmas
-mod DeclaredLemmas
-mod JoinedLemmas
-pub mod KnownLemmas
-mod NotLemmas

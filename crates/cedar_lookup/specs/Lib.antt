@@ -1,3 +1,0 @@
-pub mod KnownAttributes
-pub mod KnownLaws
-pub mod Possible

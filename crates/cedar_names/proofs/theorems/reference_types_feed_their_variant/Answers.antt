@@ -1,0 +1,23 @@
+use Rattle.std.proofs.Common.{refl}
+use Rattle.std.specs.Hash.{le_bytes}
+use Rattle.cedar_below.specs.FeedsVariant.{FeedsVariantFirst}
+use Rattle.cedar_names.specs.contracts.json_schema.reference_type.ReferenceTypeHash.TheImpl as reference_type_hash
+use Rattle.cedar_names.specs.declared.json_schema.reference_type.ReferenceType.{ReferenceType}
+use Rattle.cedar_names.specs.declared.json_schema.reference_type.ReferenceType.TheVariants.{Common, Entity, CommonOrEntity}
+use Rattle.cedar_names.proofs.theorems.reference_types_feed_their_variant.Goals as goal
+
+-- a reference type is fed as its variant
+kinds_feed : FeedsVariantFirst (λ (kind : ReferenceType). kind) (reference_type_hash.ghosts).hash_input
+unfolding le_bytes
+kinds_feed Common Common same = refl
+kinds_feed Common Entity same = absurd cc
+kinds_feed Common CommonOrEntity same = absurd cc
+kinds_feed Entity Common same = absurd cc
+kinds_feed Entity Entity same = refl
+kinds_feed Entity CommonOrEntity same = absurd cc
+kinds_feed CommonOrEntity Common same = absurd cc
+kinds_feed CommonOrEntity Entity same = absurd cc
+kinds_feed CommonOrEntity CommonOrEntity same = refl
+
+pub returns : goal.returns
+returns c = kinds_feed

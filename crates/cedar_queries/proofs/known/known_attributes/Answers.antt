@@ -1,0 +1,36 @@
+use Rattle.std.proofs.Common.{◌∷◌, [], List, map, sym, subst}
+use Rattle.std.proofs.lemmas.Result.{IfOk-weaker}
+use Rattle.cedar_below.specs.EntityType.{type_name}
+use Rattle.cedar_below.specs.PlainName.{PlainName}
+use Rattle.cedar_schema_elements.specs.ValidatorEntityType.{plain_entry}
+use Rattle.cedar_queries.proofs.JoinedLemmas.{known_alone, only_is}
+use Rattle.cedar_queries.specs.KnownAttributes.{AreAttributesOf, AreKnownOfAll}
+use Rattle.cedar_type_rules.specs.Ty.{Fields, record_of}
+use Rattle.cedar_type_rules.specs.WellFormed.{IsWellFormed}
+use Rattle.cedar_type_rules.specs.declared.open_tag.OpenTag.TheVariants.{OpenAttributes}
+use Rattle.cedar_types.specs.EntityKind.{kind_ty}
+use Rattle.cedar_types.specs.EntityLUB.{lub_names}
+use Rattle.cedar_types.specs.Layers.{IsSortedByName-fields}
+use Rattle.cedar_types.specs.Meaning.{fields_of}
+use Rattle.cedar_types.specs.WellFormedTypes.{AreTexts-fields, AreWellFormed-fields}
+use Rattle.cedar_types.specs.declared.attributes.Attributes.{Attributes}
+use Rattle.cedar_types.specs.declared.entity_kind.EntityKind.{EntityKind}
+use Rattle.cedar_queries.proofs.known.known_attributes.Goals as goal
+
+-- attributes stand for an open record that is well formed
+record_formed : (attrs : Attributes) → IsWellFormed (record_of (fields_of attrs) OpenAttributes)
+record_formed attrs = (IsSortedByName-fields attrs, AreWellFormed-fields attrs, AreTexts-fields attrs)
+
+pub returns-in-Some : goal.returns-in-Some
+returns-in-Some c =
+    let types = map plain_entry c.args.types.now.entries in
+    let name = type_name c.in-Some.ty.now in
+    let only = only_is (lub_names c.in-Entity.lub) name c.in-Some.ensures.name in
+    IfOk-weaker c.declared_attributes.result _ (λ attrs. AreAttributesOf types (kind_ty c.args.kind.now) (fields_of attrs))
+    (λ attrs declared.
+    let P : EntityKind → Type 0 = λ kind. AreAttributesOf types (kind_ty kind) (fields_of attrs) in
+    let Q : List PlainName → Type 0 = λ names. AreKnownOfAll types names (fields_of attrs) in
+    let R : Fields → Type 0 = AreKnownOfAll types (name ∷ []) in
+    let S : Fields → Type 0 = λ fields. IsWellFormed (record_of fields OpenAttributes) in
+    subst P (sym c.in-Entity.is) (subst Q (sym only) (subst R (sym declared) (known_alone types name (subst S declared (record_formed attrs))))))
+    c.declared_attributes.ensures

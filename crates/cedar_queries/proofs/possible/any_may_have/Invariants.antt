@@ -1,0 +1,12 @@
+use Rattle.std.proofs.Common.{◌↔◌, Any, map}
+use Rattle.std.specs.Slice.Iter.{iter_rest}
+use Rattle.cedar_below.specs.EntityType.{type_name}
+use Rattle.cedar_schema_elements.specs.ValidatorEntityType.{plain_entry}
+use Rattle.cedar_queries.specs.Possible.{MemberMayHave}
+use Rattle.cedar_types.specs.EntityLUB.{lub_names}
+use Rattle.cedar_queries.proofs.possible.any_may_have.Given as goal
+
+abbrev pub invariant-loop-member : goal.invariant-loop-member
+invariant-loop-member l =
+    Any (MemberMayHave (map plain_entry l.types.entries) l.name) (lub_names l.lub)
+    ↔ Any (MemberMayHave (map plain_entry l.types.entries) l.name) (map type_name (iter_rest l.member-iterator))

@@ -1,0 +1,166 @@
+//! What types may have.
+
+ghost use Rattle.std.specs.Prelude.{◌≡◌, ◌↔◌, Any, All, IfOk, IsTrue, map};
+ghost use Rattle.std.specs.Option.{option_map};
+ghost use Rattle.cedar_schema_elements.specs.ValidatorActionId.{plain_action_entry};
+ghost use Rattle.cedar_below.specs.EntityType.{type_name};
+ghost use Rattle.cedar_below.specs.EntityUID.{uid_of};
+ghost use Rattle.cedar_below.specs.PlainName.{IsActionType};
+ghost use Rattle.cedar_schema_elements.specs.ValidatorEntityType.{plain_entry};
+ghost use Rattle.cedar_queries.specs.KnownAttributes.{AreAttributesOf};
+ghost use Rattle.cedar_queries.specs.Possible.{AreDeclaredTypes, HasTags, IsDeclared, IsKnownUid, MayHaveAttribute, MayHaveTags, MemberMayHave};
+ghost use Rattle.cedar_type_rules.specs.Ty.{Fields, field_at};
+ghost use Rattle.cedar_type_rules.specs.declared.open_tag.OpenTag.TheVariants.{OpenAttributes};
+ghost use Rattle.cedar_types.specs.EntityLUB.{lub_names};
+ghost use Rattle.cedar_types.specs.Meaning.{attribute_of, ty_of};
+
+use crate::known::all_attributes;
+use cedar_below::{EntityType, EntityUID, M};
+use cedar_schema_elements::{ValidatorActionId, ValidatorEntityType};
+use cedar_types::{AttributeType, EntityKind, EntityLUB, OpenTag, Type};
+use std::alloc::Global;
+use std::collections::BTreeMap;
+
+/// The entity types of a schema, each under its name.
+type EntityTypes = BTreeMap<EntityType, ValidatorEntityType>;
+
+/// The attribute of a name among those of a type, if there is one.
+pub fn lookup_attribute_type(
+    alloc: Global,
+    types: &EntityTypes,
+    ty: &Type,
+    name: &str,
+) -> M<Option<AttributeType>>
+    ensures { IfOk result (λ found. (known : Fields) × AreAttributesOf (map plain_entry types.now.entries) (ty_of ty.now) known
+        × (option_map attribute_of found ≡ field_at name.now known)) }
+{
+    let attrs = all_attributes(alloc, types, ty)?;
+    match attrs.get_attr(name) {
+        Some(attribute) => Ok(Some(attribute.clone()?)),
+        None => Ok(None),
+    }
+}
+
+/// Whether attributes may be there that aren't declared.
+fn is_open(openness: OpenTag) -> bool
+    ensures { IsTrue result ↔ (openness ≡ OpenAttributes) }
+{
+    openness == OpenTag::OpenAttributes
+}
+
+/// Whether entities of a type of this openness may have attributes that aren't declared.
+fn is_open_type(member: &EntityType, openness: OpenTag) -> bool
+    ensures { IsTrue result ↔ (¬ IsActionType (type_name member.now) × (openness ≡ OpenAttributes)) }
+{
+    !member.is_action() && is_open(openness)
+}
+
+/// Whether entities of a type may have the attribute.
+fn member_may_have(types: &EntityTypes, name: &str, member: &EntityType) -> bool
+    ensures { IsTrue result ↔ MemberMayHave (map plain_entry types.now.entries) name.now (type_name member.now) }
+{
+    match types.get(member) {
+        Some(ty) => is_open_type(member, ty.open_attributes()) || ty.attr(name).is_some(),
+        None => !member.is_action(),
+    }
+}
+
+/// Whether entities of some type of a union may have the attribute.
+fn any_may_have(types: &EntityTypes, name: &str, lub: &EntityLUB) -> bool
+    ensures { IsTrue result ↔ Any (MemberMayHave (map plain_entry types.now.entries) name.now) (lub_names lub.now) }
+{
+    for member in lub.iter() {
+        if member_may_have(types, name, member) {
+            return true;
+        }
+    }
+    false
+}
+
+/// Whether values of a type may have the attribute. `Never` and entities of any type may; entities of a
+/// union, where some member declares it, or may have attributes that it doesn't declare: it is no type of
+/// actions, and is open or not declared at all; a record, where it lists the attribute or is open; and of
+/// every other type no value.
+pub fn may_have_attr(types: &EntityTypes, ty: &Type, name: &str) -> bool
+    ensures { IsTrue result ↔ MayHaveAttribute (map plain_entry types.now.entries) (ty_of ty.now) name.now }
+{
+    match ty {
+        Type::Never | Type::Entity(EntityKind::AnyEntity) => true,
+        Type::Entity(EntityKind::Entity(lub)) => any_may_have(types, name, lub),
+        Type::Record {
+            attrs,
+            open_attributes,
+        } => is_open(*open_attributes) || attrs.get_attr(name).is_some(),
+        _ => false,
+    }
+}
+
+/// Whether an entity type is declared with tags.
+fn has_tags(types: &EntityTypes, ty: &EntityType) -> bool
+    ensures { IsTrue result ↔ HasTags (map plain_entry types.now.entries) (type_name ty.now) }
+{
+    match types.get(ty) {
+        Some(entity_type) => entity_type.tag_type().is_some(),
+        None => false,
+    }
+}
+
+/// Whether entities of some type of a union have tags.
+fn any_has_tags(types: &EntityTypes, lub: &EntityLUB) -> bool
+    ensures { IsTrue result ↔ Any (HasTags (map plain_entry types.now.entries)) (lub_names lub.now) }
+{
+    for member in lub.iter() {
+        if has_tags(types, member) {
+            return true;
+        }
+    }
+    false
+}
+
+/// Whether values of a type may have tags: of a union, where some member is declared with tags; of every
+/// other type it isn't known that they haven't.
+pub fn may_have_tags(types: &EntityTypes, ty: &Type) -> bool
+    ensures { IsTrue result ↔ MayHaveTags (map plain_entry types.now.entries) (ty_of ty.now) }
+{
+    match ty {
+        Type::Entity(EntityKind::Entity(lub)) => any_has_tags(types, lub),
+        _ => true,
+    }
+}
+
+/// Whether each type of a union is declared.
+fn all_declared(types: &EntityTypes, lub: &EntityLUB) -> bool
+    ensures { IsTrue result ↔ All (IsDeclared (map plain_entry types.now.entries)) (lub_names lub.now) }
+{
+    for member in lub.iter() {
+        if !types.contains_key(member) {
+            return false;
+        }
+    }
+    true
+}
+
+/// Whether the entity types of a union are all declared; of every other type there is none that isn't.
+pub fn has_declared_entity_types(types: &EntityTypes, ty: &Type) -> bool
+    ensures { IsTrue result ↔ AreDeclaredTypes (map plain_entry types.now.entries) (ty_of ty.now) }
+{
+    match ty {
+        Type::Entity(EntityKind::Entity(lub)) => all_declared(types, lub),
+        _ => true,
+    }
+}
+
+/// Whether a uid is that of an action that is there, or of an entity type that is declared.
+pub fn is_known_uid(
+    types: &EntityTypes,
+    actions: &BTreeMap<EntityUID, ValidatorActionId>,
+    uid: &EntityUID,
+) -> bool
+    ensures { IsTrue result ↔ IsKnownUid (map plain_entry types.now.entries) (map plain_action_entry actions.now.entries) (uid_of uid.now) }
+{
+    if uid.entity_type().is_action() {
+        actions.contains_key(uid)
+    } else {
+        types.contains_key(uid.entity_type())
+    }
+}

@@ -1,0 +1,30 @@
+use Rattle.std.proofs.Common.{arith, map, ap, sym, ◌∙◌, refl}
+use Rattle.std.proofs.lemmas.List.{nil_from_length}
+use Rattle.std.specs.Vec.Iter.{into_iter_items}
+use Rattle.cedar_below.specs.declared.entity_type.EntityType.{EntityType}
+use Rattle.cedar_below.specs.declared.internal_name.InternalName.{InternalName}
+use Rattle.cedar_declarations.specs.Bag.{declared_actions}
+use Rattle.cedar_declarations.specs.ResolvedExpr.{resolved_reference}
+use Rattle.cedar_fragments.proofs.DeclaredParts.{actions_declared}
+use Rattle.cedar_fragments.specs.FragmentDeclarations.{resolved_action_type}
+use Rattle.cedar_resolution.proofs.Adding.{add_none, add_next, add_all}
+use Rattle.cedar_resolution.proofs.Items.{action_item}
+use Rattle.cedar_resolution.proofs.collecting.add_actions.Goals as goal
+
+pub loop-def-init : goal.loop-def-init
+loop-def-init c =
+    add_none _ action_item _ _ _ _ refl
+    (ap (map action_item) c.into_iter-def-iterator.ensures.into_iter_gives.0
+    ∙ sym (ap declared_actions (c.into_defs-def-items.ensures resolved_reference resolved_action_type)
+    ∙ actions_declared InternalName resolved_reference EntityType resolved_action_type c.into_defs-def-items.result.items))
+
+pub loop-def-preserved : goal.loop-def-preserved
+loop-def-preserved c =
+    add_next _ action_item _ _ _ _ c.in-Some.def (c.in-Some.def.uid, c.in-Some.def.fragment) _ c.in-Some.ensures.steps.0
+    c.in_ok-push.ensures.items refl c.loop-def.invariant
+
+pub returns : goal.returns
+returns c =
+    add_all _ action_item _ (into_iter_items c.loop-def.def-iterator) _
+    (nil_from_length _ (omega (arith, c.in-None.ensures.steps.0, c.loop-def.def-iterator.rest.ok.0)))
+    c.loop-def.invariant

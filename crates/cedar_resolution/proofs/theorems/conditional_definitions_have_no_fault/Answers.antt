@@ -1,0 +1,17 @@
+use Rattle.cedar_declarations.specs.Fault.{action_attributes, action_entity_type, reserved_name}
+use Rattle.cedar_fragments.proofs.SoundFragments.{fragments_have_no_fault}
+use Rattle.cedar_names.specs.ConditionalExpr.{positional_reference}
+use Rattle.cedar_names.specs.declared.json_schema.conditional_name.ConditionalName.{ConditionalName}
+use Rattle.cedar_resolution.proofs.theorems.conditional_definitions_have_no_fault.Goals as goal
+
+pub returns-clause-attributes : goal.returns-clause-attributes
+returns-clause-attributes c fragments extensions ids =
+    fragments_have_no_fault ConditionalName positional_reference ConditionalName positional_reference fragments extensions (action_attributes ids) tt
+
+pub returns-clause-action_types : goal.returns-clause-action_types
+returns-clause-action_types c fragments extensions name =
+    fragments_have_no_fault ConditionalName positional_reference ConditionalName positional_reference fragments extensions (action_entity_type name) tt
+
+pub returns-clause-reserved : goal.returns-clause-reserved
+returns-clause-reserved c fragments extensions name =
+    fragments_have_no_fault ConditionalName positional_reference ConditionalName positional_reference fragments extensions (reserved_name name) tt

@@ -1,0 +1,19 @@
+use Rattle.cedar_below.specs.declared.entity_type.EntityType.{EntityType}
+use Rattle.cedar_below.specs.declared.internal_name.InternalName.{InternalName}
+use Rattle.cedar_declarations.specs.Fault.{action_attributes, action_entity_type, reserved_name}
+use Rattle.cedar_declarations.specs.ResolvedExpr.{resolved_reference}
+use Rattle.cedar_fragments.proofs.SoundFragments.{fragments_have_no_fault}
+use Rattle.cedar_fragments.specs.FragmentDeclarations.{resolved_action_type}
+use Rattle.cedar_resolution.proofs.theorems.resolved_definitions_have_no_fault.Goals as goal
+
+pub returns-clause-attributes : goal.returns-clause-attributes
+returns-clause-attributes c fragments extensions ids =
+    fragments_have_no_fault InternalName resolved_reference EntityType resolved_action_type fragments extensions (action_attributes ids) tt
+
+pub returns-clause-action_types : goal.returns-clause-action_types
+returns-clause-action_types c fragments extensions name =
+    fragments_have_no_fault InternalName resolved_reference EntityType resolved_action_type fragments extensions (action_entity_type name) tt
+
+pub returns-clause-reserved : goal.returns-clause-reserved
+returns-clause-reserved c fragments extensions name =
+    fragments_have_no_fault InternalName resolved_reference EntityType resolved_action_type fragments extensions (reserved_name name) tt

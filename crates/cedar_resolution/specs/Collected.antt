@@ -1,0 +1,46 @@
+use Rattle.std.specs.Prelude.{◌≡◌, List, ◌++◌, map}
+use Rattle.std.specs.List.{flat_map}
+use Rattle.cedar_below.specs.EntityType.{type_name}
+use Rattle.cedar_below.specs.EntityUID.{uid_of}
+use Rattle.cedar_below.specs.InternalName.{name_of}
+use Rattle.cedar_below.specs.PlainName.{PlainName}
+use Rattle.cedar_below.specs.PlainUid.{PlainUid}
+use Rattle.cedar_below.specs.declared.entity_type.EntityType.{EntityType}
+use Rattle.cedar_below.specs.declared.entity_uid.EntityUID.{EntityUID}
+use Rattle.cedar_below.specs.declared.internal_name.InternalName.{InternalName}
+use Rattle.cedar_declarations.specs.Bag.{Bag, declared_common, declared_entities, declared_actions}
+use Rattle.cedar_declarations.specs.ResolvedExpr.{resolved_reference, resolved_expr}
+use Rattle.cedar_fragments.specs.ActionDeclarations.{action_fragment_body}
+use Rattle.cedar_fragments.specs.FragmentDeclarations.{resolved_action_type, resolved_fragment}
+use Rattle.cedar_fragments.specs.TypeDeclarations.{fragment_body}
+use Rattle.cedar_fragments.specs.declared.namespace.actions.ActionFragment.{ActionFragment}
+use Rattle.cedar_fragments.specs.declared.namespace.entity_types.EntityTypeFragment.{EntityTypeFragment}
+use Rattle.cedar_fragments.specs.declared.namespace.fragment.ValidatorSchemaFragment.{ValidatorSchemaFragment}
+use Rattle.cedar_resolution.specs.declared.declarations.Declarations.{Declarations}
+use Rattle.cedar_names.specs.ActionBody.{ActionBody}
+use Rattle.cedar_names.specs.EntityBody.{EntityBody}
+use Rattle.cedar_names.specs.Expr.{Expr}
+use Rattle.cedar_names.specs.declared.json_schema.type_of.Type.{«Type»}
+
+-- what some common types stand for: each full name with the expression that it is defined as
+abbrev pub collected_common : List (InternalName × «Type» InternalName) → List (PlainName × Expr)
+collected_common = map (λ it. (name_of it.0, resolved_expr it.1))
+
+-- what some entity types stand for: each full name with what is declared of it
+abbrev pub collected_entities : List (EntityType × EntityTypeFragment InternalName) → List (PlainName × EntityBody)
+collected_entities = map (λ it. (type_name it.0, fragment_body InternalName resolved_reference it.1))
+
+-- what some actions stand for: each uid with what is declared of it
+abbrev pub collected_actions : List (EntityUID × ActionFragment InternalName EntityType) → List (PlainUid × ActionBody)
+collected_actions = map (λ it. (uid_of it.0, action_fragment_body InternalName resolved_reference EntityType resolved_action_type it.1))
+
+-- the bag of declarations of some fragments over full names
+abbrev pub resolved_bag : List (ValidatorSchemaFragment InternalName EntityType) → Bag
+resolved_bag fragments = flat_map resolved_fragment fragments
+
+-- what is collected after is what was collected before, and then what a bag declares: common types, entity types and
+-- actions
+pub record CollectsAlso (before : Declarations) (bag : Bag) (after : Declarations) : Type 0 where
+  pub common : collected_common after.common_types.items ≡ collected_common before.common_types.items ++ declared_common bag
+  pub entities : collected_entities after.entity_types.items ≡ collected_entities before.entity_types.items ++ declared_entities bag
+  pub actions : collected_actions after.actions.items ≡ collected_actions before.actions.items ++ declared_actions bag

@@ -1,0 +1,2 @@
+pub mod AlsoUnless
+pub mod Collected

@@ -1,0 +1,73 @@
+//! How fragments come to name what is defined.
+
+ghost use Rattle.std.specs.Prelude.{◌≡◌, ◌⊎◌, IfOk, IfErr, OnOk};
+ghost use Rattle.std.specs.List.{flat_map};
+ghost use Rattle.cedar_below.specs.PlainName.{PlainName};
+ghost use Rattle.cedar_below.specs.PlainUid.{PlainUid};
+ghost use Rattle.cedar_declarations.specs.Bag.{defined_names};
+ghost use Rattle.cedar_declarations.specs.Fault.{out_of_memory, type_shadowing, action_shadowing};
+ghost use Rattle.cedar_declarations.specs.IllFormed.{IsFault};
+ghost use Rattle.cedar_declarations.specs.SchemaError.{fault_of};
+ghost use Rattle.cedar_declarations.specs.Resolved.{ResolvesBag};
+ghost use Rattle.cedar_fragments.specs.FragmentDeclarations.{conditional_bag, resolved_fragment};
+ghost use Rattle.cedar_fragments.specs.HeldNames.{held_names, HoldsJust};
+ghost use Rattle.cedar_fragments.specs.QualifyFault.{IsUnresolvableBag};
+
+use crate::defined::defined_names;
+use cedar_below::{EntityType, Extensions, InternalName};
+use cedar_declarations::SchemaError;
+use cedar_fragments::defs::AllDefs;
+use cedar_fragments::namespace::ValidatorSchemaFragment;
+use cedar_names::json_schema::ConditionalName;
+use std::alloc::Global;
+
+/// The same fragments, where each name is that of what it resolves to.
+fn qualify_fragments(
+    alloc: Global,
+    fragments: Vec<ValidatorSchemaFragment<ConditionalName, ConditionalName>>,
+    defs: &AllDefs,
+) -> Result<Vec<ValidatorSchemaFragment<InternalName, EntityType>>, SchemaError>
+    ensures resolved { IfOk result (λ resolved. ResolvesBag (held_names defs.now) (conditional_bag fragments.items)
+        (flat_map resolved_fragment resolved.items)) }
+    ensures fault { IfErr result (λ error. IsUnresolvableBag (held_names defs.now) (conditional_bag fragments.items) (fault_of error)) }
+{
+    let mut qualified = Vec::new(alloc);
+    for fragment in fragments {
+        qualified.push(fragment.fully_qualify_type_references(defs)?)?;
+    }
+    Ok(qualified)
+}
+
+/// Fragments over full names, with all names that they define.
+#[derive(Debug, Drop)]
+pub struct Resolved {
+    /// The fragments, where each name is that of what it resolves to.
+    pub fragments: Vec<ValidatorSchemaFragment<InternalName, EntityType>>,
+    /// The names that the fragments define, with built-in types, aliases and types of actions.
+    pub defs: AllDefs,
+}
+
+/// The same fragments, where each name is that of what it resolves to among all that the fragments
+/// define over some extensions, with these names. Refused with `TypeShadowing` or `ActionShadowing`
+/// if a declared name would shadow another, with `ActionNotDefined` if a parent of an action names no
+/// action, and with `TypeNotDefined` if another name resolves to nothing.
+pub fn resolve_fragments(
+    alloc: Global,
+    fragments: Vec<ValidatorSchemaFragment<ConditionalName, ConditionalName>>,
+    extensions: &Extensions,
+) -> Result<Resolved, SchemaError>
+    ensures resolved { IfOk result (λ resolved. ResolvesBag (defined_names (conditional_bag fragments.items) extensions.now)
+        (conditional_bag fragments.items) (flat_map resolved_fragment resolved.fragments.items)) }
+    ensures names { IfOk result (λ resolved.
+        HoldsJust (held_names resolved.defs) (defined_names (conditional_bag fragments.items) extensions.now)) }
+    ensures no_type_shadows { OnOk result ((plain qualified : PlainName)
+        → ¬ IsFault (conditional_bag fragments.items) extensions.now (type_shadowing plain qualified)) }
+    ensures no_action_shadows { OnOk result ((plain qualified : PlainUid)
+        → ¬ IsFault (conditional_bag fragments.items) extensions.now (action_shadowing plain qualified)) }
+    ensures fault { IfErr result (λ error. (fault_of error ≡ out_of_memory)
+        ⊎ IsFault (conditional_bag fragments.items) extensions.now (fault_of error)) }
+{
+    let defs = defined_names(alloc, &fragments, extensions)?;
+    let fragments = qualify_fragments(alloc, fragments, &defs)?;
+    Ok(Resolved { fragments, defs })
+}

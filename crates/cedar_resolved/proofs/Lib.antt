@@ -1,4 +1,0 @@
-pub mod AlsoLemmas
-pub mod DefinedNames
-pub mod SameNames
-pub mod SettlingFaults

@@ -1,5 +1,0 @@
-use Rattle.cedar_rules.proofs.CoreLemmas.{core_lacked}
-use Rattle.cedar_rules.proofs.theorems.core_types_are_lacked_exactly.Goals as goal
-
-pub returns : goal.returns
-returns c = core_lacked

@@ -1,5 +1,0 @@
-use Rattle.cedar_rules.proofs.AntisymmetryLaws.{Below-same}
-use Rattle.cedar_rules.proofs.theorems.subtyping_is_antisymmetric.Goals as goal
-
-pub returns : goal.returns
-returns c = Below-same

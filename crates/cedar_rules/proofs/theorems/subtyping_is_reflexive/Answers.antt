@@ -1,5 +1,0 @@
-use Rattle.cedar_rules.proofs.SubtypeLaws.{Below-itself}
-use Rattle.cedar_rules.proofs.theorems.subtyping_is_reflexive.Goals as goal
-
-pub returns : goal.returns
-returns c = Below-itself

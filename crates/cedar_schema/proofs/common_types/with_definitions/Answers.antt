@@ -1,0 +1,28 @@
+use Rattle.std.proofs.Common.{◌++◌, List, ap, map, sym, ◌∙◌}
+use Rattle.cedar_fragments.specs.Located.{definition_common_types}
+use Rattle.cedar_fragments.specs.declared.namespace.definition.ValidatorNamespaceDef.{ValidatorNamespaceDef}
+use Rattle.cedar_schema.proofs.InOrder.{flat_map_next, flat_map_whole}
+use Rattle.cedar_schema.proofs.ShownLemmas.{to_show-flat}
+use Rattle.cedar_schema.specs.ShownCommonTypes.{ShownCommonType, common_types_to_show, shown_common_type}
+use Rattle.cedar_names.specs.declared.json_schema.conditional_name.ConditionalName.{ConditionalName}
+use Rattle.cedar_schema.proofs.common_types.with_definitions.Goals as goal
+
+pub loop-definition-preserved : goal.loop-definition-preserved
+loop-definition-preserved c =
+    let f : ValidatorNamespaceDef ConditionalName ConditionalName → List ShownCommonType = λ definition.
+    common_types_to_show ConditionalName (definition_common_types ConditionalName ConditionalName definition) in
+    let before = map shown_common_type c.args.shown.items in
+    c.in_ok-shown.ensures
+    ∙ ((λ i. c.loop-definition.invariant i ++ common_types_to_show ConditionalName (c.common_types.ensures i))
+    ∙ flat_map_next f before c.args.definitions.now c.loop-definition.definition-index c.definition-item.result
+    c.loop-definition-test.true c.definition-item.is)
+
+pub returns : goal.returns
+returns c =
+    let f : ValidatorNamespaceDef ConditionalName ConditionalName → List ShownCommonType = λ definition.
+    common_types_to_show ConditionalName (definition_common_types ConditionalName ConditionalName definition) in
+    let before = map shown_common_type c.args.shown.items in
+    c.loop-definition.invariant
+    ∙ (flat_map_whole f before c.args.definitions.now c.loop-definition.definition-index c.loop-definition-test.false
+    ∙ ap (λ more. before ++ more)
+    (sym (to_show-flat ConditionalName (definition_common_types ConditionalName ConditionalName) c.args.definitions.now)))

@@ -1,0 +1,12 @@
+use Rattle.std.proofs.Common.{◌++◌, List, take}
+use Rattle.std.specs.List.{flat_map}
+use Rattle.cedar_fragments.specs.Located.{DefinedNamespace, definition_namespaces}
+use Rattle.cedar_schema.specs.ShownNamespaces.{HoldsNamespaces}
+use Rattle.cedar_names.specs.declared.json_schema.conditional_name.ConditionalName.{ConditionalName}
+use Rattle.cedar_schema.proofs.namespaces.with_definitions.Given as goal
+
+abbrev pub invariant-loop-definition : goal.invariant-loop-definition
+invariant-loop-definition l =
+    (defined : List DefinedNamespace) → HoldsNamespaces defined l.fn.namespaces
+    → HoldsNamespaces (defined ++ flat_map (definition_namespaces ConditionalName ConditionalName) (take l.definition-index l.definitions))
+    l.namespaces

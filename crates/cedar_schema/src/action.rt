@@ -1,0 +1,3 @@
+//! Actions of a schema.
+
+pub use cedar_schema_elements::{ValidatorActionId, ValidatorApplySpec};

@@ -1,0 +1,80 @@
+//! The common types of fragments that a schema shows.
+
+ghost use Rattle.std.specs.Prelude.{◌≡◌, ◌++◌, IfOk, map};
+ghost use Rattle.std.specs.List.{flat_map, list_any};
+ghost use Rattle.std.specs.Str.{bytes_eq};
+ghost use Rattle.cedar_below.specs.TypeNames.{primitive_words};
+ghost use Rattle.cedar_fragments.specs.Located.{definition_common_types, located_name};
+ghost use Rattle.cedar_schema.specs.ShownCommonTypes.{common_types_to_show, fragment_common_types, is_shown, shown_common_type};
+ghost use Rattle.cedar_names.specs.declared.json_schema.conditional_name.ConditionalName.{ConditionalName as Conditional};
+
+use crate::located_common_type::LocatedCommonType;
+use crate::type_locations::type_loc;
+use cedar_below::{InternalName, M};
+use cedar_fragments::namespace::{CommonTypeDef, ValidatorNamespaceDef, ValidatorSchemaFragment};
+use cedar_names::json_schema::ConditionalName;
+use std::alloc::Global;
+
+/// Whether a text is the name of a primitive type.
+fn names_primitive(text: &str) -> bool
+    ensures { result ≡ list_any (bytes_eq text.now) primitive_words }
+{
+    text == "Bool" || text == "Long" || text == "String"
+}
+
+/// Whether a common type of this name is shown: it is known where it was declared, and its base name is
+/// none of a primitive type.
+fn is_to_be_shown(name: &InternalName) -> bool
+    ensures { result ≡ is_shown (located_name name.now) }
+{
+    name.loc().is_some() && !names_primitive(name.basename().as_str())
+}
+
+/// The common types, and then also those of a definition that are shown.
+fn with_common_types(
+    alloc: Global,
+    shown: Vec<LocatedCommonType>,
+    defs: &[CommonTypeDef<ConditionalName>],
+) -> M<Vec<LocatedCommonType>>
+    ensures { IfOk result (λ it. map shown_common_type it.items
+        ≡ map shown_common_type shown.items ++ common_types_to_show Conditional defs.now) }
+{
+    let mut shown = shown;
+    for def in defs {
+        if is_to_be_shown(&def.name) {
+            shown.push(LocatedCommonType::at(alloc, &def.name, type_loc(&def.ty))?)?;
+        }
+    }
+    Ok(shown)
+}
+
+/// The common types, and then also those of some definitions that are shown.
+fn with_definitions(
+    alloc: Global,
+    shown: Vec<LocatedCommonType>,
+    definitions: &[ValidatorNamespaceDef<ConditionalName, ConditionalName>],
+) -> M<Vec<LocatedCommonType>>
+    ensures { IfOk result (λ it. map shown_common_type it.items ≡ map shown_common_type shown.items
+        ++ common_types_to_show Conditional (flat_map (definition_common_types Conditional Conditional) definitions.now)) }
+{
+    let mut shown = shown;
+    for definition in definitions {
+        shown = with_common_types(alloc, shown, definition.common_types())?;
+    }
+    Ok(shown)
+}
+
+/// The common types of fragments that are shown, in order.
+pub(crate) fn located_common_types(
+    alloc: Global,
+    fragments: &[ValidatorSchemaFragment<ConditionalName, ConditionalName>],
+) -> M<Vec<LocatedCommonType>>
+    ensures { IfOk result (λ it. map shown_common_type it.items
+        ≡ common_types_to_show Conditional (flat_map (fragment_common_types Conditional Conditional) fragments.now)) }
+{
+    let mut shown = Vec::new(alloc);
+    for fragment in fragments {
+        shown = with_definitions(alloc, shown, fragment.definitions())?;
+    }
+    Ok(shown)
+}

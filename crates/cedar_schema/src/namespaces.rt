@@ -1,0 +1,108 @@
+//! The namespaces of fragments, each once.
+
+ghost use Rattle.std.specs.Prelude.{◌≡◌, ◌∷◌, ◌++◌, [], IfOk, List, None};
+ghost use Rattle.std.specs.List.{flat_map};
+ghost use Rattle.std.specs.Option.{option_map};
+ghost use Rattle.cedar_below.specs.Identifier.{reserved_word};
+ghost use Rattle.cedar_below.specs.InternalName.{name_of, name_loc};
+ghost use Rattle.cedar_below.specs.PlainName.{name_text};
+ghost use Rattle.cedar_fragments.specs.Located.{DefinedNamespace, definition_namespaces, named_namespaces};
+ghost use Rattle.cedar_schema.specs.ShownNamespaces.{HoldsNamespaces, built_in_namespace, shown_namespace};
+ghost use Rattle.cedar_names.specs.declared.json_schema.conditional_name.ConditionalName.{ConditionalName as Conditional};
+
+use crate::located_namespace::LocatedNamespace;
+use cedar_below::{Id, InternalName, Loc, M};
+use cedar_fragments::namespace::{ValidatorNamespaceDef, ValidatorSchemaFragment};
+use cedar_names::json_schema::ConditionalName;
+use std::alloc::Global;
+use std::collections::BTreeMap;
+
+/// Namespaces, each under its full name.
+pub(crate) type NamespacesByName = BTreeMap<InternalName, LocatedNamespace>;
+
+/// The namespace of a name, which is defined at a location.
+fn located_namespace(
+    alloc: Global,
+    name: &InternalName,
+    def_loc: Option<Loc>,
+) -> M<LocatedNamespace>
+    ensures { IfOk result (λ it. shown_namespace it
+        ≡ record { text = name_text (name_of name.now); name_loc = name_loc name.now; def_loc = def_loc }) }
+{
+    Ok(LocatedNamespace {
+        name: name.to_string(alloc)?,
+        name_loc: name.loc(),
+        def_loc,
+    })
+}
+
+/// The namespaces, and the one of a definition in the place of an earlier one of its name.
+fn with_namespace(
+    alloc: Global,
+    namespaces: NamespacesByName,
+    definition: &ValidatorNamespaceDef<ConditionalName, ConditionalName>,
+) -> M<NamespacesByName>
+    ensures { IfOk result (λ it. (defined : List DefinedNamespace) → HoldsNamespaces defined namespaces
+        → HoldsNamespaces (defined ++ definition_namespaces Conditional Conditional definition.now) it) }
+{
+    let Some(name) = definition.namespace() else {
+        return Ok(namespaces);
+    };
+    let mut namespaces = namespaces;
+    let namespace = located_namespace(alloc, name, definition.loc())?;
+    namespaces.insert(name.clone()?, namespace)?;
+    Ok(namespaces)
+}
+
+/// The namespaces, and those of some definitions in the place of earlier ones of their names.
+fn with_definitions(
+    alloc: Global,
+    namespaces: NamespacesByName,
+    definitions: &[ValidatorNamespaceDef<ConditionalName, ConditionalName>],
+) -> M<NamespacesByName>
+    ensures { IfOk result (λ it. (defined : List DefinedNamespace) → HoldsNamespaces defined namespaces
+        → HoldsNamespaces (defined ++ flat_map (definition_namespaces Conditional Conditional) definitions.now) it) }
+{
+    let mut namespaces = namespaces;
+    for definition in definitions {
+        namespaces = with_namespace(alloc, namespaces, definition)?;
+    }
+    Ok(namespaces)
+}
+
+/// The name of the namespace of the built-in types.
+fn built_in_name(alloc: Global) -> M<InternalName>
+    ensures name { IfOk result (λ name. name_of name ≡ record { base = reserved_word; path = [] }) }
+    ensures loc { IfOk result (λ name. name_loc name ≡ None) }
+{
+    match Id::new(String::from_str(alloc, "__cedar")?) {
+        Some(id) => Ok(InternalName::new(id, Vec::new(alloc), None)),
+        None => unreachable!(),
+    }
+}
+
+/// The namespace of the built-in types alone.
+fn built_in_namespaces(alloc: Global) -> M<NamespacesByName>
+    ensures { IfOk result (HoldsNamespaces (built_in_namespace ∷ [])) }
+{
+    let name = built_in_name(alloc)?;
+    let namespace = located_namespace(alloc, &name, None)?;
+    let mut namespaces = BTreeMap::new(alloc);
+    namespaces.insert(name, namespace)?;
+    Ok(namespaces)
+}
+
+/// The namespaces of fragments that have a name, and that of the built-in types.
+pub(crate) fn located_namespaces(
+    alloc: Global,
+    fragments: &[ValidatorSchemaFragment<ConditionalName, ConditionalName>],
+) -> M<NamespacesByName>
+    ensures { IfOk result (HoldsNamespaces
+        (built_in_namespace ∷ flat_map (named_namespaces Conditional Conditional) fragments.now)) }
+{
+    let mut namespaces = built_in_namespaces(alloc)?;
+    for fragment in fragments {
+        namespaces = with_definitions(alloc, namespaces, fragment.definitions())?;
+    }
+    Ok(namespaces)
+}

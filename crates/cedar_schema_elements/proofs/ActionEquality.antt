@@ -1,0 +1,69 @@
+-- Actions are equal exactly where they are the same, ignoring locations.
+use Rattle.std.proofs.Common.{◌≡◌, ◌&&◌, refl}
+use Rattle.std.proofs.lemmas.Bool.Decides.{Decides-and, Decides-like}
+use Rattle.std.specs.Bool.{Decides}
+use Rattle.std.specs.HashSet.{hash_set_eq}
+use Rattle.cedar_below.proofs.Names.{entity_type_eq-same}
+use Rattle.cedar_below.proofs.Uids.{entity_uid_eq-same}
+use Rattle.cedar_below.specs.EntityType.{type_name}
+use Rattle.cedar_below.specs.EntityUID.{uid_of}
+use Rattle.cedar_below.specs.Lists.{SameItems}
+use Rattle.cedar_below.specs.contracts.entity_type.EntityTypeEq.TheImpl as entity_type_equal
+use Rattle.cedar_below.specs.contracts.entity_type.EntityTypePartialEq.TheImpl as entity_type_eq
+use Rattle.cedar_below.specs.contracts.entity_uid.EntityUIDEq.TheImpl as uid_equal
+use Rattle.cedar_below.specs.contracts.entity_uid.EntityUIDPartialEq.TheImpl as uid_eq
+use Rattle.cedar_below.specs.declared.entity_type.EntityType.{EntityType}
+use Rattle.cedar_declarations.specs.SameSchema.{SameActionKind}
+use Rattle.cedar_names.specs.ConditionalName.{conditional_reference}
+use Rattle.cedar_names.specs.contracts.json_schema.conditional_name.ConditionalNameEq.TheImpl as reference_equal
+use Rattle.cedar_names.specs.contracts.json_schema.conditional_name.ConditionalNamePartialEq.TheImpl as reference_eq
+use Rattle.cedar_names.specs.declared.json_schema.conditional_name.ConditionalName.{ConditionalName}
+use Rattle.cedar_types.proofs.EqualityLaws.{none, types-Decides}
+use Rattle.cedar_schema_elements.proofs.SetLemmas.{reference-Decides, sets-Decides}
+use Rattle.cedar_schema_elements.specs.ActionKind.{plain_kind}
+use Rattle.cedar_schema_elements.specs.ValidatorActionId.{action_of}
+use Rattle.cedar_schema_elements.specs.ValidatorApplySpec.{principal_names, principal_references, resource_names, resource_references}
+use Rattle.cedar_schema_elements.specs.contracts.action_id.ValidatorActionIdPartialEq.TheImpl as action_eq
+use Rattle.cedar_schema_elements.specs.contracts.action_kind.ValidatorActionKindPartialEq.TheImpl as kind_eq
+use Rattle.cedar_schema_elements.specs.declared.action_id.ValidatorActionId.{ValidatorActionId}
+use Rattle.cedar_schema_elements.specs.declared.action_kind.ValidatorActionKind.{ValidatorActionKind}
+use Rattle.cedar_schema_elements.specs.declared.action_kind.ValidatorActionKind.TheVariants as variant
+use Rattle.cedar_schema_elements.specs.declared.apply_spec.ValidatorApplySpec.{ValidatorApplySpec}
+
+-- apply specs are equal exactly where they have the same principals and resources
+pub apply_specs-Decides : (a b : ValidatorApplySpec EntityType)
+    → Decides (hash_set_eq (entity_type_eq.ghosts).eq a.principals b.principals
+    && hash_set_eq (entity_type_eq.ghosts).eq a.resources b.resources)
+    (SameItems (principal_names a) (principal_names b) × SameItems (resource_names a) (resource_names b))
+apply_specs-Decides a b =
+    let same = sets-Decides (entity_type_eq.ghosts).eq type_name entity_type_equal.Laws.laws-law entity_type_eq-same in
+    Decides-and _ _ (same a.principals b.principals) (same a.resources b.resources)
+
+-- apply specs over references are equal exactly where they have the same references
+pub reference_specs-Decides : (a b : ValidatorApplySpec ConditionalName)
+    → Decides (hash_set_eq (reference_eq.ghosts).eq a.principals b.principals
+    && hash_set_eq (reference_eq.ghosts).eq a.resources b.resources)
+    (SameItems (principal_references a) (principal_references b) × SameItems (resource_references a) (resource_references b))
+reference_specs-Decides a b =
+    let same = sets-Decides (reference_eq.ghosts).eq conditional_reference reference_equal.Laws.laws-law reference-Decides in
+    Decides-and _ _ (same a.principals b.principals) (same a.resources b.resources)
+
+-- kinds of actions are equal exactly where they are for the same requests
+pub kinds-Decides : (a b : ValidatorActionKind)
+    → Decides ((kind_eq.ghosts).eq a b) (SameActionKind (plain_kind a) (plain_kind b))
+kinds-Decides (variant.Defined a context) (variant.Defined b other) =
+    Decides-like _ (λ both. (both.0.0, both.0.1, both.1)) (λ all. ((all.0, all.1), all.2))
+    (Decides-and _ _ (apply_specs-Decides a b) (types-Decides context other))
+kinds-Decides variant.External variant.External = (λ _. tt, λ _. refl)
+kinds-Decides (variant.Defined a context) variant.External = none (λ e. e)
+kinds-Decides variant.External (variant.Defined b other) = none (λ e. e)
+
+-- actions are equal exactly where their uids, their kinds and their descendants are
+pub actions-Same : (a b : ValidatorActionId) → Decides ((action_eq.ghosts).eq a b)
+    (((action_of a).uid ≡ (action_of b).uid) × SameActionKind (action_of a).kind (action_of b).kind
+    × SameItems (action_of a).descendants (action_of b).descendants)
+actions-Same a b =
+    Decides-like _ (λ all. (all.0, all.1.0, all.1.1)) (λ all. (all.0, (all.1, all.2)))
+    (Decides-and _ _ (entity_uid_eq-same a.name b.name)
+    (Decides-and _ _ (kinds-Decides a.kind b.kind)
+    (sets-Decides (uid_eq.ghosts).eq uid_of uid_equal.Laws.laws-law entity_uid_eq-same a.descendants b.descendants)))

@@ -1,0 +1,396 @@
+-- Actions above their descendants, and the entities of actions, as they are collected one after another.
+use Rattle.std.proofs.Common.{◌≡◌, ◌≢◌, ◌⊎◌, ◌↔◌, ◌++◌, Bool, true, false, List, [], ◌∷◌, Option, Some, IsSome, is_some, find, string_bytes, map, ap, sym, subst, ◌∙◌, refl, inl, inr, ⊎_elim, arith, append_assoc, Contains, IsSomeAnd}
+use Rattle.std.proofs.lemmas.Bool.{false≢true, cond-true, cond-false}
+use Rattle.std.proofs.lemmas.List.{append-nil, map-append}
+use Rattle.std.proofs.lemmas.List.Elements.{Contains-append_cases, Contains-append_left, Contains-append_right}
+use Rattle.std.proofs.lemmas.Option.{same_Some}
+use Rattle.std.proofs.lemmas.Simd.{map-map}
+use Rattle.std.specs.BTreeMap.{BTreeMap, is_at}
+use Rattle.std.specs.BTreeSet.{BTreeSet}
+use Rattle.std.specs.Map.{lookup}
+use Rattle.std.specs.List.Sorted.{IsStrictlySortedBy}
+use Rattle.std.specs.Ordering.{is_eq}
+use Rattle.std.specs.declared.alloc.Global.{Global}
+use Rattle.std.specs.declared.string.String.{String}
+use Rattle.cedar_schema_elements.specs.ValidatorActionId.{action_of, plain_action_entry}
+use Rattle.cedar_schema_elements.specs.declared.action_id.ValidatorActionId.{ValidatorActionId}
+use Rattle.cedar_below.proofs.Lists.{Contains-cons, Contains-cons_cases, Contains-preimage}
+use Rattle.cedar_below.proofs.PlainNames.{uid_cmp-total}
+use Rattle.cedar_below.specs.Entities.{entities_of, entity_at}
+use Rattle.cedar_below.specs.Entity.{entity_uid}
+use Rattle.cedar_below.specs.EntityUID.{uid_of}
+use Rattle.cedar_below.specs.PlainName.{PlainName}
+use Rattle.cedar_below.specs.PlainUid.{PlainUid, uid_cmp}
+use Rattle.cedar_below.specs.RestrictedExpr.{tree_of}
+use Rattle.cedar_below.specs.Tree.{entries_from, no_entry}
+use Rattle.cedar_below.specs.Value.{value_expr}
+use Rattle.cedar_below.specs.declared.entities.Entities.{Entities}
+use Rattle.cedar_below.specs.declared.entity.Entity.{Entity}
+use Rattle.cedar_below.specs.declared.entity_uid.EntityUID.{EntityUID}
+use Rattle.cedar_below.specs.declared.value.Value.{Value}
+use Rattle.cedar_declarations.proofs.OccurrenceLemmas.{Contains-image, Contains-single, Twice-sorted_by_name, uid_test}
+use Rattle.cedar_declarations.specs.ActionEntities.{AreActionEntities, IsDefinedKind, IsEntityOfAction}
+use Rattle.cedar_declarations.specs.Occurrences.{Twice}
+use Rattle.cedar_declarations.specs.PlainSchema.{ActionKind, defined_action, external_action, ActionEntity, SchemaAction, SchemaEntityType}
+use Rattle.cedar_schema_elements.proofs.UidLemmas.{cmp, under}
+use Rattle.cedar_schema_elements.specs.ActionEntities.{IsEntityOf, Lists, named_values, plain_action_entity, schema_with}
+use Rattle.cedar_schema_elements.specs.Uppers.{IsUpper, upper_set}
+
+abbrev Item : Type 0
+Item = EntityUID × ValidatorActionId
+
+abbrev Plain : Type 0
+Plain = PlainUid × SchemaAction
+
+-- the uid is that of an action that is defined
+abbrev pub Defines : List Item → PlainUid → Type 0
+Defines actions uid = (it : SchemaAction) × Contains (map plain_action_entry actions) (uid, it) × IsDefinedKind it.kind
+
+-- an entry among one more is among the others, or it is the new one
+entry_cases : (done : List Item) (key : EntityUID) (it : ValidatorActionId) (uid : PlainUid) (plain : SchemaAction)
+    → Contains (map plain_action_entry (done ++ (key, it) ∷ [])) (uid, plain)
+    → Contains (map plain_action_entry done) (uid, plain) ⊎ (plain_action_entry (key, it) ≡ (uid, plain))
+entry_cases done key it uid plain among =
+    let P : List Plain → Type 0 = λ entries. Contains entries (uid, plain) in
+    ⊎_elim (λ before. inl before) (λ last. inr (Contains-single (uid_of key, action_of it) (uid, plain) last))
+    (Contains-append_cases (map plain_action_entry done) ((uid_of key, action_of it) ∷ []) (uid, plain)
+    (subst P (map-append plain_action_entry done ((key, it) ∷ [])) among))
+
+-- an entry stays
+entry_kept : (done : List Item) (key : EntityUID) (it : ValidatorActionId) (entry : Plain)
+    → Contains (map plain_action_entry done) entry → Contains (map plain_action_entry (done ++ (key, it) ∷ [])) entry
+entry_kept done key it entry among =
+    let P : List Plain → Type 0 = λ entries. Contains entries entry in
+    subst P (sym (map-append plain_action_entry done ((key, it) ∷ [])))
+    (Contains-append_left (map plain_action_entry done) ((uid_of key, action_of it) ∷ []) entry among)
+
+-- the new entry is among them
+entry_new : (done : List Item) (key : EntityUID) (it : ValidatorActionId)
+    → Contains (map plain_action_entry (done ++ (key, it) ∷ [])) (uid_of key, action_of it)
+entry_new done key it =
+    Contains-image plain_action_entry (done ++ (key, it) ∷ []) (key, it)
+    (Contains-append_right done ((key, it) ∷ []) (key, it) (0, omega arith, refl))
+
+-- an action lists another among one more where it did, or is the new one and does
+lists_more : (done : List Item) (key : EntityUID) (it : ValidatorActionId) (lower upper : PlainUid)
+    → Lists (done ++ (key, it) ∷ []) lower upper
+    ↔ (Lists done lower upper ⊎ ((uid_of key ≡ upper) × Contains (action_of it).descendants lower))
+lists_more done key it lower upper = (
+  λ lists. ⊎_elim
+      (λ before. inl (lists.0, before, lists.2))
+      (λ last. let P : SchemaAction → Type 0 = λ each. Contains each.descendants lower in
+      inr (ap (λ (each : Plain). each.0) last, subst P (sym (ap (λ (each : Plain). each.1) last)) lists.2))
+      (entry_cases done key it upper lists.0 lists.1),
+  λ either. ⊎_elim
+      (λ before. (before.0, entry_kept done key it (upper, before.0) before.1, before.2))
+      (λ last. let P : PlainUid → Type 0 = λ each. Contains (map plain_action_entry (done ++ (key, it) ∷ [])) (each, action_of it) in
+      (action_of it, subst P last.0 (entry_new done key it), last.1))
+      either,
+)
+
+-- a uid is defined among one more where it was, or is that of the new one, which is
+defines_more : (done : List Item) (key : EntityUID) (it : ValidatorActionId) (uid : PlainUid)
+    → Defines (done ++ (key, it) ∷ []) uid ↔ (Defines done uid ⊎ ((uid_of key ≡ uid) × IsDefinedKind (action_of it).kind))
+defines_more done key it uid = (
+  λ defined. ⊎_elim
+      (λ before. inl (defined.0, before, defined.2))
+      (λ last. let P : SchemaAction → Type 0 = λ each. IsDefinedKind each.kind in
+      inr (ap (λ (each : Plain). each.0) last, subst P (sym (ap (λ (each : Plain). each.1) last)) defined.2))
+      (entry_cases done key it uid defined.0 defined.1),
+  λ either. ⊎_elim
+      (λ before. (before.0, entry_kept done key it (uid, before.0) before.1, before.2))
+      (λ last. let P : PlainUid → Type 0 = λ each. Contains (map plain_action_entry (done ++ (key, it) ∷ [])) (each, action_of it) in
+      (action_of it, subst P last.0 (entry_new done key it), last.1))
+      either,
+)
+
+-- of some actions each stands above its descendants, and others are left
+pub record UppersSoFar (all : List Item) (uppers : BTreeMap EntityUID (BTreeSet EntityUID)) (left : List Item) : Type 0 where
+  pub done : List Item
+  pub split : all ≡ done ++ left
+  pub same : (key : EntityUID) (above : PlainUid) → IsUpper uppers key above ↔ Lists done (uid_of key) above
+
+module _ (all : List Item) where
+  -- at first none does
+  pub uppers_none : (left : List Item) (uppers : BTreeMap EntityUID (BTreeSet EntityUID)) → left ≡ all → uppers.entries ≡ []
+      → UppersSoFar all uppers left
+  uppers_none left uppers same nothing = record {
+    done = [];
+    split = sym same;
+    same = λ key above.
+        let P : Option (BTreeSet EntityUID) → Type 0 = λ o. IsSomeAnd o (λ set. Contains (map uid_of set.keys) above) in (
+          λ upper. absurd (subst P (ap (lookup (is_at (cmp key))) nothing) upper),
+          λ lists. absurd (omega (arith, lists.1.1)),
+        );
+  }
+
+  -- one more does
+  pub uppers_more : (left rest : List Item) (middle after : BTreeMap EntityUID (BTreeSet EntityUID)) (upper : EntityUID)
+      (it : ValidatorActionId) → left ≡ (upper, it) ∷ rest
+      → ((key : EntityUID) (above : PlainUid) → IsUpper after key above
+      ↔ (IsUpper middle key above ⊎ ((uid_of upper ≡ above) × Contains (action_of it).descendants (uid_of key))))
+      → UppersSoFar all middle left → UppersSoFar all after rest
+  uppers_more left rest middle after upper it is also so_far = record {
+    done = so_far.done ++ (upper, it) ∷ [];
+    split = so_far.split ∙ (ap (λ others. so_far.done ++ others) is ∙ sym (append_assoc so_far.done ((upper, it) ∷ []) rest));
+    same = λ key above. (
+      λ stands. (lists_more so_far.done upper it (uid_of key) above).1
+          (⊎_elim (λ before. inl ((so_far.same key above).0 before)) (λ last. inr last) ((also key above).0 stands)),
+      λ lists. (also key above).1
+          (⊎_elim (λ before. inl ((so_far.same key above).1 before)) (λ last. inr last)
+          ((lists_more so_far.done upper it (uid_of key) above).0 lists)),
+    );
+  }
+
+  -- where none is left, all do
+  pub uppers_all : (left : List Item) (uppers : BTreeMap EntityUID (BTreeSet EntityUID)) → left ≡ [] → UppersSoFar all uppers left
+      → (key : EntityUID) (above : PlainUid) → IsUpper uppers key above ↔ Lists all (uid_of key) above
+  uppers_all left uppers nothing so_far =
+      let P : List Item → Type 0 = λ items. (key : EntityUID) (above : PlainUid) → IsUpper uppers key above
+      ↔ Lists items (uid_of key) above in
+      subst P (sym (so_far.split ∙ (ap (λ others. so_far.done ++ others) nothing ∙ append-nil so_far.done))) so_far.same
+
+-- those above actions that are left are still there
+pub record UppersLeft (all : List Item) (uppers : BTreeMap EntityUID (BTreeSet EntityUID)) (left : List Item) : Type 0 where
+  pub distinct : (uid : PlainUid) → ¬ Twice (map under (map plain_action_entry left)) uid
+  pub still : (key : EntityUID) → Contains (map under (map plain_action_entry left)) (uid_of key) → (above : PlainUid)
+      → IsUpper uppers key above ↔ Lists all (uid_of key) above
+
+module _ (all : List Item) where
+  -- at first all are
+  pub left_all : (left : List Item) (uppers : BTreeMap EntityUID (BTreeSet EntityUID)) → left ≡ all
+      → ((uid : PlainUid) → ¬ Twice (map under (map plain_action_entry all)) uid)
+      → ((key : EntityUID) (above : PlainUid) → IsUpper uppers key above ↔ Lists all (uid_of key) above)
+      → UppersLeft all uppers left
+  left_all left uppers same distinct stands = record {
+    distinct =
+        let P : List Item → Type 0 = λ items. (uid : PlainUid) → ¬ Twice (map under (map plain_action_entry items)) uid in
+        subst P (sym same) distinct;
+    still = λ key among. stands key;
+  }
+
+  module _ (left rest : List Item) (uppers : BTreeMap EntityUID (BTreeSet EntityUID)) (key : EntityUID) (it : ValidatorActionId)
+      (is : left ≡ (key, it) ∷ rest) (so_far : UppersLeft all uppers left) where
+    -- those above the next one are
+    pub left_here : (above : PlainUid) → IsUpper uppers key above ↔ Lists all (uid_of key) above
+    left_here =
+        let P : List Item → Type 0 = λ items. Contains (map under (map plain_action_entry items)) (uid_of key) in
+        so_far.still key
+        (subst P (sym is) (Contains-cons (uid_of key) (map under (map plain_action_entry rest)) (uid_of key) (inl refl)))
+
+    -- where only these are taken out, the others are
+    pub left_rest : (new : BTreeMap EntityUID (BTreeSet EntityUID))
+        → ((other : EntityUID) → uid_of other ≢ uid_of key → upper_set new other ≡ upper_set uppers other)
+        → UppersLeft all new rest
+    left_rest new others = record {
+      distinct = λ uid twice. distinct_here uid (inr twice);
+      still = λ other among above.
+          let P : List Item → Type 0 = λ items. Contains (map under (map plain_action_entry items)) (uid_of other) in
+          let Q : PlainUid → Type 0 = Contains (map under (map plain_action_entry rest)) in
+          let R : Option (BTreeSet EntityUID) → Type 0 = λ o. IsSomeAnd o (λ set. Contains (map uid_of set.keys) above)
+          ↔ Lists all (uid_of other) above in
+          subst R
+          (sym (others other (λ same. distinct_here (uid_of key) (inl (refl, subst Q same among)))))
+          (so_far.still other
+          (subst P (sym is) (Contains-cons (uid_of key) (map under (map plain_action_entry rest)) (uid_of other) (inr among)))
+          above);
+    }
+      where
+        distinct_here : (uid : PlainUid) → ¬ Twice (uid_of key ∷ map under (map plain_action_entry rest)) uid
+        distinct_here =
+            let P : List Item → Type 0 = λ items. (uid : PlainUid) → ¬ Twice (map under (map plain_action_entry items)) uid in
+            subst P is so_far.distinct
+
+-- a kind that isn't external is that of a defined action
+pub defined_kind : (kind : ActionKind) → ¬ (kind ≡ external_action) → IsDefinedKind kind
+defined_kind (defined_action principals resources context) other = tt
+defined_kind external_action other = absurd (other refl)
+
+-- and the external one is not
+pub external_undefined : (kind : ActionKind) → kind ≡ external_action → ¬ IsDefinedKind kind
+external_undefined kind is defined = let P : ActionKind → Type 0 = IsDefinedKind in subst P is defined
+
+-- an entity just below those that stand above is one just below others that are the same
+pub same_entity : (IsAbove Stands : PlainUid → Type 0) (uid : PlainUid) (it : ActionEntity)
+    → ((above : PlainUid) → IsAbove above ↔ Stands above) → IsEntityOf IsAbove uid it → IsEntityOf Stands uid it
+same_entity IsAbove Stands uid it same of_it = record {
+  uid = of_it.uid;
+  attributes = of_it.attributes;
+  tags = of_it.tags;
+  ancestors = λ above. (
+    λ among. (same above).0 ((of_it.ancestors above).0 among),
+    λ stands. (of_it.ancestors above).1 ((same above).1 stands),
+  );
+}
+
+-- an empty map has no values
+pub no_values : (values : BTreeMap (String Global) Value) → values.entries ≡ [] → named_values values ≡ no_entry
+no_values values nothing =
+    ap (λ entries. entries_from (map (λ (entry : String Global × Value). (string_bytes entry.0, tree_of (value_expr entry.1))) entries)) nothing
+
+-- whether an entity has the uid
+abbrev has_uid : PlainUid → Entity → Bool
+has_uid uid entity = is_eq (uid_cmp uid (entity_uid entity))
+
+-- where no two entities have one uid, each is found under its own
+found_itself : (entities : List Entity) (entity : Entity) → ((uid : PlainUid) → ¬ Twice (map entity_uid entities) uid)
+    → Contains entities entity → find (has_uid (entity_uid entity)) entities ≡ Some entity
+found_itself [] entity once among = absurd (omega (arith, among.1))
+found_itself (first ∷ rest) entity once among =
+    by (has_uid (entity_uid entity) first) refl
+    (⊎_elim (λ here. inl here)
+    (λ later. inr (later, found_itself rest entity (λ other twice. once other (inr twice)) later))
+    (Contains-cons_cases first rest entity among))
+  where
+    uid : PlainUid
+    uid = entity_uid entity
+
+    by : (b : Bool) → has_uid uid first ≡ b → (first ≡ entity) ⊎ (Contains rest entity × (find (has_uid uid) rest ≡ Some entity))
+        → find (has_uid uid) (first ∷ rest) ≡ Some entity
+    by true is either =
+        cond-true (has_uid uid first) (Some first) (find (has_uid uid) rest) is
+        ∙ ⊎_elim (λ here. ap Some here)
+        (λ later. absurd (once uid (inl (sym ((uid_test uid (entity_uid first)).0 is), Contains-image entity_uid rest entity later.0))))
+        either
+    by false is either =
+        cond-false (has_uid uid first) (Some first) (find (has_uid uid) rest) is
+        ∙ ⊎_elim
+        (λ here. absurd (false≢true (sym is ∙ (uid_test uid (entity_uid first)).1 (sym (ap entity_uid here)))))
+        (λ later. later.1)
+        either
+
+-- what is found under a uid stands among the entities, and has the uid
+found_among : (entities : List Entity) (uid : PlainUid) → IsSome (find (has_uid uid) entities)
+    → (entity : Entity) × Contains entities entity × (entity_uid entity ≡ uid)
+found_among [] uid found = absurd (false≢true found)
+found_among (first ∷ rest) uid found = by (has_uid uid first) refl (found_among rest uid) where
+  by : (b : Bool) → has_uid uid first ≡ b
+      → (IsSome (find (has_uid uid) rest) → (entity : Entity) × Contains rest entity × (entity_uid entity ≡ uid))
+      → (entity : Entity) × Contains (first ∷ rest) entity × (entity_uid entity ≡ uid)
+  by true is in_rest = (first, Contains-cons first rest first (inl refl), sym ((uid_test uid (entity_uid first)).0 is))
+  by false is in_rest =
+      let P : Option Entity → Type 0 = IsSome in
+      let later = in_rest (subst P (cond-false (has_uid uid first) (Some first) (find (has_uid uid) rest) is) found) in
+      (later.0, Contains-cons first rest later.0 (inr later.1), later.2)
+
+-- of some actions the entities are collected, and others are left
+pub record EntitiesSoFar (all : List Item) (entities : Entities) (left : List Item) : Type 0 where
+  pub done : List Item
+  pub split : all ≡ done ++ left
+  pub each : (uid : PlainUid) (entity : Entity) → entity_at entities uid ≡ Some entity
+      → IsEntityOf (Lists all uid) uid (plain_action_entity entity) × Defines done uid
+  pub complete : (uid : PlainUid) → Defines done uid → IsSome (entity_at entities uid)
+
+module _ (all : List Item) where
+  -- at first none is
+  pub entities_none : (left : List Item) (entities : Entities) → left ≡ all → entities_of entities ≡ [] → EntitiesSoFar all entities left
+  entities_none left entities same nothing = record {
+    done = [];
+    split = sym same;
+    each = λ uid entity found. absurd (false≢true (ap is_some (ap (find (has_uid uid)) (sym nothing) ∙ found)));
+    complete = λ uid defined. absurd (omega (arith, defined.1.1));
+  }
+
+  module _ (left rest : List Item) (entities : Entities) (key : EntityUID) (it : ValidatorActionId)
+      (is : left ≡ (key, it) ∷ rest) (so_far : EntitiesSoFar all entities left) where
+    abbrev More : List Item
+    More = so_far.done ++ (key, it) ∷ []
+
+    next_entity_split : all ≡ More ++ rest
+    next_entity_split = so_far.split ∙ (ap (λ others. so_far.done ++ others) is ∙ sym (append_assoc so_far.done ((key, it) ∷ []) rest))
+
+    -- one more is passed, which is external
+    pub entities_passed : (action_of it).kind ≡ external_action → EntitiesSoFar all entities rest
+    entities_passed external = record {
+      done = More;
+      split = next_entity_split;
+      each = λ uid entity found.
+          let old = so_far.each uid entity found in (old.0, (defines_more so_far.done key it uid).1 (inl old.1));
+      complete = λ uid defined. ⊎_elim
+          (so_far.complete uid)
+          (λ last. absurd (external_undefined (action_of it).kind external last.1))
+          ((defines_more so_far.done key it uid).0 defined);
+    }
+
+    -- the entity of one more is put in
+    pub entities_put : ¬ ((action_of it).kind ≡ external_action) → (new : Entities) (entity : Entity)
+        → IsEntityOf (Lists all (uid_of key)) (uid_of key) (plain_action_entity entity)
+        → entity_at new (entity_uid entity) ≡ Some entity
+        → ((uid : PlainUid) → uid ≢ entity_uid entity → entity_at new uid ≡ entity_at entities uid)
+        → EntitiesSoFar all new rest
+    entities_put other new entity of_it inserted others = record {
+      done = More;
+      split = next_entity_split;
+      each = λ uid found_one found. each_at uid found_one (is_eq (uid_cmp uid (entity_uid entity))) refl found;
+      complete = λ uid defined. complete_at uid (is_eq (uid_cmp uid (entity_uid entity))) refl defined;
+    }
+      where
+        its_own : uid_of key ≡ entity_uid entity
+        its_own = sym of_it.uid
+
+        here : (uid : PlainUid) → uid ≡ entity_uid entity → entity_at new uid ≡ Some entity
+        here uid same = ap (entity_at new) same ∙ inserted
+
+        apart : (uid : PlainUid) → is_eq (uid_cmp uid (entity_uid entity)) ≡ false → uid ≢ entity_uid entity
+        apart uid is_other same = false≢true (sym is_other ∙ (uid_test uid (entity_uid entity)).1 same)
+
+        each_at : (uid : PlainUid) (found_one : Entity) (b : Bool) → is_eq (uid_cmp uid (entity_uid entity)) ≡ b
+            → entity_at new uid ≡ Some found_one → IsEntityOf (Lists all uid) uid (plain_action_entity found_one) × Defines More uid
+        each_at uid found_one true is_it found =
+            let same = (uid_test uid (entity_uid entity)).0 is_it in
+            let one : entity ≡ found_one = same_Some entity found_one (sym (here uid same) ∙ found) in
+            let P : Entity → Type 0 = λ each. IsEntityOf (Lists all uid) uid (plain_action_entity each) in
+            let Q : PlainUid → Type 0 = λ each. IsEntityOf (Lists all each) each (plain_action_entity entity) in
+            let R : PlainUid → Type 0 = Defines More in (
+              subst P one (subst Q (its_own ∙ sym same) of_it),
+              subst R (its_own ∙ sym same)
+                  ((defines_more so_far.done key it (uid_of key)).1 (inr (refl, defined_kind (action_of it).kind other))),
+            )
+        each_at uid found_one false is_other found =
+            let old = so_far.each uid found_one (sym (others uid (apart uid is_other)) ∙ found) in
+            (old.0, (defines_more so_far.done key it uid).1 (inl old.1))
+
+        complete_at : (uid : PlainUid) (b : Bool) → is_eq (uid_cmp uid (entity_uid entity)) ≡ b → Defines More uid
+            → IsSome (entity_at new uid)
+        complete_at uid true is_it defined = ap is_some (here uid ((uid_test uid (entity_uid entity)).0 is_it))
+        complete_at uid false is_other defined =
+            ap is_some (others uid (apart uid is_other))
+            ∙ ⊎_elim
+            (so_far.complete uid)
+            (λ last. absurd (apart uid is_other (sym last.0 ∙ its_own)))
+            ((defines_more so_far.done key it uid).0 defined)
+
+  -- where none is left, they are the entities of the actions
+  pub entities_all : (left : List Item) (entities : Entities) → left ≡ [] → EntitiesSoFar all entities left
+      → IsStrictlySortedBy uid_cmp (map entity_uid (entities_of entities)) → (types : List (PlainName × SchemaEntityType))
+      → AreActionEntities (schema_with types all (entities_of entities))
+  entities_all left entities nothing so_far ordered types = record {
+    entities = λ it among.
+        let entity = Contains-preimage plain_action_entity (entities_of entities) it among in
+        let both = so_far.each (entity_uid entity.0) entity.0 (found_itself (entities_of entities) entity.0 once entity.1) in
+        let P : ActionEntity → Type 0 = IsEntityOfAction (schema_with types all (entities_of entities)) in
+        let Q : List Item → Type 0 = λ items. Defines items (entity_uid entity.0) in
+        let made : P (plain_action_entity entity.0) = record {
+          defined = subst Q whole both.1;
+          attributes = both.0.attributes;
+          tags = both.0.tags;
+          ancestors = both.0.ancestors;
+        } in
+        subst P entity.2 made;
+    each = λ uid defined.
+        let Q : List Item → Type 0 = λ items. Defines items uid in
+        let found = found_among (entities_of entities) uid (so_far.complete uid (subst Q (sym whole) defined)) in
+        let P : PlainUid → Type 0 = Contains (map (λ it. it.uid) (map plain_action_entity (entities_of entities))) in
+        subst P found.2
+        (Contains-image (λ (it : ActionEntity). it.uid) (map plain_action_entity (entities_of entities)) (plain_action_entity found.0)
+        (Contains-image plain_action_entity (entities_of entities) found.0 found.1));
+    in_order =
+        let P : List PlainUid → Type 0 = IsStrictlySortedBy uid_cmp in
+        subst P (sym (map-map (λ (it : ActionEntity). it.uid) plain_action_entity (entities_of entities))) ordered;
+  }
+    where
+      whole : so_far.done ≡ all
+      whole = sym (so_far.split ∙ (ap (λ others. so_far.done ++ others) nothing ∙ append-nil so_far.done))
+
+      once : (uid : PlainUid) → ¬ Twice (map entity_uid (entities_of entities)) uid
+      once uid = Twice-sorted_by_name uid_cmp uid_cmp-total (map entity_uid (entities_of entities)) uid ordered

@@ -1,0 +1,93 @@
+-- Entity types of schemas are equal exactly where they are the same, ignoring locations.
+use Rattle.std.proofs.Common.{◌≡◌, Bool, true, false, Option, Some, None, List, [], ◌∷◌, map, refl, ap, nat_eq}
+use Rattle.std.proofs.lemmas.Bool.{false≢true}
+use Rattle.std.proofs.lemmas.Bool.Decides.{Decides-and, Decides-like}
+use Rattle.std.proofs.lemmas.Map.Lookups.{hash_set_eq_decides}
+use Rattle.std.specs.Bool.{Decides}
+use Rattle.std.specs.Cmp.Lexicographic.{pointwise}
+use Rattle.std.specs.HashSet.{hash_set_eq}
+use Rattle.std.specs.Option.{option_eq, option_map}
+use Rattle.cedar_below.proofs.Names.{entity_type_eq-same}
+use Rattle.cedar_below.proofs.Texts.{text_eq-Decides}
+use Rattle.cedar_below.specs.Eid.{eid_text}
+use Rattle.cedar_below.specs.EntityType.{type_name}
+use Rattle.cedar_below.specs.contracts.entity_type.EntityTypeEq.TheImpl as entity_type_equal
+use Rattle.cedar_below.specs.contracts.entity_type.EntityTypePartialEq.TheImpl as name_eq
+use Rattle.cedar_below.specs.declared.eid.Eid.{Eid}
+use Rattle.cedar_types.proofs.EqualityLaws.{none, types-Decides, attributes-Decides, open_tag-Decides}
+use Rattle.cedar_types.proofs.MemberLemmas.{list_any-names}
+use Rattle.cedar_schema_elements.proofs.MemberLemmas.{SameItems-searches}
+use Rattle.cedar_declarations.specs.EntityTypeKind.{standard_kind, enumerated_kind, kind_fields, kind_openness, kind_tags}
+use Rattle.cedar_schema_elements.specs.EntityTypeKind.{plain_kind, plain_standard}
+use Rattle.cedar_types.specs.Meaning.{ty_of}
+use Rattle.cedar_schema_elements.specs.ValidatorEntityType.{PlainEntityType, entity_type_of, descendant_names}
+use Rattle.cedar_below.specs.Lists.{SameItems}
+use Rattle.cedar_schema_elements.specs.contracts.entity_type.ValidatorEntityTypePartialEq.TheImpl as entity_type_eq
+use Rattle.cedar_schema_elements.specs.contracts.entity_type_kind.StandardValidatorEntityTypePartialEq.TheImpl as standard_eq
+use Rattle.cedar_schema_elements.specs.contracts.entity_type_kind.ValidatorEntityTypeKindPartialEq.TheImpl as kind_eq
+use Rattle.cedar_schema_elements.specs.declared.entity_type_kind.StandardValidatorEntityType.{StandardValidatorEntityType}
+use Rattle.cedar_types.specs.contracts.types.TypePartialEq.TheImpl as type_eq
+use Rattle.cedar_schema_elements.specs.declared.entity_type.ValidatorEntityType.{ValidatorEntityType}
+use Rattle.cedar_schema_elements.specs.declared.entity_type_kind.ValidatorEntityTypeKind.{ValidatorEntityTypeKind}
+use Rattle.cedar_schema_elements.specs.declared.entity_type_kind.ValidatorEntityTypeKind.TheVariants as variant
+use Rattle.cedar_types.specs.declared.types.Type.{«Type»}
+
+-- types that may be missing are equal exactly where they stand for the same
+tags-Decides : (a b : Option «Type») → Decides (option_eq (type_eq.ghosts).eq a b) (option_map ty_of a ≡ option_map ty_of b)
+tags-Decides None None = (λ _. refl, λ _. refl)
+tags-Decides None (Some b) = none (λ e. cc)
+tags-Decides (Some a) None = none (λ e. cc)
+tags-Decides (Some a) (Some b) = Decides-like _ (ap Some) (λ e. cc) (types-Decides a b)
+
+-- lists of ids are equal exactly where their texts are
+ids-Decides : (xs ys : List Eid) → Decides (pointwise (λ a b. pointwise nat_eq (eid_text a) (eid_text b)) xs ys)
+    (map eid_text xs ≡ map eid_text ys)
+ids-Decides [] [] = (λ _. refl, λ _. refl)
+ids-Decides [] (y ∷ ys) = none (λ e. cc)
+ids-Decides (x ∷ xs) [] = none (λ e. cc)
+ids-Decides (x ∷ xs) (y ∷ ys) =
+    Decides-like _ (λ both i. both.0 i ∷ both.1 i) (λ e. (cc, cc))
+    (Decides-and _ _ (text_eq-Decides (eid_text x) (eid_text y)) (ids-Decides xs ys))
+
+-- standard entity types are equal exactly where they stand for the same
+pub standard-Decides : (a b : StandardValidatorEntityType) → Decides ((standard_eq.ghosts).eq a b) (plain_standard a ≡ plain_standard b)
+standard-Decides a b =
+    Decides-like _
+    (λ all i. standard_kind (all.0 i) (all.1.0 i) (all.1.1 i))
+    (λ e. (ap kind_fields e, (ap kind_openness e, ap kind_tags e)))
+    (Decides-and _ _ (attributes-Decides a.attributes b.attributes)
+    (Decides-and _ _ (open_tag-Decides a.open_attributes b.open_attributes) (tags-Decides a.tags b.tags)))
+
+-- kinds of entity types are equal exactly where they stand for the same
+pub kinds-Decides : (a b : ValidatorEntityTypeKind) → Decides ((kind_eq.ghosts).eq a b) (plain_kind a ≡ plain_kind b)
+kinds-Decides (variant.Standard a) (variant.Standard b) = standard-Decides a b
+kinds-Decides (variant.Enum a) (variant.Enum b) = Decides-like _ (ap enumerated_kind) (λ e. cc)
+    (ids-Decides (a.head ∷ a.tail.items) (b.head ∷ b.tail.items))
+kinds-Decides variant.External variant.External = (λ _. refl, λ _. refl)
+kinds-Decides a b = none (λ e. cc)
+
+-- tests of facts that hold together answer alike
+alike : {P Q : Type 0} (a b : Bool) → Decides a P → Decides b Q → (P → Q) → (Q → P) → a ≡ b
+alike true true first second forth back = refl
+alike true false first second forth back = absurd (false≢true (second.1 (forth (first.0 refl))))
+alike false true first second forth back = absurd (false≢true (first.1 (back (second.0 refl))))
+alike false false first second forth back = refl
+
+-- sets of descendants are equal exactly where they have the same names
+descendants-Decides : (a b : ValidatorEntityType)
+    → Decides (hash_set_eq (name_eq.ghosts).eq a.descendants b.descendants) (SameItems (descendant_names a) (descendant_names b))
+descendants-Decides a b =
+    Decides-like _
+    (λ same. SameItems-searches a.descendants.keys b.descendants.keys same)
+    (λ same ty. alike _ _ (list_any-names ty a.descendants.keys) (list_any-names ty b.descendants.keys)
+    (same (type_name ty)).0 (same (type_name ty)).1)
+    (hash_set_eq_decides entity_type_equal.Laws.laws-law a.descendants b.descendants)
+
+-- entity types are equal exactly where their names, their kinds and their descendants are
+pub entity_types-Same : (a b : ValidatorEntityType) → Decides ((entity_type_eq.ghosts).eq a b)
+    ((entity_type_of a ≡ entity_type_of b) × SameItems (descendant_names a) (descendant_names b))
+entity_types-Same a b =
+    Decides-like _
+    (λ all. ((λ i. record { name = all.0 i; kind = all.1.1 i }), all.1.0))
+    (λ same. (ap (λ (it : PlainEntityType). it.name) same.0, (same.1, ap (λ (it : PlainEntityType). it.kind) same.0)))
+    (Decides-and _ _ (entity_type_eq-same a.name b.name) (Decides-and _ _ (descendants-Decides a b) (kinds-Decides a.kind b.kind)))

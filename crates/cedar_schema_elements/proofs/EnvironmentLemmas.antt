@@ -1,0 +1,135 @@
+-- The environments that are listed for actions are those of the schema.
+use Rattle.std.proofs.Common.{◌≡◌, ◌≢◌, ◌↔◌, List, [], ◌∷◌, ◌++◌, Some, None, map, ap, sym, subst, ◌∙◌, refl, ⊎_elim, Contains, AllPairs, arith}
+use Rattle.std.proofs.lemmas.List.{map-append, map-id}
+use Rattle.cedar_schema_elements.specs.ActionKind.{kind_context, kind_principals, kind_resources}
+use Rattle.cedar_schema_elements.specs.ValidatorActionId.{plain_action_entry}
+use Rattle.cedar_schema_elements.specs.declared.action_id.ValidatorActionId.{ValidatorActionId}
+use Rattle.cedar_below.proofs.Lists.{Contains-preimage}
+use Rattle.cedar_below.specs.PlainName.{PlainName}
+use Rattle.cedar_below.specs.PlainUid.{PlainUid}
+use Rattle.cedar_below.specs.declared.entity.Entity.{Entity}
+use Rattle.cedar_below.specs.declared.entity_uid.EntityUID.{EntityUID}
+use Rattle.cedar_declarations.proofs.OccurrenceLemmas.{Contains-flat_map, Contains-given, Contains-image, Contains-single, Twice-distinct}
+use Rattle.cedar_declarations.specs.Environments.{AreEnvironmentsOf, Environment, IsRequestOf}
+use Rattle.cedar_declarations.specs.Occurrences.{Twice}
+use Rattle.cedar_declarations.specs.PlainSchema.{ActionKind, SchemaAction, SchemaEntityType, defined_action, external_action}
+use Rattle.cedar_schema_elements.proofs.GivenLemmas.{all_differ}
+use Rattle.cedar_schema_elements.specs.ActionEntities.{schema_with}
+use Rattle.cedar_schema_elements.specs.RequestEnvironments.{action_environments, kind_environments, with_principals, with_resources}
+use Rattle.cedar_schema_elements.specs.RequestEnv.{owned_environment}
+use Rattle.cedar_schema_elements.specs.declared.request_env.UnlinkedRequestEnv.{UnlinkedRequestEnv}
+use Rattle.cedar_type_rules.specs.Ty.{Ty}
+
+-- an environment of these parts
+abbrev pub environment : PlainUid → Ty → PlainName → PlainName → Environment
+environment uid context principal resource =
+    record { principal = principal; action = uid; resource = resource; context = context }
+
+-- what one resource gives
+abbrev pub resource_environments : PlainUid → Ty → PlainName → PlainName → List Environment
+resource_environments uid context principal resource = environment uid context principal resource ∷ []
+
+-- its environment is of it
+pub of_resource : (uid : PlainUid) (context : Ty) (principal resource : PlainName) (it : Environment)
+    → Contains (resource_environments uid context principal resource) it → it.resource ≡ resource
+of_resource uid context principal resource it among =
+    sym (ap (λ (each : Environment). each.resource) (Contains-single (environment uid context principal resource) it among))
+
+-- what is alone stands once
+pub alone_once : {A : Type 0} (one it : A) → ¬ Twice (one ∷ []) it
+alone_once one it twice = ⊎_elim (λ here. absurd (omega (arith, here.1.1))) (λ later. later) twice
+
+-- names that differ stand once
+pub names_once : (names : List PlainName) → AllPairs (λ a b. a ≢ b) names → (name : PlainName) → ¬ Twice (map (λ each. each) names) name
+names_once names distinct name =
+    let P : List PlainName → Type 0 = λ each. ¬ Twice each name in
+    subst P (sym (map-id names)) (Twice-distinct names name distinct)
+
+-- what one more environment shows
+pub one_more_shown : (made pushed : List UnlinkedRequestEnv) (new : UnlinkedRequestEnv) (it : Environment) → pushed ≡ made ++ new ∷ []
+    → owned_environment new ≡ it → map owned_environment pushed ≡ map owned_environment made ++ it ∷ []
+one_more_shown made pushed new it is same =
+    ap (map owned_environment) is
+    ∙ (map-append owned_environment made (new ∷ []) ∙ ap (λ each. map owned_environment made ++ each ∷ []) same)
+
+-- the principal of the environments that it gives
+pub of_principal : (uid : PlainUid) (context : Ty) (resources : List PlainName) (principal : PlainName) (it : Environment)
+    → Contains (with_resources uid context principal resources) it → it.principal ≡ principal
+of_principal uid context resources principal it among =
+    let found = Contains-preimage (environment uid context principal) resources it among in
+    sym (ap (λ (each : Environment). each.principal) found.2)
+
+-- an environment of an action is under its uid, and of requests that it is for
+pub of_kind : (uid : PlainUid) (kind : ActionKind) (it : Environment)
+    → Contains (kind_environments uid kind) it ↔ ((uid ≡ it.action) × IsRequestOf kind it)
+of_kind uid external_action it = (λ among. absurd (omega (arith, among.1)), λ both. absurd both.1)
+of_kind uid (defined_action principals resources context) it = (
+  λ among.
+      let principal = Contains-flat_map (λ each. with_resources uid context each resources) principals it among in
+      let resource = Contains-preimage (environment uid context principal.0) resources it principal.2 in
+      let P : PlainName → Type 0 = Contains principals in
+      let R : PlainName → Type 0 = Contains resources in (
+        ap (λ (each : Environment). each.action) resource.2,
+        (
+          subst P (ap (λ (each : Environment). each.principal) resource.2) principal.1,
+          subst R (ap (λ (each : Environment). each.resource) resource.2) resource.1,
+          ap (λ (each : Environment). each.context) resource.2,
+        ),
+      ),
+  λ both.
+      let is : environment uid context it.principal it.resource ≡ it = λ i. environment (both.0 i) (both.1.2 i) it.principal it.resource in
+      let P : Environment → Type 0 = Contains (with_principals uid context principals resources) in
+      subst P is
+      (Contains-given (λ each. with_resources uid context each resources) principals it.principal
+      (environment uid context it.principal it.resource) both.1.0
+      (Contains-image (environment uid context it.principal) resources it.resource both.1.1)),
+)
+
+-- the environments of some actions
+pub of_actions : (actions : List (PlainUid × SchemaAction)) (it : Environment)
+    → Contains (action_environments actions) it
+    ↔ ((action : SchemaAction) × Contains actions (it.action, action) × IsRequestOf action.kind it)
+of_actions actions it = (
+  λ among.
+      let found = Contains-flat_map (λ (each : PlainUid × SchemaAction). kind_environments each.0 each.1.kind) actions it among in
+      let both = (of_kind found.0.0 found.0.1.kind it).0 found.2 in
+      let P : PlainUid → Type 0 = λ uid. Contains actions (uid, found.0.1) in
+      (found.0.1, subst P both.0 found.1, both.1),
+  λ found.
+      Contains-given (λ (each : PlainUid × SchemaAction). kind_environments each.0 each.1.kind) actions (it.action, found.0) it found.1
+      ((of_kind it.action found.0.kind it).1 (refl, found.2)),
+)
+
+-- the environments of an action, under its uid
+abbrev pub environments_under : PlainUid × SchemaAction → List Environment
+environments_under entry = kind_environments entry.0 entry.1.kind
+
+-- its environments are under its uid
+pub of_action : (entry : PlainUid × SchemaAction) (it : Environment) → Contains (environments_under entry) it → it.action ≡ entry.0
+of_action entry it among = sym ((of_kind entry.0 entry.1.kind it).0 among).0
+
+-- an action without a context has no environments
+pub without_context : (uid : PlainUid) (kind : ActionKind) → None ≡ kind_context kind → kind_environments uid kind ≡ []
+without_context uid (defined_action principals resources context) none = cc
+without_context uid external_action none = refl
+
+-- one with a context has those of its principals and resources
+pub with_context : (uid : PlainUid) (kind : ActionKind) (context : Ty) → Some context ≡ kind_context kind
+    → kind_environments uid kind ≡ with_principals uid context (kind_principals kind) (kind_resources kind)
+with_context uid (defined_action principals resources own) context some =
+    let is : own ≡ context = cc in ap (λ each. with_principals uid each principals resources) is
+with_context uid external_action context some = cc
+
+-- what the actions of a map give are the environments of the schema
+pub are_environments : (entries : List (EntityUID × ValidatorActionId)) (environments : List Environment)
+    → environments ≡ action_environments (map plain_action_entry entries)
+    → ((it : Environment) → ¬ Twice (action_environments (map plain_action_entry entries)) it)
+    → (types : List (PlainName × SchemaEntityType)) (entities : List Entity)
+    → AreEnvironmentsOf (schema_with types entries entities) environments
+are_environments entries environments is once types entities =
+    let P : List Environment → Type 0 = AreEnvironmentsOf (schema_with types entries entities) in
+    let made : P (action_environments (map plain_action_entry entries)) = record {
+      each = of_actions (map plain_action_entry entries);
+      once = all_differ (action_environments (map plain_action_entry entries)) once;
+    } in
+    subst P (sym is) made

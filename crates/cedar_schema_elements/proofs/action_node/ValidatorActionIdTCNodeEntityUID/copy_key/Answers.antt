@@ -1,0 +1,15 @@
+use Rattle.std.proofs.Common.{◌≡◌, IsTrue, IfOk, Result, Ok, Err, sym}
+use Rattle.cedar_below.proofs.Uids.{entity_uid_eq-same}
+use Rattle.cedar_below.specs.EntityUID.{uid_of}
+use Rattle.cedar_below.specs.contracts.entity_uid.EntityUIDPartialEq.TheImpl as uid_eq
+use Rattle.cedar_below.specs.declared.entity_uid.EntityUID.{EntityUID}
+use Rattle.cedar_schema_elements.proofs.action_node.ValidatorActionIdTCNodeEntityUID.copy_key.Goals as goal
+
+-- a copy of the same uid is equal
+equal_copy : {E : Type 0} (key : EntityUID) (result : Result EntityUID E)
+    → IfOk result (λ copy. uid_of copy ≡ uid_of key) → IfOk result (λ copy. IsTrue ((uid_eq.ghosts).eq key copy))
+equal_copy key (Ok copy) same = (entity_uid_eq-same key copy).1 (sym same)
+equal_copy key (Err refused) same = tt
+
+pub returns : goal.returns
+returns c = equal_copy c.args.key.now c.clone.result c.clone.ensures.uid

@@ -1,0 +1,60 @@
+use Rattle.std.proofs.Common.{refl, sym, ◌∙◌}
+use Rattle.std.proofs.lemmas.Bool.{false≢true}
+use Rattle.cedar_below.specs.EntityUID.{uid_of}
+use Rattle.cedar_schema_elements.proofs.EntityLemmas.{entities_all, entities_none, entities_passed, entities_put, left_all, left_here, left_rest, same_entity}
+use Rattle.cedar_schema_elements.proofs.UidLemmas.{uids_once}
+use Rattle.cedar_schema_elements.specs.ActionEntities.{Lists, plain_action_entity}
+use Rattle.cedar_schema_elements.specs.Uppers.{IsUpper}
+use Rattle.cedar_schema_elements.proofs.entities_of_actions.action_entities.Goals as goal
+
+pub loop-uid-init : goal.loop-uid-init
+loop-uid-init c =
+    let actions = c.args.actions.now.entries in (
+      entities_none actions _ c.new-entities.result c.into_iter-uid-iterator.ensures.into_iter_gives.0 c.new-entities.ensures,
+      left_all actions _ _ c.into_iter-uid-iterator.ensures.into_iter_gives.0
+          (uids_once actions c.into_iter-uid-iterator.ensures.into_iter_gives.5) c.in_ok-uppers.ensures,
+    )
+
+pub loop-uid-preserved : goal.loop-uid-preserved
+loop-uid-preserved c =
+    let actions = c.args.actions.now.entries in (
+      entities_passed actions _ _ c.loop-uid.entities c.in-Some.uid.now c.in-Some.action.now c.in-Some.ensures.steps
+          c.loop-uid.invariant.0 (c.is_external.ensures.0 c.if-not-is_external.false),
+      left_rest actions _ _ c.loop-uid.uppers c.in-Some.uid.now c.in-Some.action.now c.in-Some.ensures.steps
+          c.loop-uid.invariant.1 c.loop-uid.uppers (λ other apart. refl),
+    )
+
+pub loop-uid-preserved-in_ok-insert : goal.loop-uid-preserved-in_ok-insert
+loop-uid-preserved-in_ok-insert c =
+    let actions = c.args.actions.now.entries in
+    let uid = c.in-Some.uid.now in
+    let entity = c.in_ok-action_entity.field-0 in
+    let here = left_here actions _ _ c.loop-uid.uppers uid c.in-Some.action.now c.in-Some.ensures.steps c.loop-uid.invariant.1 in (
+      entities_put actions _ _ c.loop-uid.entities uid c.in-Some.action.now c.in-Some.ensures.steps c.loop-uid.invariant.0
+          (λ is. false≢true (sym c.if-not-is_external.true ∙ c.is_external.ensures.1 is)) c.insert.new.self entity
+          (same_entity (IsUpper c.loop-uid.uppers uid) (Lists actions (uid_of uid)) (uid_of uid) (plain_action_entity entity) here
+          c.in_ok-action_entity.ensures.entity)
+          c.in_ok-insert.ensures.inserted c.in_ok-insert.ensures.others,
+      left_rest actions _ _ c.loop-uid.uppers uid c.in-Some.action.now c.in-Some.ensures.steps c.loop-uid.invariant.1
+          c.action_entity.new.uppers c.in_ok-action_entity.ensures.others,
+    )
+
+pub loop-uid-preserved-in_ok-insert-2 : goal.loop-uid-preserved-in_ok-insert-2
+loop-uid-preserved-in_ok-insert-2 c =
+    let actions = c.args.actions.now.entries in
+    let uid = c.in-Some.uid.now in
+    let entity = c.in_ok-action_entity.field-0 in
+    let here = left_here actions _ _ c.loop-uid.uppers uid c.in-Some.action.now c.in-Some.ensures.steps c.loop-uid.invariant.1 in (
+      entities_put actions _ _ c.loop-uid.entities uid c.in-Some.action.now c.in-Some.ensures.steps c.loop-uid.invariant.0
+          (λ is. false≢true (sym c.if-not-is_external.true ∙ c.is_external.ensures.1 is)) c.insert.new.self entity
+          (same_entity (IsUpper c.loop-uid.uppers uid) (Lists actions (uid_of uid)) (uid_of uid) (plain_action_entity entity) here
+          c.in_ok-action_entity.ensures.entity)
+          c.in_ok-insert.ensures.inserted c.in_ok-insert.ensures.others,
+      left_rest actions _ _ c.loop-uid.uppers uid c.in-Some.action.now c.in-Some.ensures.steps c.loop-uid.invariant.1
+          c.action_entity.new.uppers c.in_ok-action_entity.ensures.others,
+    )
+
+pub returns : goal.returns
+returns c = λ types.
+    entities_all c.args.actions.now.entries _ c.loop-uid.entities c.in-None.ensures.steps.0 c.loop-uid.invariant.0
+    c.iter-in_order.ensures.ordered types

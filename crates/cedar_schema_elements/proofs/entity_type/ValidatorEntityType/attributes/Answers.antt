@@ -1,0 +1,13 @@
+use Rattle.std.proofs.Common.{ap, ◌∙◌, sym}
+use Rattle.cedar_schema_elements.specs.EntityTypeKind.{plain_kind}
+use Rattle.cedar_declarations.specs.EntityTypeKind.{kind_fields}
+use Rattle.cedar_schema_elements.proofs.MemberLemmas.{end-nameless}
+use Rattle.cedar_schema_elements.proofs.entity_type.ValidatorEntityType.attributes.Goals as goal
+
+pub returns-in-Enum-clause-fields : goal.returns-in-Enum-clause-fields
+returns-in-Enum-clause-fields c =
+    end-nameless _ c.args.self.now.without_attributes ∙ sym (ap (λ kind. kind_fields (plain_kind kind)) c.in-Enum.is)
+
+pub returns-in-External-clause-fields : goal.returns-in-External-clause-fields
+returns-in-External-clause-fields c =
+    end-nameless _ c.args.self.now.without_attributes ∙ sym (ap (λ kind. kind_fields (plain_kind kind)) c.in-External.is)

@@ -1,0 +1,15 @@
+use Rattle.std.proofs.Common.{◌≡◌, IsTrue, IfOk, Result, Ok, Err, sym}
+use Rattle.cedar_below.proofs.Names.{entity_type_eq-same}
+use Rattle.cedar_below.specs.EntityType.{type_name}
+use Rattle.cedar_below.specs.contracts.entity_type.EntityTypePartialEq.TheImpl as entity_type_eq
+use Rattle.cedar_below.specs.declared.entity_type.EntityType.{EntityType}
+use Rattle.cedar_schema_elements.proofs.entity_type_node.ValidatorEntityTypeTCNodeEntityType.copy_key.Goals as goal
+
+-- a copy of the same name is equal
+equal_copy : {E : Type 0} (key : EntityType) (result : Result EntityType E) → IfOk result (λ copy. type_name copy ≡ type_name key)
+    → IfOk result (λ copy. IsTrue ((entity_type_eq.ghosts).eq key copy))
+equal_copy key (Ok copy) same = (entity_type_eq-same key copy).1 (sym same)
+equal_copy key (Err refused) same = tt
+
+pub returns : goal.returns
+returns c = equal_copy c.args.key.now c.clone.result c.clone.ensures.name

@@ -1,0 +1,50 @@
+use Rattle.std.proofs.Common.{◌≡◌, ◌++◌, List, [], Some, map, ap, sym, subst, ◌∙◌}
+use Rattle.cedar_schema_elements.specs.ValidatorActionId.{action_of, plain_action_entry}
+use Rattle.cedar_below.specs.EntityUID.{uid_of}
+use Rattle.cedar_declarations.specs.Environments.{Environment}
+use Rattle.cedar_declarations.specs.Occurrences.{Twice}
+use Rattle.cedar_schema_elements.proofs.EnvironmentLemmas.{are_environments, environments_under, of_action, with_context, without_context}
+use Rattle.cedar_schema_elements.proofs.GivenLemmas.{given_all, given_more, given_none, given_nothing, given_once}
+use Rattle.cedar_schema_elements.proofs.UidLemmas.{uids_once, under}
+use Rattle.cedar_schema_elements.specs.RequestEnv.{owned_environment}
+use Rattle.cedar_types.specs.Meaning.{ty_of}
+use Rattle.cedar_schema_elements.proofs.request_environments.environments.Goals as goal
+
+pub loop-uid-init : goal.loop-uid-init
+loop-uid-init c =
+    given_none environments_under under [] (map plain_action_entry c.args.actions.now.entries) _ _
+    (ap (map plain_action_entry) c.into_iter-uid-iterator.ensures.into_iter_gives.0)
+    (ap (map owned_environment) c.new-environments.ensures.items)
+    (uids_once c.args.actions.now.entries c.into_iter-uid-iterator.ensures.into_iter_gives.5)
+
+pub loop-uid-preserved-in-Some-context : goal.loop-uid-preserved-in-Some-context
+loop-uid-preserved-in-Some-context c =
+    let uid = uid_of c.in-Some.uid.now in
+    let kind = (action_of c.in-Some.action.now).kind in
+    let typed : ty_of c.in_ok-context.context.value ≡ ty_of c.in-Some-context.context.now =
+    ap ty_of c.in_ok-context.ensures.ok ∙ c.in_ok-clone.ensures.same in
+    let all = with_context uid kind (ty_of c.in_ok-context.context.value) (ap Some typed ∙ c.in-Some-context.ensures.ty) in
+    let P : List Environment → Type 0 = λ items. (it : Environment) → ¬ Twice items it in
+    given_more environments_under under [] (map plain_action_entry c.args.actions.now.entries) (λ it. it.action) of_action _ _ _ _
+    (plain_action_entry (c.in-Some.uid.now, c.in-Some.action.now))
+    (ap (map plain_action_entry) c.in-Some.ensures.steps)
+    (c.in_ok-add_principals.ensures.added ∙ ap (λ items. map owned_environment c.loop-uid.environments.items ++ items) (sym all))
+    (subst P (sym all) c.in_ok-add_principals.ensures.once) c.loop-uid.invariant
+
+pub loop-uid-preserved : goal.loop-uid-preserved
+loop-uid-preserved c =
+    let uid = uid_of c.in-Some.uid.now in
+    let kind = (action_of c.in-Some.action.now).kind in
+    given_nothing environments_under under [] (map plain_action_entry c.args.actions.now.entries) (λ it. it.action) of_action _ _ _
+    (plain_action_entry (c.in-Some.uid.now, c.in-Some.action.now))
+    (ap (map plain_action_entry) c.in-Some.ensures.steps)
+    (without_context uid kind c.in_default.ensures.ty)
+    c.loop-uid.invariant
+
+pub returns : goal.returns
+returns c =
+    let actions = map plain_action_entry c.args.actions.now.entries in
+    let done = ap (map plain_action_entry) c.in-None.ensures.steps.0 in
+    are_environments c.args.actions.now.entries (map owned_environment c.loop-uid.environments.items)
+    (given_all environments_under under [] actions _ _ done c.loop-uid.invariant)
+    (given_once environments_under under [] actions _ _ done c.loop-uid.invariant)

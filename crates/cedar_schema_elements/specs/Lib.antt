@@ -1,0 +1,9 @@
+pub mod ActionEntities
+pub mod ActionKind
+pub mod EntityTypeKind
+pub mod RequestEnv
+pub mod RequestEnvironments
+pub mod Uppers
+pub mod ValidatorActionId
+pub mod ValidatorApplySpec
+pub mod ValidatorEntityType

@@ -1,0 +1,24 @@
+use Rattle.cedar_below.specs.EntityType.{type_name}
+use Rattle.cedar_below.specs.EntityUID.{uid_of}
+use Rattle.cedar_declarations.specs.Environments.{Environment}
+use Rattle.cedar_schema_elements.specs.declared.request_env.RequestEnv.{RequestEnv}
+use Rattle.cedar_schema_elements.specs.declared.request_env.UnlinkedRequestEnv.{UnlinkedRequestEnv}
+use Rattle.cedar_types.specs.Meaning.{ty_of}
+
+-- the types of a request as plain data
+abbrev pub environment_of : RequestEnv → Environment
+environment_of it = record {
+  principal = type_name it.principal.now;
+  action = uid_of it.action.now;
+  resource = type_name it.resource.now;
+  context = ty_of it.context.now;
+}
+
+-- the same of those that are owned
+abbrev pub owned_environment : UnlinkedRequestEnv → Environment
+owned_environment it = record {
+  principal = type_name it.principal;
+  action = uid_of it.action;
+  resource = type_name it.resource;
+  context = ty_of it.context.value;
+}

@@ -1,0 +1,49 @@
+use Rattle.std.specs.Prelude.{◌≡◌, List, Option, None, Some, Contains, map}
+use Rattle.cedar_schema_elements.specs.ActionKind.{plain_kind}
+use Rattle.cedar_schema_elements.specs.declared.action_id.ValidatorActionId.{ValidatorActionId}
+use Rattle.cedar_schema_elements.specs.declared.action_kind.ValidatorActionKind.{ValidatorActionKind}
+use Rattle.cedar_schema_elements.specs.declared.action_kind.ValidatorActionKind.TheVariants as variant
+use Rattle.cedar_below.specs.EntityUID.{uid_loc, uid_of, uid_type_loc}
+use Rattle.cedar_below.specs.PlainUid.{PlainUid}
+use Rattle.cedar_below.specs.declared.entity_uid.EntityUID.{EntityUID}
+use Rattle.cedar_below.specs.declared.loc.Loc.{Loc}
+use Rattle.cedar_declarations.specs.PlainSchema.{SchemaAction}
+use Rattle.cedar_types.specs.declared.types.Type.{«Type»}
+
+-- an action as plain data, but for its location
+abbrev pub action_of : ValidatorActionId → SchemaAction
+action_of it = record { uid = uid_of it.name; kind = plain_kind it.kind; descendants = map uid_of it.descendants.keys }
+
+-- where the action was declared
+abbrev pub action_loc : ValidatorActionId → Option Loc
+action_loc it = it.loc
+
+-- where the uid of the action was written
+abbrev pub name_loc : ValidatorActionId → Option Loc
+name_loc it = uid_loc it.name
+
+-- where the type in the uid of the action was written
+abbrev pub name_type_loc : ValidatorActionId → Option Loc
+name_type_loc it = uid_type_loc it.name
+
+-- the type of the context of a kind
+abbrev pub borrowed_context : ValidatorActionKind → Option «Type»
+borrowed_context (variant.Defined applies_to context) = Some context
+borrowed_context variant.External = None
+
+-- the type of the context that the action lends: that of a defined one, else none
+abbrev pub context_of : ValidatorActionId → Option «Type»
+context_of it = borrowed_context it.kind
+
+-- an action of a schema under its uid, as plain data
+abbrev pub plain_action_entry : EntityUID × ValidatorActionId → PlainUid × SchemaAction
+plain_action_entry entry = (uid_of entry.0, action_of entry.1)
+
+-- the key of an action was written where its uid was, and the type in the one where that in the other was
+pub record IsLocatedAsKey (entry : EntityUID × ValidatorActionId) : Type 0 where
+  pub uid : uid_loc entry.0 ≡ name_loc entry.1
+  pub ty : uid_type_loc entry.0 ≡ name_type_loc entry.1
+
+-- each key was written where the uid of its action was
+abbrev pub AreLocatedAsKeys : List (EntityUID × ValidatorActionId) → Type 0
+AreLocatedAsKeys entries = (entry : EntityUID × ValidatorActionId) → Contains entries entry → IsLocatedAsKey entry

@@ -1,0 +1,266 @@
+//! Actions of a schema.
+
+ghost use Rattle.std.specs.Prelude.{◌≡◌};
+ghost use Rattle.std.specs.HashSet.{hash_set_len};
+
+use crate::action_kind::ValidatorActionKind;
+use crate::apply_spec::ValidatorApplySpec;
+use crate::sets::{copied, type_set, uid_set};
+use cedar_below::{EntityType, EntityUID, Loc, M};
+use cedar_types::Type;
+use std::alloc::Global;
+use std::collections::{HashSet, hash_set};
+use std::default::Emptied;
+
+/// An action of a schema: it is for some requests, or it is external.
+///
+/// Equality ignores the location.
+#[derive(Drop)]
+#[derive_where(Debug, PartialEq, Eq)]
+pub struct ValidatorActionId {
+    pub(crate) name: EntityUID,
+    pub(crate) kind: ValidatorActionKind,
+    pub(crate) descendants: HashSet<EntityUID>,
+    #[derive_where(skip(EqHashOrd))]
+    pub(crate) loc: Option<Loc>,
+    // What external actions lend.
+    #[derive_where(skip)]
+    no_types: HashSet<EntityType>,
+    ghost without_types: { hash_set_len no_types ≡ 0 },
+}
+
+impl ValidatorActionId {
+    ghost use Rattle.std.specs.Prelude.{◌≡◌, ◌≢◌, ◌↔◌, List, map, IsTrue, IfOk, Some, Contains, AllPairs};
+    ghost use Rattle.std.specs.Iterator.{IsFinite, Drains};
+    ghost use Rattle.std.specs.Option.{option_copied, option_map};
+    ghost use Rattle.cedar_schema_elements.specs.ActionKind.{plain_kind, kind_principals, kind_resources, kind_context};
+    ghost use Rattle.cedar_schema_elements.specs.ValidatorActionId.{action_loc, action_of, context_of, borrowed_context, name_loc, name_type_loc};
+    ghost use Rattle.cedar_below.specs.EntityType.{type_name};
+    ghost use Rattle.cedar_below.specs.EntityUID.{uid_loc, uid_of, uid_type_loc};
+    ghost use Rattle.cedar_below.specs.Lists.{SameItems};
+    ghost use Rattle.cedar_below.specs.declared.entity_type.EntityType.{EntityType};
+    ghost use Rattle.cedar_below.specs.declared.entity_uid.EntityUID.{EntityUID};
+    ghost use Rattle.cedar_declarations.specs.PlainSchema.{external_action};
+    ghost use Rattle.cedar_declarations.specs.SameSchema.{SameActionKind};
+    ghost use Rattle.cedar_types.specs.Meaning.{ty_of};
+
+    /// An action of some kind. The descendants have to come to an end.
+    fn with_kind<D: IntoIterator<Item = EntityUID>>(
+        alloc: Global,
+        name: EntityUID,
+        descendants: D,
+        kind: ValidatorActionKind,
+        loc: Option<Loc>,
+    ) -> M<Self>
+        requires { (it : D.IntoIter) → D.into_iter_gives descendants it → D.IntoIter.can_next it × IsFinite (D.IntoIter.remaining it) }
+        ensures uid { IfOk result (λ action. (action_of action).uid ≡ uid_of name) }
+        ensures name_loc { IfOk result (λ action. name_loc action ≡ uid_loc name) }
+        ensures name_type_loc { IfOk result (λ action. name_type_loc action ≡ uid_type_loc name) }
+        ensures kind { IfOk result (λ action. (action_of action).kind ≡ plain_kind kind) }
+        ensures borrowed { IfOk result (λ action. context_of action ≡ borrowed_context kind) }
+        ensures descendants { IfOk result (λ action. (it : D.IntoIter) × (xs : List EntityUID)
+            × D.into_iter_gives descendants it × Drains D.IntoIter.next_gives it xs × SameItems (action_of action).descendants (map uid_of xs)) }
+        ensures loc { IfOk result (λ action. action_loc action ≡ loc) }
+    {
+        Ok(ValidatorActionId {
+            name,
+            kind,
+            descendants: uid_set(alloc, descendants)?,
+            loc,
+            no_types: HashSet::new(alloc),
+        })
+    }
+
+    /// An action that is for the requests of these principals and resources, whose context is of
+    /// this type. The principals, the resources and the descendants have to come to an end.
+    pub fn new_defined<
+        P: IntoIterator<Item = EntityType>,
+        R: IntoIterator<Item = EntityType> + Drop,
+        D: IntoIterator<Item = EntityUID> + Drop,
+    >(
+        alloc: Global,
+        name: EntityUID,
+        principals: P,
+        resources: R,
+        descendants: D,
+        context: Type,
+        loc: Option<Loc>,
+    ) -> M<Self>
+        requires principals { (it : P.IntoIter) → P.into_iter_gives principals it → P.IntoIter.can_next it × IsFinite (P.IntoIter.remaining it) }
+        requires resources { (it : R.IntoIter) → R.into_iter_gives resources it → R.IntoIter.can_next it × IsFinite (R.IntoIter.remaining it) }
+        requires descendants { (it : D.IntoIter) → D.into_iter_gives descendants it → D.IntoIter.can_next it × IsFinite (D.IntoIter.remaining it) }
+        ensures uid { IfOk result (λ action. (action_of action).uid ≡ uid_of name) }
+        ensures name_loc { IfOk result (λ action. name_loc action ≡ uid_loc name) }
+        ensures name_type_loc { IfOk result (λ action. name_type_loc action ≡ uid_type_loc name) }
+        ensures principals { IfOk result (λ action. (it : P.IntoIter) × (xs : List EntityType)
+            × P.into_iter_gives principals it × Drains P.IntoIter.next_gives it xs × SameItems (kind_principals (action_of action).kind) (map type_name xs)) }
+        ensures resources { IfOk result (λ action. (it : R.IntoIter) × (xs : List EntityType)
+            × R.into_iter_gives resources it × Drains R.IntoIter.next_gives it xs × SameItems (kind_resources (action_of action).kind) (map type_name xs)) }
+        ensures context { IfOk result (λ action. kind_context (action_of action).kind ≡ Some (ty_of context)) }
+        ensures borrowed { IfOk result (λ action. context_of action ≡ Some context) }
+        ensures descendants { IfOk result (λ action. (it : D.IntoIter) × (xs : List EntityUID)
+            × D.into_iter_gives descendants it × Drains D.IntoIter.next_gives it xs × SameItems (action_of action).descendants (map uid_of xs)) }
+        ensures loc { IfOk result (λ action. action_loc action ≡ loc) }
+    {
+        let principals = type_set(alloc, principals)?;
+        let resources = type_set(alloc, resources)?;
+        let kind = ValidatorActionKind::Defined {
+            applies_to: ValidatorApplySpec::new(principals, resources),
+            context,
+        };
+        Self::with_kind(alloc, name, descendants, kind, loc)
+    }
+
+    /// An external action, which is declared elsewhere. The descendants have to come to an end.
+    pub fn new_external<D: IntoIterator<Item = EntityUID>>(
+        alloc: Global,
+        name: EntityUID,
+        descendants: D,
+        loc: Option<Loc>,
+    ) -> M<Self>
+        requires { (it : D.IntoIter) → D.into_iter_gives descendants it → D.IntoIter.can_next it × IsFinite (D.IntoIter.remaining it) }
+        ensures uid { IfOk result (λ action. (action_of action).uid ≡ uid_of name) }
+        ensures name_loc { IfOk result (λ action. name_loc action ≡ uid_loc name) }
+        ensures name_type_loc { IfOk result (λ action. name_type_loc action ≡ uid_type_loc name) }
+        ensures kind { IfOk result (λ action. (action_of action).kind ≡ external_action) }
+        ensures descendants { IfOk result (λ action. (it : D.IntoIter) × (xs : List EntityUID)
+            × D.into_iter_gives descendants it × Drains D.IntoIter.next_gives it xs × SameItems (action_of action).descendants (map uid_of xs)) }
+        ensures loc { IfOk result (λ action. action_loc action ≡ loc) }
+    {
+        Self::with_kind(alloc, name, descendants, ValidatorActionKind::External, loc)
+    }
+
+    /// The action's uid.
+    pub fn name(&self) -> &EntityUID
+        ensures uid { uid_of result.now ≡ (action_of self.now).uid }
+        ensures loc { uid_loc result.now ≡ name_loc self.now }
+        ensures type_loc { uid_type_loc result.now ≡ name_type_loc self.now }
+    {
+        &self.name
+    }
+
+    /// Where the action was declared, if that is known.
+    pub fn loc(&self) -> Option<Loc>
+        ensures { result ≡ action_loc self.now }
+    {
+        self.loc
+    }
+
+    /// The uids of the descendants of the action in the hierarchy, each once.
+    pub fn descendants(&self) -> hash_set::Iter<'_, EntityUID>
+        ensures uids { map uid_of result ≡ (action_of self.now).descendants }
+        ensures once { AllPairs (λ a b. a ≢ b) (action_of self.now).descendants }
+    {
+        self.descendants.iter()
+    }
+
+    /// Whether the action is declared elsewhere.
+    pub fn is_external(&self) -> bool
+        ensures { IsTrue result ↔ ((action_of self.now).kind ≡ external_action) }
+    {
+        matches!(self.kind, ValidatorActionKind::External)
+    }
+
+    /// The type of the context of the action's requests. External actions have none.
+    pub fn context(&self) -> Option<&Type>
+        ensures ty { option_map ty_of (option_copied result) ≡ kind_context (action_of self.now).kind }
+        ensures borrowed { option_copied result ≡ context_of self.now }
+    {
+        match &self.kind {
+            ValidatorActionKind::Defined { context, .. } => Some(context),
+            ValidatorActionKind::External => None,
+        }
+    }
+
+    /// The type of the context of the action's requests. External actions have none.
+    pub fn context_type(&self) -> Option<&Type>
+        ensures ty { option_map ty_of (option_copied result) ≡ kind_context (action_of self.now).kind }
+        ensures borrowed { option_copied result ≡ context_of self.now }
+    {
+        self.context()
+    }
+
+    /// The types of the principals of the action's requests, each once. External actions have none.
+    pub fn principals(&self) -> hash_set::Iter<'_, EntityType>
+        ensures names { map type_name result ≡ kind_principals (action_of self.now).kind }
+        ensures once { AllPairs (λ a b. a ≢ b) (kind_principals (action_of self.now).kind) }
+    {
+        match &self.kind {
+            ValidatorActionKind::Defined { applies_to, .. } => {
+                applies_to.applicable_principal_types()
+            }
+            ValidatorActionKind::External => self.no_types.iter(),
+        }
+    }
+
+    /// The types of the resources of the action's requests, each once. External actions have none.
+    pub fn resources(&self) -> hash_set::Iter<'_, EntityType>
+        ensures names { map type_name result ≡ kind_resources (action_of self.now).kind }
+        ensures once { AllPairs (λ a b. a ≢ b) (kind_resources (action_of self.now).kind) }
+    {
+        match &self.kind {
+            ValidatorActionKind::Defined { applies_to, .. } => {
+                applies_to.applicable_resource_types()
+            }
+            ValidatorActionKind::External => self.no_types.iter(),
+        }
+    }
+
+    /// The types of the principals of the action's requests, each once. External actions have none.
+    pub fn applies_to_principals(&self) -> hash_set::Iter<'_, EntityType>
+        ensures names { map type_name result ≡ kind_principals (action_of self.now).kind }
+        ensures once { AllPairs (λ a b. a ≢ b) (kind_principals (action_of self.now).kind) }
+    {
+        self.principals()
+    }
+
+    /// The types of the resources of the action's requests, each once. External actions have none.
+    pub fn applies_to_resources(&self) -> hash_set::Iter<'_, EntityType>
+        ensures names { map type_name result ≡ kind_resources (action_of self.now).kind }
+        ensures once { AllPairs (λ a b. a ≢ b) (kind_resources (action_of self.now).kind) }
+    {
+        self.resources()
+    }
+
+    /// Whether the entity type is a type of principals of the action's requests.
+    pub fn is_applicable_principal_type(&self, ty: &EntityType) -> bool
+        ensures { IsTrue result ↔ Contains (kind_principals (action_of self.now).kind) (type_name ty.now) }
+    {
+        match &self.kind {
+            ValidatorActionKind::Defined { applies_to, .. } => {
+                applies_to.is_applicable_principal_type(ty)
+            }
+            ValidatorActionKind::External => false,
+        }
+    }
+
+    /// Whether the entity type is a type of resources of the action's requests.
+    pub fn is_applicable_resource_type(&self, ty: &EntityType) -> bool
+        ensures { IsTrue result ↔ Contains (kind_resources (action_of self.now).kind) (type_name ty.now) }
+    {
+        match &self.kind {
+            ValidatorActionKind::Defined { applies_to, .. } => {
+                applies_to.is_applicable_resource_type(ty)
+            }
+            ValidatorActionKind::External => false,
+        }
+    }
+
+    /// An equal action, located alike, its uid too.
+    pub fn clone(&self) -> M<Self>
+        ensures uid { IfOk result (λ copy. (action_of copy).uid ≡ (action_of self.now).uid) }
+        ensures name_loc { IfOk result (λ copy. name_loc copy ≡ name_loc self.now) }
+        ensures name_type_loc { IfOk result (λ copy. name_type_loc copy ≡ name_type_loc self.now) }
+        ensures kind { IfOk result (λ copy. SameActionKind (action_of copy).kind (action_of self.now).kind) }
+        ensures descendants { IfOk result (λ copy. SameItems (action_of copy).descendants (action_of self.now).descendants) }
+        ensures loc { IfOk result (λ copy. action_loc copy ≡ action_loc self.now) }
+    {
+        Ok(ValidatorActionId {
+            name: self.name.clone()?,
+            kind: self.kind.clone()?,
+            descendants: copied(&self.descendants, EntityUID::clone)?,
+            loc: self.loc,
+            no_types: HashSet::emptied(&self.no_types)?,
+        })
+    }
+}

@@ -1,0 +1,39 @@
+//! How an action of a schema is declared.
+
+ghost use Rattle.std.specs.Prelude.{IfOk};
+ghost use Rattle.cedar_schema_elements.specs.ActionKind.{plain_kind};
+ghost use Rattle.cedar_declarations.specs.SameSchema.{SameActionKind};
+
+use crate::apply_spec::ValidatorApplySpec;
+use cedar_below::{EntityType, M};
+use cedar_types::Type;
+
+/// How an action of a schema is declared.
+#[derive(Debug, Drop, PartialEq, Eq)]
+pub(crate) enum ValidatorActionKind {
+    /// By the requests that it is for, and the type of their context.
+    Defined {
+        applies_to: ValidatorApplySpec<EntityType>,
+        context: Type,
+    },
+    /// Elsewhere.
+    External,
+}
+
+impl ValidatorActionKind {
+    /// An equal kind.
+    pub(crate) fn clone(&self) -> M<Self>
+        ensures { IfOk result (λ copy. SameActionKind (plain_kind copy) (plain_kind self.now)) }
+    {
+        Ok(match self {
+            ValidatorActionKind::Defined {
+                applies_to,
+                context,
+            } => ValidatorActionKind::Defined {
+                applies_to: applies_to.clone()?,
+                context: context.clone()?,
+            },
+            ValidatorActionKind::External => ValidatorActionKind::External,
+        })
+    }
+}

@@ -1,0 +1,25 @@
+//! What a schema of the Cedar validator holds: entity types, actions, the entities of actions,
+//! and the environments of requests.
+#![tactic(auto)]
+
+pub use action_id::ValidatorActionId;
+pub use apply_spec::ValidatorApplySpec;
+pub use entities_of_actions::action_entities;
+pub use entity_type::ValidatorEntityType;
+pub use entity_type_kind::{StandardValidatorEntityType, ValidatorEntityTypeKind};
+pub use request_env::{RequestEnv, UnlinkedRequestEnv};
+pub use request_environments::environments;
+
+mod action_id;
+mod action_kind;
+mod action_node;
+mod apply_spec;
+mod entities_of_actions;
+mod entity_type;
+mod entity_type_kind;
+mod entity_type_node;
+mod qualified;
+mod request_env;
+mod request_environments;
+mod sets;
+pub mod theorems;

@@ -1,0 +1,61 @@
+//! The types of requests.
+
+ghost use Rattle.std.specs.Prelude.{◌≡◌, IfOk};
+ghost use Rattle.cedar_schema_elements.specs.RequestEnv.{environment_of, owned_environment};
+
+use cedar_below::{EntityType, EntityUID, M};
+use cedar_types::Type;
+use std::rc::Rc;
+
+/// The types of a request: those of its principal and of its resource, its action, and the type of its
+/// context.
+#[derive(Debug, Clone, Copy)]
+pub struct RequestEnv<'a> {
+    /// The entity type of the principal.
+    pub principal: &'a EntityType,
+    /// The action.
+    pub action: &'a EntityUID,
+    /// The entity type of the resource.
+    pub resource: &'a EntityType,
+    /// The type of the context.
+    pub context: &'a Type,
+}
+
+/// The types of a request that are held apart from the schema which they came from.
+#[derive(Debug, Drop)]
+pub struct UnlinkedRequestEnv {
+    /// The entity type of the principal.
+    pub principal: EntityType,
+    /// The action.
+    pub action: EntityUID,
+    /// The entity type of the resource.
+    pub resource: EntityType,
+    /// The type of the context.
+    pub context: Rc<Type>,
+}
+
+impl UnlinkedRequestEnv {
+    /// The same types, borrowed.
+    pub fn as_request_env(&self) -> RequestEnv<'_>
+        ensures { environment_of result ≡ owned_environment self.now }
+    {
+        RequestEnv {
+            principal: &self.principal,
+            action: &self.action,
+            resource: &self.resource,
+            context: &self.context,
+        }
+    }
+
+    /// The same types, of which that of the context is shared.
+    pub fn clone(&self) -> M<Self>
+        ensures { IfOk result (λ copy. owned_environment copy ≡ owned_environment self.now) }
+    {
+        Ok(UnlinkedRequestEnv {
+            principal: self.principal.clone()?,
+            action: self.action.clone()?,
+            resource: self.resource.clone()?,
+            context: self.context.clone()?,
+        })
+    }
+}

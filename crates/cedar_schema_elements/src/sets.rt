@@ -1,0 +1,59 @@
+//! Sets of entity types and of uids.
+
+ghost use Rattle.std.specs.Prelude.{◌≡◌, IsTrue, IfOk, Result, List, map};
+ghost use Rattle.std.specs.Fn.{FnReturnsAt};
+ghost use Rattle.std.specs.HashSet.{contains};
+ghost use Rattle.std.specs.Iterator.{IsFinite, Drains};
+ghost use Rattle.cedar_below.specs.EntityType.{type_name};
+ghost use Rattle.cedar_below.specs.EntityUID.{uid_of};
+ghost use Rattle.cedar_below.specs.Lists.{SameItems};
+ghost use Rattle.cedar_below.specs.declared.entity_type.EntityType.{EntityType};
+ghost use Rattle.cedar_below.specs.declared.entity_uid.EntityUID.{EntityUID};
+ghost use Rattle.cedar_below.specs.declared.memory.Memory.{Memory};
+
+use cedar_below::{EntityType, EntityUID, M};
+use std::alloc::Global;
+use std::collections::HashSet;
+use std::default::Emptied;
+use std::hash::Hash;
+
+/// The set of some entity types. The entity types have to come to an end.
+pub(crate) fn type_set<I: IntoIterator<Item = EntityType>>(
+    alloc: Global,
+    types: I,
+) -> M<HashSet<EntityType>>
+    requires { (it : I.IntoIter) → I.into_iter_gives types it → I.IntoIter.can_next it × IsFinite (I.IntoIter.remaining it) }
+    ensures { IfOk result (λ set. (it : I.IntoIter) × (xs : List EntityType)
+        × I.into_iter_gives types it × Drains I.IntoIter.next_gives it xs × SameItems (map type_name set.keys) (map type_name xs)) }
+{
+    Ok(HashSet::from_iter(alloc, types)?)
+}
+
+/// The set of some uids. The uids have to come to an end.
+pub(crate) fn uid_set<I: IntoIterator<Item = EntityUID>>(
+    alloc: Global,
+    uids: I,
+) -> M<HashSet<EntityUID>>
+    requires { (it : I.IntoIter) → I.into_iter_gives uids it → I.IntoIter.can_next it × IsFinite (I.IntoIter.remaining it) }
+    ensures { IfOk result (λ set. (it : I.IntoIter) × (xs : List EntityUID)
+        × I.into_iter_gives uids it × Drains I.IntoIter.next_gives it xs × SameItems (map uid_of set.keys) (map uid_of xs)) }
+{
+    Ok(HashSet::from_iter(alloc, uids)?)
+}
+
+/// The set of copies of the items of a set. Each copy has to equal its item.
+pub(crate) fn copied<K: Eq + Hash + Drop, F: Fn(&K) -> M<K> + Drop>(
+    items: &HashSet<K>,
+    copy: F,
+) -> M<HashSet<K>>
+    requires callable { F.IsAlwaysCallable copy }
+    requires equal { (item : K) (answer : Result K Memory) → FnReturnsAt F.Fn copy item answer
+        → IfOk answer (λ other. IsTrue (K.eq other item)) }
+    ensures { IfOk result (λ set. (other : K) → contains K.eq set other ≡ contains K.eq items.now other) }
+{
+    let mut set = HashSet::emptied(items)?;
+    for item in items {
+        set.insert(copy(item)?)?;
+    }
+    Ok(set)
+}

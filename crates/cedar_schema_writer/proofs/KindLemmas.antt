@@ -1,0 +1,233 @@
+-- Kinds of entity types and actions that are written, and whether they can be.
+use Rattle.std.proofs.Common.{◌≡◌, ◌↔◌, List, [], ◌∷◌, Option, None, Some, map, ap, sym, subst, ◌∙◌, refl, inl, inr, ⊎_elim, arith, string_bytes, Contains}
+use Rattle.std.proofs.lemmas.Simd.{map-map}
+use Rattle.cedar_below.proofs.Lists.{Contains-cons, Contains-preimage}
+use Rattle.cedar_below.specs.PlainName.{PlainName}
+use Rattle.cedar_below.specs.PlainUid.{PlainUid}
+use Rattle.cedar_declarations.proofs.OccurrenceLemmas.{Contains-flat_map, Contains-given, Contains-image}
+use Rattle.cedar_declarations.specs.EntityTypeKind.{EntityTypeKind, standard_kind, enumerated_kind, external_kind, kind_fields, kind_openness, kind_tags}
+use Rattle.cedar_declarations.specs.Names.{Names}
+use Rattle.cedar_declarations.specs.PlainSchema.{ActionKind, defined_action, external_action, PlainSchema, SchemaAction, SchemaEntityType}
+use Rattle.cedar_declarations.specs.ValidSchema.{IsPrincipalOrResourceOf, ListsDescendant, ListsDescendantAction}
+use Rattle.cedar_declarations.specs.ConvertedBack.{AreFullNames, AreFullUids, AreRequestsWritten, IsKindWritten, NamesNoOther, full_name, full_uid, type_written}
+use Rattle.cedar_schema_elements.specs.ActionKind.{kind_context, kind_principals, kind_resources}
+use Rattle.cedar_below.specs.Text.{Text}
+use Rattle.cedar_names.specs.ActionBody.{elsewhere, parent_action, parent_type, requests}
+use Rattle.cedar_names.specs.Expr.{Expr}
+use Rattle.cedar_names.specs.RawExpr.{raw_reference}
+use Rattle.cedar_names.specs.RawName.{raw_name}
+use Rattle.cedar_names.specs.declared.json_schema.action_type.ActionEntityUID.{ActionEntityUID}
+use Rattle.cedar_names.specs.declared.json_schema.raw_name.RawName.{RawName}
+use Rattle.cedar_names.specs.declared.json_schema.reference_type.ReferenceType.TheVariants.{Entity}
+use Rattle.cedar_schema_writer.specs.Parts.{written_action_type, written_uid}
+use Rattle.cedar_names.specs.EntityBody.{EntityBody, standard, enumerated, external}
+use Rattle.cedar_names.specs.Reference.{ActionReference, Reference}
+use Rattle.cedar_type_rules.specs.Ty.{Fields, Ty, record_of}
+use Rattle.cedar_type_rules.specs.declared.open_tag.OpenTag.{OpenTag}
+use Rattle.cedar_schema_writer.specs.Parents.{action_edges, edges_to, type_edges}
+use Rattle.cedar_schema_writer.specs.Sound.{IsSoundAction, IsSoundKind, IsSoundType}
+
+-- the full names of some names are just those
+pub full_names : (namespace : Option PlainName) (names : List PlainName)
+    → AreFullNames namespace (λ name. Contains names name) (map (full_name namespace) names)
+full_names namespace names reference = (
+  Contains-preimage (full_name namespace) names reference,
+  λ of.
+      let P : Reference → Type 0 = Contains (map (full_name namespace) names) in
+      subst P of.2 (Contains-image (full_name namespace) names of.0 of.1),
+)
+
+-- the same of uids
+pub full_uids : (namespace : Option PlainName) (uids : List PlainUid)
+    → AreFullUids namespace (λ uid. Contains uids uid) (map (full_uid namespace) uids)
+full_uids namespace uids reference = (
+  Contains-preimage (full_uid namespace) uids reference,
+  λ of.
+      let P : ActionReference → Type 0 = Contains (map (full_uid namespace) uids) in
+      subst P of.2 (Contains-image (full_uid namespace) uids of.0 of.1),
+)
+
+module _ (namespace : Option PlainName) (P Q : PlainName → Type 0) (same : (name : PlainName) → P name ↔ Q name) where
+  -- references to the names of which one fact holds are those of which another holds that is the same
+  pub full_names-same : (references : List Reference) → AreFullNames namespace P references → AreFullNames namespace Q references
+  full_names-same references are reference = (
+    λ among. let of = (are reference).0 among in (of.0, (same of.0).0 of.1, of.2),
+    λ of. (are reference).1 (of.0, (same of.0).1 of.1, of.2),
+  )
+
+  -- so a kind is written with the same parents
+  pub kind-same : (kind : EntityTypeKind) (body : EntityBody) → IsKindWritten namespace P kind body → IsKindWritten namespace Q kind body
+  kind-same (standard_kind fields openness tags) (standard parents shape written) is = (full_names-same parents is.0, is.1, is.2)
+  kind-same (standard_kind fields openness tags) (enumerated ids) is = absurd is
+  kind-same (standard_kind fields openness tags) (external parents) is = absurd is
+  kind-same (enumerated_kind choices) (standard parents shape written) is = absurd is
+  kind-same (enumerated_kind choices) (enumerated ids) is = is
+  kind-same (enumerated_kind choices) (external parents) is = absurd is
+  kind-same external_kind (standard parents shape written) is = absurd is
+  kind-same external_kind (enumerated ids) is = absurd is
+  kind-same external_kind (external parents) is = full_names-same parents is
+
+  -- and can be
+  pub sound_kind-same : (names : Names) (kind : EntityTypeKind) → IsSoundKind names namespace P kind → IsSoundKind names namespace Q kind
+  sound_kind-same names kind sound = record {
+    types = sound.types;
+    without_parents = λ is upper above. sound.without_parents is upper ((same upper).1 above);
+  }
+
+module _ (names : Names) (namespace : Option PlainName) (IsAbove : PlainName → Type 0) where
+  -- a standard entity type can be written exactly if its attributes and its tags can
+  pub sound_standard : (fields : Fields) (openness : OpenTag) (tags : Option Ty) → IsSoundType names namespace (record_of fields openness)
+      → ((ty : Ty) → tags ≡ Some ty → IsSoundType names namespace ty) → IsSoundKind names namespace IsAbove
+      (standard_kind fields openness tags)
+  sound_standard fields openness tags attributes tag_type =
+      let P : Ty → Type 0 = IsSoundType names namespace in
+      record {
+        types = λ ty. ⊎_elim (λ record_type. subst P (sym record_type) attributes) (λ is. tag_type ty is);
+        without_parents = λ no. absurd no;
+      }
+
+  -- an enumerated one can without parents
+  pub sound_enumerated : (choices : List Text) → ((upper : PlainName) → ¬ IsAbove upper)
+      → IsSoundKind names namespace IsAbove (enumerated_kind choices)
+  sound_enumerated choices none = record { types = λ ty no. absurd no; without_parents = λ is upper. none upper }
+
+  -- an external one can
+  pub sound_external : IsSoundKind names namespace IsAbove external_kind
+  sound_external = record { types = λ ty no. absurd no; without_parents = λ no. absurd no }
+
+-- the edges of entity types are what they list
+pub type_edges-listed : (schema : PlainSchema) (lower upper : PlainName)
+    → Contains (type_edges schema.entity_types) (lower, upper) ↔ ListsDescendant schema lower upper
+type_edges-listed schema lower upper = (
+  λ among.
+      let found = Contains-flat_map (λ (it : PlainName × SchemaEntityType). edges_to it.0 it.1.descendants) schema.entity_types
+      (lower, upper) among in
+      let one = Contains-preimage (λ (low : PlainName). (low, found.0.0)) found.0.1.descendants (lower, upper) found.2 in
+      let P : PlainName → Type 0 = λ key. Contains schema.entity_types (key, found.0.1) in
+      let Q : PlainName → Type 0 = Contains found.0.1.descendants in (
+        found.0.1,
+        subst P (ap (λ (edge : PlainName × PlainName). edge.1) one.2) found.1,
+        subst Q (ap (λ (edge : PlainName × PlainName). edge.0) one.2) one.1,
+      ),
+  λ of.
+      Contains-given (λ (it : PlainName × SchemaEntityType). edges_to it.0 it.1.descendants) schema.entity_types (upper, of.0)
+      (lower, upper) of.1
+      (Contains-image (λ (low : PlainName). (low, upper)) of.0.descendants lower of.2),
+)
+
+-- the same of actions
+pub action_edges-listed : (schema : PlainSchema) (lower upper : PlainUid)
+    → Contains (action_edges schema.actions) (lower, upper) ↔ ListsDescendantAction schema lower upper
+action_edges-listed schema lower upper = (
+  λ among.
+      let found = Contains-flat_map (λ (it : PlainUid × SchemaAction). edges_to it.0 it.1.descendants) schema.actions
+      (lower, upper) among in
+      let one = Contains-preimage (λ (low : PlainUid). (low, found.0.0)) found.0.1.descendants (lower, upper) found.2 in
+      let P : PlainUid → Type 0 = λ key. Contains schema.actions (key, found.0.1) in
+      let Q : PlainUid → Type 0 = Contains found.0.1.descendants in (
+        found.0.1,
+        subst P (ap (λ (edge : PlainUid × PlainUid). edge.1) one.2) found.1,
+        subst Q (ap (λ (edge : PlainUid × PlainUid). edge.0) one.2) one.1,
+      ),
+  λ of.
+      Contains-given (λ (it : PlainUid × SchemaAction). edges_to it.0 it.1.descendants) schema.actions (upper, of.0) (lower, upper) of.1
+      (Contains-image (λ (low : PlainUid). (low, upper)) of.0.descendants lower of.2),
+)
+
+-- the full names of parents are those of the names that are written
+pub written_names : (namespace : Option PlainName) (parents : List RawName)
+    → AreFullNames namespace (λ upper. Contains (map raw_name parents) upper) (map (raw_reference namespace Entity) parents)
+written_names namespace parents =
+    let P : List Reference → Type 0 = AreFullNames namespace (λ upper. Contains (map raw_name parents) upper) in
+    subst P (map-map (full_name namespace) raw_name parents) (full_names namespace (map raw_name parents))
+
+-- a parent of an action is the full uid that is written
+parent-same : (namespace : Option PlainName) (it : ActionEntityUID RawName)
+    → parent_action RawName (raw_reference namespace) namespace it ≡ full_uid namespace (written_uid it)
+parent-same namespace it =
+    ap (λ (reference : Reference). record { id = string_bytes it.id; ty = reference }) (by it.ty)
+  where
+    by : (ty : Option RawName) → parent_type RawName (raw_reference namespace) namespace ty ≡ full_name namespace (written_action_type ty)
+    by None = refl
+    by (Some name) = refl
+
+-- so are all of them
+pub written_parents : (namespace : Option PlainName) (parents : List (ActionEntityUID RawName))
+    → map (parent_action RawName (raw_reference namespace) namespace) parents ≡ map (full_uid namespace) (map written_uid parents)
+written_parents namespace [] = refl
+written_parents namespace (first ∷ rest) = λ i. parent-same namespace first i ∷ written_parents namespace rest i
+
+-- a kind that is standard is made of its parts
+pub standard-parts : (kind : EntityTypeKind) (fields : Fields) (openness : OpenTag) (tags : Option Ty)
+    → kind ≡ standard_kind fields openness tags
+    → standard_kind (kind_fields kind) (kind_openness kind) (kind_tags kind) ≡ kind
+standard-parts kind fields openness tags is = ap (λ it. standard_kind (kind_fields it) (kind_openness it) (kind_tags it)) is ∙ sym is
+
+-- a list that shows nothing is empty
+pub shows_none : {A B : Type 0} (f : A → B) (xs : List A) → ((y : B) → ¬ Contains (map f xs) y) → xs ≡ []
+shows_none f [] none = refl
+shows_none f (x ∷ xs) none = absurd (none (f x) (Contains-cons (f x) (map f xs) (f x) (inl refl)))
+
+-- an enumerated kind that can be written has no parents
+pub enumerated_alone : (names : Names) (namespace : Option PlainName) (IsAbove : PlainName → Type 0) (kind : EntityTypeKind)
+    (choices : List Text) → kind ≡ enumerated_kind choices → IsSoundKind names namespace IsAbove kind → (upper : PlainName)
+    → ¬ IsAbove upper
+enumerated_alone names namespace IsAbove kind choices is sound =
+    let P : EntityTypeKind → Type 0 = IsSoundKind names namespace IsAbove in (subst P is sound).without_parents tt
+
+module _ (namespace : Option PlainName) where
+  -- an action with a context is written for its requests
+  pub defined_written : (kind : ActionKind) (principals resources : List RawName) (context : Ty) (expr : Expr)
+      → kind_context kind ≡ Some context → map raw_name principals ≡ kind_principals kind → map raw_name resources ≡ kind_resources kind
+      → type_written namespace context ≡ Some expr
+      → AreRequestsWritten namespace kind
+      (requests (map (raw_reference namespace Entity) principals) (map (raw_reference namespace Entity) resources) expr)
+  defined_written (defined_action principal_types resource_types ty) principals resources context expr is these those written =
+      let same : ty ≡ context = cc in
+      let P : List PlainName → Type 0 = λ names. AreFullNames namespace (λ name. Contains names name) (map
+      (raw_reference namespace Entity) principals) in
+      let Q : List PlainName → Type 0 = λ names. AreFullNames namespace (λ name. Contains names name) (map
+      (raw_reference namespace Entity) resources) in (
+        subst P these (written_names namespace principals),
+        subst Q those (written_names namespace resources),
+        ap (type_written namespace) same ∙ written,
+      )
+  defined_written external_action principals resources context expr is these those written = cc
+
+  -- one without is external
+  pub external_written : (kind : ActionKind) → None ≡ kind_context kind → AreRequestsWritten namespace kind elsewhere
+  external_written (defined_action principals resources context) is = cc
+  external_written external_action is = tt
+
+  -- an action can be written where its context can, and its principals and resources name no others
+  pub sound_action : (names : Names) (kind : ActionKind) (context : Ty) → kind_context kind ≡ Some context
+      → IsSoundType names namespace context
+      → ((name : PlainName) → Contains (kind_principals kind) name → NamesNoOther names namespace name)
+      → ((name : PlainName) → Contains (kind_resources kind) name → NamesNoOther names namespace name)
+      → IsSoundAction names namespace kind
+  sound_action names (defined_action principals resources ty) context is sound these those =
+      let same : ty ≡ context = cc in
+      let P : Ty → Type 0 = IsSoundType names namespace in
+      record {
+        context = λ it of. subst P (sym same ∙ of) sound;
+        no_other = λ name. ⊎_elim (these name) (those name);
+      }
+  sound_action names external_action context is sound these those = cc
+
+-- a principal is one of the kind
+pub principal_of : (kind : ActionKind) (name : PlainName) → Contains (kind_principals kind) name → IsPrincipalOrResourceOf kind name
+principal_of (defined_action principals resources context) name among = inl among
+principal_of external_action name among = absurd (omega (arith, among.1))
+
+-- so is a resource
+pub resource_of : (kind : ActionKind) (name : PlainName) → Contains (kind_resources kind) name → IsPrincipalOrResourceOf kind name
+resource_of (defined_action principals resources context) name among = inr among
+resource_of external_action name among = absurd (omega (arith, among.1))
+
+-- references to the uids of which one fact holds are those of which another holds that is the same
+pub full_uids-same : (namespace : Option PlainName) (P Q : PlainUid → Type 0) → ((uid : PlainUid) → P uid ↔ Q uid)
+    → (references : List ActionReference) → AreFullUids namespace P references → AreFullUids namespace Q references
+full_uids-same namespace P Q same references are reference = (
+  λ among. let of = (are reference).0 among in (of.0, (same of.0).0 of.1, of.2),
+  λ of. (are reference).1 (of.0, (same of.0).1 of.1, of.2),
+)

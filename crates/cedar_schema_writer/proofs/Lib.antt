@@ -1,0 +1,11 @@
+pub mod Answered
+pub mod DefinitionLemmas
+pub mod Inverted
+pub mod Keyed
+pub mod KindLemmas
+pub mod NameLemmas
+pub mod Put
+pub mod Refusals
+pub mod TypeLemmas
+pub mod Whole
+pub mod Written

@@ -1,0 +1,199 @@
+-- A schema whose parts can be written, and are.
+use Rattle.std.proofs.Common.{◌≡◌, ◌↔◌, ◌++◌, List, [], ◌∷◌, Option, None, Some, map, ap, subst, refl, inl, inr, ⊎_elim, Contains}
+use Rattle.std.proofs.lemmas.List.Elements.{Contains-append_cases, Contains-append_left, Contains-append_right}
+use Rattle.std.proofs.lemmas.List.Sorted.{Contains-permutation, IsPermutation-append_left, IsPermutation-sym, IsPermutation-trans}
+use Rattle.std.specs.List.Sorted.{IsPermutation}
+use Rattle.cedar_below.proofs.Lists.{Contains-preimage}
+use Rattle.cedar_below.specs.EntityType.{type_name}
+use Rattle.cedar_below.specs.PlainName.{PlainName, IsActionType}
+use Rattle.cedar_below.specs.PlainUid.{PlainUid}
+use Rattle.cedar_below.specs.Text.{Text}
+use Rattle.cedar_declarations.proofs.OccurrenceLemmas.{Contains-image}
+use Rattle.cedar_declarations.proofs.ResolutionLemmas.{IsFirst-like}
+use Rattle.cedar_declarations.proofs.TurnLemmas.{turn_back, turn_forth, turn_weaker}
+use Rattle.cedar_declarations.specs.Bag.{Bag}
+use Rattle.cedar_declarations.specs.Names.{IsDefined, Names}
+use Rattle.cedar_declarations.specs.PlainSchema.{ActionEntity, PlainSchema, SchemaAction, SchemaEntityType}
+use Rattle.cedar_declarations.specs.ConvertedBack.{IsActionDeclaration, IsPathOf, IsTypeDeclaration, IsWritable, IsConvertedBack, NamesNoOther, full_name, schema_names}
+use Rattle.cedar_names.specs.ActionBody.{ActionBody}
+use Rattle.cedar_names.specs.Declaration.{Declaration}
+use Rattle.cedar_names.specs.declared.json_schema.reference_type.ReferenceType.TheVariants.{Entity}
+use Rattle.cedar_schema_writer.proofs.KindLemmas.{action_edges-listed, type_edges-listed}
+use Rattle.cedar_schema_writer.proofs.Written.{none_there}
+use Rattle.cedar_schema_writer.specs.Definitions.{ArePut, action_declared}
+use Rattle.cedar_schema_writer.specs.Parents.{IsKnownActionEdge, IsKnownEdge, action_edges, type_edges}
+use Rattle.cedar_schema_writer.specs.Parts.{known_names, known_schema, parts_schema}
+use Rattle.cedar_schema_writer.specs.Sound.{IsSoundActionEntry, IsSoundEntityType}
+use Rattle.cedar_schema_writer.specs.declared.known.Known.{Known}
+
+-- where the same entity types are known, a name names no other both times
+no_other-same : (names other : Names) → ((name : PlainName) → Contains names.entities name ↔ Contains other.entities name)
+    → (namespace : Option PlainName) (name : PlainName) → NamesNoOther names namespace name → NamesNoOther other namespace name
+no_other-same names other same namespace name no_other it resolves =
+    no_other it (IsFirst-like (IsDefined other Entity) (IsDefined names Entity)
+    (λ each. ⊎_elim (λ common. absurd common.0) (λ of. inr (tt, (same each).1 of.1)))
+    (λ each. ⊎_elim (λ common. absurd common.0) (λ of. inr (tt, (same each).0 of.1)))
+    (full_name namespace name).possibilities it resolves)
+
+-- each path is that of names in some namespace
+namespace_of_path : (path : List Text) → (namespace : Option PlainName) × IsPathOf namespace path
+namespace_of_path [] = (None, refl)
+namespace_of_path (first ∷ rest) = by (namespace_of_path rest) where
+  by : ((namespace : Option PlainName) × IsPathOf namespace rest) → (namespace : Option PlainName) × IsPathOf namespace (first ∷ rest)
+  by (None, is) = (Some (record { base = first; path = [] }), ap (λ others. first ∷ others) is)
+  by (Some outer, is) = (Some (record { base = outer.base; path = first ∷ outer.path }), ap (λ others. first ∷ others) is)
+
+-- what is known is the schema's, where the types of actions are collected
+module _ (known : Known) (exact : (name : PlainName) → Contains (map type_name known.action_types.now.keys) name
+    ↔ Contains (map (λ (it : PlainUid × SchemaAction). it.0.ty) (known_schema known).actions) name) (entities : List ActionEntity) where
+  same_names : (name : PlainName) → Contains (known_names known).entities name
+      ↔ Contains (schema_names (parts_schema known.entity_types.now.entries known.actions.now.entries entities)).entities name
+  same_names name =
+      let types = map (λ (it : PlainName × SchemaEntityType). it.0) (known_schema known).entity_types in
+      let collected = map type_name known.action_types.now.keys in
+      let of_actions = map (λ (it : PlainUid × SchemaAction). it.0.ty) (known_schema known).actions in (
+        λ among. ⊎_elim
+            (λ there. Contains-append_left types of_actions name there)
+            (λ there. Contains-append_right types of_actions name ((exact name).0 there))
+            (Contains-append_cases types collected name among),
+        λ among. ⊎_elim
+            (λ there. Contains-append_left types collected name there)
+            (λ there. Contains-append_right types collected name ((exact name).1 there))
+            (Contains-append_cases types of_actions name among),
+      )
+
+  to_schema : (namespace : Option PlainName) (name : PlainName) → NamesNoOther (known_names known) namespace name
+      → NamesNoOther (schema_names (parts_schema known.entity_types.now.entries known.actions.now.entries entities)) namespace name
+  to_schema = no_other-same (known_names known) (schema_names
+      (parts_schema known.entity_types.now.entries known.actions.now.entries entities)) same_names
+
+  to_known : (namespace : Option PlainName) (name : PlainName)
+      → NamesNoOther (schema_names (parts_schema known.entity_types.now.entries known.actions.now.entries entities)) namespace name
+      → NamesNoOther (known_names known) namespace name
+  to_known = no_other-same (schema_names (parts_schema known.entity_types.now.entries known.actions.now.entries entities))
+      (known_names known)
+      (λ name. ((same_names name).1, (same_names name).0))
+
+  -- where each part can be written, the schema can
+  pub parts_writable : ((edge : PlainName × PlainName) → Contains (type_edges (known_schema known).entity_types) edge
+      → IsKnownEdge known edge)
+      → ((edge : PlainUid × PlainUid) → Contains (action_edges (known_schema known).actions) edge → IsKnownActionEdge known edge)
+      → ((it : PlainName × SchemaEntityType) → Contains (known_schema known).entity_types it → IsSoundEntityType known it)
+      → ((it : PlainUid × SchemaAction) → Contains (known_schema known).actions it → IsSoundActionEntry known it)
+      → IsWritable (parts_schema known.entity_types.now.entries known.actions.now.entries entities)
+  parts_writable type_edge action_edge type_sound action_sound = record {
+    types = λ namespace ty. ⊎_elim
+        (λ of. ((type_sound of.0 of.1 namespace of.2).types ty of.3).written)
+        (λ of. (((action_sound of.0 of.1).kind namespace of.2).context ty of.3).written);
+    names = λ namespace name written. to_schema namespace name (⊎_elim
+        (λ in_type. ⊎_elim
+        (λ of. ((type_sound of.0 of.1 namespace of.2).types in_type.0 of.3).no_other name in_type.2)
+        (λ of. (((action_sound of.0 of.1).kind namespace of.2).context in_type.0 of.3).no_other name in_type.2)
+        in_type.1)
+        (λ others. ⊎_elim
+        (λ above. (type_edge (above.0, name) ((type_edges-listed (known_schema known) above.0 name).1 above.2)).no_other namespace above.1)
+        (λ of. ((action_sound of.0 of.1).kind namespace of.2).no_other name of.3)
+        others)
+        written);
+    uids = λ namespace uid above.
+        (action_edge (above.0, uid) ((action_edges-listed (known_schema known) above.0 uid).1 above.2)).no_other namespace above.1;
+    action_types = λ uid has.
+        let found = Contains-preimage (λ (it : PlainUid × SchemaAction). it.0) (known_schema known).actions uid has in
+        let P : PlainUid → Type 0 = λ it. IsActionType it.ty in
+        subst P found.2 (action_sound found.0 found.1).action_type;
+    entity_types_below = λ lower upper lists. (type_edge (lower, upper) ((type_edges-listed
+        (known_schema known) lower upper).1 lists)).there;
+    none_enumerated = λ lower upper lists of.
+        let namespace = namespace_of_path lower.path in
+        (type_sound (lower, of.0) of.1 namespace.0 namespace.1).without_parents of.2 upper lists;
+    actions_below = λ lower upper lists. (action_edge (lower, upper) ((action_edges-listed
+        (known_schema known) lower upper).1 lists)).there;
+  }
+
+  module _ (writable : IsWritable (parts_schema known.entity_types.now.entries known.actions.now.entries entities)) where
+    -- where the schema can be written, so can each edge of entity types
+    pub edge_writable : (edge : PlainName × PlainName) → Contains (type_edges (known_schema known).entity_types) edge
+        → IsKnownEdge known edge
+    edge_writable edge among =
+        let lists = (type_edges-listed (known_schema known) edge.0 edge.1).0 among in
+        record {
+          there = writable.entity_types_below edge.0 edge.1 lists;
+          no_other = λ namespace is. to_known namespace edge.1 (writable.names namespace edge.1 (inr (inl (edge.0, is, lists))));
+        }
+
+    -- each edge of actions
+    pub action_edge_writable : (edge : PlainUid × PlainUid) → Contains (action_edges (known_schema known).actions) edge
+        → IsKnownActionEdge known edge
+    action_edge_writable edge among =
+        let lists = (action_edges-listed (known_schema known) edge.0 edge.1).0 among in
+        record {
+          there = writable.actions_below edge.0 edge.1 lists;
+          no_other = λ namespace is. writable.uids namespace edge.1 (edge.0, is, lists);
+        }
+
+    -- each entity type
+    pub type_writable : (it : PlainName × SchemaEntityType) → Contains (known_schema known).entity_types it → IsSoundEntityType known it
+    type_writable it among namespace is = record {
+      types = λ ty of. record {
+        written = writable.types namespace ty (inl (it, among, is, of));
+        no_other = λ name mentions. to_known namespace name (writable.names namespace name (inl (ty, inl (it, among, is, of), mentions)));
+      };
+      without_parents = λ enumerated upper lists. writable.none_enumerated it.0 upper lists (it.1, among, enumerated);
+    }
+
+    -- and each action
+    pub action_writable : (it : PlainUid × SchemaAction) → Contains (known_schema known).actions it → IsSoundActionEntry known it
+    action_writable it among = record {
+      action_type = writable.action_types it.0 (Contains-image (λ (entry : PlainUid × SchemaAction). entry.0)
+          (known_schema known).actions it among);
+      kind = λ namespace is. record {
+        context = λ ty of. record {
+          written = writable.types namespace ty (inr (it, among, is, of));
+          no_other = λ name mentions. to_known namespace name (writable.names namespace name (inl (ty, inr (it, among, is, of), mentions)));
+        };
+        no_other = λ name role. to_known namespace name (writable.names namespace name (inr (inr (it, among, is, role))));
+      };
+    }
+
+-- the declarations of entity types hold none of an action
+pub no_action : (schema : PlainSchema) (before after : Bag) → before ≡ []
+    → ArePut (IsTypeDeclaration schema) schema.entity_types before after
+    → (namespace : Option PlainName) (id : Text) (body : ActionBody) → ¬ Contains after (action_declared namespace id body)
+no_action schema before after nothing put namespace id body among =
+    let item = action_declared namespace id body in
+    let back = Contains-permutation after (before ++ put.put) item (IsPermutation-sym _ _ put.in_some_order) among in
+    let there : Contains put.put item =
+    ⊎_elim (λ no. absurd (none_there before item nothing no)) (λ yes. yes) (Contains-append_cases before put.put item back) in
+    let S : Declaration → PlainName × SchemaEntityType → Type 0 = λ declaration it. IsTypeDeclaration schema it declaration in
+    let found = turn_forth S put.put schema.entity_types
+    (turn_back (IsTypeDeclaration schema) S (λ it declaration is. is) schema.entity_types put.put put.turn) item there in
+    let same = found.2.declares in cc
+
+-- where the declarations of the entity types and those of the actions are put in, the schema is converted back
+pub parts_written : (known : Known) (entities : List ActionEntity) (before middle after : Bag) → before ≡ []
+    → ArePut (IsTypeDeclaration (known_schema known)) (known_schema known).entity_types before middle
+    → ArePut (IsActionDeclaration (known_schema known)) (known_schema known).actions middle after
+    → IsConvertedBack (parts_schema known.entity_types.now.entries known.actions.now.entries entities) after
+parts_written known entities before middle after nothing types actions =
+    let schema = parts_schema known.entity_types.now.entries known.actions.now.entries entities in
+    let P : Bag → Type 0 = λ items. IsPermutation (items ++ types.put) middle in
+    record {
+      entity_types = types.put;
+      actions = actions.put;
+      each_entity_type = turn_weaker (IsTypeDeclaration (known_schema known)) (IsTypeDeclaration schema)
+          (λ it declaration is. record { name = is.name; body = is.body; declares = is.declares; kind = is.kind })
+          (known_schema known).entity_types types.put types.turn;
+      each_action = turn_weaker (IsActionDeclaration (known_schema known)) (IsActionDeclaration schema)
+          (λ it declaration is. record {
+            uid = is.uid;
+            parents = is.parents;
+            applies_to = is.applies_to;
+            declares = is.declares;
+            above = is.above;
+            kind = is.kind;
+          })
+          (known_schema known).actions actions.put actions.turn;
+      in_some_order =
+          IsPermutation-trans _ _ _ (IsPermutation-append_left actions.put types.put middle
+          (subst P nothing types.in_some_order)) actions.in_some_order;
+    }

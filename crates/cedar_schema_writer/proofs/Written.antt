@@ -1,0 +1,56 @@
+-- Items that are written one after another.
+use Rattle.std.proofs.Common.{◌≡◌, ◌++◌, List, [], ◌∷◌, ap, sym, subst, ◌∙◌, refl, inl, ⊎_elim, append_assoc, arith, Contains}
+use Rattle.std.proofs.lemmas.List.{append-nil}
+use Rattle.std.proofs.lemmas.List.Elements.{Contains-append_cases, Contains-append_right}
+use Rattle.cedar_below.proofs.Lists.{Contains-cons}
+use Rattle.cedar_declarations.proofs.OccurrenceLemmas.{Contains-single}
+
+-- some items are written, of each of which a fact holds, and others are left
+pub record WrittenSoFar {A : Type 0} (P : A → Type 0) (all written left : List A) : Type 0 where
+  pub split : all ≡ written ++ left
+  pub sound : (x : A) → Contains written x → P x
+
+-- nothing stands in an empty list
+pub none_there : {A : Type 0} (items : List A) (x : A) → items ≡ [] → ¬ Contains items x
+none_there {A} items x nothing among =
+    let Q : List A → Type 0 = λ others. Contains others x in
+    let none : Contains [] x = subst Q nothing among in omega (arith, none.1)
+
+module _ {A : Type 0} (P : A → Type 0) (all : List A) where
+  -- at first none is
+  pub written_none : (written left : List A) → written ≡ [] → left ≡ all → WrittenSoFar P all written left
+  written_none written left nothing same = record {
+    split = sym same ∙ ap (λ items. items ++ left) (sym nothing);
+    sound = λ x among. absurd (none_there written x nothing among);
+  }
+
+  module _ (written left rest : List A) (x : A) (is : left ≡ x ∷ rest) (so_far : WrittenSoFar P all written left) where
+    -- the next is one of all
+    pub written_here : Contains all x
+    written_here =
+        let Q : List A → Type 0 = λ items. Contains items x in
+        subst Q (sym (so_far.split ∙ ap (λ others. written ++ others) is))
+        (Contains-append_right written (x ∷ rest) x (Contains-cons x rest x (inl refl)))
+
+    -- one more is written
+    pub written_more : (pushed : List A) → pushed ≡ written ++ x ∷ [] → P x → WrittenSoFar P all pushed rest
+    written_more pushed grown here = record {
+      split = so_far.split ∙ (ap (λ others. written ++ others) is ∙ (sym (append_assoc written (x ∷ []) rest)
+          ∙ ap (λ items. items ++ rest) (sym grown)));
+      sound = λ y among.
+          let Q : List A → Type 0 = λ items. Contains items y in
+          ⊎_elim
+          (λ before. so_far.sound y before)
+          (λ last. subst P (Contains-single x y last) here)
+          (Contains-append_cases written (x ∷ []) y (subst Q grown among));
+    }
+
+  -- where none is left, all are written
+  pub written_all : (written left : List A) → left ≡ [] → WrittenSoFar P all written left → written ≡ all
+  written_all written left nothing so_far = sym (so_far.split ∙ (ap (λ others. written ++ others) nothing ∙ append-nil written))
+
+  -- and the fact holds of each
+  pub each_sound : (written left : List A) → left ≡ [] → WrittenSoFar P all written left → (x : A) → Contains all x → P x
+  each_sound written left nothing so_far x among =
+      let Q : List A → Type 0 = λ items. Contains items x in
+      so_far.sound x (subst Q (sym (written_all written left nothing so_far)) among)

@@ -1,0 +1,132 @@
+use Rattle.std.proofs.Common.{◌≡◌, ◌↔◌, Bool, List, ap, map, string_bytes, sym, subst, ◌∙◌, Contains}
+use Rattle.std.proofs.lemmas.Bool.{false≢true}
+use Rattle.cedar_schema_elements.specs.ValidatorActionId.{plain_action_entry}
+use Rattle.cedar_below.specs.EntityUID.{uid_of}
+use Rattle.cedar_below.specs.PlainName.{PlainName, action_word}
+use Rattle.cedar_below.specs.PlainUid.{PlainUid}
+use Rattle.cedar_below.specs.Text.{Text}
+use Rattle.cedar_declarations.specs.PlainSchema.{SchemaAction}
+use Rattle.cedar_declarations.specs.ValidSchema.{ListsDescendantAction}
+use Rattle.cedar_declarations.specs.ConvertedBack.{AreFullUids, IsActionDeclaration, IsPathOf, full_uid}
+use Rattle.cedar_names.specs.ActionBody.{action_body}
+use Rattle.cedar_names.specs.Declaration.{action}
+use Rattle.cedar_names.specs.RawExpr.{raw_reference}
+use Rattle.cedar_names.specs.Reference.{ActionReference, name_within}
+use Rattle.cedar_names.specs.declared.json_schema.raw_name.RawName.{RawName}
+use Rattle.cedar_schema_writer.proofs.Keyed.{uids_once}
+use Rattle.cedar_schema_writer.proofs.KindLemmas.{action_edges-listed, full_uids, full_uids-same}
+use Rattle.cedar_schema_writer.proofs.NameLemmas.{in_each_namespace}
+use Rattle.cedar_schema_writer.proofs.Put.{put_here, put_more, put_none, put_other, put_sound}
+use Rattle.cedar_schema_writer.proofs.Refusals.{refusal_passed}
+use Rattle.cedar_schema_writer.proofs.Inverted.{held_listed}
+use Rattle.cedar_schema_writer.specs.Definitions.{action_declared, definitions_bag}
+use Rattle.cedar_schema_writer.specs.Parts.{known_names, known_schema, plain_namespace, written_uid}
+use Rattle.cedar_schema_writer.specs.Sound.{IsSoundAction, IsSoundActionEntry}
+use Rattle.cedar_schema_writer.proofs.actions.write_actions.Goals as goal
+use Rattle.cedar_schema_writer.proofs.actions.write_actions.Goals.{In_ok-above, In-Some}
+
+pub loop-uid-init : goal.loop-uid-init
+loop-uid-init c =
+    let entries = c.args.known.now.actions.now.entries in
+    record {
+      put = put_none (λ (it : PlainUid × SchemaAction). it.0) (IsActionDeclaration (known_schema c.args.known.now))
+          (IsSoundActionEntry c.args.known.now)
+          (definitions_bag c.args.definitions.now.entries) (map plain_action_entry entries) _
+          (ap (map plain_action_entry) c.into_iter-uid-iterator.ensures.into_iter_gives.0)
+          (uids_once entries c.into_iter-uid-iterator.ensures.into_iter_gives.5);
+      proper = λ all. all;
+    }
+
+-- the action of this turn
+abbrev turn : In-Some → PlainUid × SchemaAction
+turn c = plain_action_entry (c.in-Some.uid.now, c.in-Some.action.now)
+
+-- it is one of the schema
+listed : (c : In-Some) → Contains (known_schema c.args.known.now).actions (turn c)
+listed c =
+    let schema = known_schema c.args.known.now in
+    put_here (λ (entry : PlainUid × SchemaAction). entry.0) (IsActionDeclaration schema) (IsSoundActionEntry c.args.known.now)
+    (definitions_bag c.args.definitions.now.entries) schema.actions _ _ (turn c) (definitions_bag c.loop-uid.definitions.entries)
+    (ap (map plain_action_entry) c.in-Some.ensures.steps) c.loop-uid.invariant.put
+
+-- the namespace is that of its type
+path : (c : In_ok-above) → IsPathOf (plain_namespace c.in_ok-namespace.namespace) (uid_of c.in-Some.uid.now).ty.path
+path c = c.in_ok-namespace.ensures ∙ ap (λ (name : PlainName). name.path) (c.name.ensures.name ∙ c.entity_type.ensures.name)
+
+pub returns-then-not-is_action-clause-refusal : goal.returns-then-not-is_action-clause-refusal
+returns-then-not-is_action-clause-refusal c =
+    let at = (goal.at.returns-then-not-is_action-clause-refusal c).In-Some in
+    (turn at, listed at, λ sound. false≢true (sym c.if-not-is_action.true ∙ c.is_action.ensures.1 sound.action_type))
+
+pub returns-in_err-declared-clause-refusal : goal.returns-in_err-declared-clause-refusal
+returns-in_err-declared-clause-refusal c =
+    let at = (goal.at.returns-in_err-declared-clause-refusal c).In-Some in
+    refusal_passed _ _ c.from_residual-in_err-declared.ensures.1 c.in_err-declared.ensures.refusal
+    (λ unsound. (
+      turn at,
+      listed at,
+      λ sound. unsound (sound.kind _ (path (goal.at.returns-in_err-declared-clause-refusal c).In_ok-above)),
+    ))
+
+pub loop-uid-preserved : goal.loop-uid-preserved
+loop-uid-preserved c =
+    let known = c.args.known.now in
+    let schema = known_schema known in
+    let it : PlainUid × SchemaAction = plain_action_entry (c.in-Some.uid.now, c.in-Some.action.now) in
+    let namespace = plain_namespace c.in_ok-namespace.namespace in
+    let id = string_bytes c.in_ok-id.id.0 in
+    let body = action_body RawName (raw_reference namespace) namespace c.in_ok-declared.declared in
+    let at = (goal.at.loop-uid-preserved c).In_ok-above in
+    let action_type = c.is_action.ensures.0 c.if-not-is_action.false in
+    let eid : id ≡ it.0.eid = c.in_ok-id.ensures ∙ c.eid.ensures in
+    let base = sym action_type in
+    let uid : PlainUid = record { ty = name_within namespace action_word; eid = id } in
+    let here : uid ≡ it.0 =
+    (λ i. let word : Text = base i in let words : List Text = path at i in let text : Text = eid i in
+    record { ty = record { base = word; path = words }; eid = text }) in
+    let uids = map written_uid c.in_ok-above.above.items in
+    let Lists : PlainUid → Type 0 = λ upper. ListsDescendantAction schema it.0 upper in
+    let same : (upper : PlainUid) → Contains uids upper ↔ Lists upper =
+    held_listed c.requires.inverted c.in-Some.uid.now Lists (action_edges-listed schema it.0) uids c.in_ok-above.ensures in
+    let written = c.in_ok-declared.ensures.written in
+    let R : List ActionReference → Type 0 = AreFullUids namespace Lists in
+    let old = definitions_bag c.args.definitions.now.entries in
+    let current = definitions_bag c.loop-uid.definitions.entries in
+    let steps = ap (map plain_action_entry) c.in-Some.ensures.steps in
+    let sound : IsSoundActionEntry known it = record {
+      action_type = action_type;
+      kind = in_each_namespace (λ each. IsSoundAction (known_names known) each it.1.kind) namespace _ (path at)
+          c.in_ok-declared.ensures.sound;
+    } in
+    record {
+      put = put_more (λ (entry : PlainUid × SchemaAction). entry.0) (IsActionDeclaration schema)
+          (IsSoundActionEntry known) old schema.actions
+          _ _ it current steps c.loop-uid.invariant.put (action_declared namespace id body)
+          (definitions_bag c.put_action.new.definitions.entries)
+          (record {
+            uid = here;
+            parents = body.parents;
+            applies_to = body.applies_to;
+            declares = ap (λ (attributes : Bool). action
+                (record { has_attributes = attributes; parents = body.parents; applies_to = body.applies_to }))
+                written.without_attributes;
+            above = subst R (sym written.parents_are)
+                (full_uids-same namespace (λ upper. Contains uids upper) Lists same (map (full_uid namespace) uids)
+                (full_uids namespace uids));
+            kind = written.requests_are;
+          })
+          sound
+          (c.in_ok-put_action.ensures.put (λ other among.
+          let one = put_other (λ (entry : PlainUid × SchemaAction). entry.0) (IsActionDeclaration schema) (IsSoundActionEntry known) old
+          schema.actions _ _ it current steps c.loop-uid.invariant.put (action_declared namespace id other) among
+          (c.requires.none namespace id other) in
+          one.2 (sym one.1.uid ∙ here)));
+      proper = λ all. c.in_ok-put_action.ensures.proper c.in_ok-declared.ensures.applies (c.loop-uid.invariant.proper all);
+    }
+
+pub returns-clause-sound : goal.returns-clause-sound
+returns-clause-sound c =
+    let schema = known_schema c.args.known.now in
+    put_sound (λ (entry : PlainUid × SchemaAction). entry.0) (IsActionDeclaration schema) (IsSoundActionEntry c.args.known.now)
+    (definitions_bag c.args.definitions.now.entries) schema.actions _ (definitions_bag c.loop-uid.definitions.entries)
+    (ap (map plain_action_entry) c.in-None.ensures.steps.0) c.loop-uid.invariant.put

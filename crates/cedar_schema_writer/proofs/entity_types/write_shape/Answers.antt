@@ -1,0 +1,11 @@
+use Rattle.std.proofs.Common.{Some, ap, sym, ◌∙◌}
+use Rattle.cedar_declarations.specs.ConvertedBack.{type_written}
+use Rattle.cedar_type_rules.specs.Ty.{record_of}
+use Rattle.cedar_schema_writer.specs.Parts.{plain_namespace}
+use Rattle.cedar_schema_writer.proofs.entity_types.write_shape.Goals as goal
+
+pub returns-in_ok-write_record-in-ClosedAttributes-clause-written : goal.returns-in_ok-write_record-in-ClosedAttributes-clause-written
+returns-in_ok-write_record-in-ClosedAttributes-clause-written c =
+    let namespace = plain_namespace c.args.namespace.now in
+    (λ i. type_written namespace (record_of (sym c.attributes.ensures.fields i) (sym c.in-ClosedAttributes.ensures i)))
+    ∙ (c.in_ok-write_record-in-ClosedAttributes.ensures.written ∙ ap Some (sym (c.plain.ensures namespace)))

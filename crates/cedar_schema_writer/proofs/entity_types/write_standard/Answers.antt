@@ -1,0 +1,26 @@
+use Rattle.std.proofs.Common.{Option, inl, refl, subst}
+use Rattle.std.specs.Option.{option_map}
+use Rattle.cedar_declarations.specs.EntityTypeKind.{kind_fields, kind_openness}
+use Rattle.cedar_declarations.specs.ConvertedBack.{AreTagsWritten}
+use Rattle.cedar_schema_elements.specs.ValidatorEntityType.{entity_type_of}
+use Rattle.cedar_names.specs.RawExpr.{raw_expr}
+use Rattle.cedar_type_rules.specs.Ty.{Ty, record_of}
+use Rattle.cedar_schema_writer.proofs.Refusals.{refusal_passed}
+use Rattle.cedar_schema_writer.specs.Parts.{plain_namespace}
+use Rattle.cedar_schema_writer.proofs.KindLemmas.{written_names}
+use Rattle.cedar_schema_writer.proofs.entity_types.write_standard.Goals as goal
+
+pub returns-in_err-shape-clause-refusal : goal.returns-in_err-shape-clause-refusal
+returns-in_err-shape-clause-refusal c =
+    let kind = (entity_type_of c.args.ty.now).kind in
+    refusal_passed _ _ c.from_residual.ensures.1 c.in_err-shape.ensures.refusal
+    (λ unsound sound. unsound (sound.types (record_of (kind_fields kind) (kind_openness kind)) (inl refl)))
+
+pub returns-clause-written : goal.returns-clause-written
+returns-clause-written c =
+    let namespace = plain_namespace c.args.namespace.now in
+    let P : Option Ty → Type 0 = λ tags. AreTagsWritten namespace tags (option_map (raw_expr namespace) c.in_ok-tags.tags) in (
+      written_names namespace c.args.parents.items,
+      c.in_ok-shape.ensures.written,
+      subst P c.tag_type.ensures.ty c.in_ok-tags.ensures.written,
+    )

@@ -1,0 +1,30 @@
+use Rattle.std.proofs.Common.{map, sym, ◌∙◌, ⊎_elim}
+use Rattle.std.proofs.lemmas.Bool.{false≢true}
+use Rattle.std.proofs.lemmas.List.Elements.{Contains-append_cases, Contains-append_left, Contains-append_right}
+use Rattle.cedar_below.specs.EntityType.{type_name}
+use Rattle.cedar_below.specs.PlainName.{PlainName}
+use Rattle.cedar_declarations.specs.PlainSchema.{SchemaEntityType}
+use Rattle.cedar_types.proofs.MemberLemmas.{list_any-names}
+use Rattle.cedar_schema_writer.specs.Parts.{known_schema}
+use Rattle.cedar_schema_writer.proofs.known.Known.knows.Goals as goal
+
+pub returns-then-has_entity_type : goal.returns-then-has_entity_type
+returns-then-has_entity_type c = (
+  λ there. Contains-append_left (map (λ (it : PlainName × SchemaEntityType). it.0) (known_schema c.args.self.now).entity_types)
+      (map type_name c.args.self.now.action_types.now.keys) (type_name c.args.name.now)
+      (c.has_entity_type.ensures.0 c.if-has_entity_type.true),
+  λ known. c.if-has_entity_type.true,
+)
+
+pub returns-else-has_entity_type : goal.returns-else-has_entity_type
+returns-else-has_entity_type c =
+    let types = map (λ (it : PlainName × SchemaEntityType). it.0) (known_schema c.args.self.now).entity_types in
+    let action_types = map type_name c.args.self.now.action_types.now.keys in
+    let name = type_name c.args.name.now in
+    let among = list_any-names c.args.name.now c.args.self.now.action_types.now.keys in (
+      λ there. Contains-append_right types action_types name (among.0 (sym c.contains.ensures ∙ there)),
+      λ known. ⊎_elim
+          (λ there. absurd (false≢true (sym c.if-has_entity_type.false ∙ c.has_entity_type.ensures.1 there)))
+          (λ there. c.contains.ensures ∙ among.1 there)
+          (Contains-append_cases types action_types name known),
+    )

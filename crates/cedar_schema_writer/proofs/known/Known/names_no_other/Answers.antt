@@ -1,0 +1,24 @@
+use Rattle.std.proofs.Common.{◌≡◌, [], Option, Some, not, ap, sym, subst, ◌∙◌, ◌↔◌, IsTrue, Contains}
+use Rattle.cedar_below.specs.EntityType.{type_name}
+use Rattle.cedar_below.specs.Name.{plain_name}
+use Rattle.cedar_below.specs.PlainName.{PlainName}
+use Rattle.cedar_declarations.specs.ConvertedBack.{NamesNoOther}
+use Rattle.cedar_names.specs.Reference.{name_within}
+use Rattle.cedar_schema_writer.proofs.NameLemmas.{answered-not, no_other-within}
+use Rattle.cedar_schema_writer.specs.Parts.{known_names, plain_namespace}
+use Rattle.cedar_schema_writer.proofs.known.Known.names_no_other.Goals as goal
+
+pub returns-in_ok-other-in-Some : goal.returns-in_ok-other-in-Some
+returns-in_ok-other-in-Some c =
+    let names = known_names c.args.self.now in
+    let name = type_name c.args.name.now in
+    let namespace = plain_name c.in-Some.namespace in
+    let key : type_name c.in_ok-other-in-Some.other ≡ name_within (Some namespace) name.base =
+    c.in_ok-other-in-Some.ensures ∙ ap (λ (it : PlainName). name_within (Some namespace) it.base) c.name-in-Some.ensures.name in
+    let path : name.path ≡ [] = ap (λ (it : PlainName). it.path) (sym c.name.ensures.name)
+    ∙ c.is_unqualified.ensures.0 c.if-is_unqualified.true in
+    let P : PlainName → Type 0 = λ it. IsTrue c.knows.result ↔ Contains names.entities it in
+    let Q : Option PlainName → Type 0 = λ it. IsTrue (not c.knows.result) ↔ NamesNoOther names it name in
+    subst Q (sym (ap plain_namespace c.in-Some.is))
+    (answered-not (Contains names.entities (name_within (Some namespace) name.base)) (NamesNoOther names (Some namespace) name)
+    c.knows.result (subst P key c.knows.ensures) (no_other-within names namespace name.base name.path path))

@@ -1,0 +1,29 @@
+use Rattle.std.proofs.Common.{◌≡◌, [], Option, Some, not, ap, sym, subst, ◌∙◌, ◌↔◌, IsTrue, Contains}
+use Rattle.cedar_below.specs.EntityUID.{uid_of}
+use Rattle.cedar_below.specs.Name.{plain_name}
+use Rattle.cedar_below.specs.PlainName.{PlainName}
+use Rattle.cedar_below.specs.PlainUid.{PlainUid}
+use Rattle.cedar_below.specs.Text.{Text}
+use Rattle.cedar_declarations.specs.ConvertedBack.{NamesNoOtherAction}
+use Rattle.cedar_names.specs.Reference.{name_within}
+use Rattle.cedar_schema_writer.proofs.NameLemmas.{answered-not, no_other_action-within}
+use Rattle.cedar_schema_writer.specs.Parts.{known_names, plain_namespace}
+use Rattle.cedar_schema_writer.proofs.known.Known.names_no_other_action.Goals as goal
+
+pub returns-in_ok-clone-in-Some : goal.returns-in_ok-clone-in-Some
+returns-in_ok-clone-in-Some c =
+    let names = known_names c.args.self.now in
+    let uid = uid_of c.args.uid.now in
+    let namespace = plain_name c.in-Some.namespace in
+    let named : plain_name c.name-name.result.now ≡ uid.ty = c.name-name.ensures.name ∙ c.entity_type.ensures.name in
+    let ty = c.new-other.ensures.ty ∙ (c.in_ok-ty-in-Some.ensures ∙ ap (λ (it : PlainName). name_within (Some namespace) it.base) named) in
+    let eid = c.new-other.ensures.eid ∙ (c.in_ok-clone-in-Some.ensures ∙ c.eid.ensures) in
+    let other : PlainUid = record { ty = name_within (Some namespace) uid.ty.base; eid = uid.eid } in
+    let key : uid_of c.new-other.result ≡ other =
+    (λ i. let name : PlainName = ty i in let text : Text = eid i in record { ty = name; eid = text }) in
+    let path : uid.ty.path ≡ [] = ap (λ (it : PlainName). it.path) (sym named) ∙ c.is_unqualified.ensures.0 c.if-is_unqualified.true in
+    let P : PlainUid → Type 0 = λ it. IsTrue c.has_action.result ↔ Contains names.actions it in
+    let Q : Option PlainName → Type 0 = λ it. IsTrue (not c.has_action.result) ↔ NamesNoOtherAction names it uid in
+    subst Q (sym (ap plain_namespace c.in-Some.is))
+    (answered-not (Contains names.actions other) (NamesNoOtherAction names (Some namespace) uid)
+    c.has_action.result (subst P key c.has_action.ensures) (no_other_action-within names namespace uid.ty.base uid.ty.path uid.eid path))

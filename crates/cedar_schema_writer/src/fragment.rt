@@ -1,0 +1,59 @@
+//! A schema, converted back as a fragment.
+
+ghost use Rattle.std.specs.Prelude.{Contains, IfErr, IfOk, List, OnOk};
+ghost use Rattle.cedar_declarations.specs.PlainSchema.{ActionEntity};
+ghost use Rattle.cedar_declarations.specs.ConvertedBack.{IsWritable, IsConvertedBack};
+ghost use Rattle.cedar_names.specs.Declaration.{raw_fragment};
+ghost use Rattle.cedar_schema_writer.specs.Definitions.{AreProper};
+ghost use Rattle.cedar_schema_writer.specs.Parts.{parts_schema};
+ghost use Rattle.cedar_schema_writer.specs.Refusal.{Refuses};
+
+use crate::actions::write_actions;
+use crate::entity_types::write_entity_types;
+use crate::known::{Known, action_types};
+use crate::parents::{action_parents, type_parents};
+use crate::write_back_fault::WriteBackFault;
+use cedar_below::{EntityType, EntityUID};
+use cedar_names::json_schema::{Fragment, RawName};
+use cedar_schema_elements::{ValidatorActionId, ValidatorEntityType};
+use std::alloc::Global;
+use std::collections::BTreeMap;
+
+/// The fragment that declares a schema again, over its entity types and actions: one declaration
+/// for each, with its parents, in the definition of its namespace. Names are written in full,
+/// common types are elaborated, nothing has attributes of actions, and just the actions that are
+/// defined have an `appliesTo` part. (Cedar's schemas in JSON form.)
+///
+/// It answers `Unwritable` exactly where no fragment would say the same: where a type is none that
+/// a schema can write (`True`, `False`, `Never`, the any-set, any entity, a union of two entity
+/// types, an open record, an extension type with a namespace), where a descendant isn't in the
+/// schema or is enumerated, where the uid of an action isn't one of an action, or where a name
+/// without a namespace is written in a namespace that has another of that base name. `Memory` is
+/// that memory ran out.
+pub fn json_schema(
+    alloc: Global,
+    entity_types: &BTreeMap<EntityType, ValidatorEntityType>,
+    actions: &BTreeMap<EntityUID, ValidatorActionId>,
+) -> Result<Fragment<RawName>, WriteBackFault>
+    ensures writable { OnOk result ((entities : List ActionEntity)
+        → IsWritable (parts_schema entity_types.now.entries actions.now.entries entities)) }
+    ensures written { IfOk result (λ fragment. (entities : List ActionEntity)
+        → IsConvertedBack (parts_schema entity_types.now.entries actions.now.entries entities) (raw_fragment fragment)) }
+    ensures definitions { IfOk result (λ fragment. AreProper fragment.0.entries) }
+    ensures refusal { IfErr result (Refuses ((entities : List ActionEntity)
+        → ¬ IsWritable (parts_schema entity_types.now.entries actions.now.entries entities))) }
+{
+    let action_types = action_types(alloc, actions)?;
+    let known = Known {
+        alloc,
+        entity_types,
+        actions,
+        action_types: &action_types,
+    };
+    let type_parents = type_parents(&known)?;
+    let action_parents = action_parents(&known)?;
+    let mut definitions = BTreeMap::new(alloc);
+    write_entity_types(&known, &type_parents, &mut definitions)?;
+    write_actions(&known, &action_parents, &mut definitions)?;
+    Ok(Fragment(definitions))
+}

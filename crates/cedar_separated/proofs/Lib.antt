@@ -1,7 +1,0 @@
-pub mod CopyLemmas
-pub mod FillingLemmas
-pub mod FreshLemmas
-pub mod NameLists
-pub mod Sizes
-pub mod StartLemmas
-pub mod TypeSeparation

@@ -1,6 +1,0 @@
-use Rattle.std.proofs.Common.{◌≡◌, string_bytes}
-use Rattle.std.proofs.Math.ListN.{replicate}
-use Rattle.cedar_separated.proofs.fresh.underscores.Given as goal
-
-abbrev pub invariant-loop : goal.invariant-loop
-invariant-loop l = string_bytes l.text ≡ replicate l.counter 95

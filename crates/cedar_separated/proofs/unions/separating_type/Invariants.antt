@@ -1,9 +1,0 @@
-use Rattle.std.proofs.Common.{map}
-use Rattle.std.specs.Slice.Iter.{iter_rest}
-use Rattle.cedar_below.specs.EntityType.{type_name}
-use Rattle.cedar_types.specs.EntityLUB.{lub_names}
-use Rattle.cedar_separated.proofs.NameLists.{IncludedSoFar}
-use Rattle.cedar_separated.proofs.unions.separating_type.Given as goal
-
-abbrev pub invariant-loop-ty : goal.invariant-loop-ty
-invariant-loop-ty l = IncludedSoFar (lub_names l.lower) (lub_names l.upper) (map type_name (iter_rest l.ty-iterator))

@@ -1,8 +1,0 @@
-//! Values by name in one sorted list, which a type may lead back to itself through.
-#![tactic(auto)]
-
-pub use by_name::ByName;
-pub use iter::{Entries, Names};
-
-mod by_name;
-mod iter;

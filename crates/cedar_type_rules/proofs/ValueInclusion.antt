@@ -1,0 +1,364 @@
+-- Permissive subtyping of inhabited types is inclusion of values, and of names.
+use Rattle.std.proofs.Common.{◌≡◌, ◌≢◌, inl, inr, ⊎_elim, Bool, true, false, refl, sym, subst, ◌∙◌, pos, [], Some, None, Contains, IsTrue}
+use Rattle.cedar_below.proofs.Inclusion.{Included-cons}
+use Rattle.cedar_below.proofs.Lists.{Contains-cons}
+use Rattle.cedar_below.specs.CoreTy.{core_extension}
+use Rattle.cedar_below.specs.CoreSchemaType.{result_type}
+use Rattle.cedar_below.specs.Fits.{EntryFits, Gives, NamesListed}
+use Rattle.cedar_below.proofs.ValueLemmas.{stretch_name, IsText-nil, IsName-stretch}
+use Rattle.cedar_below.specs.IsValue.{IsText, IsValue}
+use Rattle.cedar_below.specs.Lists.{Included}
+use Rattle.cedar_below.specs.PlainName.{PlainName}
+use Rattle.cedar_below.specs.Text.{Text}
+use Rattle.cedar_below.specs.Tree.{Tree, truth_value, number_value, text_value, uid_value, set_value, map_value, call_value, Trees, no_tree, tree, Entries, entry, entry_at, entry_names}
+use Rattle.cedar_below.specs.declared.extension.Extensions.{Extensions}
+use Rattle.cedar_below.specs.declared.validation_mode.ValidationMode.TheVariants.{Permissive}
+use Rattle.cedar_type_rules.proofs.AgreeLaws.{HasField-once, AreWellFormed-of}
+use Rattle.cedar_type_rules.proofs.Decisions.{decide_among}
+use Rattle.cedar_type_rules.proofs.MemberLaws.{HasBy-above, HasFieldsBy-of}
+use Rattle.cedar_type_rules.proofs.RecordAnswers.{decide_texts}
+use Rattle.cedar_type_rules.proofs.SampleValues.{HasFields-from, fits_some, some_fits, entry_here, entry_there, absent_entry, fresh_text, fresh_name, truth_sample, some_name, uid_is_value, zero_is_value, only_listed, Sample, inhabitant, sample}
+use Rattle.cedar_type_rules.proofs.SubtypeLaws.{FieldsWithin, HasField-name, HasField-named, FieldsBelow-names}
+use Rattle.cedar_type_rules.specs.Fields.{IsSortedByName, field_names}
+use Rattle.cedar_type_rules.specs.Below.{HasField, OpennessBelow, NamesBelow, Below, FieldsBelow}
+use Rattle.cedar_type_rules.specs.Has.{Has}
+use Rattle.cedar_type_rules.specs.OpenTag.{is_open}
+use Rattle.cedar_type_rules.specs.InclusionLaws.{ValuesIncluded, ListsNames, FieldsListNames, SubtypingIsInclusion, SubtypingIsInclusionAndNames}
+use Rattle.cedar_type_rules.specs.Stated.{IsInhabited, AreInhabited, RequiresAll, FieldsRequireAll}
+use Rattle.cedar_type_rules.specs.Ty.{Ty, never, truth, long, text, any_entity, union_of, any_set, set_of, record_of, extension_of, Fields, end, field}
+use Rattle.cedar_type_rules.specs.WellFormed.{IsWellFormed, AreWellFormed, AreTexts}
+use Rattle.cedar_type_rules.specs.declared.bool_type.BoolType.{BoolType}
+use Rattle.cedar_type_rules.specs.declared.bool_type.BoolType.TheVariants.{AnyBool, True, False}
+use Rattle.cedar_type_rules.specs.declared.open_tag.OpenTag.{OpenTag}
+use Rattle.cedar_type_rules.specs.declared.open_tag.OpenTag.TheVariants.{OpenAttributes, ClosedAttributes}
+
+-- the type of an inhabited attribute is inhabited
+AreInhabited-of : (extensions : Extensions) (fields : Fields) (name : Text) (required : Bool) (ty : Ty)
+    → AreInhabited extensions fields → HasField fields name required ty → IsInhabited extensions ty
+AreInhabited-of extensions end name required ty lives has = absurd has
+AreInhabited-of extensions (field other flag of rest) name required ty lives (inl same) = subst (IsInhabited extensions) same.2 lives.0
+AreInhabited-of extensions (field other flag of rest) name required ty lives (inr there) =
+    AreInhabited-of extensions rest name required ty lives.1 there
+
+-- some value doesn't have a type
+other_value : (extensions : Extensions) (ty : Ty) → (value : Tree) × IsValue value × ¬ Has extensions value ty
+other_value extensions (truth known) = (text_value [], IsText-nil, λ has. has)
+other_value extensions ty = (truth_value true, tt, λ has. elim has [ ])
+
+-- elements of sets are included where the sets are
+elements_included : (extensions : Extensions) (a b : Ty) → ValuesIncluded extensions (set_of a) (set_of b) → ValuesIncluded extensions a b
+elements_included extensions a b within value real has = (within (set_value (tree value no_tree)) (real, tt) (has, tt)).0
+
+-- a name of a record isn't one that the record doesn't have
+name_differs : (fields : Fields) (n m : Text) (r : Bool) (t : Ty) → ¬ Contains (field_names fields) m → HasField fields n r t → n ≢ m
+name_differs fields n m r t absent has same = absent (subst (Contains (field_names fields)) same (HasField-name fields n r t has))
+
+-- what is known of two records, of which the first has no more values
+record Inclusion (extensions : Extensions) (fa fb : Fields) (ta tb : OpenTag) : Type 0 where
+  first : IsSortedByName fa
+  formed : AreWellFormed fa
+  texts : AreTexts (field_names fa)
+  lives : AreInhabited extensions fa
+  within : ValuesIncluded extensions (record_of fa ta) (record_of fb tb)
+
+-- a sample of a record with a further value is a value
+sample_is_value : (extensions : Extensions) (fa : Fields) (n : Text) (value : Tree) (it : Sample extensions fa n)
+    → IsText n → IsValue value → IsValue (map_value (entry n value it.values))
+sample_is_value extensions fa n value it named real = (named, real, it.valid, it.absent)
+
+-- a sample of the first record with every name, and one further value
+with_value : (extensions : Extensions) (fa : Fields) (ta : OpenTag) (n : Text) (value : Tree)
+    (it : Sample extensions fa n) → IsSortedByName fa → ((r : Bool) (t : Ty) → HasField fa n r t → Has extensions value t)
+    → NamesListed (is_open ta) (entry_names (entry n value it.values)) (field_names fa)
+    → Has extensions (map_value (entry n value it.values)) (record_of fa ta)
+with_value extensions fa ta n value it sorted_by_name fits listed = (
+  listed,
+  HasFields-from (Gives extensions) (entry n value it.values) fa
+      (λ m r t has. ⊎_elim
+      (λ same. fits_some (λ v. Has extensions v t) r (entry_at m (entry n value it.values)) value (entry_here m n value it.values same)
+      (fits r t (subst (λ k. HasField fa k r t) same has)))
+      (λ differ. (let found = it.has m r t has differ in
+      fits_some (λ v. Has extensions v t) r (entry_at m (entry n value it.values)) found.0
+      (entry_there m n value it.values differ ∙ found.1) found.2))
+      (decide_texts m n)),
+)
+
+-- the names of a sample with a further value are listed if that one is
+more_listed : (extensions : Extensions) (fa : Fields) (ta : OpenTag) (n : Text) (value : Tree)
+    (it : Sample extensions fa n) → Contains (field_names fa) n
+    → NamesListed (is_open ta) (entry_names (entry n value it.values)) (field_names fa)
+more_listed extensions fa ta n value it among =
+    only_listed ta (entry n value it.values) fa (Included-cons n (entry_names it.values) (field_names fa) among it.listed)
+
+-- the values of attributes of a name are included where the records are
+attributes_included : (extensions : Extensions) (fa fb : Fields) (ta tb : OpenTag) (n : Text) (ra rb : Bool) (a b : Ty)
+    → Inclusion extensions fa fb ta tb → HasField fa n ra a → HasField fb n rb b → ValuesIncluded extensions a b
+attributes_included extensions fa fb ta tb n ra rb a b known has also value real holds =
+    let it = sample extensions fa n known.first known.formed known.texts known.lives in
+    let whole = with_value extensions fa ta n value it known.first
+    (λ r t there. subst (Has extensions value) (HasField-once fa n ra r a t known.first has there).1 holds)
+    (more_listed extensions fa ta n value it (HasField-name fa n ra a has)) in
+    some_fits (λ v. Has extensions v b) rb (entry_at n (entry n value it.values)) value (entry_here n n value it.values refl)
+    (HasFieldsBy-of (Gives extensions) (entry n value it.values) fb n rb b
+    (known.within (map_value (entry n value it.values)) (sample_is_value extensions fa n value it
+    (known.texts n (HasField-name fa n ra a has)) real) whole).1 also)
+
+-- a sample without a name that the record doesn't require is a value of it
+lacking_value : (extensions : Extensions) (fa : Fields) (ta : OpenTag) (n : Text) (it : Sample extensions fa n)
+    → ((r : Bool) (t : Ty) → HasField fa n r t → r ≡ false) → Has extensions (map_value it.values) (record_of fa ta)
+lacking_value extensions fa ta n it optional = (
+  only_listed ta it.values fa it.listed,
+  HasFields-from (Gives extensions) it.values fa
+      (λ m r t has. ⊎_elim
+      (λ same. subst (EntryFits (λ v. Has extensions v t) r)
+      (sym (subst (λ k. entry_at k it.values ≡ None) (sym same) (absent_entry n it.values it.absent)))
+      (optional r t (subst (λ k. HasField fa k r t) same has)))
+      (λ differ. (let found = it.has m r t has differ in fits_some (λ v. Has extensions v t) r
+      (entry_at m it.values) found.0 found.1 found.2))
+      (decide_texts m n)),
+)
+
+-- an inhabited record has a value
+record_value : (extensions : Extensions) (fa : Fields) (ta : OpenTag) → IsSortedByName fa → AreWellFormed fa
+    → AreTexts (field_names fa) → AreInhabited extensions fa → (values : Entries) × IsValue (map_value values)
+    × Has extensions (map_value values) (record_of fa ta)
+record_value extensions fa ta sorted_by_name formed texts lives =
+    let fresh = fresh_text (field_names fa) [] in
+    let it = sample extensions fa fresh.0 sorted_by_name formed texts lives in
+    (it.values, it.valid, lacking_value extensions fa ta fresh.0 it (λ r t has. absurd (fresh.1 (HasField-name fa fresh.0 r t has))))
+
+-- a name that the first record needn't have isn't required by the second
+optional_too : (extensions : Extensions) (fa fb : Fields) (ta tb : OpenTag) (n : Text) (rb : Bool) (b : Ty)
+    → Inclusion extensions fa fb ta tb → ((r : Bool) (t : Ty) → HasField fa n r t → r ≡ false) → HasField fb n rb b → rb ≡ false
+optional_too extensions fa fb ta tb n rb b known optional also =
+    let it = sample extensions fa n known.first known.formed known.texts known.lives in
+    let whole = lacking_value extensions fa ta n it optional in
+    subst (EntryFits (λ v. Has extensions v b) rb) (absent_entry n it.values it.absent)
+    (HasFieldsBy-of (Gives extensions) it.values fb n rb b (known.within (map_value it.values) it.valid whole).1 also)
+
+-- flags of a name fit where the values are included
+flags_included : (extensions : Extensions) (fa fb : Fields) (ta tb : OpenTag) (n : Text) (ra rb : Bool) (a b : Ty)
+    → Inclusion extensions fa fb ta tb → HasField fa n ra a → HasField fb n rb b → IsTrue rb → IsTrue ra
+flags_included extensions fa fb ta tb n true rb a b known has also needed = refl
+flags_included extensions fa fb ta tb n false rb a b known has also needed =
+    sym (optional_too extensions fa fb ta tb n rb b known (λ r t there.
+    (HasField-once fa n r false t a known.first there has).0) also) ∙ needed
+
+-- a name that the second record requires is one of the first
+required_listed : (extensions : Extensions) (fa fb : Fields) (ta tb : OpenTag) (n : Text) (b : Ty)
+    → Inclusion extensions fa fb ta tb → HasField fb n true b → Contains (field_names fa) n
+required_listed extensions fa fb ta tb n b known also =
+    ⊎_elim
+    (λ among. among)
+    (λ absent.
+    (let none : true ≡ false = optional_too extensions fa fb ta tb n true b known
+    (λ r t has. absurd (absent (HasField-name fa n r t has))) also in
+    absurd cc))
+    (decide_among decide_texts (field_names fa) n)
+
+-- the names of the first record are those of a closed second
+closed_names : (extensions : Extensions) (fa fb : Fields) (ta : OpenTag)
+    → Inclusion extensions fa fb ta ClosedAttributes → Included (field_names fa) (field_names fb)
+closed_names extensions fa fb ta known n among =
+    let it = sample extensions fa n known.first known.formed known.texts known.lives in
+    let own = HasField-named fa n among in
+    let value = inhabitant extensions own.1 (AreWellFormed-of fa n own.0 own.1 known.formed own.2)
+    (AreInhabited-of extensions fa n own.0 own.1 known.lives own.2) in
+    let whole = with_value extensions fa ta n value.0 it known.first
+    (λ r t there. subst (Has extensions value.0) (HasField-once fa n own.0 r own.1 t known.first own.2 there).1 value.2)
+    (more_listed extensions fa ta n value.0 it among) in
+    (known.within (map_value (entry n value.0 it.values)) (sample_is_value extensions fa n value.0 it
+    (known.texts n among) value.1) whole).0 n (Contains-cons n (entry_names it.values) n (inl refl))
+
+-- an open record doesn't have its values in a closed one
+open_isnt_closed : (extensions : Extensions) (fa fb : Fields) → ¬ Inclusion extensions fa fb OpenAttributes ClosedAttributes
+open_isnt_closed extensions fa fb known =
+    let fresh = fresh_text (field_names fa) (field_names fb) in
+    let it = sample extensions fa fresh.0 known.first known.formed known.texts known.lives in
+    let whole = with_value extensions fa OpenAttributes fresh.0 (truth_value true) it known.first
+    (λ r t there. absurd (fresh.1 (HasField-name fa fresh.0 r t there))) tt in
+    fresh.2 ((known.within (map_value (entry fresh.0 (truth_value true) it.values))
+    (sample_is_value extensions fa fresh.0 (truth_value true) it fresh.3 tt) whole).0 fresh.0
+    (Contains-cons fresh.0 (entry_names it.values) fresh.0 (inl refl)))
+
+-- tags fit where the values are included
+tags_included : (extensions : Extensions) (fa fb : Fields) (ta tb : OpenTag) → Inclusion extensions fa fb ta tb → OpennessBelow ta tb
+tags_included extensions fa fb OpenAttributes OpenAttributes known = tt
+tags_included extensions fa fb OpenAttributes ClosedAttributes known = open_isnt_closed extensions fa fb known
+tags_included extensions fa fb ClosedAttributes OpenAttributes known = tt
+tags_included extensions fa fb ClosedAttributes ClosedAttributes known = tt
+
+-- names fit where the values are included
+names_included : (extensions : Extensions) (fa fb : Fields) (ta tb : OpenTag) → Inclusion extensions fa fb ta tb
+    → NamesBelow Permissive tb fa fb
+names_included extensions fa fb ta OpenAttributes known = tt
+names_included extensions fa fb ta ClosedAttributes known = closed_names extensions fa fb ta known
+
+-- truth values that are included are below
+truths_included : (extensions : Extensions) (known other : BoolType)
+    → ValuesIncluded extensions (truth known) (truth other) → Below Permissive (truth known) (truth other)
+truths_included extensions known AnyBool within = inl refl
+truths_included extensions True True within = inr refl
+truths_included extensions False False within = inr refl
+truths_included extensions AnyBool True within = absurd (let e : false ≡ true = within (truth_value false) tt tt in cc)
+truths_included extensions AnyBool False within = absurd (let e : true ≡ false = within (truth_value true) tt tt in cc)
+truths_included extensions True False within = absurd (let e : true ≡ false = within (truth_value true) tt refl in cc)
+truths_included extensions False True within = absurd (let e : false ≡ true = within (truth_value false) tt refl in cc)
+
+-- an extension type that is included is the same
+pub extensions_included : (extensions : Extensions) (a b : PlainName) (function : PlainName) (args : Trees)
+    → Gives extensions function args a → Gives extensions function args b → a ≡ b
+extensions_included extensions a b function args gives also =
+    let same : gives.0 ≡ also.0 = (let one = gives.1 in let other = also.1 in cc) in
+    let results : Some (core_extension a) ≡ Some (core_extension b) =
+    sym gives.2 ∙ (λ i. result_type (same i)) ∙ also.2 in
+    cc
+
+mutual
+  -- an inhabited type is below one that has its values and whose names it lists
+  included_below : (extensions : Extensions) (b a : Ty) → IsWellFormed a → IsInhabited extensions a
+      → ValuesIncluded extensions a b → ListsNames a b → Below Permissive a b
+  included_below extensions b never formed lives within lists = elim lives [ ]
+  included_below extensions (truth other) (truth known) formed lives within lists = truths_included extensions known other within
+  included_below extensions b (truth known) formed lives within lists =
+      (let it = truth_sample known in elim (within (truth_value it.0) tt it.1) [ ])
+  included_below extensions long long formed lives within lists = tt
+  included_below extensions b long formed lives within lists = elim (within (number_value (pos 0)) zero_is_value tt) [ ]
+  included_below extensions text text formed lives within lists = tt
+  included_below extensions b text formed lives within lists = elim (within (text_value []) IsText-nil tt) [ ]
+  included_below extensions any_entity any_entity formed lives within lists = tt
+  included_below extensions (union_of names) any_entity formed lives within lists =
+      (let fresh = fresh_name names in
+      absurd (fresh.1 (within (uid_value (record { ty = fresh.0; eid = [] })) (uid_is_value fresh.0 fresh.2) tt)))
+  included_below extensions b any_entity formed lives within lists =
+      elim (within (uid_value (record { ty = stretch_name 0; eid = [] })) (uid_is_value (stretch_name 0) (IsName-stretch 0)) tt) [ ]
+  included_below extensions any_entity (union_of names) formed lives within lists = tt
+  included_below extensions (union_of others) (union_of names) formed lives within lists =
+      λ name among. within (uid_value (record { ty = name; eid = [] })) (uid_is_value name (formed.2 name among)) among
+  included_below extensions b (union_of names) formed lives within lists =
+      (let it = some_name names formed.0 in
+      elim (within (uid_value (record { ty = it.0; eid = [] })) (uid_is_value it.0 (formed.2 it.0 it.1)) it.1) [ ])
+  included_below extensions any_set any_set formed lives within lists = tt
+  included_below extensions (set_of b) any_set formed lives within lists =
+      (let it = other_value extensions b in absurd (it.2 (within (set_value (tree it.0 no_tree)) (it.1, tt) tt).0))
+  included_below extensions b any_set formed lives within lists = elim (within (set_value no_tree) tt tt) [ ]
+  included_below extensions any_set (set_of a) formed lives within lists = tt
+  included_below extensions (set_of b) (set_of a) formed lives within lists =
+      included_below extensions b a formed lives (elements_included extensions a b within) lists
+  included_below extensions b (set_of a) formed lives within lists = elim (within (set_value no_tree) tt tt) [ ]
+  included_below extensions (record_of fb tb) (record_of fa ta) formed lives within lists =
+      let known : Inclusion extensions fa fb ta tb = record {
+        first = formed.0;
+        formed = formed.1;
+        texts =
+            formed.2;
+        lives = lives;
+        within = within;
+      } in (
+        tags_included extensions fa fb ta tb known,
+        names_included extensions fa fb ta tb known,
+        fields_below extensions fb fa fb ta tb known (λ n r t has. has) lists.0 lists.1,
+      )
+  included_below extensions b (record_of fa ta) formed lives within lists =
+      (let it = record_value extensions fa ta formed.0 formed.1 formed.2 lives in elim (within (map_value it.0) it.1 it.2) [ ])
+  included_below extensions (extension_of other) (extension_of name) formed (call_value function args, real, gives) within lists =
+      extensions_included extensions name other function args gives (within (call_value function args) real gives)
+  included_below extensions b (extension_of name) formed (call_value function args, real, gives) within lists =
+      elim (within (call_value function args) real gives) [ ]
+  included_below extensions b (extension_of name) formed (value, real, gives) within lists = elim gives [ ]
+
+  -- its attributes are below those of the other
+  fields_below : (extensions : Extensions) (part fa fb : Fields) (ta tb : OpenTag) → Inclusion extensions fa fb ta tb
+      → FieldsWithin part fb → Included (field_names fb) (field_names fa) → FieldsListNames fa part → FieldsBelow Permissive fa part
+  fields_below extensions end fa fb ta tb known within names lists = tt
+  fields_below extensions (field name required ty rest) fa fb ta tb known within names lists =
+      let there = within name required ty (inl (refl, refl, refl)) in
+      let own = HasField-named fa name (names name (HasField-name fb name required ty there)) in (
+        (
+          own.0,
+          own.1,
+          own.2,
+          flags_included extensions fa fb ta tb name own.0 required own.1 ty known own.2 there,
+          included_below extensions ty own.1 (AreWellFormed-of fa name own.0 own.1 known.formed own.2)
+              (AreInhabited-of extensions fa name own.0 own.1 known.lives own.2)
+              (attributes_included extensions fa fb ta tb name own.0 required own.1 ty known own.2 there) (lists.0 own.0 own.1 own.2),
+        ),
+        fields_below extensions rest fa fb ta tb known (λ n r t has. within n r t (inr has)) names lists.1,
+      )
+
+mutual
+  -- a type lists the names of a type above it
+  below_lists : (a b : Ty) → IsWellFormed a → Below Permissive a b → ListsNames a b
+  below_lists (set_of a) (set_of b) formed h = below_lists a b formed h
+  below_lists (record_of fa ta) (record_of fb tb) formed h =
+      (FieldsBelow-names Permissive fa fb h.2, fields_list fb fa formed.0 formed.1 h.2)
+  below_lists a b formed h = tt
+
+  -- the types of its attributes list the names of those above
+  fields_list : (fb fa : Fields) → IsSortedByName fa → AreWellFormed fa → FieldsBelow Permissive fa fb → FieldsListNames fa fb
+  fields_list end fa sorted_by_name formed h = tt
+  fields_list (field name required ty rest) fa sorted_by_name formed h =
+      let one = h.0 in (
+        (λ own_required own has.
+            (let same = HasField-once fa name one.0 own_required one.1 own sorted_by_name one.2 has in
+            below_lists own ty (AreWellFormed-of fa name own_required own formed has) (subst (λ t. Below Permissive t ty) same.1 one.4))),
+        fields_list rest fa sorted_by_name formed h.1,
+      )
+
+-- an attribute of those that are all required is required, and so is every one in its type
+FieldsRequireAll-of : (fields : Fields) (name : Text) (required : Bool) (ty : Ty) → FieldsRequireAll fields
+    → HasField fields name required ty → IsTrue required × RequiresAll ty
+FieldsRequireAll-of end name required ty all has = absurd has
+FieldsRequireAll-of (field other flag of rest) name required ty all (inl same) =
+    (sym same.1 ∙ all.0, subst RequiresAll same.2 all.1)
+FieldsRequireAll-of (field other flag of rest) name required ty all (inr there) = FieldsRequireAll-of rest name required ty all.2 there
+
+mutual
+  -- an inhabited type lists the names of one that has its values and requires all
+  included_lists : (extensions : Extensions) (a b : Ty) → IsWellFormed a → IsInhabited extensions a → RequiresAll b
+      → ValuesIncluded extensions a b → ListsNames a b
+  included_lists extensions (set_of a) (set_of b) formed lives all within =
+      included_lists extensions a b formed lives all (elements_included extensions a b within)
+  included_lists extensions (record_of fa ta) (record_of fb tb) formed lives all within =
+      let known : Inclusion extensions fa fb ta tb = record {
+        first = formed.0;
+        formed = formed.1;
+        texts =
+            formed.2;
+        lives = lives;
+        within = within;
+      } in (
+        (λ n among.
+            (let found = HasField-named fb n among in
+            let needed = FieldsRequireAll-of fb n found.0 found.1 all found.2 in
+            required_listed extensions fa fb ta tb n found.1 known (subst (λ r. HasField fb n r found.1) needed.0 found.2))),
+        included_fields_list extensions fb fa fb ta tb known (λ n r t has. has) all,
+      )
+  included_lists extensions a b formed lives all within = tt
+
+  -- the types of its attributes list the names of those of the other
+  included_fields_list : (extensions : Extensions) (part fa fb : Fields) (ta tb : OpenTag)
+      → Inclusion extensions fa fb ta tb → FieldsWithin part fb → FieldsRequireAll part → FieldsListNames fa part
+  included_fields_list extensions end fa fb ta tb known within all = tt
+  included_fields_list extensions (field name required ty rest) fa fb ta tb known within all = (
+    (λ own_required own has.
+        included_lists extensions own ty (AreWellFormed-of fa name own_required own known.formed has)
+        (AreInhabited-of extensions fa name own_required own known.lives has) all.1
+        (attributes_included extensions fa fb ta tb name own_required required own ty known has
+        (within name required ty (inl (refl, refl, refl))))),
+    included_fields_list extensions rest fa fb ta tb known (λ n r t has. within n r t (inr has)) all.2,
+  )
+
+-- permissive subtyping of inhabited types is inclusion of values and of names
+pub inclusion_and_names : SubtypingIsInclusionAndNames
+inclusion_and_names a b first second extensions lives also = (
+  λ below. ((λ value real has. HasBy-above (Gives extensions) value Permissive a b has below), below_lists a b first below),
+  λ both. included_below extensions b a first lives both.0 both.1,
+)
+
+-- permissive subtyping of stated types is inclusion of values
+pub inclusion : SubtypingIsInclusion
+inclusion a b first second extensions stated also = (
+  λ below value real has. HasBy-above (Gives extensions) value Permissive a b has below,
+  λ within. included_below extensions b a first stated.0 within (included_lists extensions a b first stated.0 also.1 within),
+)

@@ -1,0 +1,10 @@
+use Rattle.cedar_below.specs.Fits.{Gives}
+use Rattle.cedar_type_rules.specs.Has.{MayGive}
+use Rattle.cedar_type_rules.proofs.MemberLaws.{HasBy-above}
+use Rattle.cedar_type_rules.proofs.theorems.supertypes_have_the_values.Goals as goal
+
+pub returns-clause-has : goal.returns-clause-has
+returns-clause-has c extensions = HasBy-above (Gives extensions)
+
+pub returns-clause-may_have : goal.returns-clause-may_have
+returns-clause-may_have c extensions = HasBy-above (MayGive extensions)

@@ -1,0 +1,12 @@
+use Rattle.std.specs.Prelude.{codes}
+use Rattle.cedar_below.specs.Text.{Text}
+use Rattle.cedar_type_rules.specs.declared.join_error.LubHelp.{LubHelp}
+use Rattle.cedar_type_rules.specs.declared.join_error.LubHelp.TheVariants as help
+
+-- a help as it is printed
+abbrev pub help_text : LubHelp → Text
+help_text help.None = codes "None"
+help_text help.RecordWidth = codes "RecordWidth"
+help_text help.AttributeQualifier = codes "AttributeQualifier"
+help_text help.EntityType = codes "EntityType"
+help_text help.EntityRecord = codes "EntityRecord"

@@ -1,0 +1,59 @@
+//! Why two types have no join.
+
+use cedar_below::Memory;
+use std::fmt;
+use thiserror::Error;
+
+/// Why two types have no least upper bound: a help for whoever reads the refusal.
+#[derive(Clone, Copy, Debug, PartialEq, Eq)]
+pub enum LubHelp {
+    /// There is no help.
+    None,
+    /// In strict mode, the records don't have the same attributes.
+    RecordWidth,
+    /// In strict mode, an attribute is required in one record and optional in the other.
+    AttributeQualifier,
+    /// In strict mode, the entity types differ.
+    EntityType,
+    /// One type is an entity type and the other a record type.
+    EntityRecord,
+}
+
+impl fmt::Display for LubHelp {
+    ghost use Rattle.std.specs.Prelude.{Some};
+    ghost use Rattle.cedar_type_rules.specs.LubHelp.{help_text};
+
+    ghost output = { λ help. Some (help_text help) };
+
+    fn fmt<W: fmt::Write>(&self, f: &mut fmt::Formatter<W>) -> fmt::Result {
+        f.write_str(match self {
+            LubHelp::None => "None",
+            LubHelp::RecordWidth => "RecordWidth",
+            LubHelp::AttributeQualifier => "AttributeQualifier",
+            LubHelp::EntityType => "EntityType",
+            LubHelp::EntityRecord => "EntityRecord",
+        })
+    }
+}
+
+/// Why a join has no answer.
+#[derive(Clone, Copy, Debug, PartialEq, Eq, Error)]
+pub enum JoinError {
+    /// The types have no least upper bound.
+    #[error("the types have no least upper bound (help: {0})")]
+    Help(LubHelp),
+    /// A growth was refused.
+    #[error("out of memory")]
+    Memory,
+}
+
+impl From<Memory> for JoinError {
+    ghost use Rattle.std.specs.Prelude.{◌≡◌};
+    ghost use Rattle.cedar_type_rules.specs.declared.join_error.JoinError.TheVariants as join;
+
+    ghost from_gives = { λ _ error. error ≡ join.Memory };
+
+    fn from(_refused: Memory) -> Self {
+        JoinError::Memory
+    }
+}

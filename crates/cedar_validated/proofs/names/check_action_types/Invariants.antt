@@ -1,9 +1,0 @@
-use Rattle.std.specs.Map.{keys_of}
-use Rattle.cedar_below.specs.EntityUID.{uid_of}
-use Rattle.cedar_below.specs.PlainName.{IsActionType}
-use Rattle.cedar_validated.proofs.Checking.{Checking}
-use Rattle.cedar_validated.proofs.names.check_action_types.Given as goal
-
-abbrev pub invariant-loop-uid : goal.invariant-loop-uid
-invariant-loop-uid l =
-    Checking (λ uid. IsActionType (uid_of uid).ty) (keys_of l.parts.actions.entries) l.uid-iterator

@@ -1,7 +1,0 @@
-pub mod Copies
-pub mod Hierarchy
-pub mod LastNamed
-pub mod Mentions
-pub mod Parts
-pub mod Places
-pub mod Sound

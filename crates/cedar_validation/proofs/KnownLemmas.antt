@@ -1,0 +1,52 @@
+-- What is known of the types of a schema, where the types of its actions are collected.
+use Rattle.std.proofs.Common.{◌≡◌, ◌⊎◌, ◌↔◌, [], ◌∷◌, List, inl, inr, ⊎_elim, subst, sym, Contains}
+use Rattle.cedar_below.specs.Extensions.{extension_types}
+use Rattle.cedar_below.specs.PlainName.{PlainName}
+use Rattle.cedar_below.specs.PlainUid.{PlainUid}
+use Rattle.cedar_below.specs.declared.extension.Extensions.{Extensions}
+use Rattle.cedar_declarations.specs.Fault.{Fault, undeclared_entity_types, unknown_extension_type, out_of_memory}
+use Rattle.cedar_declarations.specs.PlainSchema.{PlainSchema}
+use Rattle.cedar_declarations.specs.TypeMentions.{MentionsEntity, MentionsExtensionType}
+use Rattle.cedar_declarations.specs.ValidSchema.{HasAction, HasEntityType, IsSchemaFault, IsTypeIn}
+use Rattle.cedar_type_rules.specs.Ty.{Ty}
+use Rattle.cedar_validation.proofs.RequestTypeLemmas.{one_unknown}
+use Rattle.cedar_validation.specs.Sound.{AreMentionsSound}
+
+module _ (extensions : Extensions) (schema : PlainSchema) (names : List PlainName)
+    (exact : (name : PlainName) → Contains names name ↔ ((uid : PlainUid) × HasAction schema uid × (uid.ty ≡ name))) where
+  -- where what stands in each type is known, it is sound
+  pub mentions_sound : ((of : Ty) → IsTypeIn schema of
+      → ((name : PlainName) → MentionsEntity of name → HasEntityType schema name ⊎ Contains names name)
+      × ((name : PlainName) → MentionsExtensionType of name → Contains (extension_types extensions) name))
+      → AreMentionsSound extensions schema
+  mentions_sound each = record {
+    entities = λ ty name there mentions. ⊎_elim
+        (λ has. inl has)
+        (λ among. inr ((exact name).0 among))
+        ((each ty there).0 name mentions);
+    extension_types = λ ty name there mentions. (each ty there).1 name mentions;
+  }
+
+  -- why a type of the schema is refused is a fault of it
+  pub mention_fault : (fault : Fault) → (fault ≡ out_of_memory) ⊎ ((of : Ty) × IsTypeIn schema of × ((fault ≡ out_of_memory)
+      ⊎ (((name : PlainName) × (fault ≡ undeclared_entity_types (name ∷ [])) × MentionsEntity of name
+      × ¬ (HasEntityType schema name ⊎ Contains names name))
+      ⊎ ((name : PlainName) × (fault ≡ unknown_extension_type name) × MentionsExtensionType of name
+      × ¬ Contains (extension_types extensions) name))))
+      → (fault ≡ out_of_memory) ⊎ IsSchemaFault extensions schema fault
+  mention_fault fault why =
+      let P : Fault → Type 0 = IsSchemaFault extensions schema in
+      ⊎_elim
+      (λ wanting. inl wanting)
+      (λ of. ⊎_elim
+      (λ wanting. inl wanting)
+      (λ either. inr (⊎_elim
+      (λ it. subst P (sym it.1)
+      (one_unknown extensions schema it.0
+      (inl (of.0, of.1, it.2, λ known. it.3 (⊎_elim (λ has. inl has) (λ action. inr ((exact it.0).1 action)) known)))))
+      (λ it.
+      let here : IsSchemaFault extensions schema (unknown_extension_type it.0) = (of.0, of.1, it.2, it.3) in
+      subst P (sym it.1) here)
+      either))
+      of.2)
+      why

@@ -1,0 +1,51 @@
+-- Lists that agree pairwise.
+use Rattle.std.proofs.Common.{◌≡◌, List, [], ◌∷◌, map, arith, inl, inr, ⊎_elim, refl, subst, Contains}
+use Rattle.cedar_below.proofs.Lists.{Contains-cons, Contains-cons_cases}
+use Rattle.cedar_below.specs.Lists.{HoldsPairwise}
+
+-- where two lists have the same keys in turn, what holds of each two items of one key holds pairwise
+pub pairwise : {A B P : Type 0} (R : A → B → Type 0) (f : A → P) (g : B → P) (xs : List A) (ys : List B) → map f xs ≡ map g ys
+    → ((x : A) (y : B) → Contains xs x → Contains ys y → f x ≡ g y → R x y) → HoldsPairwise R xs ys
+pairwise R f g [] [] same each = tt
+pairwise R f g [] (y ∷ ys) same each = cc
+pairwise R f g (x ∷ xs) [] same each = cc
+pairwise R f g (x ∷ xs) (y ∷ ys) same each =
+    let first : f x ≡ g y = cc in
+    let rest : map f xs ≡ map g ys = cc in (
+      each x y (Contains-cons x xs x (inl refl)) (Contains-cons y ys y (inl refl)) first,
+      pairwise R f g xs ys rest (λ a b among also. each a b (Contains-cons x xs a (inr among)) (Contains-cons y ys b (inr also))),
+    )
+
+-- what holds pairwise of what items give holds of the lists of these
+pub pairwise_map : {A B C D : Type 0} (R : C → D → Type 0) (f : A → C) (g : B → D) (xs : List A) (ys : List B)
+    → HoldsPairwise (λ x y. R (f x) (g y)) xs ys → HoldsPairwise R (map f xs) (map g ys)
+pairwise_map R f g [] [] holds = tt
+pairwise_map R f g [] (y ∷ ys) holds = absurd holds
+pairwise_map R f g (x ∷ xs) [] holds = absurd holds
+pairwise_map R f g (x ∷ xs) (y ∷ ys) holds = (holds.0, pairwise_map R f g xs ys holds.1)
+
+-- where two lists agree pairwise, each item of the one has one of the other
+pub pairwise_forth : {A B : Type 0} (R : A → B → Type 0) (xs : List A) (ys : List B) → HoldsPairwise R xs ys → (x : A)
+    → Contains xs x → (y : B) × Contains ys y × R x y
+pairwise_forth R [] [] holds x among = absurd (omega (arith, among.1))
+pairwise_forth R [] (other ∷ others) holds x among = absurd holds
+pairwise_forth R (first ∷ rest) [] holds x among = absurd holds
+pairwise_forth {A = A} R (first ∷ rest) (other ∷ others) holds x among =
+    ⊎_elim
+    (λ same. let P : A → Type 0 = λ it. R it other in
+    (other, Contains-cons other others other (inl refl), subst P same holds.0))
+    (λ later. let it = pairwise_forth R rest others holds.1 x later in
+    (it.0, Contains-cons other others it.0 (inr it.1), it.2))
+    (Contains-cons_cases first rest x among)
+
+pub pairwise_back : {A B : Type 0} (R : A → B → Type 0) (xs : List A) (ys : List B) → HoldsPairwise R xs ys → (y : B)
+    → Contains ys y → (x : A) × Contains xs x × R x y
+pairwise_back R [] [] holds y among = absurd (omega (arith, among.1))
+pairwise_back R [] (other ∷ others) holds y among = absurd holds
+pairwise_back R (first ∷ rest) [] holds y among = absurd holds
+pairwise_back R (first ∷ rest) (other ∷ others) holds y among =
+    ⊎_elim
+    (λ same. (first, Contains-cons first rest first (inl refl), subst (R first) same holds.0))
+    (λ later. let it = pairwise_back R rest others holds.1 y later in
+    (it.0, Contains-cons first rest it.0 (inr it.1), it.2))
+    (Contains-cons_cases other others y among)

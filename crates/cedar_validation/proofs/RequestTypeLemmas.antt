@@ -1,0 +1,51 @@
+-- Principals, resources and descendants of actions that aren't of the schema.
+use Rattle.std.proofs.Common.{◌⊎◌, [], ◌∷◌, subst, sym, inl, inr, ⊎_elim, arith, Contains}
+use Rattle.cedar_schema_elements.specs.ActionKind.{kind_principals, kind_resources}
+use Rattle.cedar_below.specs.PlainName.{PlainName}
+use Rattle.cedar_below.specs.PlainUid.{PlainUid}
+use Rattle.cedar_below.specs.declared.extension.Extensions.{Extensions}
+use Rattle.cedar_declarations.proofs.OccurrenceLemmas.{Contains-single}
+use Rattle.cedar_declarations.specs.Fault.{Fault, undeclared_action_descendant, undeclared_entity_types}
+use Rattle.cedar_declarations.specs.PlainSchema.{ActionKind, PlainSchema, SchemaAction, defined_action, external_action}
+use Rattle.cedar_declarations.specs.ValidSchema.{IsPrincipalOrResourceOf, IsSchemaFault, IsUnknownType}
+use Rattle.cedar_validation.specs.Parts.{IsRefusal}
+use Rattle.cedar_validation.specs.RequestTypes.{IsMisplaced}
+
+-- one entity type that isn't known is a fault
+pub one_unknown : (extensions : Extensions) (schema : PlainSchema) (name : PlainName) → IsUnknownType schema name
+    → IsSchemaFault extensions schema (undeclared_entity_types (name ∷ []))
+one_unknown extensions schema name unknown = (
+  λ none. cc,
+  λ other among. let P : PlainName → Type 0 = IsUnknownType schema in subst P (Contains-single name other among) unknown,
+)
+
+-- why an action is refused is why its schema is
+pub misplaced_fault : (schema : PlainSchema) (entry : PlainUid × SchemaAction) → Contains schema.actions entry → (fault : Fault)
+    → IsMisplaced schema entry.1 fault → IsRefusal schema fault
+misplaced_fault schema entry among fault misplaced =
+    ⊎_elim
+    (λ wanting. inl wanting)
+    (λ one. inr (λ extensions.
+    let P : Fault → Type 0 = IsSchemaFault extensions schema in
+    ⊎_elim
+    (λ of. subst P (sym of.1) (one_unknown extensions schema of.0 (inr (inr (entry, among, of.2, of.3)))))
+    (λ of.
+    let descendant : IsSchemaFault extensions schema (undeclared_action_descendant of.0) = (entry.0, (entry.1, among, of.2), of.3) in
+    subst P (sym of.1) descendant)
+    one))
+    misplaced
+
+-- the principals of a kind, and its resources, are what it is for
+pub principal_of : (kind : ActionKind) (name : PlainName) → Contains (kind_principals kind) name → IsPrincipalOrResourceOf kind name
+principal_of (defined_action principals resources context) name among = inl among
+principal_of external_action name among = omega (arith, among.1)
+
+pub resource_of : (kind : ActionKind) (name : PlainName) → Contains (kind_resources kind) name → IsPrincipalOrResourceOf kind name
+resource_of (defined_action principals resources context) name among = inr among
+resource_of external_action name among = omega (arith, among.1)
+
+-- and nothing else is
+pub for_cases : (kind : ActionKind) (name : PlainName) → IsPrincipalOrResourceOf kind name
+    → Contains (kind_principals kind) name ⊎ Contains (kind_resources kind) name
+for_cases (defined_action principals resources context) name either = either
+for_cases external_action name either = absurd either

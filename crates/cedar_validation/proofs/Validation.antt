@@ -1,0 +1,63 @@
+-- A schema whose parts were closed and checked.
+use Rattle.std.proofs.Common.{◌≡◌, ◌⊎◌, List, [], inl, inr, ⊎_elim, map}
+use Rattle.cedar_schema_elements.specs.ValidatorActionId.{plain_action_entry}
+use Rattle.cedar_schema_elements.specs.declared.action_id.ValidatorActionId.{ValidatorActionId}
+use Rattle.cedar_below.proofs.Chains.{refined}
+use Rattle.cedar_below.specs.Chain.{Chain}
+use Rattle.cedar_below.specs.Lists.{HoldsPairwise}
+use Rattle.cedar_below.specs.PlainUid.{PlainUid}
+use Rattle.cedar_below.specs.declared.entity.Entity.{Entity}
+use Rattle.cedar_below.specs.declared.entity_type.EntityType.{EntityType}
+use Rattle.cedar_below.specs.declared.entity_uid.EntityUID.{EntityUID}
+use Rattle.cedar_below.specs.declared.extension.Extensions.{Extensions}
+use Rattle.cedar_declarations.specs.ActionEntities.{AreActionEntities}
+use Rattle.cedar_declarations.specs.ClosedSchema.{ClosesAction, ClosesSchema, ClosesType}
+use Rattle.cedar_declarations.specs.Fault.{Fault, out_of_memory}
+use Rattle.cedar_declarations.specs.ValidSchema.{IsSchemaFault, IsValidSchema, ListsDescendantAction}
+use Rattle.cedar_schema_elements.specs.ValidatorEntityType.{plain_entry}
+use Rattle.cedar_schema_elements.specs.declared.entity_type.ValidatorEntityType.{ValidatorEntityType}
+use Rattle.cedar_validation.proofs.Agreeing.{action_listed_chain, agrees_back, agrees_forth, chain_listed, fault_carried, listed_chain}
+use Rattle.cedar_validation.specs.Parts.{IsClosed, plain_schema}
+
+abbrev Types : Type 0
+Types = List (EntityType × ValidatorEntityType)
+
+abbrev Actions : Type 0
+Actions = List (EntityUID × ValidatorActionId)
+
+module _ (types closed_types : Types) (actions closed_actions : Actions) (entities : List Entity)
+    (each_type : HoldsPairwise (ClosesType (plain_schema types actions entities)) (map plain_entry types) (map plain_entry closed_types))
+    (each_action : HoldsPairwise (ClosesAction (plain_schema types actions entities)) (map plain_action_entry actions)
+    (map plain_action_entry closed_actions)) where
+  -- a fault of the closed schema is one of the schema
+  pub fault_before : (extensions : Extensions) (fault : Fault)
+      → (fault ≡ out_of_memory) ⊎ IsSchemaFault extensions (plain_schema closed_types closed_actions []) fault
+      → (fault ≡ out_of_memory) ⊎ IsSchemaFault extensions (plain_schema types actions entities) fault
+  fault_before extensions fault why =
+      let schema = plain_schema types actions entities in
+      let closed = plain_schema closed_types closed_actions [] in
+      ⊎_elim
+      (λ wanting. inl wanting)
+      (λ here. inr (fault_carried extensions closed schema (agrees_back schema closed each_type each_action) fault here))
+      why
+
+  -- the closed schema is closed, and the schema is valid where it is
+  pub valid_before : (extensions : Extensions)
+      → ((uid : PlainUid) → ¬ Chain (ListsDescendantAction (plain_schema types actions entities)) uid uid)
+      → (IsClosed (plain_schema closed_types closed_actions []) → IsValidSchema extensions (plain_schema closed_types closed_actions []))
+      → IsValidSchema extensions (plain_schema types actions entities)
+  valid_before extensions acyclic valid fault here =
+      let schema = plain_schema types actions entities in
+      let closed = plain_schema closed_types closed_actions [] in
+      valid
+      (record {
+        types = λ lower upper chain.
+            chain_listed schema closed each_type each_action lower upper (refined (listed_chain schema closed each_type each_action) chain);
+        acyclic = λ uid chain. acyclic uid (refined (action_listed_chain schema closed each_type each_action) chain);
+      })
+      fault (fault_carried extensions schema closed (agrees_forth schema closed each_type each_action) fault here)
+
+  -- with the entities of its actions it closes the schema
+  pub closes_before : (made : List Entity) → AreActionEntities (plain_schema closed_types closed_actions made)
+      → ClosesSchema (plain_schema types actions entities) (plain_schema closed_types closed_actions made)
+  closes_before made are = record { entity_types = each_type; actions = each_action; action_entities = are }

@@ -1,0 +1,40 @@
+use Rattle.std.proofs.Common.{ap, subst, ◌∙◌}
+use Rattle.std.proofs.lemmas.Result.{IfOk-weaker}
+use Rattle.cedar_below.proofs.Names.{entity_type_ord-Equal}
+use Rattle.cedar_below.specs.EntityType.{type_loc, type_name}
+use Rattle.cedar_below.specs.Lists.{SameItems}
+use Rattle.cedar_below.specs.contracts.entity_type.EntityTypeOrd.TheImpl as entity_type_ord
+use Rattle.cedar_below.proofs.ShownLemmas.{copy_ties}
+use Rattle.cedar_declarations.proofs.TurnLemmas.{turn_weaker}
+use Rattle.cedar_schema_elements.specs.ValidatorEntityType.{PlainEntityType, attributes_of, descendant_names, entity_type_of, name_loc}
+use Rattle.cedar_schema_elements.specs.declared.entity_type.ValidatorEntityType.{ValidatorEntityType}
+use Rattle.cedar_types.specs.Located.{located_at}
+use Rattle.cedar_validation.specs.Copies.{IsTypeCopied}
+use Rattle.cedar_validation.proofs.copies.copied_types.Goals as goal
+
+pub copied_entries-requires-clause-ties : goal.copied_entries-requires-clause-ties
+copied_entries-requires-clause-ties c key answer ran =
+    copy_ties (entity_type_ord.ghosts).cmp type_name entity_type_ord-Equal key ran.shown.now answer ran.shows ran.says.met.0
+
+pub returns : goal.returns
+returns c =
+    IfOk-weaker c.copied_entries.result _ _
+    (λ copies turn.
+    turn_weaker _ IsTypeCopied
+    (λ it copy ran.
+    let same = ran.1.says.met.0 ∙ ap entity_type_of ran.1.shows in
+    let P : ValidatorEntityType → Type 0 = λ given. SameItems (descendant_names copy.1) (descendant_names given) in
+    record {
+      same = record {
+        key = ran.0.says.met.0 ∙ ap type_name ran.0.shows;
+        name = ap (λ (each : PlainEntityType). each.name) same;
+        kind = ap (λ (each : PlainEntityType). each.kind) same;
+        descendants = subst P ran.1.shows ran.1.says.met.1.1.1.0;
+      };
+      key_loc = ran.0.says.met.1 ∙ ap type_loc ran.0.shows;
+      name_loc = ran.1.says.met.1.0 ∙ ap name_loc ran.1.shows;
+      attributes = λ name. ran.1.says.met.1.1.0 name ∙ ap (λ each. located_at name (attributes_of each)) ran.1.shows;
+      loc = ran.1.says.met.1.1.1.1 ∙ ap (λ each. each.loc) ran.1.shows;
+    })
+    c.args.types.now.entries copies.entries turn)
+    c.copied_entries.ensures

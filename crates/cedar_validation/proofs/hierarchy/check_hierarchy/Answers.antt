@@ -1,0 +1,52 @@
+use Rattle.std.proofs.Common.{List, ap, map, subst, Contains}
+use Rattle.std.proofs.lemmas.Result.{err_from_is_err_and}
+use Rattle.cedar_below.specs.EntityType.{type_name}
+use Rattle.cedar_below.specs.PlainName.{PlainName}
+use Rattle.cedar_declarations.specs.SchemaError.{fault_of}
+use Rattle.cedar_declarations.specs.ValidSchema.{HasEntityType}
+use Rattle.cedar_validation.proofs.Checking.{checking_all, checking_here, checking_more, checking_none}
+use Rattle.cedar_validation.proofs.HierarchyLemmas.{IsCheckedBelow, Item, below_fault, pair_sound, undeclared_fault}
+use Rattle.cedar_validation.specs.Parts.{IsRefusal, plain_parts}
+use Rattle.cedar_validation.proofs.hierarchy.check_hierarchy.Goals as goal
+
+pub loop-upper-init : goal.loop-upper-init
+loop-upper-init c =
+    checking_none (IsCheckedBelow c.args.parts.now) c.args.parts.now.entity_types.entries _
+    c.into_iter-upper-iterator.ensures.into_iter_gives.0
+
+pub loop-upper-preserved : goal.loop-upper-preserved
+loop-upper-preserved c =
+    let parts = c.args.parts.now in
+    let entry : Item = (c.in-Some.upper.now, c.in-Some.above.now) in
+    let P : List PlainName → Type 0 = λ names. (lower : PlainName) → Contains names lower → HasEntityType (plain_parts parts) lower in
+    checking_more (IsCheckedBelow parts) parts.entity_types.entries _ _ entry c.in-Some.ensures.steps c.loop-upper.invariant
+    (subst P (ap (map type_name) c.iter.ensures.rest) c.in_ok-check_declared.ensures.sound, c.in_ok-check_below.ensures.sound)
+
+pub returns-in_err-check_declared-clause-fault : goal.returns-in_err-check_declared-clause-fault
+returns-in_err-check_declared-clause-fault c =
+    let parts = c.args.parts.now in
+    let entry : Item = (c.in-Some.upper.now, c.in-Some.above.now) in
+    let fault = fault_of c.in_err-check_declared.field-0.0 in
+    let among =
+    checking_here (IsCheckedBelow parts) parts.entity_types.entries _ _ entry c.in-Some.ensures.steps c.loop-upper.invariant in
+    let at_fault : IsRefusal (plain_parts parts) fault =
+    undeclared_fault parts entry among fault _ (ap (map type_name) c.iter.ensures.rest) c.in_err-check_declared.ensures.fault in
+    let p = err_from_is_err_and c.from_residual.result c.from_residual.ensures.1 in
+    rw (p.1, p.2) at_fault
+
+pub returns-in_err-check_below-clause-fault : goal.returns-in_err-check_below-clause-fault
+returns-in_err-check_below-clause-fault c =
+    let parts = c.args.parts.now in
+    let entry : Item = (c.in-Some.upper.now, c.in-Some.above.now) in
+    let fault = fault_of c.in_err-check_below.field-0.0 in
+    let among =
+    checking_here (IsCheckedBelow parts) parts.entity_types.entries _ _ entry c.in-Some.ensures.steps c.loop-upper.invariant in
+    let at_fault : IsRefusal (plain_parts parts) fault = below_fault parts entry among fault c.in_err-check_below.ensures.fault in
+    let p = err_from_is_err_and c.from_residual-in_err-check_below.result c.from_residual-in_err-check_below.ensures.1 in
+    rw (p.1, p.2) at_fault
+
+pub returns-clause-sound : goal.returns-clause-sound
+returns-clause-sound c =
+    pair_sound c.args.parts.now c.into_iter-upper-iterator.ensures.into_iter_gives.5
+    (checking_all (IsCheckedBelow c.args.parts.now) c.args.parts.now.entity_types.entries _ c.in-None.ensures.steps.0
+    c.loop-upper.invariant)

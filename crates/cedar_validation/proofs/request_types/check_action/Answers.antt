@@ -1,0 +1,50 @@
+use Rattle.std.proofs.Common.{List, Contains, subst, sym, inl, inr, ⊎_elim}
+use Rattle.std.proofs.lemmas.Result.{err_from_is_err_and}
+use Rattle.cedar_schema_elements.specs.ValidatorActionId.{action_of}
+use Rattle.cedar_below.specs.PlainName.{PlainName}
+use Rattle.cedar_declarations.specs.SchemaError.{fault_of}
+use Rattle.cedar_validation.proofs.RequestTypeLemmas.{for_cases, principal_of, resource_of}
+use Rattle.cedar_validation.proofs.Results.{on_ok}
+use Rattle.cedar_validation.specs.Parts.{plain_parts}
+use Rattle.cedar_validation.specs.RequestTypes.{IsMisplaced}
+use Rattle.cedar_validation.proofs.request_types.check_action.Goals as goal
+
+pub returns-in_err-check_declared-clause-fault : goal.returns-in_err-check_declared-clause-fault
+returns-in_err-check_declared-clause-fault c =
+    let it = action_of c.args.action.now in
+    let fault = fault_of c.in_err-check_declared.field-0.0 in
+    let at_fault : IsMisplaced (plain_parts c.args.parts.now) it fault =
+    ⊎_elim
+    (λ wanting. inl wanting)
+    (λ of. let P : List PlainName → Type 0 = λ names. Contains names of.0 in
+    inr (inl (of.0, of.1, principal_of it.kind of.0 (subst P c.principals.ensures.names of.2), of.3)))
+    c.in_err-check_declared.ensures.fault in
+    let p = err_from_is_err_and c.from_residual.result c.from_residual.ensures.1 in
+    rw (p.1, p.2) at_fault
+
+pub returns-in_err-check_declared-2-clause-fault : goal.returns-in_err-check_declared-2-clause-fault
+returns-in_err-check_declared-2-clause-fault c =
+    let it = action_of c.args.action.now in
+    let fault = fault_of c.in_err-check_declared-2.field-0.0 in
+    let at_fault : IsMisplaced (plain_parts c.args.parts.now) it fault =
+    ⊎_elim
+    (λ wanting. inl wanting)
+    (λ of. let P : List PlainName → Type 0 = λ names. Contains names of.0 in
+    inr (inl (of.0, of.1, resource_of it.kind of.0 (subst P c.resources.ensures.names of.2), of.3)))
+    c.in_err-check_declared-2.ensures.fault in
+    let p = err_from_is_err_and c.from_residual-in_err-check_declared-2.result c.from_residual-in_err-check_declared-2.ensures.1 in
+    rw (p.1, p.2) at_fault
+
+pub returns-clause-sound : goal.returns-clause-sound
+returns-clause-sound c =
+    let it = action_of c.args.action.now in
+    on_ok c.check_descendants.result c.check_descendants.ensures.sound
+    (λ descendants. record {
+      types = λ name of.
+          let P : List PlainName → Type 0 = λ names. Contains names name in
+          ⊎_elim
+          (λ among. c.in_ok-check_declared.ensures.sound name (subst P (sym c.principals.ensures.names) among))
+          (λ among. c.in_ok-check_declared-2.ensures.sound name (subst P (sym c.resources.ensures.names) among))
+          (for_cases it.kind name of);
+      descendants = descendants;
+    })

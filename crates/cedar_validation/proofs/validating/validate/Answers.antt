@@ -1,0 +1,55 @@
+use Rattle.std.proofs.Common.{◌≡◌, ◌⊎◌, List, map, inl, inr, ⊎_elim, subst, sym}
+use Rattle.std.proofs.lemmas.Result.{err_from_is_err_and}
+use Rattle.cedar_below.specs.Entities.{entities_of}
+use Rattle.cedar_below.specs.declared.entity.Entity.{Entity}
+use Rattle.cedar_declarations.specs.Fault.{Fault, out_of_memory}
+use Rattle.cedar_declarations.specs.SchemaError.{fault_of}
+use Rattle.cedar_declarations.specs.ValidSchema.{IsSchemaFault}
+use Rattle.cedar_schema_elements.specs.ValidatorEntityType.{plain_entry}
+use Rattle.cedar_validation.proofs.Validation.{closes_before, fault_before, valid_before}
+use Rattle.cedar_validation.specs.Parts.{plain_schema}
+use Rattle.cedar_validation.proofs.validating.validate.Goals as goal
+
+pub returns-in_err-closed_actions-clause-fault : goal.returns-in_err-closed_actions-clause-fault
+returns-in_err-closed_actions-clause-fault c =
+    let types = c.args.entity_types.entries in
+    let actions = c.args.actions.entries in
+    let extensions = c.args.extensions.now in
+    let fault = fault_of c.in_err-closed_actions.field-0.0 in
+    let at_fault : (entities : List Entity) → (fault ≡ out_of_memory)
+    ⊎ IsSchemaFault extensions (plain_schema types actions entities) fault =
+    λ entities. let P : Fault → Type 0 = IsSchemaFault extensions (plain_schema types actions entities) in
+    ⊎_elim (λ wanting. inl wanting) (λ of. inr (subst P (sym of.1) of.2)) (c.in_err-closed_actions.ensures.fault types entities) in
+    let p = err_from_is_err_and c.from_residual-in_err-closed_actions.result c.from_residual-in_err-closed_actions.ensures.1 in
+    rw (p.1, p.2) at_fault
+
+pub returns-in_err-check_parts-clause-fault : goal.returns-in_err-check_parts-clause-fault
+returns-in_err-check_parts-clause-fault c =
+    let types = c.args.entity_types.entries in
+    let actions = c.args.actions.entries in
+    let extensions = c.args.extensions.now in
+    let fault = fault_of c.in_err-check_parts.field-0.0 in
+    let at_fault : (entities : List Entity) → (fault ≡ out_of_memory)
+    ⊎ IsSchemaFault extensions (plain_schema types actions entities) fault =
+    λ entities. fault_before types c.in_ok-closed_types.field-0.entries actions c.in_ok-closed_actions.field-0.entries entities
+    (c.in_ok-closed_types.ensures.closed actions entities) (c.in_ok-closed_actions.ensures.closed types entities) extensions fault
+    c.in_err-check_parts.ensures.fault in
+    let p = err_from_is_err_and c.from_residual-in_err-check_parts.result c.from_residual-in_err-check_parts.ensures.1 in
+    rw (p.1, p.2) at_fault
+
+pub returns-clause-valid : goal.returns-clause-valid
+returns-clause-valid c = λ entities.
+    let types = c.args.entity_types.entries in
+    let actions = c.args.actions.entries in
+    valid_before types c.in_ok-closed_types.field-0.entries actions c.in_ok-closed_actions.field-0.entries entities
+    (c.in_ok-closed_types.ensures.closed actions entities) (c.in_ok-closed_actions.ensures.closed types entities) c.args.extensions.now
+    (c.in_ok-closed_actions.ensures.acyclic types entities) c.in_ok-check_parts.ensures.valid
+
+pub returns-clause-closed : goal.returns-clause-closed
+returns-clause-closed c = λ entities.
+    let types = c.args.entity_types.entries in
+    let actions = c.args.actions.entries in
+    closes_before types c.in_ok-closed_types.field-0.entries actions c.in_ok-closed_actions.field-0.entries entities
+    (c.in_ok-closed_types.ensures.closed actions entities) (c.in_ok-closed_actions.ensures.closed types entities)
+    (entities_of c.in_ok-action_entities.action_entities)
+    (c.in_ok-action_entities.ensures (map plain_entry c.in_ok-closed_types.field-0.entries))

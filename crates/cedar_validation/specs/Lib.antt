@@ -1,0 +1,7 @@
+pub mod Copies
+pub mod Hierarchy
+pub mod LastNamed
+pub mod Mentions
+pub mod Parts
+pub mod RequestTypes
+pub mod Sound

@@ -1,0 +1,42 @@
+-- The entity types and the actions of a schema as plain data, and what is made sure of them.
+use Rattle.std.specs.Prelude.{◌≡◌, ◌⊎◌, List, [], map}
+use Rattle.cedar_schema_elements.specs.declared.action_id.ValidatorActionId.{ValidatorActionId}
+use Rattle.cedar_below.specs.Chain.{Chain}
+use Rattle.cedar_below.specs.EntityUID.{uid_of}
+use Rattle.cedar_below.specs.PlainName.{PlainName}
+use Rattle.cedar_below.specs.PlainUid.{PlainUid}
+use Rattle.cedar_below.specs.declared.entity.Entity.{Entity}
+use Rattle.cedar_below.specs.declared.entity_type.EntityType.{EntityType}
+use Rattle.cedar_below.specs.declared.entity_uid.EntityUID.{EntityUID}
+use Rattle.cedar_below.specs.declared.extension.Extensions.{Extensions}
+use Rattle.cedar_graph.specs.declared.tc_error.TcError.{TcError}
+use Rattle.cedar_graph.specs.declared.tc_error.TcError.TheVariants as refused
+use Rattle.cedar_declarations.specs.Fault.{Fault, action_cycle, out_of_memory}
+use Rattle.cedar_declarations.specs.PlainSchema.{PlainSchema}
+use Rattle.cedar_declarations.specs.ValidSchema.{IsSchemaFault, ListsDescendant, ListsDescendantAction}
+use Rattle.cedar_schema_elements.specs.ActionEntities.{schema_with}
+use Rattle.cedar_schema_elements.specs.ValidatorEntityType.{plain_entry}
+use Rattle.cedar_schema_elements.specs.declared.entity_type.ValidatorEntityType.{ValidatorEntityType}
+use Rattle.cedar_validation.specs.declared.parts.Parts.{Parts}
+
+-- the schema of some entity types, some actions, and these entities of actions
+abbrev pub plain_schema : List (EntityType × ValidatorEntityType) → List (EntityUID × ValidatorActionId) → List Entity → PlainSchema
+plain_schema types actions entities = schema_with (map plain_entry types) actions entities
+
+-- the schema of entity types and actions, without entities of actions
+abbrev pub plain_parts : Parts → PlainSchema
+plain_parts parts = plain_schema parts.entity_types.entries parts.actions.entries []
+
+-- why a schema is refused: memory ran out, or the fault is one of it, whatever extensions are handed in
+abbrev pub IsRefusal : PlainSchema → Fault → Type 0
+IsRefusal schema fault = (fault ≡ out_of_memory) ⊎ ((extensions : Extensions) → IsSchemaFault extensions schema fault)
+
+-- descendants are closed: what chains of them lead to is listed; and no action is on a cycle
+pub record IsClosed (schema : PlainSchema) : Type 0 where
+  pub types : (lower upper : PlainName) → Chain (ListsDescendant schema) lower upper → ListsDescendant schema lower upper
+  pub acyclic : (uid : PlainUid) → ¬ Chain (ListsDescendantAction schema) uid uid
+
+-- why a graph of actions is refused, as plain data
+abbrev pub graph_fault : TcError EntityUID → Fault
+graph_fault (refused.HasCycle key) = action_cycle (uid_of key)
+graph_fault refused.Memory = out_of_memory

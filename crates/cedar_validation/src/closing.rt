@@ -1,0 +1,73 @@
+//! Descendants, closed.
+
+ghost use Rattle.std.specs.Prelude.{◌≡◌, ◌⊎◌, IfErr, IfOk, List, OnOk, map};
+ghost use Rattle.cedar_schema_elements.specs.ValidatorActionId as action_specs;
+ghost use Rattle.cedar_schema_elements.specs.ValidatorActionId.{plain_action_entry};
+ghost use Rattle.cedar_schema_elements.specs.declared.action_id.ValidatorActionId.{ValidatorActionId as Action};
+ghost use Rattle.cedar_below.specs.Chain.{Chain};
+ghost use Rattle.cedar_below.specs.Lists.{HoldsPairwise};
+ghost use Rattle.cedar_below.specs.PlainUid.{PlainUid};
+ghost use Rattle.cedar_below.specs.declared.entity.Entity.{Entity};
+ghost use Rattle.cedar_below.specs.declared.entity_type.EntityType.{EntityType as Name};
+ghost use Rattle.cedar_below.specs.declared.entity_uid.EntityUID.{EntityUID as Uid};
+ghost use Rattle.cedar_declarations.specs.ClosedSchema.{ClosesAction, ClosesType};
+ghost use Rattle.cedar_declarations.specs.Fault.{action_cycle, out_of_memory};
+ghost use Rattle.cedar_declarations.specs.SchemaError.{fault_of};
+ghost use Rattle.cedar_declarations.specs.ValidSchema.{ListsDescendantAction};
+ghost use Rattle.cedar_schema_elements.specs.ValidatorEntityType as type_specs;
+ghost use Rattle.cedar_schema_elements.specs.ValidatorEntityType.{plain_entry};
+ghost use Rattle.cedar_schema_elements.specs.declared.entity_type.ValidatorEntityType.{ValidatorEntityType as Node};
+ghost use Rattle.cedar_validation.specs.Parts.{graph_fault, plain_schema};
+
+use crate::parts::{Actions, Types};
+use cedar_below::{EntityType, EntityUID, M, Memory};
+use cedar_declarations::SchemaError;
+use cedar_graph::{TcError, compute_tc, into_btree_map, into_hash_map};
+use cedar_schema_elements::{ValidatorActionId, ValidatorEntityType};
+use std::alloc::Global;
+
+/// The entity types with their descendants closed: each with just those that one or more steps of the
+/// listed ones reach. A step to what isn't an entity type of them leads no further.
+pub(crate) fn closed_types(alloc: Global, types: Types) -> M<Types>
+    ensures located { IfOk result (λ closed. type_specs.AreLocatedAsKeys types.entries → type_specs.AreLocatedAsKeys closed.entries) }
+    ensures closed { IfOk result (λ closed. (actions : List (Uid × Action)) (entities : List Entity)
+        → HoldsPairwise (ClosesType (plain_schema types.entries actions entities))
+        (map plain_entry types.entries) (map plain_entry closed.entries)) }
+{
+    let mut nodes = into_hash_map(alloc, types)?;
+    match compute_tc::<EntityType, ValidatorEntityType>(alloc, &mut nodes, false) {
+        Ok(()) => Ok(into_btree_map(alloc, nodes)?),
+        Err(_refused) => Err(Memory),
+    }
+}
+
+/// The refusal of a graph of actions.
+fn refusal(refused: TcError<EntityUID>) -> SchemaError
+    ensures { fault_of result ≡ graph_fault refused }
+{
+    match refused {
+        TcError::HasCycle(uid) => SchemaError::CycleInActionHierarchy(uid),
+        TcError::Memory => SchemaError::Memory(Memory),
+    }
+}
+
+/// The actions with their descendants closed in the same way. An action that is on a cycle is
+/// refused.
+pub(crate) fn closed_actions(alloc: Global, actions: Actions) -> Result<Actions, SchemaError>
+    ensures located { IfOk result (λ closed. action_specs.AreLocatedAsKeys actions.entries
+        → action_specs.AreLocatedAsKeys closed.entries) }
+    ensures closed { IfOk result (λ closed. (types : List (Name × Node)) (entities : List Entity)
+        → HoldsPairwise (ClosesAction (plain_schema types actions.entries entities))
+        (map plain_action_entry actions.entries) (map plain_action_entry closed.entries)) }
+    ensures acyclic { OnOk result ((types : List (Name × Node)) (entities : List Entity) (uid : PlainUid)
+        → ¬ Chain (ListsDescendantAction (plain_schema types actions.entries entities)) uid uid) }
+    ensures fault { IfErr result (λ error. (types : List (Name × Node)) (entities : List Entity) → (fault_of error ≡ out_of_memory)
+        ⊎ ((uid : PlainUid) × (fault_of error ≡ action_cycle uid)
+        × Chain (ListsDescendantAction (plain_schema types actions.entries entities)) uid uid)) }
+{
+    let mut nodes = into_hash_map(alloc, actions)?;
+    match compute_tc::<EntityUID, ValidatorActionId>(alloc, &mut nodes, true) {
+        Ok(()) => Ok(into_btree_map(alloc, nodes)?),
+        Err(refused) => Err(refusal(refused)),
+    }
+}

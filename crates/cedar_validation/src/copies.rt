@@ -1,0 +1,23 @@
+//! Copies of entity types and of actions.
+
+ghost use Rattle.std.specs.Prelude.{IfOk};
+ghost use Rattle.cedar_below.specs.Lists.{HoldsPairwise};
+ghost use Rattle.cedar_validation.specs.Copies.{IsActionCopied, IsTypeCopied};
+
+use crate::parts::{Actions, Types};
+use cedar_below::{EntityType, EntityUID, M, copied_entries};
+use cedar_schema_elements::{ValidatorActionId, ValidatorEntityType};
+
+/// Equal entity types with the same locations, each under an equal name.
+pub fn copied_types(types: &Types) -> M<Types>
+    ensures { IfOk result (λ copies. HoldsPairwise IsTypeCopied types.now.entries copies.entries) }
+{
+    copied_entries(types, EntityType::clone, ValidatorEntityType::clone)
+}
+
+/// Equal actions with the same locations, each under an equal uid.
+pub fn copied_actions(actions: &Actions) -> M<Actions>
+    ensures { IfOk result (λ copies. HoldsPairwise IsActionCopied actions.now.entries copies.entries) }
+{
+    copied_entries(actions, EntityUID::clone, ValidatorActionId::clone)
+}

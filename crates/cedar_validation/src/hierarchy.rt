@@ -1,0 +1,78 @@
+//! What is refused of the hierarchy of entity types, whose descendants are closed.
+
+ghost use Rattle.std.specs.Prelude.{◌≡◌, ◌⊎◌, ◌↔◌, IfErr, IsTrue, OnOk};
+ghost use Rattle.cedar_below.specs.EntityType.{type_name};
+ghost use Rattle.cedar_below.specs.PlainName.{PlainName};
+ghost use Rattle.cedar_declarations.specs.Fault.{out_of_memory};
+ghost use Rattle.cedar_declarations.specs.SchemaError.{fault_of};
+ghost use Rattle.cedar_declarations.specs.ValidSchema.{IsEnumerated, ListsDescendant};
+ghost use Rattle.cedar_schema_elements.specs.ValidatorEntityType.{entity_type_of};
+ghost use Rattle.cedar_validation.specs.Hierarchy.{IsBelowFault, IsBelowSound, IsKindFault, IsKindSound, IsPairSound};
+ghost use Rattle.cedar_validation.specs.Parts.{IsRefusal, plain_parts};
+
+use crate::parts::Parts;
+use crate::request_types::check_declared;
+use cedar_below::EntityType;
+use cedar_declarations::SchemaError;
+use cedar_schema_elements::{ValidatorEntityType, ValidatorEntityTypeKind};
+use std::alloc::Global;
+
+/// Whether an entity type is enumerated.
+fn is_enumerated(ty: &ValidatorEntityType) -> bool
+    ensures { IsTrue result ↔ IsEnumerated (entity_type_of ty.now).kind }
+{
+    matches!(ty.kind, ValidatorEntityTypeKind::Enum(_))
+}
+
+/// Refuses an enumerated entity type below another, and an external one below an enumerated one.
+fn check_kinds(
+    lower: &EntityType,
+    below: &ValidatorEntityType,
+    upper: &EntityType,
+    above: &ValidatorEntityType,
+) -> Result<(), SchemaError>
+    ensures sound { OnOk result (IsKindSound (entity_type_of below.now).kind (entity_type_of above.now).kind) }
+    ensures fault { IfErr result (λ error. (fault_of error ≡ out_of_memory)
+        ⊎ IsKindFault (type_name lower.now) (entity_type_of below.now).kind (type_name upper.now) (entity_type_of above.now).kind
+        (fault_of error)) }
+{
+    if is_enumerated(below) {
+        return Err(SchemaError::EnumEntityInHierarchy(lower.clone()?, upper.clone()?));
+    }
+    if is_enumerated(above) && below.is_external() {
+        return Err(SchemaError::ExternalWithEnumAncestor(lower.clone()?, upper.clone()?));
+    }
+    Ok(())
+}
+
+/// Checks each descendant of an entity type.
+fn check_below(
+    parts: &Parts,
+    upper: &EntityType,
+    above: &ValidatorEntityType,
+) -> Result<(), SchemaError>
+    ensures sound { OnOk result (IsBelowSound parts.now above.now) }
+    ensures fault { IfErr result (λ error. (fault_of error ≡ out_of_memory)
+        ⊎ IsBelowFault parts.now (type_name upper.now) above.now (fault_of error)) }
+{
+    for lower in &above.descendants {
+        match parts.entity_types.get(lower) {
+            Some(below) => check_kinds(lower, below, upper, above)?,
+            None => {}
+        }
+    }
+    Ok(())
+}
+
+/// Checks the descendants of each entity type, which have to be entity types of the schema.
+pub(crate) fn check_hierarchy(alloc: Global, parts: &Parts) -> Result<(), SchemaError>
+    ensures sound { OnOk result ((lower upper : PlainName) → ListsDescendant (plain_parts parts.now) lower upper
+        → IsPairSound (plain_parts parts.now) lower upper) }
+    ensures fault { IfErr result (λ error. IsRefusal (plain_parts parts.now) (fault_of error)) }
+{
+    for (upper, above) in &parts.entity_types {
+        check_declared(alloc, parts, above.descendants.iter())?;
+        check_below(parts, upper, above)?;
+    }
+    Ok(())
+}

@@ -1,0 +1,63 @@
+//! Entity types and actions put under their names.
+
+ghost use Rattle.std.specs.Prelude.{◌≡◌, Contains, IfOk};
+ghost use Rattle.std.specs.BTreeMap.{get_by};
+ghost use Rattle.cedar_schema_elements.specs.ValidatorActionId.{action_of};
+ghost use Rattle.cedar_schema_elements.specs.declared.action_id.ValidatorActionId.{ValidatorActionId as ActionOfSchema};
+ghost use Rattle.cedar_below.specs.EntityType.{type_name};
+ghost use Rattle.cedar_below.specs.EntityUID.{uid_of};
+ghost use Rattle.cedar_below.specs.PlainName.{name_cmp};
+ghost use Rattle.cedar_below.specs.PlainUid.{uid_cmp};
+ghost use Rattle.cedar_below.specs.declared.entity_type.EntityType.{EntityType as Name};
+ghost use Rattle.cedar_below.specs.declared.entity_uid.EntityUID.{EntityUID as Uid};
+ghost use Rattle.cedar_schema_elements.specs.ValidatorActionId as action_specs;
+ghost use Rattle.cedar_schema_elements.specs.ValidatorEntityType as type_specs;
+ghost use Rattle.cedar_schema_elements.specs.ValidatorEntityType.{entity_type_of};
+ghost use Rattle.cedar_schema_elements.specs.declared.entity_type.ValidatorEntityType.{ValidatorEntityType as EntityTypeOfSchema};
+ghost use Rattle.cedar_validation.specs.LastNamed.{last_named, last_of_uid};
+
+use crate::parts::{Actions, Types};
+use cedar_below::M;
+use cedar_schema_elements::{ValidatorActionId, ValidatorEntityType};
+use std::alloc::Global;
+use std::collections::BTreeMap;
+
+/// The entity types, each under its name; of those of one name the last.
+pub fn types_by_name(alloc: Global, types: Vec<ValidatorEntityType>) -> M<Types>
+    ensures last { IfOk result (λ named. (name : Name) → get_by (λ key. name_cmp (type_name name) (type_name key)) named
+        ≡ last_named (type_name name) types.items) }
+    ensures under_names { IfOk result (λ named. (it : Name × EntityTypeOfSchema) → Contains named.entries it
+        → (entity_type_of it.1).name ≡ type_name it.0) }
+    ensures located { IfOk result (λ named. type_specs.AreLocatedAsKeys named.entries) }
+{
+    let mut named = BTreeMap::new(alloc);
+    for ty in types {
+        let name = ty.name().clone()?;
+        // A map keeps the key that it has, so that of an earlier one goes first.
+        let _earlier = named.remove(&name);
+        named.insert(name, ty)?;
+    }
+    // That the names are in order, so that each stands once, is known from their iterator.
+    let _names = named.keys();
+    Ok(named)
+}
+
+/// The actions, each under its uid; of those of one uid the last.
+pub fn actions_by_uid(alloc: Global, actions: Vec<ValidatorActionId>) -> M<Actions>
+    ensures last { IfOk result (λ named. (uid : Uid) → get_by (λ key. uid_cmp (uid_of uid) (uid_of key)) named
+        ≡ last_of_uid (uid_of uid) actions.items) }
+    ensures under_uids { IfOk result (λ named. (it : Uid × ActionOfSchema) → Contains named.entries it
+        → (action_of it.1).uid ≡ uid_of it.0) }
+    ensures located { IfOk result (λ named. action_specs.AreLocatedAsKeys named.entries) }
+{
+    let mut named = BTreeMap::new(alloc);
+    for action in actions {
+        let uid = action.name().clone()?;
+        // A map keeps the key that it has, so that of an earlier one goes first.
+        let _earlier = named.remove(&uid);
+        named.insert(uid, action)?;
+    }
+    // That the uids are in order, so that each stands once, is known from their iterator.
+    let _uids = named.keys();
+    Ok(named)
+}

@@ -1,0 +1,20 @@
+//! The entity types and the actions of a schema.
+
+use cedar_below::{EntityType, EntityUID};
+use cedar_schema_elements::{ValidatorActionId, ValidatorEntityType};
+use std::collections::BTreeMap;
+
+/// Entity types, each under its name.
+pub(crate) type Types = BTreeMap<EntityType, ValidatorEntityType>;
+
+/// Actions, each under its uid.
+pub(crate) type Actions = BTreeMap<EntityUID, ValidatorActionId>;
+
+/// The entity types and the actions of a schema.
+#[derive(Drop)]
+pub(crate) struct Parts {
+    /// The entity types, each under its name.
+    pub(crate) entity_types: Types,
+    /// The actions, each under its uid.
+    pub(crate) actions: Actions,
+}

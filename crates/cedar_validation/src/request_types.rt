@@ -1,0 +1,80 @@
+//! What is refused of principals, resources and descendants that are named.
+
+ghost use Rattle.std.specs.Prelude.{◌≡◌, ◌⊎◌, [], ◌∷◌, Contains, IfErr, OnOk, map};
+ghost use Rattle.cedar_schema_elements.specs.ValidatorActionId.{action_of};
+ghost use Rattle.cedar_below.specs.EntityType.{type_name};
+ghost use Rattle.cedar_below.specs.PlainName.{PlainName};
+ghost use Rattle.cedar_below.specs.PlainUid.{PlainUid};
+ghost use Rattle.cedar_declarations.specs.Fault.{undeclared_action_descendant, undeclared_entity_types, out_of_memory};
+ghost use Rattle.cedar_declarations.specs.PlainSchema.{SchemaAction};
+ghost use Rattle.cedar_declarations.specs.SchemaError.{fault_of};
+ghost use Rattle.cedar_declarations.specs.ValidSchema.{HasAction, HasEntityType};
+ghost use Rattle.cedar_validation.specs.Parts.{IsRefusal, plain_parts};
+ghost use Rattle.cedar_validation.specs.RequestTypes.{ArePlaced, IsMisplaced};
+
+use crate::known::undeclared;
+use crate::parts::Parts;
+use cedar_below::EntityType;
+use cedar_declarations::SchemaError;
+use cedar_schema_elements::ValidatorActionId;
+use std::alloc::Global;
+use std::collections::hash_set;
+
+/// Refuses an entity type that isn't one of the schema.
+pub(crate) fn check_declared(
+    alloc: Global,
+    parts: &Parts,
+    names: hash_set::Iter<'_, EntityType>,
+) -> Result<(), SchemaError>
+    ensures sound { OnOk result ((name : PlainName) → Contains (map type_name names.entry) name
+        → HasEntityType (plain_parts parts.now) name) }
+    ensures fault { IfErr result (λ error. (fault_of error ≡ out_of_memory)
+        ⊎ ((name : PlainName) × (fault_of error ≡ undeclared_entity_types (name ∷ [])) × Contains (map type_name names.entry) name
+        × ¬ HasEntityType (plain_parts parts.now) name)) }
+{
+    for name in names {
+        if !parts.entity_types.contains_key(name) {
+            return Err(undeclared(alloc, name)?);
+        }
+    }
+    Ok(())
+}
+
+/// Refuses a descendant of an action that is no action of the schema.
+fn check_descendants(parts: &Parts, action: &ValidatorActionId) -> Result<(), SchemaError>
+    ensures sound { OnOk result ((uid : PlainUid) → Contains (action_of action.now).descendants uid
+        → HasAction (plain_parts parts.now) uid) }
+    ensures fault { IfErr result (λ error. (fault_of error ≡ out_of_memory)
+        ⊎ ((uid : PlainUid) × (fault_of error ≡ undeclared_action_descendant uid) × Contains (action_of action.now).descendants uid
+        × ¬ HasAction (plain_parts parts.now) uid)) }
+{
+    for lower in action.descendants() {
+        if !parts.actions.contains_key(lower) {
+            return Err(SchemaError::UndeclaredActionsDescendant(lower.clone()?));
+        }
+    }
+    Ok(())
+}
+
+/// Refuses an action with such a descendant, or with a principal or a resource that isn't an entity type of
+/// the schema.
+fn check_action(alloc: Global, parts: &Parts, action: &ValidatorActionId) -> Result<(), SchemaError>
+    ensures sound { OnOk result (ArePlaced (plain_parts parts.now) (action_of action.now)) }
+    ensures fault { IfErr result (λ error. IsMisplaced (plain_parts parts.now) (action_of action.now) (fault_of error)) }
+{
+    check_declared(alloc, parts, action.principals())?;
+    check_declared(alloc, parts, action.resources())?;
+    check_descendants(parts, action)
+}
+
+/// Checks the principals, resources and descendants of each action.
+pub(crate) fn check_actions(alloc: Global, parts: &Parts) -> Result<(), SchemaError>
+    ensures sound { OnOk result ((entry : PlainUid × SchemaAction) → Contains (plain_parts parts.now).actions entry
+        → ArePlaced (plain_parts parts.now) entry.1) }
+    ensures fault { IfErr result (λ error. IsRefusal (plain_parts parts.now) (fault_of error)) }
+{
+    for (_uid, action) in &parts.actions {
+        check_action(alloc, parts, action)?;
+    }
+    Ok(())
+}

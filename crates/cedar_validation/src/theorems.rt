@@ -1,0 +1,14 @@
+//! Laws of validation.
+
+ghost use Rattle.cedar_below.specs.declared.extension.Extensions.{Extensions};
+ghost use Rattle.cedar_declarations.specs.ClosedSchema.{ClosesSchema};
+ghost use Rattle.cedar_declarations.specs.PlainSchema.{PlainSchema};
+ghost use Rattle.cedar_declarations.specs.ValidSchema.{IsValidSchema};
+
+/// A valid schema is valid still once it is closed, and closing it again is closing it once.
+pub fn closing_again_is_closing_once()
+    ensures valid { (extensions : Extensions) (schema closed : PlainSchema) → ClosesSchema schema closed
+        → IsValidSchema extensions schema → IsValidSchema extensions closed }
+    ensures closed { (schema closed again : PlainSchema) → ClosesSchema schema closed → ClosesSchema closed again
+        → ClosesSchema schema again }
+{}

@@ -1,0 +1,125 @@
+//! A schema that was put together by hand, checked.
+
+ghost use Rattle.std.specs.Prelude.{◌≡◌, ◌⊎◌, IfErr, IfOk, List, OnOk};
+ghost use Rattle.cedar_schema_elements.specs.ValidatorActionId as action_specs;
+ghost use Rattle.cedar_below.specs.Entities.{entities_of};
+ghost use Rattle.cedar_below.specs.declared.entity.Entity.{Entity};
+ghost use Rattle.cedar_declarations.specs.ClosedSchema.{ClosesSchema};
+ghost use Rattle.cedar_declarations.specs.Fault.{out_of_memory};
+ghost use Rattle.cedar_declarations.specs.SchemaError.{fault_of};
+ghost use Rattle.cedar_declarations.specs.ValidSchema.{IsSchemaFault, IsValidSchema};
+ghost use Rattle.cedar_schema_elements.specs.ValidatorEntityType as type_specs;
+ghost use Rattle.cedar_validation.specs.Parts.{IsClosed, IsRefusal, plain_parts, plain_schema};
+ghost use Rattle.cedar_validation.specs.Sound.{AreMentionsSound, AreNamesSound};
+
+use crate::closing::{closed_actions, closed_types};
+use crate::hierarchy::check_hierarchy;
+use crate::known::{Known, action_types};
+use crate::mentions::check_mentions;
+use crate::names::{
+    check_action_types, check_shadowed_actions, check_shadowed_types, check_type_names,
+};
+use crate::parts::Parts;
+use crate::request_types::check_actions;
+use cedar_below::{Entities, EntityType, EntityUID, Extensions};
+use cedar_declarations::SchemaError;
+use cedar_schema_elements::{ValidatorActionId, ValidatorEntityType, action_entities};
+use std::alloc::Global;
+use std::collections::BTreeMap;
+
+/// The parts of a schema that is valid, with all its descendants.
+#[derive(Drop)]
+pub struct Validated {
+    /// The entity types, each under its name.
+    pub entity_types: BTreeMap<EntityType, ValidatorEntityType>,
+    /// The actions, each under its uid.
+    pub actions: BTreeMap<EntityUID, ValidatorActionId>,
+    /// The entities of the actions.
+    pub action_entities: Entities,
+}
+
+/// Refuses names that may not stand, or not beside one another.
+fn check_names(alloc: Global, parts: &Parts) -> Result<(), SchemaError>
+    ensures sound { OnOk result (AreNamesSound (plain_parts parts.now)) }
+    ensures fault { IfErr result (λ error. IsRefusal (plain_parts parts.now) (fault_of error)) }
+{
+    check_type_names(parts)?;
+    check_action_types(parts)?;
+    check_shadowed_types(alloc, parts)?;
+    check_shadowed_actions(alloc, parts)
+}
+
+/// Refuses entity types and extension types that stand in types and aren't known.
+fn check_types(alloc: Global, parts: &Parts, extensions: &Extensions) -> Result<(), SchemaError>
+    ensures sound { OnOk result (AreMentionsSound extensions.now (plain_parts parts.now)) }
+    ensures fault { IfErr result (λ error. (fault_of error ≡ out_of_memory)
+        ⊎ IsSchemaFault extensions.now (plain_parts parts.now) (fault_of error)) }
+{
+    let types = action_types(alloc, parts)?;
+    let known = Known {
+        alloc,
+        parts,
+        action_types: &types,
+        extensions,
+    };
+    check_mentions(&known)
+}
+
+/// Refuses a schema with any fault, where its descendants are closed.
+fn check_parts(alloc: Global, parts: &Parts, extensions: &Extensions) -> Result<(), SchemaError>
+    ensures valid { OnOk result (IsClosed (plain_parts parts.now) → IsValidSchema extensions.now (plain_parts parts.now)) }
+    ensures fault { IfErr result (λ error. (fault_of error ≡ out_of_memory)
+        ⊎ IsSchemaFault extensions.now (plain_parts parts.now) (fault_of error)) }
+{
+    check_names(alloc, parts)?;
+    check_types(alloc, parts, extensions)?;
+    check_hierarchy(alloc, parts)?;
+    check_actions(alloc, parts)
+}
+
+/// A schema of entity types and actions, checked: the same with all their descendants, and with the
+/// entities of its actions.
+///
+/// It is refused with `CycleInActionHierarchy` if an action is its own descendant, with
+/// `ActionEntityTypeDeclared` if an entity type has the base name `Action`, with
+/// `InvalidActionType` if the type of an action hasn't, with `TypeShadowing` or `ActionShadowing`
+/// if an entity type or an action without a namespace stands beside one of the same name in a
+/// namespace, with `UndeclaredEntityTypes` if an entity type that stands in attributes, tags or a
+/// context is neither an entity type of the schema nor the type of one of its actions, or if a
+/// descendant, a principal or a resource is no entity type of the schema, with
+/// `UnknownExtensionType` if an extension type that stands in a type wasn't handed in, with
+/// `EnumEntityInHierarchy` if an enumerated entity type is a descendant of any, with
+/// `ExternalWithEnumAncestor` if an external one is a descendant of an enumerated one, with
+/// `UndeclaredActionsDescendant` if a descendant of an action is no action of the schema, and with
+/// `Memory` if memory runs out. Whether contexts are records isn't looked at. These are the rules
+/// of the validator of Cedar for a schema that is given by its parts.
+pub fn validate(
+    alloc: Global,
+    entity_types: BTreeMap<EntityType, ValidatorEntityType>,
+    actions: BTreeMap<EntityUID, ValidatorActionId>,
+    extensions: &Extensions,
+) -> Result<Validated, SchemaError>
+    ensures fault { IfErr result (λ error. (entities : List Entity) → (fault_of error ≡ out_of_memory)
+        ⊎ IsSchemaFault extensions.now (plain_schema entity_types.entries actions.entries entities) (fault_of error)) }
+    ensures valid { OnOk result ((entities : List Entity)
+        → IsValidSchema extensions.now (plain_schema entity_types.entries actions.entries entities)) }
+    ensures types_located { IfOk result (λ it. type_specs.AreLocatedAsKeys entity_types.entries
+        → type_specs.AreLocatedAsKeys it.entity_types.entries) }
+    ensures actions_located { IfOk result (λ it. action_specs.AreLocatedAsKeys actions.entries
+        → action_specs.AreLocatedAsKeys it.actions.entries) }
+    ensures closed { IfOk result (λ it. (entities : List Entity)
+        → ClosesSchema (plain_schema entity_types.entries actions.entries entities)
+        (plain_schema it.entity_types.entries it.actions.entries (entities_of it.action_entities))) }
+{
+    let parts = Parts {
+        entity_types: closed_types(alloc, entity_types)?,
+        actions: closed_actions(alloc, actions)?,
+    };
+    check_parts(alloc, &parts, extensions)?;
+    let action_entities = action_entities(alloc, &parts.actions)?;
+    Ok(Validated {
+        entity_types: parts.entity_types,
+        actions: parts.actions,
+        action_entities,
+    })
+}

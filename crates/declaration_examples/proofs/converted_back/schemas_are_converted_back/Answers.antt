@@ -1,0 +1,126 @@
+use Rattle.std.proofs.Common.{◌≡◌, ◌⊎◌, ◌++◌, List, [], ◌∷◌, None, Some, ap, codes, length, refl, inl, inr, ⊎_elim, subst, sym, ◌∙◌, arith, Contains}
+use Rattle.std.proofs.lemmas.List.Sorted.{IsPermutation-refl}
+use Rattle.cedar_below.proofs.Lists.{Contains-cons, Contains-cons_cases}
+use Rattle.cedar_below.specs.PlainName.{PlainName}
+use Rattle.cedar_below.specs.PlainUid.{PlainUid}
+use Rattle.cedar_declarations.proofs.OccurrenceLemmas.{Contains-single}
+use Rattle.cedar_declarations.specs.Bag.{alias_name}
+use Rattle.cedar_declarations.specs.EntityTypeKind.{standard_kind}
+use Rattle.cedar_declarations.specs.PlainSchema.{SchemaAction, SchemaEntityType, defined_action}
+use Rattle.cedar_declarations.specs.ValidSchema.{ListsDescendant, ListsDescendantAction}
+use Rattle.cedar_declarations.specs.ConvertedBack.{full_name}
+use Rattle.cedar_names.specs.Declaration.{Declaration}
+use Rattle.cedar_names.specs.Reference.{Reference}
+use Rattle.cedar_names.specs.Expr.{no_member}
+use Rattle.cedar_type_rules.specs.Ty.{end, record_of}
+use Rattle.cedar_type_rules.specs.declared.open_tag.OpenTag.TheVariants.{ClosedAttributes}
+use Rattle.declaration_examples.specs.Samples.{sample_namespace, within_sample}
+use Rattle.declaration_examples.specs.WrittenSamples.{plain_kind, sample_bag, sample_fields, sample_schema, type_entry, action_named}
+use Rattle.declaration_examples.proofs.converted_back.schemas_are_converted_back.Goals as goal
+
+group : PlainName × SchemaEntityType
+group = type_entry (alias_name (codes "Group")) plain_kind (within_sample (codes "User") ∷ [])
+
+user : PlainName × SchemaEntityType
+user = type_entry (within_sample (codes "User")) (standard_kind sample_fields ClosedAttributes None) []
+
+-- the only descendant that is listed
+listed : (lower upper : PlainName) → ListsDescendant sample_schema lower upper
+    → (within_sample (codes "User") ≡ lower) × (alias_name (codes "Group") ≡ upper)
+unfolding group user
+listed lower upper lists =
+    let P : PlainName × SchemaEntityType → Type 0 = λ it. Contains it.1.descendants lower in
+    ⊎_elim
+    (λ first. (
+      Contains-single (within_sample (codes "User")) lower (subst P (sym first) lists.2),
+      ap (λ (it : PlainName × SchemaEntityType). it.0) first,
+    ))
+    (λ later.
+    let same = Contains-single user (upper, lists.0) later in
+    let none = subst P (sym same) lists.2 in absurd (omega (arith, none.1)))
+    (Contains-cons_cases group (user ∷ []) (upper, lists.0) lists.1)
+
+pub returns : goal.returns
+unfolding group user
+returns c =
+    let view : PlainUid × SchemaAction = (
+      action_named (codes "view"),
+      record {
+        uid = action_named (codes "view");
+        kind = defined_action (within_sample (codes "User") ∷ []) [] (record_of end ClosedAttributes);
+        descendants = [];
+      },
+    ) in
+    let parent : Reference = full_name (Some sample_namespace) (alias_name (codes "Group")) in
+    let principal : Reference = full_name None (within_sample (codes "User")) in
+    record {
+      entity_types = Rattle.std.proofs.Common.take 2 sample_bag;
+      actions = Rattle.std.proofs.Common.drop 2 sample_bag;
+      each_entity_type = (
+        record {
+          name = refl;
+          body = _;
+          declares = refl;
+          kind = (
+            λ reference. (
+              λ among. absurd (omega (arith, among.1)),
+              λ of.
+                  let same = (listed (alias_name (codes "Group")) of.0 of.1).0 in
+                  let count : 4 ≡ 5 = ap (λ (name : PlainName). length name.base) same in absurd (omega (arith, count)),
+            ),
+            refl,
+            tt,
+          );
+        },
+        (
+          record {
+            name = refl;
+            body = _;
+            declares = refl;
+            kind = (
+              λ reference. (
+                λ among. (
+                  alias_name (codes "Group"),
+                  (
+                    group.1,
+                    (0, omega arith, refl),
+                    (0, omega arith, refl),
+                  ),
+                  Contains-single parent reference among,
+                ),
+                λ of. Contains-cons parent [] reference
+                    (inl (ap (full_name (Some sample_namespace)) (listed (within_sample (codes "User")) of.0 of.1).1 ∙ of.2)),
+              ),
+              refl,
+              tt,
+            );
+          },
+          tt,
+        ),
+      );
+      each_action = (
+        record {
+          uid = refl;
+          parents = _;
+          applies_to = _;
+          declares = refl;
+          above = λ reference. (
+            λ among. absurd (omega (arith, among.1)),
+            λ of.
+                let P : PlainUid × SchemaAction → Type 0 = λ it. Contains it.1.descendants (action_named (codes "view")) in
+                let none = subst P (sym (Contains-single view (of.0, of.1.0) of.1.1)) of.1.2 in absurd (omega (arith, none.1)),
+          );
+          kind = (
+            λ reference. (
+              λ among. (within_sample (codes "User"), (0, omega arith, refl), Contains-single principal reference among),
+              λ of. Contains-cons principal [] reference
+                  (inl (ap (full_name None) (Contains-single (within_sample (codes "User")) of.0 of.1) ∙ of.2)),
+            ),
+            λ reference. (λ among. absurd (omega (arith, among.1)), λ of. absurd (let no = of.1 in omega (arith, no.1))),
+            refl,
+          );
+        },
+        tt,
+      );
+      in_some_order = IsPermutation-refl sample_bag;
+    }

@@ -1,0 +1,47 @@
+use Rattle.std.proofs.Common.{◌≡◌, ℕ, List, [], ◌∷◌, ap, codes, refl, get_or, length, arith}
+use Rattle.cedar_below.specs.PlainName.{PlainName}
+use Rattle.cedar_below.specs.PlainUid.{PlainUid}
+use Rattle.cedar_below.specs.Text.{Text}
+use Rattle.cedar_declarations.proofs.OccurrenceLemmas.{Contains-single}
+use Rattle.cedar_declarations.specs.Bag.{alias_name}
+use Rattle.cedar_declarations.specs.EntityTypeKind.{enumerated_kind}
+use Rattle.cedar_declarations.specs.PlainSchema.{external_action}
+use Rattle.declaration_examples.specs.WrittenSamples.{action_named, plain_kind}
+use Rattle.declaration_examples.proofs.converted_back.unwritable_hierarchies.Goals as goal
+
+pub returns-clause-action_type : goal.returns-clause-action_type
+returns-clause-action_type c writable =
+    let same = writable.action_types (record { ty = alias_name (codes "User"); eid = codes "b" }) (0, omega arith, refl) in
+    let count : 4 ≡ 6 = ap length same in
+    omega (arith, count)
+
+pub returns-clause-missing : goal.returns-clause-missing
+returns-clause-missing c writable =
+    let there = writable.entity_types_below (alias_name (codes "U")) (alias_name (codes "Group")) (
+      record { name = alias_name (codes "Group"); kind = plain_kind; descendants = alias_name (codes "U") ∷ [] },
+      (0, omega arith, refl),
+      (0, omega arith, refl),
+    ) in
+    let same = Contains-single (alias_name (codes "Group")) (alias_name (codes "U")) there in
+    let count : 5 ≡ 1 = ap (λ (name : PlainName). length name.base) same in
+    omega (arith, count)
+
+pub returns-clause-enumerated : goal.returns-clause-enumerated
+returns-clause-enumerated c writable =
+    writable.none_enumerated (alias_name (codes "U")) (alias_name (codes "Group")) (
+      record { name = alias_name (codes "Group"); kind = plain_kind; descendants = alias_name (codes "U") ∷ [] },
+      (0, omega arith, refl),
+      (0, omega arith, refl),
+    )
+    (record { name = alias_name (codes "U"); kind = enumerated_kind (codes "u" ∷ []); descendants = [] }, (1, omega arith, refl), tt)
+
+pub returns-clause-missing_action : goal.returns-clause-missing_action
+returns-clause-missing_action c writable =
+    let there = writable.actions_below (action_named (codes "c")) (action_named (codes "b")) (
+      record { uid = action_named (codes "b"); kind = external_action; descendants = action_named (codes "c") ∷ [] },
+      (0, omega arith, refl),
+      (0, omega arith, refl),
+    ) in
+    let same = Contains-single (action_named (codes "b")) (action_named (codes "c")) there in
+    let first : 98 ≡ 99 = ap (λ (uid : PlainUid). get_or uid.eid 0 0) same in
+    omega (arith, first)
