@@ -35,7 +35,7 @@ module _ (bag : Bag) (extensions : Extensions) (names : Names) (resolved : IsRes
         attributes = λ ids. definitions_sound extensions (action_attributes ids) tt;
         closed = of_counted bag (λ expr. ¬ HasOpenRecord expr) common.closed entities.closed actions.closed;
         known = of_counted bag (HasKnownExtensions extensions) common.known entities.extension_types actions.extension_types;
-        type_locations = λ reference name placed resolves. of_placed bag
+        places = λ reference name placed resolves. of_placed bag
             (λ each. ResolvesTo (defined_names bag extensions) each name → ¬ IsActionType name)
             (λ lower each parent is. declared_no_action name (entities.parents lower name each parent is))
             (λ uid body each among place is. declared_no_action name (actions.entity_types uid body each name among place is))
