@@ -13,7 +13,7 @@ use std::alloc::Global;
 use std::collections::BTreeMap;
 use std::ops::Range;
 
-/// A type that is elaborated.
+/// A type variant as a type, without a location.
 fn plain(ty: TypeVariant<RawName>) -> Type<RawName> {
     Type::Plain { ty, loc: None }
 }

@@ -26,7 +26,7 @@ use cedar_types::{Attributes, BoolType, EntityKind, OpenTag, Type};
 use std::alloc::Global;
 use std::collections::BTreeMap;
 
-/// A type that is elaborated.
+/// A type variant as a type, without a location.
 pub(crate) fn plain(ty: TypeVariant<RawName>) -> json_schema::Type<RawName>
     ensures { (namespace : Option PlainName) → raw_expr namespace result ≡ raw_variant namespace ty }
 {

@@ -124,7 +124,7 @@ fn names_are_those_of_what_is_declared(rt: HostRuntime) -> Result<(), Fail> {
     Ok(())
 }
 
-/// Fragments, each with the refusal of resolution them.
+/// Fragments, each with the refusal of resolving them.
 const REFUSED: &[(&[&str], &str)] = &[
     (
         &["N: entity T", "N::M: entity U {a@3: e:T@2}"],

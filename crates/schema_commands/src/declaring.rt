@@ -66,7 +66,7 @@ pub(crate) fn raw_built_in(alloc: Global, text: &str) -> M<RawName>
     Ok(RawName::new(InternalName::new(id(alloc, text)?, path, None)))
 }
 
-/// A type that is elaborated.
+/// A type variant as a type, without a location.
 pub(crate) fn plain(ty: TypeVariant<RawName>) -> Type<RawName> {
     Type::Plain { ty, loc: None }
 }
