@@ -24,5 +24,6 @@ pub mod RestrictedExpr
 pub mod Text
 pub mod Tree
 pub mod TypeNames
+pub mod UidText
 pub mod UnreservedId
 pub mod Value

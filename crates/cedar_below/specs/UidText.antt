@@ -1,0 +1,28 @@
+use Rattle.std.specs.Prelude.{ℕ, false, ◌++◌, ◌==◌, codes, cond}
+use Rattle.std.specs.Char.{encode_utf8, is_control}
+use Rattle.std.specs.Fmt.{digits}
+use Rattle.std.specs.List.{flat_map}
+use Rattle.std.specs.Str.{chars}
+use Rattle.cedar_below.specs.PlainName.{name_text}
+use Rattle.cedar_below.specs.PlainUid.{PlainUid}
+use Rattle.cedar_below.specs.Text.{Text}
+
+-- a character of an id as it is printed: a quote, a backslash and some controls by a letter behind a backslash, any
+-- other control by its number in hexadecimal, and all else as it is
+abbrev pub escaped : ℕ → Text
+escaped c =
+    cond (c == 0) (codes "\\0")
+    (cond (c == 9) (codes "\\t")
+    (cond (c == 10) (codes "\\n")
+    (cond (c == 13) (codes "\\r")
+    (cond (c == 34) (codes "\\\"")
+    (cond (c == 92) (codes "\\\\")
+    (cond (is_control c) (codes "\\u{" ++ (digits 16 false c ++ codes "}")) (encode_utf8 c)))))))
+
+-- an id as it is printed, without the quotes
+abbrev pub escaped_text : Text → Text
+escaped_text eid = flat_map escaped (chars eid)
+
+-- a uid as it is printed: its type, `::`, and its id in quotes
+abbrev pub uid_text : PlainUid → Text
+uid_text uid = name_text uid.ty ++ (codes "::\"" ++ (escaped_text uid.eid ++ codes "\""))
