@@ -2,15 +2,18 @@ pub mod Chains
 pub mod Collected
 mod EntryLemmas
 pub mod FittingNames
+pub mod IdStops
 pub mod Ids
 pub mod Inclusion
 pub mod Lists
 pub mod Lookups
+pub mod NameReading
 pub mod Names
 pub mod Ordered
 pub mod PlainNames
 pub mod ShownLemmas
 pub mod Texts
+pub mod TextsOfNames
 pub mod TreeLemmas
 mod TurnLemmas
 pub mod Uids

@@ -17,10 +17,15 @@ pub mod KeyedEntities
 pub mod LastNamed
 pub mod Lists
 pub mod Name
+pub mod NameFault
+pub mod NameFaultText
+pub mod NameText
 pub mod NonEmpty
 pub mod PlainName
 pub mod PlainUid
+pub mod Reading
 pub mod RestrictedExpr
+pub mod Stops
 pub mod Text
 pub mod Tree
 pub mod TypeNames

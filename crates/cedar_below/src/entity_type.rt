@@ -1,15 +1,19 @@
 //! Names of entity types.
 
-ghost use Rattle.std.specs.Prelude.{◌≡◌, ◌↔◌, IsTrue, IfErr, IfOk, OnOk};
+ghost use Rattle.std.specs.Prelude.{◌≡◌, ◌↔◌, IsTrue, IfErr, IfOk, OnOk, None};
 ghost use Rattle.cedar_below.specs.EntityType.{type_name, type_loc};
 ghost use Rattle.cedar_below.specs.InternalName.{name_of, name_loc};
 ghost use Rattle.cedar_below.specs.Name.{plain_name, plain_loc};
-ghost use Rattle.cedar_below.specs.PlainName.{IsActionType, IsReserved};
+ghost use Rattle.cedar_below.specs.NameFault.{IsNameFault};
+ghost use Rattle.cedar_below.specs.NameText.{IsNameText, IsReservedNameText};
+ghost use Rattle.cedar_below.specs.PlainName.{IsActionType, IsReserved, name_text};
 
 use crate::internal_name::InternalName;
 use crate::loc::Loc;
 use crate::memory::M;
 use crate::name::Name;
+use crate::name_fault::NameFault;
+use std::alloc::Global;
 use std::fmt;
 
 /// The base name of every action's type.
@@ -42,6 +46,17 @@ impl EntityType {
             Some(name) => Ok(EntityType(name)),
             None => unreachable!(),
         }
+    }
+
+    /// The entity type of the name that a text spells: identifiers joined by `::`, with nothing
+    /// else between them. It has no location. It is refused exactly where no name prints as the
+    /// text, with the byte at which it stops being one, or the name is reserved, or out of memory.
+    pub fn from_str(alloc: Global, text: &str) -> Result<Self, NameFault>
+        ensures name { IfOk result (λ ty. name_text (type_name ty) ≡ text.now) }
+        ensures loc { IfOk result (λ ty. type_loc ty ≡ None) }
+        ensures fault { IfErr result (IsNameFault IsNameText IsReservedNameText (λ _. ⊥) text.now) }
+    {
+        Ok(EntityType(Name::from_str(alloc, text)?))
     }
 
     /// The entity type's name.

@@ -1,10 +1,15 @@
 //! Identifiers.
 
-ghost use Rattle.std.specs.Prelude.{◌≡◌, ◌≢◌, ◌↔◌, IsTrue, IsSome, IfSome, IfOk, string_bytes};
+ghost use Rattle.std.specs.Prelude.{◌≡◌, ◌≢◌, ◌↔◌, IsTrue, IsSome, IfSome, IfOk, IfErr, string_bytes};
 ghost use Rattle.std.specs.List.{list_all};
+ghost use Rattle.std.specs.Option.{MatchOption};
 ghost use Rattle.cedar_below.specs.Identifier.{IsIdentifier, begins_identifier, is_identifier_start, is_identifier_byte, reserved_word};
+ghost use Rattle.cedar_below.specs.NameFault.{IsNameFault};
+ghost use Rattle.cedar_below.specs.Stops.{StopsAt};
 
 use crate::memory::M;
+use crate::name_fault::NameFault;
+use std::alloc::Global;
 use std::fmt;
 
 /// The word that no declared name may hold.
@@ -19,14 +24,14 @@ pub struct Id {
 }
 
 /// Whether a byte may begin an identifier: an ASCII letter or `_`.
-fn is_start(byte: u8) -> bool
+pub(crate) fn is_start(byte: u8) -> bool
     ensures { result ≡ is_identifier_start byte }
 {
     byte.is_ascii_alphabetic() || byte == b'_'
 }
 
 /// Whether a byte may stand in an identifier: an ASCII letter, a digit or `_`.
-fn is_inner(byte: u8) -> bool
+pub(crate) fn is_inner(byte: u8) -> bool
     ensures { result ≡ is_identifier_byte byte }
 {
     is_start(byte) || byte.is_ascii_digit()
@@ -56,6 +61,21 @@ fn is_identifier(text: &str) -> bool
     has_start(text.as_bytes()) && has_inner(text.as_bytes())
 }
 
+/// The byte at which a text stops being an identifier, or None where it is one.
+fn stop(text: &[u8]) -> Option<usize>
+    ensures { MatchOption result (IsIdentifier text.now) (StopsAt IsIdentifier text.now) }
+{
+    if !has_start(text) {
+        return Some(0);
+    }
+    for (at, byte) in text.iter().enumerate() {
+        if !is_inner(*byte) {
+            return Some(at);
+        }
+    }
+    None
+}
+
 impl Id {
     ghost use Rattle.cedar_below.specs.Id.{id_text};
 
@@ -68,6 +88,20 @@ impl Id {
             Some(Id { text })
         } else {
             None
+        }
+    }
+
+    /// The identifier that a text spells. It is refused exactly where it spells none, with the byte
+    /// at which it stops being one, or out of memory.
+    pub fn from_str(alloc: Global, text: &str) -> Result<Self, NameFault>
+        ensures id { IfOk result (λ id. id_text id ≡ text.now) }
+        ensures fault { IfErr result (IsNameFault IsIdentifier (λ _. ⊥) (λ _. ⊥) text.now) }
+    {
+        match stop(text.as_bytes()) {
+            Some(at) => Err(NameFault::NotAName(at)),
+            None => Ok(Id {
+                text: String::from_str(alloc, text)?,
+            }),
         }
     }
 

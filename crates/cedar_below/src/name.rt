@@ -9,6 +9,8 @@ use crate::id::Id;
 use crate::internal_name::InternalName;
 use crate::loc::Loc;
 use crate::memory::M;
+use crate::name_fault::NameFault;
+use std::alloc::Global;
 use std::fmt;
 
 /// A name that isn't reserved: no part of it is `__cedar`.
@@ -19,10 +21,12 @@ pub struct Name {
 }
 
 impl Name {
-    ghost use Rattle.std.specs.Prelude.{◌≡◌, ◌↔◌, IsTrue, IsSome, IfSome, IfOk, map};
+    ghost use Rattle.std.specs.Prelude.{◌≡◌, ◌↔◌, IsTrue, IsSome, IfSome, IfOk, IfErr, None, map};
     ghost use Rattle.cedar_below.specs.Id.{id_text};
     ghost use Rattle.cedar_below.specs.InternalName.{name_of, name_loc};
-    ghost use Rattle.cedar_below.specs.PlainName.{IsUnqualified, IsReserved};
+    ghost use Rattle.cedar_below.specs.NameFault.{IsNameFault};
+    ghost use Rattle.cedar_below.specs.NameText.{IsNameText, IsReservedNameText};
+    ghost use Rattle.cedar_below.specs.PlainName.{IsUnqualified, IsReserved, name_text};
     ghost use Rattle.cedar_below.specs.Name.{plain_name, plain_loc};
 
     /// The name, or None where it is reserved.
@@ -35,6 +39,22 @@ impl Name {
             None
         } else {
             Some(Name { name })
+        }
+    }
+
+    /// The name that a text spells: identifiers joined by `::`, with nothing else between them. It
+    /// has no location. It is refused exactly where no name prints as the text, with the byte at
+    /// which it stops being one, or the name is reserved, or out of memory.
+    pub fn from_str(alloc: Global, text: &str) -> Result<Self, NameFault>
+        ensures name { IfOk result (λ name. name_text (plain_name name) ≡ text.now) }
+        ensures loc { IfOk result (λ name. plain_loc name ≡ None) }
+        ensures fault { IfErr result (IsNameFault IsNameText IsReservedNameText (λ _. ⊥) text.now) }
+    {
+        let name = InternalName::from_str(alloc, text)?;
+        if name.is_reserved() {
+            Err(NameFault::Reserved)
+        } else {
+            Ok(Name { name })
         }
     }
 

@@ -9,7 +9,7 @@ ghost use Rattle.cedar_below.specs.Id.{id_text};
 ghost use Rattle.cedar_below.specs.InternalName.{name_of};
 ghost use Rattle.cedar_below.specs.IsValue.{IsName};
 ghost use Rattle.cedar_below.specs.Name.{plain_name};
-ghost use Rattle.cedar_below.specs.PlainName.{PlainName, name_cmp};
+ghost use Rattle.cedar_below.specs.PlainName.{PlainName, name_cmp, name_text};
 ghost use Rattle.cedar_below.specs.PlainUid.{PlainUid, uid_cmp};
 ghost use Rattle.cedar_below.specs.Text.{text_cmp};
 ghost use Rattle.cedar_below.specs.UnreservedId.{unreserved_id_text};
@@ -87,6 +87,11 @@ pub fn names_are_totally_ordered()
 pub fn uids_are_totally_ordered()
     ensures total { IsTotalOrder uid_cmp }
     ensures same { (a b : PlainUid) → (uid_cmp a b ≡ Ordering.Equal) ↔ (a ≡ b) }
+{}
+
+/// A name is known by its text: names that print alike are the same, ignoring locations.
+pub fn names_are_known_by_their_text()
+    ensures { (a b : InternalName) → name_text (name_of a) ≡ name_text (name_of b) → name_of a ≡ name_of b }
 {}
 
 /// What a name stands for isn't reserved, and its parts are identifiers.

@@ -1,11 +1,14 @@
 //! Identifiers that are not reserved.
 
-ghost use Rattle.std.specs.Prelude.{◌≡◌, ◌≢◌, ◌↔◌, IsSome, IfSome, IfOk, string_bytes};
+ghost use Rattle.std.specs.Prelude.{◌≡◌, ◌≢◌, ◌↔◌, IsSome, IfSome, IfOk, IfErr, string_bytes};
 ghost use Rattle.cedar_below.specs.Id.{id_text};
 ghost use Rattle.cedar_below.specs.Identifier.{IsIdentifier, reserved_word};
+ghost use Rattle.cedar_below.specs.NameFault.{IsNameFault};
 
 use crate::id::Id;
 use crate::memory::M;
+use crate::name_fault::NameFault;
+use std::alloc::Global;
 use std::fmt;
 
 /// An identifier that isn't the reserved word `__cedar`.
@@ -28,6 +31,20 @@ impl UnreservedId {
             None
         } else {
             Some(UnreservedId { id })
+        }
+    }
+
+    /// The identifier that a text spells. It is refused exactly where it spells none, with the byte
+    /// at which it stops being one, or the reserved word `__cedar`, or out of memory.
+    pub fn from_str(alloc: Global, text: &str) -> Result<Self, NameFault>
+        ensures id { IfOk result (λ id. unreserved_id_text id ≡ text.now) }
+        ensures fault { IfErr result (IsNameFault IsIdentifier (λ text. text ≡ reserved_word) (λ _. ⊥) text.now) }
+    {
+        let id = Id::from_str(alloc, text)?;
+        if id.is_reserved() {
+            Err(NameFault::Reserved)
+        } else {
+            Ok(UnreservedId { id })
         }
     }
 

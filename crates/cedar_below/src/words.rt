@@ -1,6 +1,6 @@
 //! Identifiers of known words.
 
-ghost use Rattle.std.specs.Prelude.{◌≡◌, IfOk};
+ghost use Rattle.std.specs.Prelude.{◌≡◌, IfOk, string_bytes};
 ghost use Rattle.cedar_below.specs.Id.{id_text};
 ghost use Rattle.cedar_below.specs.Identifier.{IsIdentifier};
 
@@ -9,12 +9,20 @@ use crate::memory::M;
 use std::alloc::Global;
 
 /// The identifier that a text spells.
+pub(crate) fn spelled(text: String) -> Id
+    requires { IsIdentifier (string_bytes text) }
+    ensures { id_text result ≡ string_bytes text }
+{
+    match Id::new(text) {
+        Some(id) => id,
+        None => unreachable!(),
+    }
+}
+
+/// The identifier that a text spells. Memory may run out.
 pub fn identifier(alloc: Global, text: &str) -> M<Id>
     requires { IsIdentifier text.now }
     ensures { IfOk result (λ id. id_text id ≡ text.now) }
 {
-    match Id::new(String::from_str(alloc, text)?) {
-        Some(id) => Ok(id),
-        None => unreachable!(),
-    }
+    Ok(spelled(String::from_str(alloc, text)?))
 }
