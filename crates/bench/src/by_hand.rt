@@ -4,7 +4,7 @@ use crate::graphs::Shape;
 use crate::names::{entity_type, entity_types, numbered};
 use crate::stop::Stop;
 use crate::types::{attributes, closed_record};
-use cedar_schema::below::{Eid, EntityType, EntityUID, InternalName, Name, UnreservedId};
+use cedar_schema::below::{Eid, EntityType, EntityUID};
 use cedar_schema::{OpenTag, ValidatorActionId, ValidatorEntityType};
 use std::alloc::Global;
 use std::ops::Range;
@@ -54,9 +54,7 @@ pub(crate) fn growing_types(alloc: Global, count: usize) -> Result<Vec<Validator
 
 /// The entity type of actions.
 fn action_type(alloc: Global) -> Result<EntityType, Stop> {
-    let id = UnreservedId::new(String::from_str(alloc, "Action")?).ok_or(Stop::Refused)?;
-    let name = InternalName::new(id.into_id(), Vec::new(alloc), None);
-    Ok(EntityType::new(Name::new(name).ok_or(Stop::Refused)?))
+    Ok(EntityType::from_str(alloc, "Action")?)
 }
 
 /// The uid of the action of a number.

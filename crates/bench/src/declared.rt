@@ -200,7 +200,7 @@ fn common_types(
 ) -> Result<BTreeMap<CommonTypeId, CommonType<RawName>>, Stop> {
     let mut common_types = BTreeMap::new(alloc);
     for number in 0..count {
-        let id = CommonTypeId::new(unreserved_id(alloc, "T", number)?).ok_or(Stop::Refused)?;
+        let id = CommonTypeId::from_str(alloc, numbered(alloc, "T", number)?.as_str())?;
         let ty = next_of(alloc, number, count)?;
         common_types.insert(id, CommonType { ty, loc: None })?;
     }

@@ -1,7 +1,7 @@
 //! Names with numbers, of what is measured.
 
 use crate::stop::Stop;
-use cedar_schema::below::{EntityType, InternalName, Name, UnreservedId};
+use cedar_schema::below::{EntityType, UnreservedId};
 use cedar_schema::json_schema::RawName;
 use std::alloc::Global;
 use std::ops::Range;
@@ -17,24 +17,17 @@ pub(crate) fn unreserved_id(
     letters: &str,
     number: usize,
 ) -> Result<UnreservedId, Stop> {
-    UnreservedId::new(numbered(alloc, letters, number)?).ok_or(Stop::Refused)
-}
-
-/// The name of some letters and a number, without a path.
-fn internal_name(alloc: Global, letters: &str, number: usize) -> Result<InternalName, Stop> {
-    let id = unreserved_id(alloc, letters, number)?.into_id();
-    Ok(InternalName::new(id, Vec::new(alloc), None))
+    Ok(UnreservedId::from_str(alloc, numbered(alloc, letters, number)?.as_str())?)
 }
 
 /// A reference to the name of some letters and a number.
 pub(crate) fn raw(alloc: Global, letters: &str, number: usize) -> Result<RawName, Stop> {
-    Ok(RawName::new(internal_name(alloc, letters, number)?))
+    Ok(RawName::from_str(alloc, numbered(alloc, letters, number)?.as_str())?)
 }
 
 /// The entity type of a number.
 pub(crate) fn entity_type(alloc: Global, number: usize) -> Result<EntityType, Stop> {
-    let name = Name::new(internal_name(alloc, "E", number)?).ok_or(Stop::Refused)?;
-    Ok(EntityType::new(name))
+    Ok(EntityType::from_str(alloc, numbered(alloc, "E", number)?.as_str())?)
 }
 
 /// The entity types of some numbers.

@@ -1,6 +1,6 @@
 //! Why a measurement stops.
 
-use cedar_schema::below::{EntityType, Memory};
+use cedar_schema::below::{EntityType, Memory, NameFault};
 use cedar_schema::{JoinError, SchemaError, TcError, WriteBackFault};
 use std::alloc::{AllocError, AllocFailed};
 use std::io;
@@ -31,6 +31,15 @@ impl From<AllocError> for Stop {
 impl<T: Drop> From<AllocFailed<T>> for Stop {
     fn from(_refused: AllocFailed<T>) -> Self {
         Stop::Memory
+    }
+}
+
+impl From<NameFault> for Stop {
+    fn from(refused: NameFault) -> Self {
+        match refused {
+            NameFault::Memory(_) => Stop::Memory,
+            _ => Stop::Refused,
+        }
     }
 }
 

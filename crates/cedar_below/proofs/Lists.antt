@@ -5,6 +5,7 @@ use Rattle.std.proofs.lemmas.List.{get_or-map, get_or_default, get_or-take, map_
 use Rattle.std.proofs.lemmas.List.Quantifiers.{all_pairs_push}
 use Rattle.std.specs.Bool.{Decides}
 use Rattle.std.specs.List.{list_any}
+use Rattle.cedar_below.specs.Lists.{Twice}
 use Rattle.std.proofs.Math.ListN.{length-map, length-take}
 use Rattle.std.proofs.lemmas.List.Elements.{Contains-get_or}
 
@@ -57,6 +58,24 @@ repeated f ys i y lt is (k, below, same) distinct =
     ∙ ap (λ zs. get_or zs k (f y)) (take-map f i ys) ∙ same in
     let second : get_or (map f ys) i (f y) ≡ f y = get_or-map f ys i y (f y) lt ∙ ap f (sym is) in
     distinct k i (f y) within inside (first ∙ sym second)
+
+-- what stands at a place is the same, whatever stands for what isn't there
+pub same_at : {X : Type 0} (ys : List X) (i : ℕ) (y z : X) → i < length ys → y ≡ get_or ys i y → z ≡ get_or ys i z → y ≡ z
+same_at ys i y z lt first second = first ∙ get_or_default ys i y z lt ∙ sym second
+
+-- what an element gives is among what all give
+pub Contains-at : {X B : Type 0} (f : X → B) (ys : List X) (i : ℕ) (y : X) → i < length ys → y ≡ get_or ys i y → Contains (map f ys) (f y)
+Contains-at f ys i y lt is = (i, rw length-map lt, get_or-map f ys i y (f y) lt ∙ ap f (sym is))
+
+-- an element that gives what one before it gives stands twice among what is given
+pub Twice-at : {X B : Type 0} (f : X → B) (ys : List X) (i : ℕ) (y : X) → i < length ys → y ≡ get_or ys i y
+    → Contains (map f (take i ys)) (f y) → Twice (map f ys) (f y)
+Twice-at f [] i y lt is there = absurd (omega (arith, lt))
+Twice-at f (first ∷ ys) zero y lt is there = absurd (omega (arith, there.1))
+Twice-at f (first ∷ ys) (suc i) y lt is there =
+    let below : i < length ys = omega (arith, lt) in
+    ⊎_elim (λ here. inl (here, Contains-at f ys i y below is)) (λ rest. inr (Twice-at f ys i y below is rest))
+    (Contains-cons_cases (f first) (map f (take i ys)) (f y) there)
 
 -- a list stays without repeats as an element is added that isn't in it
 distinct_push : {B : Type 0} (xs : List B) (x : B) → AllPairs (λ a b. a ≢ b) xs → ¬ Contains xs x → AllPairs (λ a b. a ≢ b) (xs ++ x ∷ [])

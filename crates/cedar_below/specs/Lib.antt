@@ -7,6 +7,8 @@ pub mod Entity
 pub mod EntityType
 pub mod EntityUID
 pub mod Extensions
+pub mod ExtensionsFault
+pub mod ExtensionsFaultText
 pub mod FeedsVariant
 pub mod Fits
 pub mod Id

@@ -1,4 +1,4 @@
-use Rattle.std.specs.Prelude.{◌↔◌, List, [], ◌∷◌, Contains}
+use Rattle.std.specs.Prelude.{◌≡◌, ◌↔◌, ◌⊎◌, List, [], ◌∷◌, Contains}
 
 -- each member of the one list is a member of the other
 abbrev pub Included : {A : Type 0} → List A → List A → Type 0
@@ -13,3 +13,8 @@ abbrev pub HoldsPairwise : {A B : Type 0} → (A → B → Type 0) → List A �
 HoldsPairwise R [] [] = Unit {0}
 HoldsPairwise R (first ∷ rest) (other ∷ others) = R first other × HoldsPairwise R rest others
 HoldsPairwise R _ _ = ⊥
+
+-- the item stands at two places of the list
+abbrev pub Twice : {A : Type 0} → List A → A → Type 0
+Twice [] item = ⊥
+Twice (first ∷ rest) item = ((first ≡ item) × Contains rest item) ⊎ Twice rest item

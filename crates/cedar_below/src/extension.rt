@@ -1,15 +1,17 @@
 //! Extension types and functions.
 
-ghost use Rattle.std.specs.Prelude.{◌≡◌, ◌↔◌, IsTrue, IsOk, IsSome, IfOk, IfErr, Contains, map};
+ghost use Rattle.std.specs.Prelude.{◌≡◌, ◌↔◌, IsTrue, IsOk, IsSome, IfOk, IfErr, OnErr, OnOk, Contains, map};
 ghost use Rattle.cedar_below.specs.Extensions.{extension_types, function_named};
+ghost use Rattle.cedar_below.specs.ExtensionsFault.{IsExtensionsFault};
 ghost use Rattle.cedar_below.specs.Name.{plain_name, at_name};
 ghost use Rattle.cedar_below.specs.PlainName.{PlainName};
 ghost use Rattle.cedar_below.specs.TypeNames.{TypeNamesFit};
 
 use crate::core_schema_type::CoreSchemaType;
 use crate::name::Name;
-use crate::type_names::{has_name, names_fit};
+use crate::type_names::{has_name, is_core_type_word, names_fit};
 use std::collections::BTreeMap;
+use std::{error, fmt};
 use thiserror::Error;
 
 /// The signature of an extension function.
@@ -29,6 +31,40 @@ pub struct ExtensionFunctionLookupError<'v> {
     pub name: &'v Name,
 }
 
+/// Why names can't be those of the extension types of one schema.
+#[derive(Debug, Drop)]
+pub enum ExtensionsFault {
+    /// This name has a path, and names of extension types have none.
+    Qualified(Name),
+    /// This name stands twice among them.
+    Repeated(Name),
+    /// This name is that of a core type: `Bool`, `Long` or `String`.
+    Primitive(Name),
+}
+
+impl fmt::Display for ExtensionsFault {
+    ghost use Rattle.std.specs.Prelude.{Some};
+    ghost use Rattle.cedar_below.specs.ExtensionsFaultText.{extensions_fault_text};
+
+    ghost output = { λ fault. Some (extensions_fault_text fault) };
+
+    fn fmt<W: fmt::Write>(&self, f: &mut fmt::Formatter<W>) -> fmt::Result {
+        match self {
+            ExtensionsFault::Qualified(name) => {
+                write!(f, "the extension type {name} is qualified")
+            }
+            ExtensionsFault::Repeated(name) => {
+                write!(f, "the extension type {name} stands twice")
+            }
+            ExtensionsFault::Primitive(name) => {
+                write!(f, "the extension type {name} has the name of a core type")
+            }
+        }
+    }
+}
+
+impl error::Error for ExtensionsFault {}
+
 /// The extension types and the extension functions that a schema may name.
 #[derive(Debug, Drop)]
 pub struct Extensions {
@@ -43,6 +79,43 @@ impl Extensions {
         ensures functions { (name : PlainName) → function_named result name ≡ at_name functions name }
     {
         Extensions { types, functions }
+    }
+
+    /// The extensions with these types, and with these functions by name, where the names of the
+    /// types can be told from those of core types and from one another: then `type_names_fit`, as
+    /// the builders ask. It is refused exactly where they can't, with a name that has a path, stands
+    /// twice, or is `Bool`, `Long` or `String`. It takes no memory.
+    ///
+    /// ```ignore
+    /// let mut types = Vec::new(alloc);
+    /// types.push(Name::from_str(alloc, "ipaddr")?)?;
+    /// types.push(Name::from_str(alloc, "decimal")?)?;
+    /// let extensions = Extensions::try_new(types, BTreeMap::new(alloc))?;
+    /// let schema = ValidatorSchema::from_raw_fragments(alloc, fragments, &extensions)?;
+    /// ```
+    pub fn try_new(
+        mut types: Vec<Name>,
+        functions: BTreeMap<Name, ExtensionFunction>,
+    ) -> Result<Self, ExtensionsFault>
+        ensures types { IfOk result (λ it. extension_types it ≡ map plain_name types.items) }
+        ensures functions { IfOk result (λ it. (name : PlainName) → function_named it name ≡ at_name functions name) }
+        ensures fit { OnOk result (TypeNamesFit (map plain_name types.items)) }
+        ensures fault { IfErr result (IsExtensionsFault (map plain_name types.items)) }
+        ensures unfit { OnErr result (¬ TypeNamesFit (map plain_name types.items)) }
+    {
+        for at in 0..types.len() {
+            let name = &types[at];
+            if !name.is_unqualified() {
+                return Err(ExtensionsFault::Qualified(types.swap_remove(at)));
+            }
+            if is_core_type_word(name.basename().as_str()) {
+                return Err(ExtensionsFault::Primitive(types.swap_remove(at)));
+            }
+            if has_name(&types[..at], name) {
+                return Err(ExtensionsFault::Repeated(types.swap_remove(at)));
+            }
+        }
+        Ok(Extensions { types, functions })
     }
 
     /// The names of the extension types, in the order in which they were handed in.

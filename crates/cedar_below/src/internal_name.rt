@@ -77,6 +77,14 @@ impl InternalName {
         self.loc
     }
 
+    /// The same name, as written at this place, or nowhere.
+    pub fn with_loc(self, loc: Option<Loc>) -> Self
+        ensures name { name_of result ≡ name_of self }
+        ensures loc { name_loc result ≡ loc }
+    {
+        InternalName { loc, ..self }
+    }
+
     /// Whether the path is empty.
     pub fn is_unqualified(&self) -> bool
         ensures { IsTrue result ↔ IsUnqualified (name_of self.now) }

@@ -8,7 +8,7 @@ pub use entities::Entities;
 pub use entity::Entity;
 pub use entity_type::EntityType;
 pub use entity_uid::EntityUID;
-pub use extension::{ExtensionFunction, ExtensionFunctionLookupError, Extensions};
+pub use extension::{ExtensionFunction, ExtensionFunctionLookupError, Extensions, ExtensionsFault};
 pub use id::Id;
 pub use internal_name::InternalName;
 pub use loc::Loc;

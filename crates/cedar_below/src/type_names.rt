@@ -15,7 +15,7 @@ pub(crate) fn has_name(names: &[Name], name: &Name) -> bool
 }
 
 /// Whether a text is the name of a core type.
-fn is_core_type_word(text: &str) -> bool
+pub(crate) fn is_core_type_word(text: &str) -> bool
     ensures { IsTrue result ↔ Contains primitive_words text.now }
 {
     text == "Bool" || text == "Long" || text == "String"

@@ -15,7 +15,7 @@ use Rattle.cedar_declarations.proofs.OccurrenceLemmas.{Contains-single, uid_test
 use Rattle.cedar_declarations.proofs.TogetherLemmas.{AreRequests}
 use Rattle.cedar_declarations.specs.PlainSchema.{ActionKind, defined_action, external_action}
 use Rattle.cedar_declarations.specs.Fault.{Fault, duplicate_action}
-use Rattle.cedar_declarations.specs.Occurrences.{Twice}
+use Rattle.cedar_below.specs.Lists.{Twice}
 use Rattle.cedar_schema_elements.specs.ValidatorActionId.{action_of}
 use Rattle.cedar_schema_elements.specs.declared.action_id.ValidatorActionId.{ValidatorActionId}
 use Rattle.cedar_names.specs.ActionBody.{Requests, requests, elsewhere}

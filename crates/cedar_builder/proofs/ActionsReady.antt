@@ -28,7 +28,7 @@ use Rattle.cedar_declarations.specs.Descent.{IsDescendantAction}
 use Rattle.cedar_declarations.specs.Fault.{Fault, action_attributes, open_record, undeclared_entity_types, type_not_defined, action_not_defined, type_shadowing, action_shadowing, duplicate_entity_type, duplicate_common_type, duplicate_action, action_cycle, common_type_cycle, action_entity_type, shape_not_record, context_not_record, unknown_extension_type, reserved_name, external_below_enumerated, enumerated_below, undeclared_action_descendant, invalid_action_type, common_type_left, action_left, out_of_memory}
 use Rattle.cedar_declarations.specs.IllFormed.{IsFault}
 use Rattle.cedar_declarations.specs.Names.{IsDefined, ResolvesTo}
-use Rattle.cedar_declarations.specs.Occurrences.{Twice}
+use Rattle.cedar_below.specs.Lists.{Twice}
 use Rattle.cedar_declarations.specs.PlainSchema.{ActionKind, defined_action, external_action}
 use Rattle.cedar_declarations.specs.Resolved.{reference_to_one}
 use Rattle.cedar_declarations.specs.ResolvedExpr.{resolved_reference}

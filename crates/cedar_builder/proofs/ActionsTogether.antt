@@ -4,7 +4,7 @@ use Rattle.cedar_below.specs.PlainUid.{PlainUid}
 use Rattle.cedar_declarations.proofs.Definitions.{Definitions}
 use Rattle.cedar_declarations.proofs.OccurrenceLemmas.{Contains-single}
 use Rattle.cedar_declarations.proofs.TogetherLemmas.{AreRequests}
-use Rattle.cedar_declarations.specs.Occurrences.{Twice}
+use Rattle.cedar_below.specs.Lists.{Twice}
 use Rattle.cedar_declarations.specs.Together.{action_definition_in}
 use Rattle.cedar_names.specs.ActionBody.{Requests, requests, elsewhere}
 use Rattle.cedar_builder.specs.ActionSteps.{SaysTogether, definitions_in, entry_uids}

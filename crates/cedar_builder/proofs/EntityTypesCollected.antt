@@ -14,7 +14,7 @@ use Rattle.cedar_declarations.proofs.OccurrenceLemmas.{Contains-single, name_tes
 use Rattle.cedar_declarations.proofs.TogetherLemmas.{IsDefinition, entity_says_declared, of_entity_types}
 use Rattle.cedar_declarations.specs.EntityTypeKind.{EntityTypeKind, standard_kind, enumerated_kind, external_kind}
 use Rattle.cedar_declarations.specs.Fault.{Fault, duplicate_entity_type}
-use Rattle.cedar_declarations.specs.Occurrences.{Twice}
+use Rattle.cedar_below.specs.Lists.{Twice}
 use Rattle.cedar_declarations.specs.Together.{EntitiesSay, entity_definitions}
 use Rattle.cedar_schema_elements.specs.ValidatorEntityType.{entity_type_of}
 use Rattle.cedar_schema_elements.specs.declared.entity_type.ValidatorEntityType.{ValidatorEntityType}

@@ -11,7 +11,7 @@ use Rattle.cedar_below.specs.declared.entity_uid.EntityUID.{EntityUID}
 use Rattle.cedar_declarations.specs.Counted.{CountsInRequests, IsPrincipalOrResource}
 use Rattle.cedar_declarations.specs.Fault.{Fault, context_not_record, duplicate_action, reserved_name, undeclared_entity_types, out_of_memory}
 use Rattle.cedar_declarations.specs.Mentions.{HasOpenRecord}
-use Rattle.cedar_declarations.specs.Occurrences.{Twice}
+use Rattle.cedar_below.specs.Lists.{Twice}
 use Rattle.cedar_declarations.specs.PlainSchema.{ActionKind, defined_action, external_action}
 use Rattle.cedar_declarations.specs.Resolved.{reference_to_one}
 use Rattle.cedar_declarations.specs.Together.{action_definition_in}

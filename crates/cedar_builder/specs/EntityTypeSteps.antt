@@ -8,7 +8,7 @@ use Rattle.cedar_declarations.specs.Counted.{CountsInEntity, entity_parents}
 use Rattle.cedar_declarations.specs.EntityTypeKind.{EntityTypeKind, standard_kind, enumerated_kind, external_kind}
 use Rattle.cedar_declarations.specs.Fault.{Fault, duplicate_entity_type, reserved_name, shape_not_record, out_of_memory}
 use Rattle.cedar_declarations.specs.Mentions.{HasOpenRecord}
-use Rattle.cedar_declarations.specs.Occurrences.{Twice}
+use Rattle.cedar_below.specs.Lists.{Twice}
 use Rattle.cedar_declarations.specs.Resolved.{reference_to_one}
 use Rattle.cedar_declarations.specs.Together.{entity_definitions}
 use Rattle.cedar_declarations.specs.ElaboratesTo.{IsRecordType}

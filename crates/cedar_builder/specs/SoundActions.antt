@@ -12,7 +12,7 @@ use Rattle.cedar_declarations.specs.Fault.{context_not_record}
 use Rattle.cedar_declarations.specs.IllFormed.{IsFault}
 use Rattle.cedar_declarations.specs.Mentions.{HasOpenRecord, MentionsExtension}
 use Rattle.cedar_declarations.specs.Names.{ResolvesTo}
-use Rattle.cedar_declarations.specs.Occurrences.{Twice}
+use Rattle.cedar_below.specs.Lists.{Twice}
 use Rattle.cedar_declarations.specs.Together.{defined_actions}
 use Rattle.cedar_names.specs.ActionBody.{ActionBody}
 use Rattle.cedar_names.specs.Expr.{Expr}

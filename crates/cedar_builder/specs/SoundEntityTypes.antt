@@ -10,7 +10,7 @@ use Rattle.cedar_declarations.specs.Fault.{shape_not_record, external_below_enum
 use Rattle.cedar_declarations.specs.IllFormed.{IsFault}
 use Rattle.cedar_declarations.specs.Mentions.{HasOpenRecord, MentionsExtension}
 use Rattle.cedar_declarations.specs.Names.{ResolvesTo}
-use Rattle.cedar_declarations.specs.Occurrences.{Twice}
+use Rattle.cedar_below.specs.Lists.{Twice}
 use Rattle.cedar_declarations.specs.Together.{IsParent, defined_entities}
 use Rattle.cedar_names.specs.EntityBody.{EntityBody}
 use Rattle.cedar_names.specs.Expr.{Expr}

@@ -6,7 +6,7 @@ ghost use Rattle.cedar_below.specs.EntityUID.{uid_of};
 ghost use Rattle.cedar_below.specs.PlainUid.{PlainUid};
 ghost use Rattle.cedar_below.specs.declared.entity_uid.EntityUID.{EntityUID as Key};
 ghost use Rattle.cedar_declarations.specs.Fault.{duplicate_action, out_of_memory};
-ghost use Rattle.cedar_declarations.specs.Occurrences.{Twice};
+ghost use Rattle.cedar_below.specs.Lists.{Twice};
 ghost use Rattle.cedar_declarations.specs.PlainSchema.{external_action};
 ghost use Rattle.cedar_declarations.specs.SchemaError.{fault_of};
 ghost use Rattle.cedar_resolution.specs.Collected.{collected_actions};

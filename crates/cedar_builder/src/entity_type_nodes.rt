@@ -6,7 +6,7 @@ ghost use Rattle.cedar_below.specs.PlainName.{PlainName};
 ghost use Rattle.cedar_below.specs.declared.entity_type.EntityType.{EntityType as Key};
 ghost use Rattle.cedar_declarations.specs.EntityTypeKind.{external_kind};
 ghost use Rattle.cedar_declarations.specs.Fault.{duplicate_entity_type, out_of_memory};
-ghost use Rattle.cedar_declarations.specs.Occurrences.{Twice};
+ghost use Rattle.cedar_below.specs.Lists.{Twice};
 ghost use Rattle.cedar_declarations.specs.SchemaError.{fault_of};
 ghost use Rattle.cedar_declarations.specs.Together.{entity_definitions};
 ghost use Rattle.cedar_schema_elements.specs.ValidatorEntityType.{AreLocatedAsKeys, entity_type_of};

@@ -6,7 +6,7 @@ use Rattle.std.specs.List.{flat_map}
 use Rattle.cedar_below.proofs.Lists.{Contains-cons, Contains-preimage}
 use Rattle.cedar_below.proofs.PlainNames.{name_cmp-total, uid_cmp-total}
 use Rattle.cedar_below.specs.Extensions.{extension_types}
-use Rattle.cedar_below.specs.Lists.{HoldsPairwise}
+use Rattle.cedar_below.specs.Lists.{HoldsPairwise, Twice}
 use Rattle.cedar_below.specs.PlainName.{PlainName, name_cmp}
 use Rattle.cedar_below.specs.PlainUid.{PlainUid, uid_cmp}
 use Rattle.cedar_below.specs.TypeNames.{TypeNamesFit}
@@ -15,7 +15,6 @@ use Rattle.cedar_declarations.proofs.BuiltInLemmas.{built_ins_once}
 use Rattle.cedar_declarations.proofs.OccurrenceLemmas.{Contains-flat_map, Contains-image, Contains-single, Twice-append, Twice-sorted_by_name}
 use Rattle.cedar_declarations.proofs.TogetherLemmas.{twice_declared}
 use Rattle.cedar_declarations.specs.Bag.{Bag, action_in, built_ins, declared_actions, declared_common, declared_entities, declared_name, declared_uid, entity_in}
-use Rattle.cedar_declarations.specs.Occurrences.{Twice}
 use Rattle.cedar_declarations.specs.PlainSchema.{PlainSchema, SchemaAction, SchemaEntityType}
 use Rattle.cedar_declarations.specs.Together.{action_definition_in, defined_actions, defined_entities}
 use Rattle.cedar_declarations.specs.ConvertedBack.{IsActionDeclaration, IsTypeDeclaration, IsConvertedBack}

@@ -17,7 +17,7 @@ use Rattle.cedar_declarations.proofs.OccurrenceLemmas.{Contains-flat_map, Contai
 use Rattle.cedar_declarations.proofs.TogetherLemmas.{SameEntityBody-itself, SameRequests-itself}
 use Rattle.cedar_declarations.specs.Bag.{Bag, common_in, entity_in, action_in, declared_name, declared_uid, declared_entities, declared_actions}
 use Rattle.cedar_declaration_laws.specs.EndToEnd.{OrderIsNothing}
-use Rattle.cedar_declarations.specs.Occurrences.{Twice}
+use Rattle.cedar_below.specs.Lists.{Twice}
 use Rattle.cedar_declarations.specs.SameBag.{SaysAll}
 use Rattle.cedar_declarations.specs.Together.{entity_definition_in, defined_entities, action_definition_in, defined_actions}
 

@@ -4,7 +4,7 @@ use Rattle.std.proofs.lemmas.List.{map-append}
 use Rattle.cedar_below.proofs.Chains.{refined}
 use Rattle.cedar_below.proofs.Lists.{Contains-cons}
 use Rattle.cedar_below.specs.Chain.{one}
-use Rattle.cedar_below.specs.Lists.{HoldsPairwise}
+use Rattle.cedar_below.specs.Lists.{HoldsPairwise, Twice}
 use Rattle.cedar_below.specs.PlainName.{PlainName}
 use Rattle.cedar_below.specs.PlainUid.{PlainUid}
 use Rattle.cedar_below.specs.Text.{Text}
@@ -29,7 +29,7 @@ use Rattle.cedar_declarations.specs.EntityTypeKind.{EntityTypeKind, standard_kin
 use Rattle.cedar_declarations.specs.Fault.{Fault, action_attributes, open_record, undeclared_entity_types, type_not_defined, action_not_defined, type_shadowing, action_shadowing, duplicate_entity_type, duplicate_common_type, duplicate_action, action_cycle, common_type_cycle, action_entity_type, shape_not_record, context_not_record, unknown_extension_type, reserved_name, external_below_enumerated, enumerated_below}
 use Rattle.cedar_declarations.specs.IllFormed.{HasAttributes, RefersToCommon, IsFault}
 use Rattle.cedar_declarations.specs.Names.{Names, MayNameCommon, ResolvesTo, IsUnresolved, NamesAction, NamesNoAction}
-use Rattle.cedar_declarations.specs.Occurrences.{Twice, IsFirst}
+use Rattle.cedar_declarations.specs.Occurrences.{IsFirst}
 use Rattle.cedar_declarations.specs.PlainSchema.{SchemaEntityType, ActionKind, defined_action, external_action, SchemaAction, PlainSchema}
 use Rattle.cedar_declarations.specs.Resolved.{ResolvesBag, ResolvesDeclaration}
 use Rattle.cedar_declarations.specs.Together.{defined_actions, IsExternalType, IsParent, IsActionParent, EntitySays, ActionSays}

@@ -19,7 +19,7 @@ use Rattle.cedar_declarations.proofs.OccurrenceLemmas.{Twice-distinct, Twice-app
 use Rattle.cedar_declarations.proofs.ResolutionLemmas.{HasOneDefinition}
 use Rattle.cedar_declarations.specs.Bag.{Bag, declared_common, declared_entities, declared_types, is_declared_here, built_in_types, built_in_name, alias_name, built_ins, aliases, definitions}
 use Rattle.cedar_declarations.specs.Mentions.{Refers}
-use Rattle.cedar_declarations.specs.Occurrences.{Twice}
+use Rattle.cedar_below.specs.Lists.{Twice}
 
 -- texts that are compared as unequal aren't the same
 pub unlike_texts : (a b : Text) → bytes_eq a b ≡ false → ¬ (a ≡ b)

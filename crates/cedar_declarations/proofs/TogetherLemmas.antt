@@ -13,7 +13,7 @@ use Rattle.cedar_declarations.proofs.Definitions as any
 use Rattle.cedar_declarations.proofs.OccurrenceLemmas.{Contains-flat_map, Contains-given, Contains-image, Contains-single, value_once}
 use Rattle.cedar_declarations.specs.Bag.{Bag, declared_entities, declared_actions, action_uids}
 use Rattle.cedar_declarations.specs.Counted.{CountsInEntity, CountsInRequests, IsPrincipalOrResource}
-use Rattle.cedar_declarations.specs.Occurrences.{Twice}
+use Rattle.cedar_below.specs.Lists.{Twice}
 use Rattle.cedar_declarations.specs.SameBag.{SameEntityBody, SameRequests}
 use Rattle.cedar_declarations.specs.Together.{entity_definition_in, entity_definitions, defined_entities, action_definition_in, defined_actions, EntitiesSay, EntitySays, ActionSays}
 

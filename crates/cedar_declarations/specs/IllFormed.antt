@@ -19,7 +19,7 @@ use Rattle.cedar_declarations.specs.Names.{ResolvesTo, IsUnresolved, NamesNoActi
 use Rattle.cedar_declarations.specs.Descent.{IsDescendant, IsDescendantAction}
 use Rattle.cedar_declarations.specs.Fault.{Fault, action_attributes, open_record, undeclared_entity_types, type_not_defined, action_not_defined, type_shadowing, action_shadowing, duplicate_entity_type, duplicate_common_type, duplicate_action, action_cycle, common_type_cycle, action_entity_type, shape_not_record, context_not_record, unknown_extension_type, reserved_name, external_below_enumerated, enumerated_below}
 use Rattle.cedar_declarations.specs.Mentions.{HasOpenRecord, MentionsExtension, Refers}
-use Rattle.cedar_declarations.specs.Occurrences.{Twice}
+use Rattle.cedar_below.specs.Lists.{Twice}
 use Rattle.cedar_declarations.specs.Shadowing.{ShadowsType, ShadowsAction}
 use Rattle.cedar_declarations.specs.Together.{defined_entities, defined_actions, IsExternalType, IsActionParent}
 use Rattle.cedar_declarations.specs.ElaboratesTo.{IsNoRecord}

@@ -1,9 +1,4 @@
-use Rattle.std.specs.Prelude.{◌≡◌, ◌⊎◌, List, [], ◌∷◌, Contains}
-
--- the item stands at two places of the list
-abbrev pub Twice : {A : Type 0} → List A → A → Type 0
-Twice [] item = ⊥
-Twice (first ∷ rest) item = ((first ≡ item) × Contains rest item) ⊎ Twice rest item
+use Rattle.std.specs.Prelude.{◌≡◌, ◌⊎◌, List, [], ◌∷◌}
 
 -- the item is the first of the list of which a fact holds
 abbrev pub IsFirst : {A : Type 0} → (A → Type 0) → List A → A → Type 0

@@ -1,5 +1,5 @@
 use Rattle.std.specs.Prelude.{◌≡◌, map, Option, Contains}
-use Rattle.cedar_below.specs.Lists.{Included, SameItems}
+use Rattle.cedar_below.specs.Lists.{Included, SameItems, Twice}
 use Rattle.cedar_below.specs.PlainName.{PlainName}
 use Rattle.cedar_below.specs.PlainUid.{PlainUid}
 use Rattle.cedar_below.specs.Text.{Text}
@@ -8,7 +8,6 @@ use Rattle.cedar_names.specs.EntityBody.{EntityBody, standard, enumerated, exter
 use Rattle.cedar_names.specs.Reference.{Reference, ActionReference}
 use Rattle.cedar_declarations.specs.Bag.{Bag, declared_common, declared_entities, action_uids}
 use Rattle.cedar_declarations.specs.IllFormed.{HasAttributes}
-use Rattle.cedar_declarations.specs.Occurrences.{Twice}
 use Rattle.cedar_declarations.specs.Together.{defined_entities, defined_actions, IsParent, IsActionParent}
 
 -- the same is declared of an entity type, parents aside

@@ -13,7 +13,7 @@ use Rattle.cedar_declarations.proofs.BuiltInLemmas.{alias_apart, alias_of, built
 use Rattle.cedar_declarations.proofs.OccurrenceLemmas.{Twice-append, Contains-filter, Contains-image}
 use Rattle.cedar_declarations.specs.Bag.{Bag, declared_common, is_declared_here, built_in_types, built_in_name, alias_name, built_ins, aliases, definitions}
 use Rattle.cedar_declarations.specs.Mentions.{HasOpenRecord}
-use Rattle.cedar_declarations.specs.Occurrences.{Twice}
+use Rattle.cedar_below.specs.Lists.{Twice}
 use Rattle.cedar_names.specs.Expr.{Expr, extension_expr}
 
 -- a built-in type under its alias

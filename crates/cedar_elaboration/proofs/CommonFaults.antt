@@ -6,7 +6,7 @@ use Rattle.std.specs.BTreeSet.{BTreeSet}
 use Rattle.cedar_below.proofs.Chains.{refined}
 use Rattle.cedar_below.specs.Chain.{Chain, one}
 use Rattle.cedar_below.specs.Extensions.{extension_types}
-use Rattle.cedar_below.specs.Lists.{SameItems}
+use Rattle.cedar_below.specs.Lists.{SameItems, Twice}
 use Rattle.cedar_below.specs.PlainName.{PlainName}
 use Rattle.cedar_below.specs.declared.entity_type.EntityType.{EntityType}
 use Rattle.cedar_below.specs.declared.extension.Extensions.{Extensions}
@@ -24,7 +24,6 @@ use Rattle.cedar_declarations.specs.Counted.{CountsIn, IsCounted}
 use Rattle.cedar_declarations.specs.Defined.{Defined}
 use Rattle.cedar_declarations.specs.Fault.{Fault, out_of_memory, open_record, type_not_defined, unknown_extension_type, reserved_name, duplicate_common_type, common_type_cycle}
 use Rattle.cedar_declarations.specs.IllFormed.{IsFault, RefersToCommon}
-use Rattle.cedar_declarations.specs.Occurrences.{Twice}
 use Rattle.cedar_fragments.specs.declared.namespace.entity_types.EntityTypeFragment.{EntityTypeFragment}
 use Rattle.cedar_declaration_laws.proofs.MentionLemmas.{known_built_in}
 use Rattle.cedar_names.specs.Declaration.{Body}

@@ -6,13 +6,12 @@ use Rattle.std.specs.Prelude.{slice_get}
 use Rattle.cedar_below.proofs.Lists.{Contains-preimage}
 use Rattle.cedar_below.proofs.Names.{internal_name_ord-Equal}
 use Rattle.cedar_below.specs.InternalName.{name_of}
-use Rattle.cedar_below.specs.Lists.{Included, SameItems}
+use Rattle.cedar_below.specs.Lists.{Included, SameItems, Twice}
 use Rattle.cedar_below.specs.PlainName.{PlainName}
 use Rattle.cedar_below.specs.contracts.internal_name.InternalNameOrd.TheImpl as order
 use Rattle.cedar_below.specs.declared.internal_name.InternalName.{InternalName}
 use Rattle.cedar_declarations.proofs.OccurrenceLemmas.{Contains-image, Contains-single, value_once}
 use Rattle.cedar_declarations.specs.Fault.{Fault, common_type_cycle, duplicate_common_type, out_of_memory}
-use Rattle.cedar_declarations.specs.Occurrences.{Twice}
 use Rattle.cedar_declarations.specs.ElaboratesTo.{ElaboratesTo}
 use Rattle.cedar_names.specs.Expr.{Expr}
 use Rattle.cedar_type_rules.specs.Ty.{Ty}

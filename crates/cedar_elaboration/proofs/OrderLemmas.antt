@@ -6,7 +6,7 @@ use Rattle.std.specs.Option.{option_map}
 use Rattle.std.specs.Prelude.{slice_get}
 use Rattle.cedar_below.proofs.Lists.{Contains-preimage}
 use Rattle.cedar_below.specs.Chain.{Chain, one, more}
-use Rattle.cedar_below.specs.Lists.{HoldsPairwise}
+use Rattle.cedar_below.specs.Lists.{HoldsPairwise, Twice}
 use Rattle.cedar_below.specs.PlainName.{PlainName}
 use Rattle.cedar_graph.specs.Numbered.{items_at}
 use Rattle.cedar_graph.specs.Order.{IsOrder, LeadsTo}
@@ -16,7 +16,7 @@ use Rattle.cedar_declarations.specs.Defined.{names_of}
 use Rattle.cedar_declarations.specs.IllFormed.{RefersToCommon}
 use Rattle.cedar_declarations.specs.Mentions.{Refers}
 use Rattle.cedar_declarations.specs.Names.{IsDefined}
-use Rattle.cedar_declarations.specs.Occurrences.{IsFirst, Twice}
+use Rattle.cedar_declarations.specs.Occurrences.{IsFirst}
 use Rattle.cedar_names.specs.Expr.{Expr}
 use Rattle.cedar_elaboration.proofs.IndexLemmas.{Contains-at, index_of, index_once}
 use Rattle.cedar_elaboration.specs.Order.{HasNoCycle, IsElaborationOrder}

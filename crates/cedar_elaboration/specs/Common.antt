@@ -8,7 +8,7 @@ use Rattle.cedar_declarations.specs.Fault.{Fault, common_type_cycle, duplicate_c
 use Rattle.cedar_declarations.specs.IllFormed.{RefersToCommon}
 use Rattle.cedar_declarations.specs.Mentions.{HasOpenRecord, MentionsExtension, Refers}
 use Rattle.cedar_declarations.specs.Names.{ResolvesTo}
-use Rattle.cedar_declarations.specs.Occurrences.{Twice}
+use Rattle.cedar_below.specs.Lists.{Twice}
 use Rattle.cedar_names.specs.Expr.{Expr}
 use Rattle.cedar_names.specs.Reference.{Reference}
 use Rattle.cedar_elaboration.specs.Scope.{extension_name}

@@ -6,7 +6,7 @@ use Rattle.cedar_declarations.specs.Fault.{Fault, common_type_cycle, duplicate_c
 use Rattle.cedar_declarations.specs.IllFormed.{RefersToCommon}
 use Rattle.cedar_declarations.specs.Mentions.{Refers}
 use Rattle.cedar_declarations.specs.Names.{MayNameCommon}
-use Rattle.cedar_declarations.specs.Occurrences.{Twice}
+use Rattle.cedar_below.specs.Lists.{Twice}
 use Rattle.cedar_names.specs.Expr.{Expr}
 use Rattle.cedar_names.specs.Reference.{Reference}
 use Rattle.cedar_elaboration.specs.Indices.{defined_over, item_names}

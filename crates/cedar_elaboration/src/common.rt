@@ -3,10 +3,9 @@
 ghost use Rattle.std.specs.Prelude.{◌≡◌, Contains, IfErr, IfOk, OnOk, map};
 ghost use Rattle.cedar_below.specs.Chain.{Chain};
 ghost use Rattle.cedar_below.specs.Extensions.{extension_types};
-ghost use Rattle.cedar_below.specs.Lists.{Included, SameItems};
+ghost use Rattle.cedar_below.specs.Lists.{Included, SameItems, Twice};
 ghost use Rattle.cedar_below.specs.PlainName.{PlainName};
 ghost use Rattle.cedar_declarations.specs.IllFormed.{RefersToCommon};
-ghost use Rattle.cedar_declarations.specs.Occurrences.{Twice};
 ghost use Rattle.cedar_declarations.specs.SchemaError.{fault_of};
 ghost use Rattle.cedar_declarations.specs.ElaboratesTo.{ElaboratesTo};
 ghost use Rattle.cedar_names.specs.Expr.{Expr};

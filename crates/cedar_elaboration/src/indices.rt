@@ -3,7 +3,7 @@
 ghost use Rattle.std.specs.Prelude.{◌≡◌, ◌⊎◌, ◌+◌, IfErr, IfOk, OnOk};
 ghost use Rattle.cedar_below.specs.PlainName.{PlainName};
 ghost use Rattle.cedar_declarations.specs.Fault.{duplicate_common_type, out_of_memory};
-ghost use Rattle.cedar_declarations.specs.Occurrences.{Twice};
+ghost use Rattle.cedar_below.specs.Lists.{Twice};
 ghost use Rattle.cedar_declarations.specs.SchemaError.{fault_of};
 ghost use Rattle.cedar_elaboration.specs.Indices.{AreIndices, common_items, item_names, indexed_names};
 

@@ -1,10 +1,9 @@
 //! Common types in an order in which each comes after those that it refers to.
 
 ghost use Rattle.std.specs.Prelude.{◌≡◌, [], IfErr, IfOk, OnOk};
-ghost use Rattle.cedar_below.specs.Lists.{HoldsPairwise};
+ghost use Rattle.cedar_below.specs.Lists.{HoldsPairwise, Twice};
 ghost use Rattle.cedar_below.specs.PlainName.{PlainName};
 ghost use Rattle.cedar_declarations.specs.Mentions.{Refers};
-ghost use Rattle.cedar_declarations.specs.Occurrences.{Twice};
 ghost use Rattle.cedar_declarations.specs.SchemaError.{fault_of};
 ghost use Rattle.cedar_elaboration.specs.Order.{HasNoCycle, IsOrderFault, IsElaborationOrder};
 ghost use Rattle.cedar_elaboration.specs.Indices.{AddsIndices, common_items, item_names, indexed_names};

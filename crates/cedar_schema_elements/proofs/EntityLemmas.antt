@@ -30,7 +30,7 @@ use Rattle.cedar_below.specs.declared.entity_uid.EntityUID.{EntityUID}
 use Rattle.cedar_below.specs.declared.value.Value.{Value}
 use Rattle.cedar_declarations.proofs.OccurrenceLemmas.{Contains-image, Contains-single, Twice-sorted_by_name, uid_test}
 use Rattle.cedar_declarations.specs.ActionEntities.{AreActionEntities, IsDefinedKind, IsEntityOfAction}
-use Rattle.cedar_declarations.specs.Occurrences.{Twice}
+use Rattle.cedar_below.specs.Lists.{Twice}
 use Rattle.cedar_declarations.specs.PlainSchema.{ActionKind, defined_action, external_action, ActionEntity, SchemaAction, SchemaEntityType}
 use Rattle.cedar_schema_elements.proofs.UidLemmas.{cmp, under}
 use Rattle.cedar_schema_elements.specs.ActionEntities.{IsEntityOf, Lists, named_values, plain_action_entity, schema_with}

@@ -11,7 +11,7 @@ use Rattle.cedar_below.specs.declared.entity.Entity.{Entity}
 use Rattle.cedar_below.specs.declared.entity_uid.EntityUID.{EntityUID}
 use Rattle.cedar_declarations.proofs.OccurrenceLemmas.{Contains-flat_map, Contains-given, Contains-image, Contains-single, Twice-distinct}
 use Rattle.cedar_declarations.specs.Environments.{AreEnvironmentsOf, Environment, IsRequestOf}
-use Rattle.cedar_declarations.specs.Occurrences.{Twice}
+use Rattle.cedar_below.specs.Lists.{Twice}
 use Rattle.cedar_declarations.specs.PlainSchema.{ActionKind, SchemaAction, SchemaEntityType, defined_action, external_action}
 use Rattle.cedar_schema_elements.proofs.GivenLemmas.{all_differ}
 use Rattle.cedar_schema_elements.specs.ActionEntities.{schema_with}

@@ -6,7 +6,7 @@ use Rattle.std.proofs.lemmas.List.Kept.{AllPairs-cons}
 use Rattle.std.specs.List.{flat_map}
 use Rattle.cedar_below.proofs.Lists.{Contains-cons}
 use Rattle.cedar_declarations.proofs.OccurrenceLemmas.{Contains-flat_map, Contains-image, Twice-append, Twice-both}
-use Rattle.cedar_declarations.specs.Occurrences.{Twice}
+use Rattle.cedar_below.specs.Lists.{Twice}
 
 -- the items of a list in which none stands twice differ
 pub all_differ : {A : Type 0} (xs : List A) → ((x : A) → ¬ Twice xs x) → AllPairs (λ a b. a ≢ b) xs

@@ -20,7 +20,7 @@ use Rattle.cedar_below.specs.PlainUid.{PlainUid, uid_cmp}
 use Rattle.cedar_below.specs.contracts.entity_uid.EntityUIDOrd.TheImpl as uid_ord
 use Rattle.cedar_below.specs.declared.entity_uid.EntityUID.{EntityUID}
 use Rattle.cedar_declarations.proofs.OccurrenceLemmas.{Contains-image, Contains-single, Twice-sorted_by_name, uid_test}
-use Rattle.cedar_declarations.specs.Occurrences.{Twice}
+use Rattle.cedar_below.specs.Lists.{Twice}
 use Rattle.cedar_declarations.specs.PlainSchema.{SchemaAction}
 
 -- the order of uids in sets and maps

@@ -8,7 +8,7 @@ ghost use Rattle.cedar_below.specs.EntityUID.{uid_of};
 ghost use Rattle.cedar_below.specs.PlainName.{PlainName};
 ghost use Rattle.cedar_below.specs.declared.entity.Entity.{Entity as ActionEntity};
 ghost use Rattle.cedar_declarations.specs.Environments.{AreEnvironmentsOf, Environment};
-ghost use Rattle.cedar_declarations.specs.Occurrences.{Twice};
+ghost use Rattle.cedar_below.specs.Lists.{Twice};
 ghost use Rattle.cedar_declarations.specs.PlainSchema.{SchemaEntityType};
 ghost use Rattle.cedar_schema_elements.specs.ActionEntities.{schema_with};
 ghost use Rattle.cedar_schema_elements.specs.RequestEnvironments.{with_principals, with_resources};

@@ -20,7 +20,7 @@ use Rattle.cedar_below.specs.contracts.entity_uid.EntityUIDOrd.TheImpl as entity
 use Rattle.cedar_below.specs.declared.entity_type.EntityType.{EntityType}
 use Rattle.cedar_below.specs.declared.entity_uid.EntityUID.{EntityUID}
 use Rattle.cedar_declarations.proofs.OccurrenceLemmas.{Twice-sorted_by_name, name_test, uid_test}
-use Rattle.cedar_declarations.specs.Occurrences.{Twice}
+use Rattle.cedar_below.specs.Lists.{Twice}
 use Rattle.cedar_schema_elements.specs.ValidatorEntityType.{plain_entry}
 use Rattle.cedar_schema_writer.specs.Parts.{Actions, Types}
 

@@ -5,11 +5,10 @@ use Rattle.std.proofs.lemmas.List.Elements.{Contains-append_cases, Contains-appe
 use Rattle.std.proofs.lemmas.List.Sorted.{Contains-permutation, IsPermutation-append_left, IsPermutation-refl, IsPermutation-sym, IsPermutation-trans}
 use Rattle.std.specs.List.Sorted.{IsPermutation}
 use Rattle.cedar_below.proofs.Lists.{Contains-cons}
-use Rattle.cedar_below.specs.Lists.{HoldsPairwise}
+use Rattle.cedar_below.specs.Lists.{HoldsPairwise, Twice}
 use Rattle.cedar_declarations.proofs.OccurrenceLemmas.{Contains-image, Contains-single, Twice-both}
 use Rattle.cedar_declarations.proofs.TurnLemmas.{turn_back, turn_forth}
 use Rattle.cedar_declarations.specs.Bag.{Bag}
-use Rattle.cedar_declarations.specs.Occurrences.{Twice}
 use Rattle.cedar_names.specs.Declaration.{Declaration}
 use Rattle.cedar_schema_writer.specs.Definitions.{ArePut}
 

@@ -21,22 +21,13 @@ pub(crate) fn text(alloc: Global, text: &str) -> Result<String, Fail> {
     Ok(String::from_str(alloc, text)?)
 }
 
-pub(crate) fn id(alloc: Global, word: &str) -> Result<Id, Fail> {
-    Ok(Id::new(text(alloc, word)?).ok_or("no identifier")?)
-}
-
-/// The name whose parts stand between `::` in a word.
+/// The name that a word spells, written at a place or nowhere.
 pub(crate) fn internal(alloc: Global, word: &str, loc: Option<Loc>) -> Result<InternalName, Fail> {
-    let mut parts = Vec::new(alloc);
-    for part in word.split("::") {
-        parts.push(id(alloc, part)?)?;
-    }
-    let base = parts.pop().ok_or("no name")?;
-    Ok(InternalName::new(base, parts, loc))
+    Ok(InternalName::from_str(alloc, word)?.with_loc(loc))
 }
 
 fn name(alloc: Global, word: &str) -> Result<Name, Fail> {
-    Ok(Name::new(internal(alloc, word, None)?).ok_or("a reserved name")?)
+    Ok(Name::from_str(alloc, word)?)
 }
 
 fn uid(alloc: Global, ty: &str, eid: &str, loc: Option<Loc>) -> Result<EntityUID, Fail> {
@@ -153,9 +144,9 @@ fn locations_are_not_compared(rt: HostRuntime) -> Result<(), Fail> {
 
 /// Whether copies of the identifiers of a word are equal to them.
 fn are_copied_ids(alloc: Global, word: &str) -> Result<bool, Fail> {
-    let id = id(alloc, word)?;
+    let id = Id::from_str(alloc, word)?;
     let is_equal = id.clone()? == id;
-    let unreserved = UnreservedId::new(text(alloc, word)?).ok_or("reserved")?;
+    let unreserved = UnreservedId::from_str(alloc, word)?;
     Ok(is_equal && unreserved.clone()? == unreserved)
 }
 
@@ -183,7 +174,7 @@ fn is_copied_name(alloc: Global, word: &str) -> Result<bool, Fail> {
 
 /// Whether copies of the entity type of a word, and of its name, are equal to them.
 fn is_copied_type(alloc: Global, word: &str) -> Result<bool, Fail> {
-    let ty = EntityType::new(name(alloc, word)?);
+    let ty = EntityType::from_str(alloc, word)?;
     let is_equal = ty.clone()? == ty;
     let name = ty.into_name();
     Ok(is_equal && name.clone()? == name)

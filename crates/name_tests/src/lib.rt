@@ -5,3 +5,5 @@
 mod below;
 #[cfg(test)]
 mod names;
+#[cfg(test)]
+mod reading;

@@ -18,7 +18,7 @@ const PLACE: Loc = Loc {
 
 /// The identifier that a text spells, which isn't the reserved word.
 fn unreserved(alloc: Global, word: &str) -> Result<UnreservedId, Fail> {
-    Ok(UnreservedId::new(text(alloc, word)?).ok_or("an identifier")?)
+    Ok(UnreservedId::from_str(alloc, word)?)
 }
 
 /// Words of Cedar's own.

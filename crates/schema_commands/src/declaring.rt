@@ -7,7 +7,7 @@ ghost use Rattle.cedar_below.specs.UnreservedId.{unreserved_id_text};
 ghost use Rattle.cedar_names.specs.ReservedTypeWord.{IsReservedTypeWord};
 ghost use Rattle.schema_commands.specs.Samples.{bare_name};
 
-use cedar_schema::below::{Eid, Id, InternalName, M, Name, NonEmpty, UnreservedId};
+use cedar_schema::below::{Eid, InternalName, M, Name, NonEmpty, UnreservedId, identifier};
 use cedar_schema::json_schema::{
     ActionType, ApplySpec, AttributesOrContext, CommonType, CommonTypeId, EntityType,
     EntityTypeKind, Fragment, NamespaceDefinition, RawName, RecordType, StandardEntityType, Type,
@@ -15,13 +15,6 @@ use cedar_schema::json_schema::{
 };
 use std::alloc::Global;
 use std::collections::BTreeMap;
-
-/// The identifier that a text spells.
-fn id(alloc: Global, text: &str) -> M<Id>
-    requires { IsIdentifier text.now }
-{
-    Ok(Id::new(String::from_str(alloc, text)?).unwrap())
-}
 
 /// The identifier that a text spells, which isn't the reserved word.
 fn unreserved_id(alloc: Global, text: &str) -> M<UnreservedId>
@@ -46,7 +39,7 @@ pub(crate) fn name(alloc: Global, text: &str) -> M<Name>
 pub(crate) fn raw(alloc: Global, text: &str) -> M<RawName>
     requires { IsIdentifier text.now }
 {
-    Ok(RawName::new(InternalName::new(id(alloc, text)?, Vec::new(alloc), None)))
+    Ok(RawName::new(InternalName::new(identifier(alloc, text)?, Vec::new(alloc), None)))
 }
 
 /// One reference that is written without a path.
@@ -62,8 +55,8 @@ pub(crate) fn one(alloc: Global, text: &str) -> M<Vec<RawName>>
 pub(crate) fn raw_built_in(alloc: Global, text: &str) -> M<RawName>
     requires { IsIdentifier text.now }
 {
-    let path = vec![in alloc; id(alloc, "__cedar")?]?;
-    Ok(RawName::new(InternalName::new(id(alloc, text)?, path, None)))
+    let path = vec![in alloc; identifier(alloc, "__cedar")?]?;
+    Ok(RawName::new(InternalName::new(identifier(alloc, text)?, path, None)))
 }
 
 /// A type variant as a type, without a location.

@@ -42,7 +42,7 @@ fn add_common_type(
         return Err(Fail::new(format_args!("no body: {text}")));
     };
     let (name, loc) = located_at(name);
-    let id = CommonTypeId::new(unreserved_id(alloc, name)?).ok_or("a word of Cedar's own")?;
+    let id = CommonTypeId::from_str(alloc, name)?;
     let ty = written_type(alloc, body)?;
     let declared = CommonType { ty, loc };
     let old = definition.common_types.insert(id, declared)?;

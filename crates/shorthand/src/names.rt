@@ -1,6 +1,6 @@
 //! Names that texts spell, and locations. A text that spells no name fails by name.
 
-use cedar_below::{Eid, EntityType, EntityUID, Id, InternalName, Loc, Name, UnreservedId};
+use cedar_below::{Eid, EntityType, EntityUID, InternalName, Loc, Name, UnreservedId};
 use cedar_names::json_schema::RawName;
 use std::alloc::Global;
 use std::test::Fail;
@@ -28,31 +28,15 @@ pub fn located_at(text: &str) -> (&str, Option<Loc>) {
     }
 }
 
-/// The identifier that a text spells.
-fn id(alloc: Global, text: &str) -> Result<Id, Fail> {
-    match Id::new(String::from_str(alloc, text)?) {
-        Some(id) => Ok(id),
-        None => Err(Fail::new(format_args!("no identifier: {text}"))),
-    }
-}
-
 /// The identifier that a text spells, which isn't the reserved word.
 pub fn unreserved_id(alloc: Global, text: &str) -> Result<UnreservedId, Fail> {
-    match UnreservedId::new(String::from_str(alloc, text)?) {
-        Some(id) => Ok(id),
-        None => Err(Fail::new(format_args!("no unreserved identifier: {text}"))),
-    }
+    Ok(UnreservedId::from_str(alloc, text)?)
 }
 
 /// The name whose parts stand between `::` in a text, with a location behind them. It may be reserved.
 pub fn internal_name(alloc: Global, text: &str) -> Result<InternalName, Fail> {
     let (text, loc) = located_at(text);
-    let mut parts = Vec::new(alloc);
-    for part in text.split("::") {
-        parts.push(id(alloc, part)?)?;
-    }
-    let base = parts.pop().ok_or("a name without parts")?;
-    Ok(InternalName::new(base, parts, loc))
+    Ok(InternalName::from_str(alloc, text)?.with_loc(loc))
 }
 
 /// The name of such a text, which isn't reserved.

@@ -1,6 +1,6 @@
 //! Types and values that the tests share, by their words.
 
-use cedar_below::{Eid, EntityType, EntityUID, Id, InternalName, Loc, Name, RestrictedExpr};
+use cedar_below::{Eid, EntityType, EntityUID, Loc, Name, RestrictedExpr};
 use cedar_types::{AttributeType, EntityKind, EntityLUB, OpenTag, Type};
 use std::alloc::Global;
 use std::rc::Rc;
@@ -19,13 +19,11 @@ pub(crate) fn text(alloc: Global, text: &str) -> Result<String, Fail> {
 
 /// The name of a word, without a path.
 pub(crate) fn name(alloc: Global, word: &str) -> Result<Name, Fail> {
-    let base = Id::new(text(alloc, word)?).ok_or("no identifier")?;
-    let name = InternalName::new(base, Vec::new(alloc), None);
-    Ok(Name::new(name).ok_or("a reserved name")?)
+    Ok(Name::from_str(alloc, word)?)
 }
 
 pub(crate) fn entity_type(alloc: Global, word: &str) -> Result<EntityType, Fail> {
-    Ok(EntityType::new(name(alloc, word)?))
+    Ok(EntityType::from_str(alloc, word)?)
 }
 
 pub(crate) fn entity_types(alloc: Global, words: &[&str]) -> Result<Vec<EntityType>, Fail> {

@@ -1,10 +1,13 @@
 //! Base names of common types.
 
-ghost use Rattle.std.specs.Prelude.{◌≡◌, ◌↔◌, IsTrue, IsSome, IfSome, IfOk};
+ghost use Rattle.std.specs.Prelude.{◌≡◌, ◌↔◌, IsTrue, IsSome, IfSome, IfErr, IfOk};
+ghost use Rattle.cedar_below.specs.Identifier.{IsIdentifier, reserved_word};
+ghost use Rattle.cedar_below.specs.NameFault.{IsNameFault};
 ghost use Rattle.cedar_below.specs.UnreservedId.{unreserved_id_text};
 ghost use Rattle.cedar_names.specs.ReservedTypeWord.{IsReservedTypeWord};
 
-use cedar_below::{M, UnreservedId};
+use cedar_below::{M, NameFault, UnreservedId};
+use std::alloc::Global;
 use std::fmt;
 
 /// The base name of a common type: an identifier that names no type of Cedar's own.
@@ -38,6 +41,21 @@ impl CommonTypeId {
             None
         } else {
             Some(CommonTypeId { id })
+        }
+    }
+
+    /// The base name that a text spells. It is refused exactly where it spells no identifier, with
+    /// the byte at which it stops being one, or the reserved word `__cedar`, or the name of a type
+    /// of Cedar's own, as `new` tells them, or out of memory.
+    pub fn from_str(alloc: Global, text: &str) -> Result<Self, NameFault>
+        ensures id { IfOk result (λ id. common_type_text id ≡ text.now) }
+        ensures fault { IfErr result (IsNameFault IsIdentifier (λ text. text ≡ reserved_word) IsReservedTypeWord text.now) }
+    {
+        let id = UnreservedId::from_str(alloc, text)?;
+        if is_reserved_word(id.as_str()) {
+            Err(NameFault::NoCommonType)
+        } else {
+            Ok(CommonTypeId { id })
         }
     }
 

@@ -1,7 +1,10 @@
 //! Names as they were written.
 
-ghost use Rattle.std.specs.Prelude.{◌≡◌, IfOk};
+ghost use Rattle.std.specs.Prelude.{◌≡◌, IfOk, IfErr, None};
 ghost use Rattle.cedar_below.specs.InternalName.{name_of, name_loc};
+ghost use Rattle.cedar_below.specs.NameFault.{IsNameFault};
+ghost use Rattle.cedar_below.specs.NameText.{IsNameText};
+ghost use Rattle.cedar_below.specs.PlainName.{name_text};
 ghost use Rattle.std.specs.Prelude.{map};
 ghost use Rattle.cedar_names.specs.ConditionalName.{conditional_reference, possibilities_of, possibility_locs};
 ghost use Rattle.cedar_names.specs.NamespaceName.{namespace_name};
@@ -10,7 +13,7 @@ ghost use Rattle.cedar_names.specs.Reference.{reference_to, name_within, qualifi
 
 use crate::json_schema::conditional_name::ConditionalName;
 use crate::json_schema::reference_type::ReferenceType;
-use cedar_below::{InternalName, Loc, M, NonEmpty};
+use cedar_below::{InternalName, Loc, M, NameFault, NonEmpty};
 use std::alloc::Global;
 use std::fmt;
 
@@ -40,6 +43,17 @@ impl RawName {
         ensures loc { raw_loc result ≡ name_loc name }
     {
         RawName(name)
+    }
+
+    /// The name that a text spells: identifiers joined by `::`, with nothing else between them. It
+    /// has no location. It is refused exactly where no name prints as the text, with the byte at
+    /// which it stops being one, or out of memory.
+    pub fn from_str(alloc: Global, text: &str) -> Result<Self, NameFault>
+        ensures name { IfOk result (λ name. name_text (raw_name name) ≡ text.now) }
+        ensures loc { IfOk result (λ name. raw_loc name ≡ None) }
+        ensures fault { IfErr result (IsNameFault IsNameText (λ _. ⊥) (λ _. ⊥) text.now) }
+    {
+        Ok(RawName(InternalName::from_str(alloc, text)?))
     }
 
     /// The name as it was written.

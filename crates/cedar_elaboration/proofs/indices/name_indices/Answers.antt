@@ -4,7 +4,7 @@ use Rattle.cedar_below.proofs.Names.{internal_name_ord-Equal}
 use Rattle.cedar_below.specs.InternalName.{name_of}
 use Rattle.cedar_below.specs.PlainName.{PlainName}
 use Rattle.cedar_below.specs.contracts.internal_name.InternalNameOrd.TheImpl as order
-use Rattle.cedar_declarations.specs.Occurrences.{Twice}
+use Rattle.cedar_below.specs.Lists.{Twice}
 use Rattle.cedar_elaboration.proofs.Entries.{found_name}
 use Rattle.cedar_elaboration.proofs.IndexLemmas.{NumberedSoFar, NumberedSoFar-more, repeated_name, names_more, names_split}
 use Rattle.cedar_elaboration.specs.Indices.{common_items, item_names, indexed_names}

@@ -5,7 +5,7 @@ use Rattle.cedar_schema_elements.specs.ValidatorActionId.{action_of}
 use Rattle.cedar_below.specs.EntityType.{type_name}
 use Rattle.cedar_below.specs.EntityUID.{uid_of}
 use Rattle.cedar_declarations.specs.Environments.{Environment}
-use Rattle.cedar_declarations.specs.Occurrences.{Twice}
+use Rattle.cedar_below.specs.Lists.{Twice}
 use Rattle.cedar_schema_elements.proofs.EnvironmentLemmas.{alone_once, environment, names_once, of_resource, one_more_shown, resource_environments}
 use Rattle.cedar_schema_elements.proofs.GivenLemmas.{given_all, given_more, given_none, given_once}
 use Rattle.cedar_schema_elements.specs.RequestEnv.{owned_environment}

@@ -2,7 +2,7 @@ use Rattle.std.proofs.Common.{◌≡◌, ◌++◌, List, [], Some, map, ap, sym,
 use Rattle.cedar_schema_elements.specs.ValidatorActionId.{action_of, plain_action_entry}
 use Rattle.cedar_below.specs.EntityUID.{uid_of}
 use Rattle.cedar_declarations.specs.Environments.{Environment}
-use Rattle.cedar_declarations.specs.Occurrences.{Twice}
+use Rattle.cedar_below.specs.Lists.{Twice}
 use Rattle.cedar_schema_elements.proofs.EnvironmentLemmas.{are_environments, environments_under, of_action, with_context, without_context}
 use Rattle.cedar_schema_elements.proofs.GivenLemmas.{given_all, given_more, given_none, given_nothing, given_once}
 use Rattle.cedar_schema_elements.proofs.UidLemmas.{uids_once, under}

@@ -5,7 +5,7 @@ use Rattle.cedar_names.specs.Expr.{record_expr, no_member}
 use Rattle.cedar_names.specs.declared.json_schema.reference_type.ReferenceType.TheVariants.{Entity}
 use Rattle.cedar_declarations.proofs.BuiltInLemmas.{unlike_texts}
 use Rattle.cedar_declarations.specs.Bag.{alias_name}
-use Rattle.cedar_declarations.specs.Occurrences.{Twice}
+use Rattle.cedar_below.specs.Lists.{Twice}
 use Rattle.declaration_examples.specs.Samples.{refer_here}
 use Rattle.declaration_examples.proofs.examples.definitions_fulfil_external_declarations.Goals as goal
 

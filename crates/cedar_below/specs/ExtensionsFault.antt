@@ -1,0 +1,13 @@
+use Rattle.std.specs.Prelude.{List, Contains}
+use Rattle.cedar_below.specs.declared.extension.ExtensionsFault.{ExtensionsFault}
+use Rattle.cedar_below.specs.declared.extension.ExtensionsFault.TheVariants.{Qualified, Repeated, Primitive}
+use Rattle.cedar_below.specs.Lists.{Twice}
+use Rattle.cedar_below.specs.Name.{plain_name}
+use Rattle.cedar_below.specs.PlainName.{PlainName, IsUnqualified}
+use Rattle.cedar_below.specs.TypeNames.{primitive_words}
+
+-- the fault is one of the names: one of them has a path, one stands twice, or one is that of a core type
+abbrev pub IsExtensionsFault : List PlainName → ExtensionsFault → Type 0
+IsExtensionsFault names (Qualified name) = Contains names (plain_name name) × ¬ IsUnqualified (plain_name name)
+IsExtensionsFault names (Repeated name) = Twice names (plain_name name)
+IsExtensionsFault names (Primitive name) = Contains names (plain_name name) × Contains primitive_words (plain_name name).base

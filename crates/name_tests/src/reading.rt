@@ -1,0 +1,256 @@
+//! Tests of names that are read from text, and of uids that are printed.
+
+use crate::below::text;
+use cedar_below::{
+    Eid, EntityType, EntityUID, Extensions, Id, InternalName, Name, NameFault, UnreservedId,
+};
+use cedar_names::json_schema::{CommonTypeId, RawName};
+use shorthand::checked::{holds, same};
+use std::alloc::Global;
+use std::collections::BTreeMap;
+use std::fmt::Display;
+use std::test::Fail;
+
+/// What was read, as it prints, or the fault.
+fn answer<T: Display + Drop>(alloc: Global, read: Result<T, NameFault>) -> Result<String, Fail> {
+    match read {
+        Ok(name) => Ok(name.to_string(alloc)?),
+        Err(fault) => Ok(fault.to_string(alloc)?),
+    }
+}
+
+/// What is answered where a text stops being a name at a byte.
+fn stops(alloc: Global, at: usize) -> Result<String, Fail> {
+    Ok(format!(in alloc; "the text stops being a name at byte {at}")?)
+}
+
+/// Texts that are no names, each with the byte at which it stops being one.
+const NO_NAMES: &[(&str, usize)] = &[
+    ("", 0),
+    (":", 0),
+    ("::", 0),
+    (" ", 0),
+    (" a", 0),
+    ("9a", 0),
+    ("é", 0),
+    ("a ", 1),
+    ("a-b", 1),
+    ("aé", 1),
+    ("a ::b", 1),
+    ("a:", 2),
+    ("a:b", 2),
+    ("a::", 3),
+    ("a:: b", 3),
+    ("a::9", 3),
+    ("a:::b", 3),
+    ("a::b ", 4),
+    ("a::b::", 6),
+];
+
+#[test]
+fn texts_stop_being_names(rt: HostRuntime) -> Result<(), Fail> {
+    let alloc = rt.alloc();
+    for &(word, at) in NO_NAMES {
+        let expected = stops(alloc, at)?;
+        let internal = answer(alloc, InternalName::from_str(alloc, word))?;
+        same(word, internal.as_str(), expected.as_str())?;
+        let raw = answer(alloc, RawName::from_str(alloc, word))?;
+        same(word, raw.as_str(), expected.as_str())?;
+        let ty = answer(alloc, EntityType::from_str(alloc, word))?;
+        same(word, ty.as_str(), expected.as_str())?;
+    }
+    Ok(())
+}
+
+/// Names, and whether each is reserved.
+const NAMES: &[(&str, bool)] = &[
+    ("a", false),
+    ("_", false),
+    ("if", false),
+    ("Bool", false),
+    ("a::b::c_9", false),
+    ("__cedar", true),
+    ("a::__cedar", true),
+    ("__cedar::a", true),
+    ("__cedar_::a", false),
+];
+
+/// What is answered of a reserved name.
+const RESERVED: &str = "a part of the name is the reserved word __cedar";
+
+#[test]
+fn names_are_read_as_they_print(rt: HostRuntime) -> Result<(), Fail> {
+    let alloc = rt.alloc();
+    for &(word, is_reserved) in NAMES {
+        let unreserved = if is_reserved { RESERVED } else { word };
+        let internal = answer(alloc, InternalName::from_str(alloc, word))?;
+        same(word, internal.as_str(), word)?;
+        let raw = answer(alloc, RawName::from_str(alloc, word))?;
+        same(word, raw.as_str(), word)?;
+        let name = answer(alloc, Name::from_str(alloc, word))?;
+        same(word, name.as_str(), unreserved)?;
+        let ty = answer(alloc, EntityType::from_str(alloc, word))?;
+        same(word, ty.as_str(), unreserved)?;
+    }
+    Ok(())
+}
+
+/// What is answered of the name of a type of Cedar's own.
+const OWN: &str = "the name is that of a type of Cedar's own";
+
+/// Texts, each with what is answered of it as an identifier, as one that isn't reserved, and as the
+/// base name of a common type.
+const IDS: &[(&str, &str, &str, &str)] = &[
+    ("a", "a", "a", "a"),
+    ("_9", "_9", "_9", "_9"),
+    ("if", "if", "if", "if"),
+    ("__cedar", "__cedar", RESERVED, RESERVED),
+    ("Bool", "Bool", "Bool", OWN),
+    ("Set", "Set", "Set", OWN),
+    ("bool", "bool", "bool", "bool"),
+];
+
+#[test]
+fn identifiers_are_read_as_they_print(rt: HostRuntime) -> Result<(), Fail> {
+    let alloc = rt.alloc();
+    for &(word, plain, unreserved, common) in IDS {
+        let id = answer(alloc, Id::from_str(alloc, word))?;
+        same(word, id.as_str(), plain)?;
+        let id = answer(alloc, UnreservedId::from_str(alloc, word))?;
+        same(word, id.as_str(), unreserved)?;
+        let id = answer(alloc, CommonTypeId::from_str(alloc, word))?;
+        same(word, id.as_str(), common)?;
+    }
+    Ok(())
+}
+
+/// Texts that are no identifiers, each with the byte at which it stops being one.
+const NO_IDS: &[(&str, usize)] = &[
+    ("", 0),
+    ("9a", 0),
+    ("é", 0),
+    ("::", 0),
+    ("a b", 1),
+    ("a::b", 1),
+    ("aé", 1),
+];
+
+#[test]
+fn texts_stop_being_identifiers(rt: HostRuntime) -> Result<(), Fail> {
+    let alloc = rt.alloc();
+    for &(word, at) in NO_IDS {
+        let expected = stops(alloc, at)?;
+        let id = answer(alloc, Id::from_str(alloc, word))?;
+        same(word, id.as_str(), expected.as_str())?;
+        let id = answer(alloc, CommonTypeId::from_str(alloc, word))?;
+        same(word, id.as_str(), expected.as_str())?;
+    }
+    Ok(())
+}
+
+/// How many bytes a long text has: 1 MiB.
+const LONG: usize = 1_048_576;
+
+/// A text of that many letters.
+fn long(alloc: Global) -> Result<String, Fail> {
+    let mut long = String::new(alloc);
+    for _ in 0..LONG {
+        long.push('a')?;
+    }
+    Ok(long)
+}
+
+#[test]
+fn long_texts_are_read(rt: HostRuntime) -> Result<(), Fail> {
+    let alloc = rt.alloc();
+    let mut long = long(alloc)?;
+    let name = InternalName::from_str(alloc, long.as_str())?;
+    holds(name.basename().as_str() == long.as_str(), "a long name")?;
+    long.push_str("::")?;
+    let read = answer(alloc, InternalName::from_str(alloc, long.as_str()))?;
+    same(
+        "a long text",
+        read.as_str(),
+        stops(alloc, LONG + 2)?.as_str(),
+    )
+}
+
+/// Ids of `A::B`, each with the text of the uid.
+const UIDS: &[(&str, &str)] = &[
+    ("", "A::B::\"\""),
+    ("x y", "A::B::\"x y\""),
+    ("it's", "A::B::\"it's\""),
+    ("\"", "A::B::\"\\\"\""),
+    ("\\", "A::B::\"\\\\\""),
+    ("\n\r\t\0", "A::B::\"\\n\\r\\t\\0\""),
+    ("\u{7}\u{1f}", "A::B::\"\\u{7}\\u{1f}\""),
+    ("\u{7f}\u{85}", "A::B::\"\\u{7f}\\u{85}\""),
+    ("é😀\u{a0}", "A::B::\"é😀\u{a0}\""),
+];
+
+#[test]
+fn uids_print_with_their_ids_escaped(rt: HostRuntime) -> Result<(), Fail> {
+    let alloc = rt.alloc();
+    for &(eid, expected) in UIDS {
+        let ty = EntityType::from_str(alloc, "A::B")?;
+        let uid = EntityUID::new(ty, Eid(text(alloc, eid)?), None);
+        same(eid, uid.to_string(alloc)?.as_str(), expected)?;
+    }
+    Ok(())
+}
+
+/// Names of extension types between blanks, each with what is answered of them.
+const EXTENSIONS: &[(&str, &str)] = &[
+    ("", "they fit"),
+    ("ipaddr decimal", "they fit"),
+    ("string long", "they fit"),
+    (
+        "ipaddr N::decimal",
+        "the extension type N::decimal is qualified",
+    ),
+    (
+        "ipaddr decimal ipaddr",
+        "the extension type ipaddr stands twice",
+    ),
+    (
+        "Long ipaddr",
+        "the extension type Long has the name of a core type",
+    ),
+    (
+        "decimal Bool",
+        "the extension type Bool has the name of a core type",
+    ),
+    (
+        "String",
+        "the extension type String has the name of a core type",
+    ),
+];
+
+/// The names that stand between blanks.
+fn names(alloc: Global, words: &str) -> Result<Vec<Name>, Fail> {
+    let mut names = Vec::new(alloc);
+    for word in words.split_whitespace() {
+        names.push(Name::from_str(alloc, word)?)?;
+    }
+    Ok(names)
+}
+
+/// What is answered of extensions with those types, and without functions.
+fn extensions(alloc: Global, words: &str) -> Result<String, Fail> {
+    match Extensions::try_new(names(alloc, words)?, BTreeMap::new(alloc)) {
+        Ok(extensions) => {
+            holds(extensions.type_names_fit(), words)?;
+            text(alloc, "they fit")
+        }
+        Err(fault) => Ok(fault.to_string(alloc)?),
+    }
+}
+
+#[test]
+fn names_of_extension_types_are_checked(rt: HostRuntime) -> Result<(), Fail> {
+    let alloc = rt.alloc();
+    for &(words, expected) in EXTENSIONS {
+        same(words, extensions(alloc, words)?.as_str(), expected)?;
+    }
+    Ok(())
+}
