@@ -4,11 +4,12 @@ use Rattle.std.proofs.Math.ListN.{get_or-append, length-append, length-take}
 use Rattle.std.proofs.lemmas.List.{get_or-take}
 use Rattle.std.proofs.lemmas.Bool.{false≢true}
 use Rattle.std.proofs.lemmas.List.Folds.{list_all_at}
+use Rattle.std.proofs.lemmas.Str.{IsUtf8-nil}
 use Rattle.std.specs.List.{list_all}
 use Rattle.cedar_below.specs.Identifier.{IsIdentifier, begins_identifier, is_identifier_byte}
 use Rattle.cedar_below.specs.Stops.{Begins, StopsAt}
 use Rattle.cedar_below.specs.Text.{Text}
-use Rattle.cedar_below.proofs.NameReading.{both_true}
+use Rattle.cedar_below.proofs.NameReading.{both_true, word_text}
 
 -- the first byte of an identifier may begin one
 identifier_begins : (text : Text) → IsIdentifier text → begins_identifier text ≡ true
@@ -30,8 +31,9 @@ pub stops_at_start : (text : Text) → begins_identifier text ≡ false → Stop
 stops_at_start text none = record {
   other = λ is. false≢true (sym none ∙ identifier_begins text is);
   within = omega arith;
+  whole = IsUtf8-nil;
   begins = (97 ∷ [], refl);
-  longest = λ longer more within (rest, is). false≢true
+  longest = λ longer more within _ (rest, is). false≢true
       (sym none ∙ sym (begins_alike text rest longer more within) ∙ identifier_begins (take longer text ++ rest) is);
 }
 
@@ -51,8 +53,9 @@ pub stops_within : (text : Text) (at : ℕ) → begins_identifier text ≡ true 
 stops_within text at begins all within stop = record {
   other = λ is. false≢true (sym (list_all_at is_identifier_byte text at 0 within stop) ∙ identifier_bytes text is);
   within = omega (arith, within);
+  whole = word_text (take at text) all;
   begins = front_begins text at begins all;
-  longest = λ longer more inside (rest, is).
+  longest = λ longer more inside _ (rest, is).
       let long : at < length (take longer text) = omega (arith, more, inside, length-take longer text) in
       let same : get_or (take longer text ++ rest) at 0 ≡ get_or text at 0 =
       get_or-append (take longer text) rest 0 at long ∙ get_or-take longer text at 0 more in

@@ -1,6 +1,7 @@
 pub mod Chains
 pub mod Collected
 mod EntryLemmas
+pub mod EscapeReading
 pub mod FittingNames
 pub mod IdStops
 pub mod Ids
@@ -16,5 +17,6 @@ pub mod Texts
 pub mod TextsOfNames
 pub mod TreeLemmas
 mod TurnLemmas
+pub mod UidReading
 pub mod Uids
 pub mod ValueLemmas

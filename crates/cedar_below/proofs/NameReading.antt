@@ -1,13 +1,15 @@
 -- How a text is read as a name, byte by byte, and where it stops being one.
-use Rattle.std.proofs.Common.{◌≡◌, ◌≢◌, ◌<◌, ◌≤◌, ◌+◌, ◌-◌, ℕ, suc, Bool, true, false, List, [], ◌∷◌, ◌++◌, ◌&&◌, ◌||◌, ◌==◌, Option, Some, None, codes, length, take, drop, get_or, map, All, refl, sym, ap, ◌∙◌, subst, arith, slice_index_or, cond, nat_le, ◌⊎◌, inl, inr, ⊎_elim, append-nil}
+use Rattle.std.proofs.Common.{◌≡◌, ◌≢◌, ◌<◌, ◌≤◌, ◌+◌, ◌-◌, ℕ, suc, zero, Bool, true, false, List, [], ◌∷◌, ◌++◌, ◌&&◌, ◌||◌, ◌==◌, Option, Some, None, codes, length, take, drop, get_or, map, All, refl, sym, ap, ◌∙◌, subst, arith, slice_index_or, cond, nat_le, ◌⊎◌, inl, inr, ⊎_elim, append-nil}
 use Rattle.std.proofs.Math.ListN.{length-take}
 use Rattle.std.proofs.Math.Seq.{take-append-add}
 use Rattle.std.proofs.lemmas.Bool.{false≢true, eqb-true, leb-true}
 use Rattle.std.proofs.lemmas.List.{append_assoc, flat_map_more, take_all, take_more, take-append-drop}
 use Rattle.std.proofs.lemmas.List.Elements.{All-map, All-push}
+use Rattle.std.proofs.lemmas.Str.{IsUtf8-from_ascii}
 use Rattle.std.proofs.lemmas.List.Folds.{list_all-append}
 use Rattle.std.specs.Char.{is_ascii_alphabetic, is_ascii_digit}
 use Rattle.std.specs.Int.{is_in_range}
+use Rattle.std.specs.Str.{IsAscii, IsUtf8}
 use Rattle.std.specs.List.{flat_map, list_all}
 use Rattle.cedar_below.specs.declared.reading.Reading.{Reading}
 use Rattle.cedar_below.specs.declared.reading.Reading.TheVariants.{Start, Inside, Colon}
@@ -210,7 +212,7 @@ pub HasRead-like : {reading reading' : Reading} {path path' : List Text} {part p
 HasRead-like readings paths parts texts read = subst (λ X. X) (λ i. HasRead (readings i) (paths i) (parts i) (texts i)) read
 
 -- one half of a test of two that holds
-either : (a b : Bool) → (a || b) ≡ true → (a ≡ true) ⊎ (b ≡ true)
+pub either : (a b : Bool) → (a || b) ≡ true → (a ≡ true) ⊎ (b ≡ true)
 either true b e = inl refl
 either false b e = inr e
 
@@ -259,6 +261,62 @@ dead-begins front dead (rest, (name, ids, is)) =
     let whole = run-name_text name ids in
     absurd cc
 
+-- a byte that may stand in a name: one of an identifier, or `:`
+abbrev pub is_name_byte : ℕ → Bool
+is_name_byte byte = is_identifier_byte byte || (byte == 58)
+
+-- bytes of identifiers may stand in a name
+word_bytes : (text : Text) → list_all is_identifier_byte text ≡ true → list_all is_name_byte text ≡ true
+word_bytes [] all = refl
+word_bytes (byte ∷ text) all =
+    let halves = both_true (is_identifier_byte byte) (list_all is_identifier_byte text) all in
+    ap (λ test. (test || (byte == 58)) && list_all is_name_byte text) halves.0 ∙ word_bytes text halves.1
+
+-- and so may those of an identifier
+identifier_word : (text : Text) → IsIdentifier text → list_all is_name_byte text ≡ true
+identifier_word [] is = absurd (false≢true is)
+identifier_word (byte ∷ text) is =
+    word_bytes (byte ∷ text) (both_true (is_identifier_start byte) (list_all is_identifier_byte (byte ∷ text)) is).1
+
+-- two texts of such bytes in turn are one
+pub bytes-append : (text more : Text) → list_all is_name_byte text ≡ true → list_all is_name_byte more ≡ true
+    → list_all is_name_byte (text ++ more) ≡ true
+bytes-append text more first rest =
+    list_all-append is_name_byte text more ∙ ap (λ test. test && list_all is_name_byte more) first ∙ rest
+
+-- the bytes of a path may stand in a name
+joined_bytes : (path : List Text) → All IsIdentifier path → list_all is_name_byte (joined path) ≡ true
+joined_bytes [] all = refl
+joined_bytes (part ∷ path) all =
+    bytes-append (part ++ codes "::") (joined path)
+    (bytes-append part (codes "::") (identifier_word part (all 0 part (omega arith))) refl)
+    (joined_bytes path (λ k d below. all (suc k) d (omega (arith, below))))
+
+-- and so may those of a name's text
+pub name_bytes : (name : PlainName) → IsOfIdentifiers name → list_all is_name_byte (name_text name) ≡ true
+name_bytes name (base, path) = bytes-append (joined name.path) name.base (joined_bytes name.path path) (identifier_word name.base base)
+
+-- a byte of a name is of ASCII
+name_byte-ascii : (byte : ℕ) → is_name_byte byte ≡ true → byte < 128
+name_byte-ascii byte is = ⊎_elim (λ part. ascii_byte byte part)
+    (λ colon. let same : byte ≡ 58 = eqb-true byte 58 colon in omega (arith, same)) (either (is_identifier_byte byte) (byte == 58) is)
+
+-- bytes of a name are those of a text
+name_bytes-ascii : (text : Text) → list_all is_name_byte text ≡ true → IsAscii text
+name_bytes-ascii [] all i = omega arith
+name_bytes-ascii (byte ∷ text) all zero = name_byte-ascii byte (both_true (is_name_byte byte) (list_all is_name_byte text) all).0
+name_bytes-ascii (byte ∷ text) all (suc i) = name_bytes-ascii text (both_true (is_name_byte byte) (list_all is_name_byte text) all).1 i
+
+-- what begins a name is a text
+pub begins_text : (front : Text) → Begins IsNameText front → IsUtf8 front
+begins_text front (rest, (name, ids, is)) =
+    let all = sym (list_all-append is_name_byte front rest) ∙ ap (list_all is_name_byte) (sym is) ∙ name_bytes name ids in
+    IsUtf8-from_ascii front (name_bytes-ascii front (both_true (list_all is_name_byte front) (list_all is_name_byte rest) all).0)
+
+-- bytes of identifiers are those of a text
+pub word_text : (text : Text) → list_all is_identifier_byte text ≡ true → IsUtf8 text
+word_text text all = IsUtf8-from_ascii text (name_bytes-ascii text (word_bytes text all))
+
 -- a name that no byte goes on stops there
 pub stops_at_byte : (text : Text) (at : ℕ) (reading : Reading) (path : List Text) (part : Text) → All IsIdentifier path
     → HasRead reading path part (take at text) → at < length text → reading_then reading (get_or text at 0) ≡ None
@@ -268,8 +326,9 @@ stops_at_byte text at reading path part all read within none = record {
       (run-dead text at (length text) reading path part all read none within (omega arith))
       ([], subst IsNameText (sym (append-nil (take (length text) text) ∙ take_all (length text) text (omega arith))) named);
   within = omega (arith, within);
+  whole = begins_text (take at text) (HasRead-begins reading path part (take at text) all read);
   begins = HasRead-begins reading path part (take at text) all read;
-  longest = λ longer more inside. dead-begins (take longer text)
+  longest = λ longer more inside _. dead-begins (take longer text)
       (run-dead text at longer reading path part all read none more inside);
 }
 
@@ -284,6 +343,7 @@ stops_at_end text reading path part all read unfinished = record {
   other = λ (name, ids, is). unfinished
       (same_reading reading Inside (sym (run-HasRead reading path part text all read) ∙ ap (run (Some Start)) (sym is) ∙ run-name_text name ids));
   within = omega arith;
+  whole = subst IsUtf8 (sym (take_all (length text) text (omega arith))) (begins_text text (HasRead-begins reading path part text all read));
   begins = subst (Begins IsNameText) (sym (take_all (length text) text (omega arith))) (HasRead-begins reading path part text all read);
-  longest = λ longer more inside. absurd (omega (arith, more, inside));
+  longest = λ longer more inside _. absurd (omega (arith, more, inside));
 }

@@ -1,5 +1,5 @@
 -- A name is known by its text.
-use Rattle.std.proofs.Common.{◌≡◌, ◌≢◌, ℕ, suc, true, List, [], ◌∷◌, ◌++◌, codes, All, refl, sym, ap, ◌∙◌, arith}
+use Rattle.std.proofs.Common.{◌≡◌, ◌≢◌, ℕ, suc, Bool, true, false, List, [], ◌∷◌, ◌++◌, codes, All, refl, sym, ap, ◌∙◌, arith}
 use Rattle.std.proofs.lemmas.Bool.{false≢true}
 use Rattle.std.proofs.lemmas.List.{append_assoc}
 use Rattle.std.specs.List.{list_all}
@@ -21,33 +21,38 @@ word [] is = absurd (false≢true is)
 word (byte ∷ text) is = (both_true _ (list_all is_identifier_byte (byte ∷ text)) is).1
 
 -- equal lists have equal heads
-cons_head : {b c : ℕ} {x y : Text} → b ∷ x ≡ c ∷ y → b ≡ c
+pub cons_head : {b c : ℕ} {x y : Text} → b ∷ x ≡ c ∷ y → b ≡ c
 cons_head e = cc
 
 -- and equal rests
-cons_rest : {b c : ℕ} {x y : Text} → b ∷ x ≡ c ∷ y → x ≡ y
+pub cons_rest : {b c : ℕ} {x y : Text} → b ∷ x ≡ c ∷ y → x ≡ y
 cons_rest e = cc
 
 -- a part, its `::` and what follows
 shifted : (part path base : Text) → ((part ++ codes "::") ++ path) ++ base ≡ part ++ 58 ∷ 58 ∷ (path ++ base)
 shifted part path base = append_assoc (part ++ codes "::") path base ∙ append_assoc part (codes "::") (path ++ base)
 
--- what stands before the first `:` is known
-cut : (p q x y : Text) → IsWord p → IsWord q → p ++ 58 ∷ x ≡ q ++ 58 ∷ y → (p ≡ q) × (x ≡ y)
-cut [] [] x y _ _ e = (refl, cc)
-cut [] (c ∷ q) x y _ word e = absurd (false≢true (ap is_identifier_byte (cons_head e) ∙ (both_true _ _ word).0))
-cut (b ∷ p) [] x y word _ e = absurd (false≢true (sym (ap is_identifier_byte (cons_head e)) ∙ (both_true _ _ word).0))
-cut (b ∷ p) (c ∷ q) x y before after e =
-    let rest = cut p q x y (both_true _ _ before).1 (both_true _ _ after).1 (cons_rest e) in
+-- what stands before a mark is known, where a test passes all before it and not the mark
+pub cut : (test : ℕ → Bool) (mark : ℕ) → test mark ≡ false → (p q x y : Text) → list_all test p ≡ true → list_all test q ≡ true
+    → p ++ mark ∷ x ≡ q ++ mark ∷ y → (p ≡ q) × (x ≡ y)
+cut test mark fails [] [] x y _ _ e = (refl, cons_rest e)
+cut test mark fails [] (c ∷ q) x y _ all e =
+    absurd (false≢true (sym fails ∙ ap test (cons_head e) ∙ (both_true (test c) (list_all test q) all).0))
+cut test mark fails (b ∷ p) [] x y all _ e =
+    absurd (false≢true (sym fails ∙ sym (ap test (cons_head e)) ∙ (both_true (test b) (list_all test p) all).0))
+cut test mark fails (b ∷ p) (c ∷ q) x y before after e =
+    let rest = cut test mark fails p q x y (both_true (test b) (list_all test p) before).1 (both_true (test c) (list_all test q) after).1
+    (cons_rest e) in
     let first : b ≡ c = cons_head e in
     (λ i. first i ∷ rest.0 i, rest.1)
 
--- no `:` stands in a word
-no_cut : (p q y : Text) → IsWord p → p ≢ q ++ 58 ∷ y
-no_cut [] [] y _ e = absurd cc
-no_cut [] (c ∷ q) y _ e = absurd cc
-no_cut (b ∷ p) [] y word e = absurd (false≢true (sym (ap is_identifier_byte (cons_head e)) ∙ (both_true _ _ word).0))
-no_cut (b ∷ p) (c ∷ q) y word e = no_cut p q y (both_true _ _ word).1 (cons_rest e)
+-- and no mark stands where it passes all
+pub no_cut : (test : ℕ → Bool) (mark : ℕ) → test mark ≡ false → (p q y : Text) → list_all test p ≡ true → p ≢ q ++ mark ∷ y
+no_cut test mark fails [] [] y _ e = absurd cc
+no_cut test mark fails [] (c ∷ q) y _ e = absurd cc
+no_cut test mark fails (b ∷ p) [] y all e =
+    absurd (false≢true (sym fails ∙ sym (ap test (cons_head e)) ∙ (both_true (test b) (list_all test p) all).0))
+no_cut test mark fails (b ∷ p) (c ∷ q) y all e = no_cut test mark fails p q y (both_true (test b) (list_all test p) all).1 (cons_rest e)
 
 -- the rest of identifiers are identifiers
 All-rest : (first : Text) (rest : List Text) → All IsIdentifier (first ∷ rest) → All IsIdentifier rest
@@ -58,11 +63,11 @@ parts_by_text : (path other : List Text) (base last : Text) → All IsIdentifier
     → IsIdentifier last → joined path ++ base ≡ joined other ++ last → (path ≡ other) × (base ≡ last)
 parts_by_text [] [] base last _ _ _ _ e = (refl, e)
 parts_by_text [] (q ∷ other) base last _ _ is _ e =
-    absurd (no_cut base q (58 ∷ (joined other ++ last)) (word base is) (e ∙ shifted q (joined other) last))
+    absurd (no_cut is_identifier_byte 58 refl base q (58 ∷ (joined other ++ last)) (word base is) (e ∙ shifted q (joined other) last))
 parts_by_text (p ∷ path) [] base last _ _ _ is e =
-    absurd (no_cut last p (58 ∷ (joined path ++ base)) (word last is) (sym e ∙ shifted p (joined path) base))
+    absurd (no_cut is_identifier_byte 58 refl last p (58 ∷ (joined path ++ base)) (word last is) (sym e ∙ shifted p (joined path) base))
 parts_by_text (p ∷ path) (q ∷ other) base last all others is its e =
-    let halves = cut p q _ _ (word p (all 0 p (omega arith))) (word q (others 0 q (omega arith)))
+    let halves = cut is_identifier_byte 58 refl p q _ _ (word p (all 0 p (omega arith))) (word q (others 0 q (omega arith)))
     (sym (shifted p (joined path) base) ∙ e ∙ shifted q (joined other) last) in
     let rest = parts_by_text path other base last (All-rest p path all) (All-rest q other others) is its (cons_rest halves.1) in
     (λ i. halves.0 i ∷ rest.0 i, rest.1)

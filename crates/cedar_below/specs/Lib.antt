@@ -6,6 +6,7 @@ pub mod Entities
 pub mod Entity
 pub mod EntityType
 pub mod EntityUID
+pub mod Escapes
 pub mod Extensions
 pub mod ExtensionsFault
 pub mod ExtensionsFaultText
@@ -31,6 +32,7 @@ pub mod Stops
 pub mod Text
 pub mod Tree
 pub mod TypeNames
+pub mod UidReading
 pub mod UidText
 pub mod UnreservedId
 pub mod Value

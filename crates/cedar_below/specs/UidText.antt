@@ -1,9 +1,10 @@
-use Rattle.std.specs.Prelude.{ℕ, false, ◌++◌, ◌==◌, codes, cond}
+use Rattle.std.specs.Prelude.{◌≡◌, ℕ, false, ◌++◌, ◌==◌, codes, cond}
 use Rattle.std.specs.Char.{encode_utf8, is_control}
 use Rattle.std.specs.Fmt.{digits}
 use Rattle.std.specs.List.{flat_map}
-use Rattle.std.specs.Str.{chars}
-use Rattle.cedar_below.specs.PlainName.{name_text}
+use Rattle.std.specs.Str.{IsUtf8, chars}
+use Rattle.cedar_below.specs.NameText.{IsOfIdentifiers}
+use Rattle.cedar_below.specs.PlainName.{IsReserved, name_text}
 use Rattle.cedar_below.specs.PlainUid.{PlainUid}
 use Rattle.cedar_below.specs.Text.{Text}
 
@@ -26,3 +27,15 @@ escaped_text eid = flat_map escaped (chars eid)
 -- a uid as it is printed: its type, `::`, and its id in quotes
 abbrev pub uid_text : PlainUid → Text
 uid_text uid = name_text uid.ty ++ (codes "::\"" ++ (escaped_text uid.eid ++ codes "\""))
+
+-- some id prints as the text between quotes, and the last quote
+abbrev pub IsQuoted : Text → Type 0
+IsQuoted text = (eid : Text) × IsUtf8 eid × (escaped_text eid ++ codes "\"" ≡ text)
+
+-- some uid, whose type is a name of identifiers, prints as the text
+abbrev pub IsUidText : Text → Type 0
+IsUidText text = (uid : PlainUid) × IsOfIdentifiers uid.ty × IsUtf8 uid.eid × (uid_text uid ≡ text)
+
+-- some uid, whose type is a reserved name of identifiers, prints as the text
+abbrev pub IsReservedUidText : Text → Type 0
+IsReservedUidText text = (uid : PlainUid) × IsOfIdentifiers uid.ty × IsReserved uid.ty × IsUtf8 uid.eid × (uid_text uid ≡ text)

@@ -1,17 +1,23 @@
 //! Uids of entities: a type and an id.
 
 ghost use Rattle.std.specs.Fmt.{WritesOnOk};
-ghost use Rattle.std.specs.Prelude.{◌≡◌, ◌↔◌, IsTrue, IfOk};
+ghost use Rattle.std.specs.Prelude.{◌≡◌, ◌↔◌, IsTrue, IfOk, IfErr, None};
 ghost use Rattle.cedar_below.specs.Eid.{eid_text};
 ghost use Rattle.cedar_below.specs.EntityType.{type_loc, type_name};
 ghost use Rattle.cedar_below.specs.EntityUID.{uid_of, uid_loc, uid_type_loc};
 ghost use Rattle.cedar_below.specs.PlainName.{IsActionType};
-ghost use Rattle.cedar_below.specs.UidText.{escaped_text};
+ghost use Rattle.cedar_below.specs.NameFault.{IsNameFault};
+ghost use Rattle.cedar_below.specs.UidReading.{IsTypeBefore, IsTypeFault};
+ghost use Rattle.cedar_below.specs.UidText.{IsReservedUidText, IsUidText, escaped_text, uid_text};
 
 use crate::eid::Eid;
 use crate::entity_type::EntityType;
+use crate::escape::read_id;
+use crate::internal_name::InternalName;
 use crate::loc::Loc;
 use crate::memory::M;
+use crate::name_fault::NameFault;
+use std::alloc::Global;
 use std::fmt;
 
 /// The uid of an entity: its type, and its id within the type.
@@ -26,6 +32,30 @@ pub struct EntityUID {
     loc: Option<Loc>,
 }
 
+/// Why a text without quotes is not the beginning of a uid, or not all that stands before its id.
+fn type_fault(alloc: Global, before: &str) -> NameFault
+    ensures { IsTypeFault before.now result }
+{
+    match InternalName::from_str(alloc, before) {
+        Err(fault) => fault,
+        Ok(_) => NameFault::NotAName(before.len()),
+    }
+}
+
+/// The name of the type in what stands before the quote of a uid, or None where it is none.
+fn type_before_quote(alloc: Global, before: &str) -> M<Option<InternalName>>
+    ensures { IfOk result (λ name. IsTypeBefore before.now name) }
+{
+    let Some(name) = before.strip_suffix("::") else {
+        return Ok(None);
+    };
+    match InternalName::from_str(alloc, name) {
+        Ok(name) => Ok(Some(name)),
+        Err(NameFault::Memory(refused)) => Err(refused),
+        Err(_) => Ok(None),
+    }
+}
+
 impl EntityUID {
     /// The uid of this type and this id.
     pub fn new(ty: EntityType, eid: Eid, loc: Option<Loc>) -> Self
@@ -35,6 +65,34 @@ impl EntityUID {
         ensures type_loc { uid_type_loc result ≡ type_loc ty }
     {
         EntityUID { ty, eid, loc }
+    }
+
+    /// The uid that a text spells, as uids print: the name of its type, `::`, and its id in quotes,
+    /// with `\\`, `\"`, `\n`, `\r`, `\t` and `\0` for those characters, `\u{7f}` with the number
+    /// in lower-case hexadecimal, without leading zeros, for each other control character, and all
+    /// else as it is. It has no locations. It is refused exactly where no uid prints as the text,
+    /// with the byte at which it stops being a uid's, or the type's name is reserved, or out of
+    /// memory.
+    pub fn from_str(alloc: Global, text: &str) -> Result<Self, NameFault>
+        ensures uid { IfOk result (λ uid. uid_text (uid_of uid) ≡ text.now) }
+        ensures loc { IfOk result (λ uid. uid_loc uid ≡ None) }
+        ensures type_loc { IfOk result (λ uid. uid_type_loc uid ≡ None) }
+        ensures fault { IfErr result (IsNameFault IsUidText IsReservedUidText (λ _. ⊥) text.now) }
+    {
+        let Some((before, after)) = text.split_once('"') else {
+            return Err(type_fault(alloc, text));
+        };
+        let Some(name) = type_before_quote(alloc, before)? else {
+            return Err(type_fault(alloc, before));
+        };
+        match read_id(alloc, after) {
+            Err(NameFault::NotAName(at)) => Err(NameFault::NotAName(before.len() + 1 + at)),
+            Err(fault) => Err(fault),
+            Ok(id) => match EntityType::from_internal(name) {
+                Ok(ty) => Ok(EntityUID::new(ty, Eid(id), None)),
+                Err(_) => Err(NameFault::Reserved),
+            },
+        }
     }
 
     /// The type of the entity.

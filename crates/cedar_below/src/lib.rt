@@ -29,6 +29,7 @@ mod entities;
 mod entity;
 mod entity_type;
 mod entity_uid;
+mod escape;
 mod extension;
 mod fits;
 mod id;
