@@ -13,6 +13,7 @@ pub mod Id
 pub mod Identifier
 pub mod InternalName
 pub mod IsValue
+pub mod Joined
 pub mod KeyedEntities
 pub mod LastNamed
 pub mod Lists
@@ -25,5 +26,6 @@ pub mod Text
 pub mod Tree
 pub mod TypeNames
 pub mod UidText
+pub mod UnknownFunction
 pub mod UnreservedId
 pub mod Value
