@@ -16,6 +16,7 @@ pub mod Id
 pub mod Identifier
 pub mod InternalName
 pub mod IsValue
+pub mod Joined
 pub mod KeyedEntities
 pub mod LastNamed
 pub mod Lists
@@ -34,5 +35,6 @@ pub mod Tree
 pub mod TypeNames
 pub mod UidReading
 pub mod UidText
+pub mod UnknownFunction
 pub mod UnreservedId
 pub mod Value

@@ -24,9 +24,13 @@ escaped c =
 abbrev pub escaped_text : Text → Text
 escaped_text eid = flat_map escaped (chars eid)
 
--- a uid as it is printed: its type, `::`, and its id in quotes
+-- an id as it is printed: in quotes, and escaped
+abbrev pub quoted_text : Text → Text
+quoted_text eid = codes "\"" ++ (escaped_text eid ++ codes "\"")
+
+-- a uid as it is printed: its type, `::`, and its id
 abbrev pub uid_text : PlainUid → Text
-uid_text uid = name_text uid.ty ++ (codes "::\"" ++ (escaped_text uid.eid ++ codes "\""))
+uid_text uid = name_text uid.ty ++ (codes "::" ++ quoted_text uid.eid)
 
 -- some id prints as the text between quotes, and the last quote
 abbrev pub IsQuoted : Text → Type 0

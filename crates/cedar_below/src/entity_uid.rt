@@ -1,6 +1,5 @@
 //! Uids of entities: a type and an id.
 
-ghost use Rattle.std.specs.Fmt.{WritesOnOk};
 ghost use Rattle.std.specs.Prelude.{◌≡◌, ◌↔◌, IsTrue, IfOk, IfErr, None};
 ghost use Rattle.cedar_below.specs.Eid.{eid_text};
 ghost use Rattle.cedar_below.specs.EntityType.{type_loc, type_name};
@@ -8,7 +7,7 @@ ghost use Rattle.cedar_below.specs.EntityUID.{uid_of, uid_loc, uid_type_loc};
 ghost use Rattle.cedar_below.specs.PlainName.{IsActionType};
 ghost use Rattle.cedar_below.specs.NameFault.{IsNameFault};
 ghost use Rattle.cedar_below.specs.UidReading.{IsTypeBefore, IsTypeFault};
-ghost use Rattle.cedar_below.specs.UidText.{IsReservedUidText, IsUidText, escaped_text, uid_text};
+ghost use Rattle.cedar_below.specs.UidText.{IsReservedUidText, IsUidText, uid_text};
 
 use crate::eid::Eid;
 use crate::entity_type::EntityType;
@@ -17,6 +16,7 @@ use crate::internal_name::InternalName;
 use crate::loc::Loc;
 use crate::memory::M;
 use crate::name_fault::NameFault;
+use crate::quoted::Quoted;
 use std::alloc::Global;
 use std::fmt;
 
@@ -138,43 +138,7 @@ impl EntityUID {
     }
 }
 
-/// A character of an id, printed as it stands between quotes.
-#[derive(Clone, Copy)]
-struct Escaped(char);
-
-impl fmt::Display for Escaped {
-    ghost use Rattle.std.specs.Prelude.{Some};
-    ghost use Rattle.cedar_below.specs.UidText.{escaped};
-
-    ghost output = { λ it. Some (escaped it.0) };
-
-    fn fmt<W: fmt::Write>(&self, f: &mut fmt::Formatter<W>) -> fmt::Result {
-        match self.0 {
-            '\0' => f.write_str("\\0"),
-            '\t' => f.write_str("\\t"),
-            '\n' => f.write_str("\\n"),
-            '\r' => f.write_str("\\r"),
-            '"' => f.write_str("\\\""),
-            '\\' => f.write_str("\\\\"),
-            c if c.is_control() => write!(f, "\\u{{{:x}}}", c as u32),
-            c => f.write_char(c),
-        }
-    }
-}
-
-/// Writes an id as it stands between quotes.
-fn write_escaped<W: fmt::Write>(eid: &str, f: &mut fmt::Formatter<W>) -> fmt::Result
-    ensures { WritesOnOk W.write_str_gives f.old result (escaped_text eid.now) f.new }
-{
-    for c in eid.chars() {
-        write!(f, "{}", Escaped(c))?;
-    }
-    Ok(())
-}
-
-/// Prints the type, `::`, and the id in quotes. In the id `\`, `"`, line feed, carriage return, tab
-/// and U+0000 stand as `\\`, `\"`, `\n`, `\r`, `\t` and `\0`, any other control character as
-/// `\u{7f}`, and all else as it is.
+/// Prints the type, `::`, and the id as [`Quoted`] does.
 impl fmt::Display for EntityUID {
     ghost use Rattle.std.specs.Prelude.{Some};
     ghost use Rattle.cedar_below.specs.EntityUID.{uid_of};
@@ -183,8 +147,6 @@ impl fmt::Display for EntityUID {
     ghost output = { λ uid. Some (uid_text (uid_of uid)) };
 
     fn fmt<W: fmt::Write>(&self, f: &mut fmt::Formatter<W>) -> fmt::Result {
-        write!(f, "{}::\"", self.ty)?;
-        write_escaped(self.eid.as_str(), f)?;
-        f.write_str("\"")
+        write!(f, "{}::{}", self.ty, Quoted(self.eid.as_str()))
     }
 }

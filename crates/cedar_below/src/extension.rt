@@ -11,8 +11,8 @@ use crate::core_schema_type::CoreSchemaType;
 use crate::name::Name;
 use crate::type_names::{has_name, is_core_type_word, names_fit};
 use std::collections::BTreeMap;
-use std::{error, fmt};
-use thiserror::Error;
+use std::error::Error;
+use std::fmt;
 
 /// The signature of an extension function.
 #[derive(Debug, Drop)]
@@ -24,11 +24,24 @@ pub struct ExtensionFunction {
 }
 
 /// No extension function has the name that was asked for.
-#[derive(Clone, Copy, Debug, Error)]
-#[error("no extension function is named {name}")]
+#[derive(Clone, Copy, Debug)]
 pub struct ExtensionFunctionLookupError<'v> {
     /// The name that was asked for.
     pub name: &'v Name,
+}
+
+impl Error for ExtensionFunctionLookupError<'_> {}
+
+impl fmt::Display for ExtensionFunctionLookupError<'_> {
+    ghost use Rattle.std.specs.Prelude.{Some};
+    ghost use Rattle.cedar_below.specs.Name.{plain_name};
+    ghost use Rattle.cedar_below.specs.UnknownFunction.{unknown_function_text};
+
+    ghost output = { λ error. Some (unknown_function_text (plain_name error.name.now)) };
+
+    fn fmt<W: fmt::Write>(&self, f: &mut fmt::Formatter<W>) -> fmt::Result {
+        write!(f, "no extension function is named {}", self.name)
+    }
 }
 
 /// Why names can't be those of the extension types of one schema.
@@ -63,7 +76,7 @@ impl fmt::Display for ExtensionsFault {
     }
 }
 
-impl error::Error for ExtensionsFault {}
+impl Error for ExtensionsFault {}
 
 /// The extension types and the extension functions that a schema may name.
 #[derive(Debug, Drop)]

@@ -19,7 +19,7 @@ member_names (member name required expr rest) = name ∷ member_names rest
 mutual
   -- the expression admits the value: each admits its own kind of value, a record no attribute that it doesn't list, an
   -- entity type each uid of it, an extension type the calls that give a value of it, and a common type whatever its
-  -- definition admits; a name that is both is taken as the common type
+  -- definition admits; a name that is both is taken as the common type (RFC 24)
   pub data Admits (defined : Defined) (extensions : Extensions) : Tree → Expr → Type 0 where
     admits_text : (it : Text) → Admits defined extensions (text_value it) text_expr
     admits_long : (it : ℤ) → Admits defined extensions (number_value it) long_expr

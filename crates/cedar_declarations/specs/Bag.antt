@@ -23,7 +23,7 @@ Bag = List Declaration
 abbrev pub declared_name : Declaration → PlainName
 declared_name it = name_within it.namespace it.id
 
--- the uid of an action that is declared: its type is `Action` in the namespace
+-- the uid of an action that is declared: its type is `Action` in the namespace (the Cedar reference on schemas)
 abbrev pub declared_uid : Declaration → PlainUid
 declared_uid it = record { ty = name_within it.namespace action_word; eid = it.id }
 
@@ -68,7 +68,7 @@ built_in_types extensions =
     (codes "Bool", truth_expr) ∷ (codes "Long", long_expr) ∷ (codes "String", text_expr)
     ∷ map (λ name. (name.base, extension_expr name.base)) (extension_types extensions)
 
--- the full name of a built-in type: its base name in the namespace `__cedar`
+-- the full name of a built-in type: its base name in the namespace `__cedar` (RFC 24 and RFC 52)
 abbrev pub built_in_name : Text → PlainName
 built_in_name word = record { base = word; path = reserved_word ∷ [] }
 
@@ -85,7 +85,7 @@ abbrev pub is_declared_here : Bag → Text → Bool
 is_declared_here bag word = list_any (λ name. is_eq (name_cmp (alias_name word) name)) (declared_types bag)
 
 -- the aliases: the built-in types under their base names alone, but for those of which a type is declared in the empty
--- namespace
+-- namespace (RFC 24)
 abbrev pub aliases : Bag → Extensions → List (PlainName × Expr)
 aliases bag extensions = map (λ it. (alias_name it.0, it.1)) (filter (λ it. not (is_declared_here bag it.0)) (built_in_types extensions))
 

@@ -8,7 +8,7 @@ use Rattle.cedar_names.specs.declared.json_schema.reference_type.ReferenceType.T
 use Rattle.cedar_declarations.specs.Bag.{Bag}
 use Rattle.cedar_declarations.specs.Mentions.{Refers}
 
--- the expression counts in what is declared of an entity type: it is the shape, or the type of the tags
+-- the expression counts in what is declared of an entity type: it is the shape, or the type of the tags (RFC 82)
 abbrev pub CountsInEntity : EntityBody → Expr → Type 0
 CountsInEntity (standard parents shape tags) expr = (shape ≡ expr) ⊎ (tags ≡ Some expr)
 CountsInEntity _ expr = ⊥
@@ -18,7 +18,7 @@ abbrev pub CountsInRequests : Requests → Expr → Type 0
 CountsInRequests (requests principals resources context) expr = context ≡ expr
 CountsInRequests elsewhere expr = ⊥
 
--- the expression counts in what is declared: the definition of a common type, and what isn't external otherwise
+-- the expression counts in what is declared: the definition of a common type, and what isn't external otherwise (RFC 116)
 abbrev pub CountsIn : Body → Expr → Type 0
 CountsIn (common_type definition) expr = definition ≡ expr
 CountsIn (entity_type body) expr = CountsInEntity body expr

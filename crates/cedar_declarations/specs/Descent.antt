@@ -17,10 +17,12 @@ abbrev pub HasParentAction : Bag → PlainUid → PlainUid → Type 0
 HasParentAction bag lower upper =
     (reference : ActionReference) × IsActionParent bag lower reference × NamesAction (action_uids bag) reference upper
 
--- the one entity type is a descendant of the other: a chain of parents leads from it to the other
+-- the one entity type is a descendant of the other: a chain of parents leads from it to the other (the Cedar reference on
+-- schemas)
 abbrev pub IsDescendant : Bag → Extensions → PlainName → PlainName → Type 0
 IsDescendant bag extensions lower upper = Chain (HasParent bag extensions) lower upper
 
--- the one action is a descendant of the other: a chain of parents leads from it to the other
+-- the one action is a descendant of the other: a chain of parents leads from it to the other (the Cedar reference on
+-- schemas)
 abbrev pub IsDescendantAction : Bag → PlainUid → PlainUid → Type 0
 IsDescendantAction bag lower upper = Chain (HasParentAction bag) lower upper

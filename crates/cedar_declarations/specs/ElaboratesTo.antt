@@ -12,7 +12,7 @@ use Rattle.cedar_type_rules.specs.declared.open_tag.OpenTag.TheVariants.{ClosedA
 mutual
   -- the expression is elaborated as the type: a record as the closed record of the same names and flags, an entity type
   -- as the union of it alone, and a common type as whatever its definition is elaborated as; a name that is both is
-  -- taken as the common type
+  -- taken as the common type (RFC 24)
   pub data ElaboratesTo (defined : Defined) : Expr → Ty → Type 0 where
     as_text : ElaboratesTo defined text_expr text
     as_long : ElaboratesTo defined long_expr long

@@ -36,6 +36,7 @@ pub record AreEnvironmentsOf (schema : PlainSchema) (environments : List Environ
   pub once : AllPairs (λ it other. it ≢ other) environments
 
 -- the environment is of requests that are declared: one of the principals with one of the resources, and the context
+-- (the Cedar reference on schemas)
 abbrev pub IsDeclaredRequest : Defined → Requests → Environment → Type 0
 IsDeclaredRequest defined (requests principals resources context) it =
     IsNamedBy (names_of defined) principals it.principal × IsNamedBy (names_of defined) resources it.resource

@@ -11,6 +11,7 @@ pub mod ElaboratesTo
 pub mod EntityTypeKind
 pub mod Environments
 pub mod Fault
+pub mod FaultText
 pub mod IllFormed
 pub mod Mentions
 pub mod Names

@@ -8,7 +8,7 @@ use Rattle.cedar_names.specs.Reference.{Reference, ActionReference}
 use Rattle.cedar_declarations.specs.Bag.{Bag, declared_entities, declared_actions, action_uids}
 use Rattle.cedar_declarations.specs.Counted.{entity_parents}
 
--- a declaration of an entity type that isn't external is its definition
+-- a declaration of an entity type that isn't external is its definition (RFC 116)
 abbrev pub entity_definition_in : PlainName → EntityBody → List (PlainName × EntityBody)
 entity_definition_in name (external parents) = []
 entity_definition_in name body = (name, body) ∷ []
@@ -21,7 +21,7 @@ entity_definitions entries = flat_map (λ it. entity_definition_in it.0 it.1) en
 abbrev pub defined_entities : Bag → List (PlainName × EntityBody)
 defined_entities bag = entity_definitions (declared_entities bag)
 
--- a declaration of an action that isn't external is its definition
+-- a declaration of an action that isn't external is its definition (RFC 116)
 abbrev pub action_definition_in : PlainUid → Requests → List (PlainUid × Requests)
 action_definition_in uid elsewhere = []
 action_definition_in uid applies_to = (uid, applies_to) ∷ []

@@ -81,7 +81,7 @@ IsUnknownType schema name =
 -- the refusal names a fault of the schema, over the extensions that are handed in, where a descendant is what one or more
 -- steps of the listed ones reach
 abbrev pub IsSchemaFault : Extensions → PlainSchema → Fault → Type 0
--- each of these is named where a known one has to stand
+-- each of these is named where a known one has to stand (the Cedar reference on schemas, as all that no RFC is named for)
 IsSchemaFault extensions schema (undeclared_entity_types names) =
     (names ≢ []) × ((name : PlainName) → Contains names name → IsUnknownType schema name)
 -- an extension type stands in a type and wasn't handed in
@@ -92,7 +92,7 @@ IsSchemaFault extensions schema (action_entity_type name) = HasEntityType schema
 IsSchemaFault extensions schema (invalid_action_type uid) = HasAction schema uid × ¬ IsActionType uid.ty
 -- an action is on a cycle
 IsSchemaFault extensions schema (action_cycle uid) = Chain (ListsDescendantAction schema) uid uid
--- an external entity type is below an enumerated one, or an enumerated one below any
+-- an external entity type is below an enumerated one, or an enumerated one below any (RFC 53 and RFC 116)
 IsSchemaFault extensions schema (external_below_enumerated lower upper) =
     IsOfKind schema lower IsExternal × IsOfKind schema upper IsEnumerated × Chain (ListsDescendant schema) lower upper
 IsSchemaFault extensions schema (enumerated_below lower upper) =
@@ -100,7 +100,7 @@ IsSchemaFault extensions schema (enumerated_below lower upper) =
 -- a descendant of an action is no action of the schema
 IsSchemaFault extensions schema (undeclared_action_descendant uid) =
     (upper : PlainUid) × ListsDescendantAction schema uid upper × ¬ HasAction schema uid
--- an entity type or an action is shadowed
+-- an entity type or an action is shadowed (RFC 70)
 IsSchemaFault extensions schema (type_shadowing plain qualified) =
     HasEntityType schema plain × HasEntityType schema qualified × ShadowsType plain qualified
 IsSchemaFault extensions schema (action_shadowing plain qualified) =

@@ -12,6 +12,7 @@ pub mod PossibleNames
 pub mod RawExpr
 pub mod RawName
 pub mod Reference
+pub mod ReferenceText
 pub mod ReservedTypeWord
 pub mod TypeExpr
 pub mod TypeLocs

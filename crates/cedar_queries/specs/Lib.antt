@@ -1,6 +1,7 @@
 pub mod GivesLeaf
 pub mod Hierarchy
 pub mod Incomplete
+pub mod IncompleteText
 pub mod KnownAttributes
 pub mod KnownLaws
 pub mod Leaves

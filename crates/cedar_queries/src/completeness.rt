@@ -1,6 +1,8 @@
 //! Whether a schema is complete, and what it lacks.
 
-ghost use Rattle.std.specs.Prelude.{◌≡◌, ◌≢◌, [], IfErr, IfOk, OnOk, map};
+ghost use Rattle.std.specs.Fmt.{WritesOnOk};
+ghost use Rattle.std.specs.Prelude.{◌≡◌, ◌≢◌, [], IfErr, IfOk, OnOk, Some, map};
+ghost use Rattle.std.specs.List.{flat_map};
 ghost use Rattle.std.specs.List.Sorted.{IsPermutation, IsSorted};
 ghost use Rattle.cedar_schema_elements.specs.ValidatorActionId.{plain_action_entry};
 ghost use Rattle.cedar_below.specs.EntityType.{type_name};
@@ -9,6 +11,7 @@ ghost use Rattle.cedar_below.specs.PlainName.{name_cmp};
 ghost use Rattle.cedar_below.specs.PlainUid.{uid_cmp};
 ghost use Rattle.cedar_schema_elements.specs.ValidatorEntityType.{plain_entry};
 ghost use Rattle.cedar_queries.specs.Incomplete.{IsIncomplete};
+ghost use Rattle.cedar_queries.specs.IncompleteText.{complete_error_text, external_action_text, external_type_text, incomplete_text};
 ghost use Rattle.cedar_queries.specs.Unresolved.{external_actions, external_types, unresolved};
 
 use crate::descent::{Actions, EntityTypes};
@@ -18,11 +21,11 @@ use crate::unresolved::is_complete;
 use cedar_below::{EntityType, EntityUID, Loc, M, Memory};
 use itertools::Itertools;
 use std::alloc::Global;
-use thiserror::Error;
+use std::error::Error;
+use std::fmt;
 
 /// A schema lacks the definitions of what it declares to be external.
-#[derive(Debug, Drop, Error)]
-#[error("the schema is incomplete")]
+#[derive(Debug, Drop)]
 pub struct IncompleteSchemaError {
     /// The external entity types, in order.
     pub entity_types: Vec<EntityType>,
@@ -33,15 +36,60 @@ pub struct IncompleteSchemaError {
     pub loc: Option<Loc>,
 }
 
+impl Error for IncompleteSchemaError {}
+
+/// Writes of each entity type that it is external, with `; ` before it.
+fn write_types<W: fmt::Write>(types: &[EntityType], f: &mut fmt::Formatter<W>) -> fmt::Result
+    ensures { WritesOnOk W.write_str_gives f.old result (flat_map external_type_text (map type_name types.now)) f.new }
+{
+    for ty in types {
+        write!(f, "; the entity type {ty} is external")?;
+    }
+    Ok(())
+}
+
+/// Writes of each action that it is external, with `; ` before it.
+fn write_actions<W: fmt::Write>(actions: &[EntityUID], f: &mut fmt::Formatter<W>) -> fmt::Result
+    ensures { WritesOnOk W.write_str_gives f.old result (flat_map external_action_text (map uid_of actions.now)) f.new }
+{
+    for uid in actions {
+        write!(f, "; the action {uid} is external")?;
+    }
+    Ok(())
+}
+
+/// Prints all external entity types and then all external actions, in order, as
+/// `the schema is incomplete; the entity type U is external; the action Action::"view" is external`.
+impl fmt::Display for IncompleteSchemaError {
+    ghost output = { λ error. Some (incomplete_text (map type_name error.entity_types.items) (map uid_of error.actions.items)) };
+
+    fn fmt<W: fmt::Write>(&self, f: &mut fmt::Formatter<W>) -> fmt::Result {
+        f.write_str("the schema is incomplete")?;
+        write_types(self.entity_types.as_slice(), f)?;
+        write_actions(self.actions.as_slice(), f)
+    }
+}
+
 /// Why a schema wasn't found complete.
-#[derive(Debug, Drop, Error)]
+#[derive(Debug, Drop)]
 pub enum CompleteError {
     /// It isn't.
-    #[error(transparent)]
     Incomplete(IncompleteSchemaError),
-    /// Out of memory.
-    #[error(transparent)]
+    /// A growth was refused.
     Memory(Memory),
+}
+
+impl Error for CompleteError {}
+
+impl fmt::Display for CompleteError {
+    ghost output = { λ error. Some (complete_error_text error) };
+
+    fn fmt<W: fmt::Write>(&self, f: &mut fmt::Formatter<W>) -> fmt::Result {
+        match self {
+            CompleteError::Incomplete(error) => error.fmt(f),
+            CompleteError::Memory(_) => f.write_str("out of memory"),
+        }
+    }
 }
 
 impl From<Memory> for CompleteError {

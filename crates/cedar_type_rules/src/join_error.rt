@@ -1,8 +1,8 @@
 //! Why two types have no join.
 
 use cedar_below::Memory;
+use std::error::Error;
 use std::fmt;
-use thiserror::Error;
 
 /// Why two types have no least upper bound: a help for whoever reads the refusal.
 #[derive(Clone, Copy, Debug, PartialEq, Eq)]
@@ -37,14 +37,30 @@ impl fmt::Display for LubHelp {
 }
 
 /// Why a join has no answer.
-#[derive(Clone, Copy, Debug, PartialEq, Eq, Error)]
+#[derive(Clone, Copy, Debug, PartialEq, Eq)]
 pub enum JoinError {
     /// The types have no least upper bound.
-    #[error("the types have no least upper bound (help: {0})")]
     Help(LubHelp),
     /// A growth was refused.
-    #[error("out of memory")]
     Memory,
+}
+
+impl Error for JoinError {}
+
+impl fmt::Display for JoinError {
+    ghost use Rattle.std.specs.Prelude.{Some};
+    ghost use Rattle.cedar_type_rules.specs.LubHelp.{join_error_text};
+
+    ghost output = { λ error. Some (join_error_text error) };
+
+    fn fmt<W: fmt::Write>(&self, f: &mut fmt::Formatter<W>) -> fmt::Result {
+        match self {
+            JoinError::Help(help) => {
+                write!(f, "the types have no least upper bound (help: {help})")
+            }
+            JoinError::Memory => f.write_str("out of memory"),
+        }
+    }
 }
 
 impl From<Memory> for JoinError {

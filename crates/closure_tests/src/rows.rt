@@ -2,7 +2,7 @@
 
 use crate::member::{edges_in_all, marks_stand, nodes_of};
 use cedar_below::M;
-use cedar_graph::{TCNode, TcError, add_edges, compute_tc, compute_tc_counted};
+use cedar_graph::{TCNode, add_edges, compute_tc, compute_tc_counted};
 use shorthand::checked::{holds, same};
 use std::alloc::Global;
 use std::test::Fail;
@@ -49,8 +49,7 @@ fn refusing(alloc: Global, count: u32, edges: &[(u32, u32)]) -> Result<String, F
     let mut nodes = nodes_of(alloc, count, edges)?;
     match compute_tc(alloc, &mut nodes, true) {
         Ok(()) => Ok(format!(in alloc; "{} edges", edges_in_all(&nodes))?),
-        Err(TcError::HasCycle(key)) => Ok(format!(in alloc; "a cycle through {key}")?),
-        Err(TcError::Memory) => Err(Fail::from("out of memory")),
+        Err(refused) => Ok(refused.to_string(alloc)?),
     }
 }
 
@@ -75,7 +74,12 @@ fn a_ring_is_closed_or_refused(rt: HostRuntime) -> Result<(), Fail> {
 const GRAPHS: &[(u32, &[(u32, u32)], &str, usize)] = &[
     (0, &[], "0 edges", 0),
     (2, &[(0, 1), (1, 9)], "3 edges", 3),
-    (3, &[(0, 1), (1, 1), (1, 2)], "a cycle through 1", 4),
+    (
+        3,
+        &[(0, 1), (1, 1), (1, 2)],
+        "a cycle of edges leads back to 1",
+        4,
+    ),
     (5, &[(0, 1), (1, 4), (2, 3), (3, 4)], "6 edges", 6),
 ];
 

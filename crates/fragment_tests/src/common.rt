@@ -176,20 +176,20 @@ const OUTCOMES: &[(&[Row<'static>], &str)] = &[
     ),
     (
         &[("A", "open", "User")],
-        "the schema uses a feature that is not supported",
+        "records that admit more than their listed attributes are not supported",
     ),
     (
         &[("A", "extension", "decimal")],
         "the extension type decimal is not known",
     ),
-    (&[("A", "either", "B")], "the type `B` is not declared"),
+    (&[("A", "either", "B")], "no type is declared as B"),
     (
         &[("A", "common", "User")],
-        "the type `User` is not declared",
+        "no common type is declared as User",
     ),
     (
         &[("B", "long", ""), ("A", "entity", "B")],
-        "the type `B` is not declared",
+        "no entity type is declared as B",
     ),
     (&[("A", "set", "__cedar")], "the name __cedar is reserved"),
 ];

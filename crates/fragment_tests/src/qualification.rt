@@ -128,40 +128,43 @@ fn names_are_those_of_what_is_declared(rt: HostRuntime) -> Result<(), Fail> {
 const REFUSED: &[(&[&str], &str)] = &[
     (
         &["N: entity T", "N::M: entity U {a@3: e:T@2}"],
-        "the type `T` is not declared",
+        "no entity type is declared as N::M::T or T",
     ),
     (
         &["N::M: entity T", "N: entity U {a@3: e:M::T@2}"],
-        "the type `M::T` is not declared",
+        "no entity type is declared as M::T",
     ),
     (
         &["N: entity T", ": entity U {a@3: e:T@2}"],
-        "the type `T` is not declared",
+        "no entity type is declared as T",
     ),
-    (&["N: action a P Y R -"], "the type `Y` is not declared"),
+    (
+        &["N: action a P Y R -"],
+        "no entity type is declared as N::Y or Y",
+    ),
     (
         &["M: action b", "N: action a in b@1"],
-        "an action is not declared: b",
+        "no action is declared as \"b\" of type N::Action or Action",
     ),
     (
         &["N: action b", "N: action a in c"],
-        "an action is not declared: c",
+        "no action is declared as \"c\" of type N::Action or Action",
     ),
     (
         &["M: action b", "N: action a in M::Action::c"],
-        "an action is not declared: c",
+        "no action is declared as \"c\" of type M::Action",
     ),
     (
         &["N: action b", ": action a in Action::b@1"],
-        "an action is not declared: b",
+        "no action is declared as \"b\" of type Action",
     ),
     (
         &["N: type T = Long; entity U", ": entity T"],
-        "the type N::T would shadow T",
+        "the type N::T would shadow the type T",
     ),
     (
         &["N: action a", ": action a"],
-        "an action would shadow another of the id a",
+        "the action N::Action::\"a\" would shadow the action Action::\"a\"",
     ),
 ];
 

@@ -45,12 +45,12 @@ const REFERENCES: &[(&str, ReferenceType, &str)] = &[
     (
         "Only",
         ReferenceType::Common,
-        "the type `Only` is not declared",
+        "no common type is declared as N::Only or Only",
     ),
     (
         "Action",
         ReferenceType::Entity,
-        "the type `Action` is not declared",
+        "no entity type is declared as N::Action or Action",
     ),
     (
         "__cedar::Foo",
@@ -60,7 +60,7 @@ const REFERENCES: &[(&str, ReferenceType, &str)] = &[
     (
         "M::Gone",
         ReferenceType::CommonOrEntity,
-        "the type `M::Gone` is not declared",
+        "no type is declared as M::Gone",
     ),
 ];
 
@@ -150,8 +150,8 @@ fn named(alloc: Global, defined: &[&str], principal: &str) -> Result<String, Fai
 const REQUESTS: &[(&[&str], &str, &str)] = &[
     (&["N::U", "U", "T"], "U", "N::U on T"),
     (&["U", "N::T"], "U", "U on N::T"),
-    (&["T"], "U", "the type `U` is not declared"),
-    (&["U"], "U", "the type `T` is not declared"),
+    (&["T"], "U", "no entity type is declared as N::U or U"),
+    (&["U"], "U", "no entity type is declared as N::T or T"),
     (
         &["__cedar::U", "T"],
         "__cedar::U",

@@ -135,7 +135,7 @@ fn errors_print_their_cause(rt: HostRuntime) -> Result<(), Fail> {
         tail: Vec::new(alloc),
     };
     let error = QualifyError::TypeNotDefined(TypeNotDefinedError { undefined_types });
-    let expected = "the type `Shop::User` is not declared";
+    let expected = "no entity type is declared as Shop::User";
     same("an error", error.to_string(alloc)?.as_str(), expected)
 }
 

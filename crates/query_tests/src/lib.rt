@@ -14,6 +14,8 @@ mod queries;
 #[cfg(test)]
 mod questions;
 #[cfg(test)]
+mod refusals;
+#[cfg(test)]
 mod same;
 #[cfg(test)]
 mod schemas;

@@ -1,8 +1,16 @@
 //! Declarations of actions.
 
+ghost use Rattle.std.specs.Fmt.{WritesOnOk};
+ghost use Rattle.std.specs.Option.{option_map};
+ghost use Rattle.std.specs.Prelude.{string_bytes};
+ghost use Rattle.cedar_names.specs.ConditionalName.{conditional_reference};
+ghost use Rattle.cedar_names.specs.ReferenceText.{action_reference_text, written_type_text};
+
+use crate::json_schema::conditional_name::{ConditionalName, write_possibilities};
 use crate::json_schema::entity_type::AttributesOrContext;
-use cedar_below::{Loc, Value};
+use cedar_below::{Loc, Quoted, Value};
 use std::collections::BTreeMap;
+use std::fmt;
 
 /// The declaration of an action.
 #[derive(Debug, Drop)]
@@ -45,4 +53,30 @@ pub struct ActionEntityUID<N> {
     pub ty: Option<N>,
     /// Where the reference was written, if that is known.
     pub loc: Option<Loc>,
+}
+
+/// Writes what the type of an action may stand for, behind the action's id.
+fn write_type<W: fmt::Write>(ty: &Option<ConditionalName>, f: &mut fmt::Formatter<W>) -> fmt::Result
+    ensures { WritesOnOk W.write_str_gives f.old result (written_type_text (option_map conditional_reference ty.now)) f.new }
+{
+    match ty {
+        Some(ty) => {
+            f.write_str(" of type ")?;
+            write_possibilities(ty, f)
+        }
+        None => f.write_str(" of no written type"),
+    }
+}
+
+/// Prints the id in quotes, and the names that its type may stand for, in order, as
+/// `"view" of type N::Action or Action`.
+impl fmt::Display for ActionEntityUID<ConditionalName> {
+    ghost use Rattle.std.specs.Prelude.{Some};
+
+    ghost output = { λ it. Some (action_reference_text (string_bytes it.id) (option_map conditional_reference it.ty)) };
+
+    fn fmt<W: fmt::Write>(&self, f: &mut fmt::Formatter<W>) -> fmt::Result {
+        write!(f, "{}", Quoted(self.id.as_str()))?;
+        write_type(&self.ty, f)
+    }
 }

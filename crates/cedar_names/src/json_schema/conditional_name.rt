@@ -1,9 +1,13 @@
 //! References whose names are not resolved yet.
 
-ghost use Rattle.std.specs.Prelude.{◌≡◌, ◌∷◌, [], IfOk, map};
+ghost use Rattle.std.specs.Fmt.{WritesOnOk};
+ghost use Rattle.std.specs.Prelude.{◌≡◌, ◌∷◌, [], IfOk, codes, map};
 ghost use Rattle.cedar_below.specs.InternalName.{name_of, name_loc};
+ghost use Rattle.cedar_below.specs.Joined.{each_after};
+ghost use Rattle.cedar_below.specs.PlainName.{name_text};
 ghost use Rattle.cedar_names.specs.ConditionalName.{possibilities_of, possibility_locs, reference_type_of};
 ghost use Rattle.cedar_names.specs.PossibleNames.{names_of, locs_of};
+ghost use Rattle.cedar_names.specs.ReferenceText.{possibilities_text};
 
 use crate::json_schema::reference_type::ReferenceType;
 use cedar_below::{InternalName, M, NonEmpty};
@@ -100,10 +104,30 @@ impl ConditionalName {
     }
 }
 
+/// Writes names, each with ` or ` before it.
+fn write_others<W: fmt::Write>(names: &[InternalName], f: &mut fmt::Formatter<W>) -> fmt::Result
+    ensures { WritesOnOk W.write_str_gives f.old result (each_after (codes " or ") (map name_text (map name_of names.now))) f.new }
+{
+    for name in names {
+        write!(f, " or {name}")?;
+    }
+    Ok(())
+}
+
+/// Writes the names that a reference may stand for, in order, with ` or ` between them.
+pub(crate) fn write_possibilities<W: fmt::Write>(
+    reference: &ConditionalName,
+    f: &mut fmt::Formatter<W>,
+) -> fmt::Result
+    ensures { WritesOnOk W.write_str_gives f.old result (possibilities_text (possibilities_of reference.now)) f.new }
+{
+    write!(f, "{}", reference.possibilities.head)?;
+    write_others(reference.possibilities.tail.as_slice(), f)
+}
+
 /// Prints the last of the possibilities, which is the name as it was written.
 impl fmt::Display for ConditionalName {
     ghost use Rattle.std.specs.Option.{option_map};
-    ghost use Rattle.cedar_below.specs.PlainName.{name_text};
     ghost use Rattle.cedar_names.specs.ConditionalName.{last_possibility};
 
     ghost output = { λ name. option_map name_text (last_possibility name) };

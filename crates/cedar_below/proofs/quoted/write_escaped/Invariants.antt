@@ -1,7 +1,7 @@
 use Rattle.std.specs.List.{flat_map}
 use Rattle.std.specs.Fmt.{HasWritten, IsPlainFormatter}
 use Rattle.cedar_below.specs.UidText.{escaped}
-use Rattle.cedar_below.proofs.entity_uid.write_escaped.Given as goal
+use Rattle.cedar_below.proofs.quoted.write_escaped.Given as goal
 
 abbrev pub invariant-loop-c : goal.invariant-loop-c
 invariant-loop-c g l =

@@ -5,7 +5,7 @@ use Rattle.std.proofs.lemmas.Grind.{put_two}
 use Rattle.std.proofs.lemmas.List.{flat_map_more}
 use Rattle.std.specs.Fmt.{HasWritten}
 use Rattle.cedar_below.specs.UidText.{escaped}
-use Rattle.cedar_below.proofs.entity_uid.write_escaped.Goals as goal
+use Rattle.cedar_below.proofs.quoted.write_escaped.Goals as goal
 
 pub loop-c-preserved : goal.loop-c-preserved
 loop-c-preserved g c plain =
