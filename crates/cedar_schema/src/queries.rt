@@ -239,16 +239,16 @@ impl ValidatorSchema {
     }
 
     /// What is declared to be elsewhere (RFC 116): the external entity types in order, and then the external
-    /// actions in order.
+    /// actions in order, each as the schema has it.
     pub fn unresolved_declarations(&self) -> UnresolvedDeclarations<'_>
-        ensures { unresolved_left result ≡ unresolved (schema_of self.now).entity_types (schema_of self.now).actions }
+        ensures { unresolved_left result ≡ unresolved (schema_entries self.now) (action_entries self.now) }
     {
         cedar_queries::unresolved_declarations(&self.entity_types, &self.action_ids)
     }
 
     /// Whether nothing is declared to be elsewhere.
     pub fn is_complete(&self) -> bool
-        ensures { IsTrue result ↔ (unresolved (schema_of self.now).entity_types (schema_of self.now).actions ≡ []) }
+        ensures { IsTrue result ↔ (unresolved (schema_entries self.now) (action_entries self.now) ≡ []) }
     {
         cedar_queries::is_complete(&self.entity_types, &self.action_ids)
     }
@@ -256,8 +256,8 @@ impl ValidatorSchema {
     /// That nothing is declared to be elsewhere; else the error carries what is, in order, with the
     /// location of the first. Or out of memory.
     pub fn check_complete(&self, alloc: Global) -> Result<(), CompleteError>
-        ensures complete { OnOk result (unresolved (schema_of self.now).entity_types (schema_of self.now).actions ≡ []) }
-        ensures incomplete { IfErr result (IsIncomplete (schema_of self.now).entity_types (schema_of self.now).actions) }
+        ensures complete { OnOk result (unresolved (schema_entries self.now) (action_entries self.now) ≡ []) }
+        ensures incomplete { IfErr result (IsIncomplete (schema_entries self.now) (action_entries self.now)) }
     {
         cedar_queries::check_complete(alloc, &self.entity_types, &self.action_ids)
     }
