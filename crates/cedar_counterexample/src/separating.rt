@@ -281,7 +281,7 @@ fn separating_expr(
 /// There is one exactly where the first type isn't below the second in permissive mode. Both types have to
 /// be stated with the samples (`Type::is_stated`): then subtyping is inclusion of values. The value has no
 /// part that it doesn't need for being one of the first type, apart from what tells it from those of the
-/// second.
+/// second. Out of memory is the only refusal.
 pub fn separating_value(
     alloc: Global,
     a: &Type,

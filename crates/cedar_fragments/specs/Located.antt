@@ -7,9 +7,13 @@ use Rattle.cedar_below.specs.PlainName.{PlainName}
 use Rattle.cedar_below.specs.declared.internal_name.InternalName.{InternalName}
 use Rattle.cedar_below.specs.declared.loc.Loc.{Loc}
 use Rattle.cedar_below.specs.declared.name.Name.{Name}
+use Rattle.cedar_fragments.specs.declared.namespace.action_def.ActionDef.{ActionDef}
+use Rattle.cedar_fragments.specs.declared.namespace.actions.ActionsDef.{ActionsDef}
 use Rattle.cedar_fragments.specs.declared.namespace.common_types.CommonTypeDef.{CommonTypeDef}
 use Rattle.cedar_fragments.specs.declared.namespace.common_types.CommonTypeDefs.{CommonTypeDefs}
 use Rattle.cedar_fragments.specs.declared.namespace.definition.ValidatorNamespaceDef.{ValidatorNamespaceDef}
+use Rattle.cedar_fragments.specs.declared.namespace.entity_type_def.EntityTypeDef.{EntityTypeDef}
+use Rattle.cedar_fragments.specs.declared.namespace.entity_types.EntityTypesDef.{EntityTypesDef}
 use Rattle.cedar_fragments.specs.declared.namespace.fragment.ValidatorSchemaFragment.{ValidatorSchemaFragment}
 use Rattle.cedar_names.specs.CommonTypeId.{common_type_text}
 use Rattle.cedar_names.specs.Reference.{name_within}
@@ -50,6 +54,14 @@ located_common_names N defs = map (λ def. located_name def.name) defs
 -- the common types, in order
 abbrev pub common_type_defs : (N : Type 0) → CommonTypeDefs N → List (CommonTypeDef N)
 common_type_defs N it = it.defs.items
+
+-- the entity types, in order
+abbrev pub entity_type_defs : (N : Type 0) → EntityTypesDef N → List (EntityTypeDef N)
+entity_type_defs N it = it.defs.items
+
+-- the actions, in order
+abbrev pub action_defs : (N A : Type 0) → ActionsDef N A → List (ActionDef N A)
+action_defs N A it = it.defs.items
 
 module _ (N A : Type 0) where
   -- the name of a definition's namespace, with where it was written; None is the empty namespace

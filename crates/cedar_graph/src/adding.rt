@@ -24,11 +24,11 @@ fn add_edge<K: Eq + Hash + Drop, V: TCNode<K>>(nodes: &mut HashMap<K, V>, from: 
     }
 }
 
-/// Adds each edge, from the one key to the other, to the node at the one. An edge from a key without a
-/// node changes nothing.
+/// Adds each edge, from the one key to the other, to the node at the one. An edge from a key
+/// without a node changes nothing.
 ///
-/// Each node stays alike but for its edges. After memory ran out each old edge stands, and each new
-/// one is among those that are given.
+/// Each node stays alike but for its edges. Out of memory is the only refusal, after which each
+/// old edge stands, and each new one is among those that are given.
 pub fn add_edges<K: Eq + Hash + Drop, V: TCNode<K>>(
     nodes: &mut HashMap<K, V>,
     edges: Vec<(K, K)>,

@@ -57,8 +57,12 @@ fn closed_names<K: Eq + Hash + Drop, V: TCNode<K>>(
     Ok(Closed { names, rows, joins })
 }
 
-/// The closure of `compute_tc`, which answers how many joins of two rows of bits it made: at most the
-/// square of the number of keys.
+/// The closure of `compute_tc`, which answers how many joins of two rows of bits it made: at most
+/// the square of the number of keys.
+///
+/// With `enforce_dag` it is refused with `HasCycle` where some node reaches itself, whose key it
+/// holds. The only other refusal is that memory ran out. After either, each old edge stands and
+/// each new one is of the closure.
 pub fn compute_tc_counted<K: Eq + Hash + Drop, V: TCNode<K>>(
     alloc: Global,
     nodes: &mut HashMap<K, V>,
@@ -92,11 +96,13 @@ pub fn compute_tc_counted<K: Eq + Hash + Drop, V: TCNode<K>>(
 
 /// Gives each node an edge to each key that a chain of one or more edges reaches from it.
 ///
-/// A node is known by its key in the map. An edge to a key that is not in the map leads no further.
-/// Each node stays alike but for its edges. With `enforce_dag` it is refused with `HasCycle` where
-/// some node reaches itself. After `HasCycle`, as after out of memory, each old edge stands and
-/// each new one is of the closure. Of keys `Drop` is asked besides `Eq` and `Hash`, since copies of
-/// them are let go.
+/// A node is known by its key in the map. An edge to a key that is not in the map leads no
+/// further. Each node stays alike but for its edges. Of keys `Drop` is asked besides `Eq` and
+/// `Hash`, since copies of them are let go.
+///
+/// With `enforce_dag` it is refused with `HasCycle` where some node reaches itself, whose key it
+/// holds. The only other refusal is that memory ran out. After either, each old edge stands and
+/// each new one is of the closure.
 pub fn compute_tc<K: Eq + Hash + Drop, V: TCNode<K>>(
     alloc: Global,
     nodes: &mut HashMap<K, V>,

@@ -12,7 +12,7 @@ use std::alloc::Global;
 use std::collections::{BTreeMap, HashMap};
 use std::hash::Hash;
 
-/// The entries in the order of their keys.
+/// The entries in the order of their keys. Out of memory is the only refusal.
 pub fn into_btree_map<K: Hash + Ord + Drop, V: Drop>(
     alloc: Global,
     nodes: HashMap<K, V>,
@@ -31,7 +31,7 @@ pub fn into_btree_map<K: Hash + Ord + Drop, V: Drop>(
     Ok(moved)
 }
 
-/// The entries in some order.
+/// The entries in some order. Out of memory is the only refusal.
 pub fn into_hash_map<K: Hash + Ord + Drop, V: Drop>(
     alloc: Global,
     nodes: BTreeMap<K, V>,

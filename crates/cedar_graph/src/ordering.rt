@@ -61,7 +61,8 @@ fn enter_below(alloc: Global, bound: usize) -> M<Vec<Step>>
 /// Orders the numbers of the lists, so that each comes after those of its list, or finds one that
 /// its list leads back to. A number without a list has no place in the order.
 ///
-/// It takes time linear in the lengths of the lists together, and no recursion.
+/// It takes time linear in the lengths of the lists together, and no recursion. Out of memory is
+/// the only refusal.
 pub fn topo_sort(alloc: Global, targets: &Vec<Vec<usize>>) -> M<Ordered>
     ensures { IfOk result (IsOrdered targets.now.items) }
 {

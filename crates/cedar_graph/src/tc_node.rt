@@ -18,7 +18,7 @@ pub trait TCNode<K: Eq + Hash> {
 
     ghost is_alike: { Self → Self → Type 0 };
 
-    /// An equal key.
+    /// An equal key. Out of memory is the only refusal.
     fn copy_key(key: &K) -> M<K>
         ensures { IfOk result (λ copy. IsTrue (K.eq key.now copy)) };
 
@@ -26,7 +26,8 @@ pub trait TCNode<K: Eq + Hash> {
     fn get_key(&self) -> &K
         ensures { result.now ≡ own_key self.now };
 
-    /// Adds an edge to the key and changes nothing else, after which the node has the edges it had.
+    /// Adds an edge to the key and changes nothing else. Out of memory is the only refusal, after
+    /// which the node has the edges it had.
     fn add_edge_to(&mut self, key: K) -> M<()>
         ensures added { OnOk result ((other : K) → has_edge self.new other
             ≡ (K.eq key other || has_edge self.old other)) }

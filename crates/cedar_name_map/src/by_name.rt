@@ -82,7 +82,8 @@ impl<V> ByName<V> {
     ghost use Rattle.cedar_name_map.specs.ByName.{value_at, with_texts};
     ghost use Rattle.cedar_name_map.specs.Entries.{entries_by_name};
 
-    /// The values of these names. Of repeated names the last wins.
+    /// The values of these names. Of repeated names the last wins. Out of memory is the only
+    /// refusal.
     pub fn from_entries(entries: Vec<(String, V)>) -> M<ByName<V>>
     where
         V: Drop,

@@ -22,21 +22,23 @@ borrowed_more shows old added new values is same =
     ap (map (borrowed shows)) is ∙ (map-append (borrowed shows) old added
     ∙ ap (λ items. map (borrowed shows) old ++ items) (borrowed_shown shows added values same))
 
-module _ {A B : Type 0} (shows : A → B) (all : List B) (items : List (Bor A)) (left : List A)
-    (so_far : map (borrowed shows) items ++ map shows left ≡ all) where
-  -- where a reference to the first of what is left is put behind references, these and what is then left show the same
-  pub borrowed_push : (new : List (Bor A)) (one : Bor A) (rest : List A) → new ≡ items ++ one ∷ [] → left ≡ one.now ∷ rest
-      → map (borrowed shows) new ++ map shows rest ≡ all
-  borrowed_push new one rest is first =
-      ap (λ each. map (borrowed shows) each ++ map shows rest) is
-      ∙ (ap (λ shown. shown ++ map shows rest) (map-append (borrowed shows) items (one ∷ []))
-      ∙ (append_assoc (map (borrowed shows) items) (shows one.now ∷ []) (map shows rest)
-      ∙ (ap (λ others. map (borrowed shows) items ++ map shows others) (sym first) ∙ so_far)))
+module _ {A B C : Type 0} (shows : A → B) (reads : C → B) (all : List B) (items : List (Bor A)) (left : List C)
+    (so_far : map (borrowed shows) items ++ map reads left ≡ all) where
+  -- where a reference that shows what the first of what is left reads as is put behind references, these show the same with what is
+  -- then left
+  pub borrowed_push : (new : List (Bor A)) (one : Bor A) (first : C) (rest : List C) → new ≡ items ++ one ∷ [] → left ≡ first ∷ rest
+      → shows one.now ≡ reads first → map (borrowed shows) new ++ map reads rest ≡ all
+  borrowed_push new one first rest is begins alike =
+      ap (λ each. map (borrowed shows) each ++ map reads rest) is
+      ∙ (ap (λ shown. shown ++ map reads rest) (map-append (borrowed shows) items (one ∷ []))
+      ∙ (append_assoc (map (borrowed shows) items) (shows one.now ∷ []) (map reads rest)
+      ∙ (ap (λ it. map (borrowed shows) items ++ it ∷ map reads rest) alike
+      ∙ (ap (λ others. map (borrowed shows) items ++ map reads others) (sym begins) ∙ so_far))))
 
   -- where nothing is left, they show all
   pub borrowed_all : left ≡ [] → map (borrowed shows) items ≡ all
   borrowed_all none =
-      sym (ap (λ others. map (borrowed shows) items ++ map shows others) none ∙ append-nil (map (borrowed shows) items)) ∙ so_far
+      sym (ap (λ others. map (borrowed shows) items ++ map reads others) none ∙ append-nil (map (borrowed shows) items)) ∙ so_far
 
 -- an item of a list that reaches past a place
 some_item : {A : Type 0} (items : List A) (place : ℕ) → place < length items → A

@@ -10,4 +10,3 @@ pub mod NameLemmas
 mod NotLemmas
 pub mod RoleLemmas
 pub mod SelectedLemmas
-pub mod UnresolvedLemmas

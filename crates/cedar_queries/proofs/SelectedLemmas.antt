@@ -1,5 +1,6 @@
 -- The keys of entries whose values pass a test, one entry after another, and their order.
 use Rattle.std.proofs.Common.{◌≡◌, ◌≤◌, Bool, true, false, cond, List, [], ◌∷◌, length, map, ap, refl, arith, ⊎_elim, inl, inr, sym, subst, ◌∙◌, Contains}
+use Rattle.std.proofs.lemmas.List.{length-map}
 use Rattle.std.specs.List.{AllByRecursion, filter}
 use Rattle.std.specs.List.Sorted.{IsStrictlySortedBy}
 use Rattle.std.specs.declared.cmp.Ordering.{Ordering}
@@ -41,14 +42,19 @@ module _ {K V : Type 0} (cmp : K → K → Ordering) (test : V → Bool) where
       elim (test entry.1) as (λ b. IsStrictlySortedBy cmp (map (λ it. it.0) (cond b (entry ∷ kept) kept)))
       [ true ↦ (below_kept entry.0 rest ascend.0, others) | false ↦ others ]
 
+-- no more items of a list pass a test than there are
+pub few_kept : {A : Type 0} (p : A → Bool) (items : List A) → length (filter p items) ≤ length items
+few_kept p [] = omega arith
+few_kept p (item ∷ rest) =
+    let others = few_kept p rest in
+    elim (p item) as (λ b. length (cond b (item ∷ filter p rest) (filter p rest)) ≤ length (item ∷ rest))
+    [ true ↦ omega (arith, others) | false ↦ omega (arith, others) ]
+
 -- there are no more keys than entries
 pub few_keys : {K V : Type 0} (test : V → Bool) (entries : List (K × V)) → length (keys_where test entries) ≤ length entries
-few_keys test [] = omega arith
-few_keys {K} test (entry ∷ rest) =
-    let others = few_keys test rest in
-    elim (test entry.1) as
-    (λ b. length (map (λ it. it.0) (cond b (entry ∷ filter (λ it. test it.1) rest) (filter (λ it. test it.1) rest))) ≤ length (entry ∷ rest))
-    [ true ↦ omega (arith, others) | false ↦ omega (arith, others) ]
+few_keys test entries =
+    let kept = few_kept (λ entry. test entry.1) entries in
+    rw (length-map (filter (λ entry. test entry.1) entries) (λ entry. entry.0)) kept
 
 -- an item of a list that passes a test is kept
 pub Contains-kept : {A : Type 0} (p : A → Bool) (items : List A) (item : A) → Contains items item → p item ≡ true

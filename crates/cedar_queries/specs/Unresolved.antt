@@ -1,12 +1,15 @@
 -- The declarations of a schema that are made elsewhere.
-use Rattle.std.specs.Prelude.{Bool, true, false, List, ◌++◌, map}
-use Rattle.cedar_below.specs.EntityType.{type_name}
-use Rattle.cedar_below.specs.EntityUID.{uid_of}
-use Rattle.cedar_below.specs.PlainName.{PlainName}
-use Rattle.cedar_below.specs.PlainUid.{PlainUid}
+use Rattle.std.specs.Prelude.{Bool, true, false, List, [], ◌++◌, ◌∷◌, Option, None, map}
+use Rattle.cedar_below.specs.declared.entity_type.EntityType.{EntityType}
+use Rattle.cedar_below.specs.declared.entity_uid.EntityUID.{EntityUID}
+use Rattle.cedar_below.specs.declared.loc.Loc.{Loc}
 use Rattle.cedar_declarations.specs.EntityTypeKind.{EntityTypeKind, standard_kind, enumerated_kind, external_kind}
-use Rattle.cedar_declarations.specs.PlainSchema.{ActionKind, defined_action, external_action, SchemaAction, SchemaEntityType}
-use Rattle.cedar_queries.specs.Selected.{keys_where}
+use Rattle.cedar_declarations.specs.PlainSchema.{ActionKind, defined_action, external_action}
+use Rattle.cedar_schema_elements.specs.ValidatorActionId.{action_loc, action_of}
+use Rattle.cedar_schema_elements.specs.ValidatorEntityType.{entity_type_of}
+use Rattle.cedar_schema_elements.specs.declared.action_id.ValidatorActionId.{ValidatorActionId}
+use Rattle.cedar_schema_elements.specs.declared.entity_type.ValidatorEntityType.{ValidatorEntityType}
+use Rattle.cedar_queries.specs.Selected.{values_where}
 use Rattle.cedar_queries.specs.declared.unresolved.UnresolvedDeclaration.{UnresolvedDeclaration}
 use Rattle.cedar_queries.specs.declared.unresolved.UnresolvedDeclaration.TheVariants as variant
 use Rattle.cedar_queries.specs.declared.unresolved.UnresolvedDeclarations.{UnresolvedDeclarations}
@@ -22,29 +25,38 @@ abbrev pub is_external_kind : ActionKind → Bool
 is_external_kind (defined_action principals resources context) = false
 is_external_kind external_action = true
 
--- the names of the external entity types
-abbrev pub external_types : List (PlainName × SchemaEntityType) → List PlainName
-external_types types = keys_where (λ it. is_external_type it.kind) types
+-- the external entity types, in order
+abbrev pub external_types : List (EntityType × ValidatorEntityType) → List ValidatorEntityType
+external_types types = values_where (λ it. is_external_type (entity_type_of it).kind) types
 
--- the uids of the external actions
-abbrev pub external_actions : List (PlainUid × SchemaAction) → List PlainUid
-external_actions actions = keys_where (λ it. is_external_kind it.kind) actions
+-- the external actions, in order
+abbrev pub external_actions : List (EntityUID × ValidatorActionId) → List ValidatorActionId
+external_actions actions = values_where (λ it. is_external_kind (action_of it).kind) actions
 
--- a declaration of something that is defined elsewhere
+-- a declaration of something that is defined elsewhere, as it stands in the schema
 pub data Unresolved : Type 0 where
-  unresolved_type : PlainName → Unresolved
-  unresolved_action : PlainUid → Unresolved
+  unresolved_type : ValidatorEntityType → Unresolved
+  unresolved_action : ValidatorActionId → Unresolved
 
 -- the external entity types, and then the external actions
-abbrev pub unresolved : List (PlainName × SchemaEntityType) → List (PlainUid × SchemaAction) → List Unresolved
+abbrev pub unresolved : List (EntityType × ValidatorEntityType) → List (EntityUID × ValidatorActionId) → List Unresolved
 unresolved types actions = map unresolved_type (external_types types) ++ map unresolved_action (external_actions actions)
 
--- an unresolved declaration as plain data
-abbrev pub plain_unresolved : UnresolvedDeclaration → Unresolved
-plain_unresolved (variant.EntityType name) = unresolved_type (type_name name.now)
-plain_unresolved (variant.Action uid) = unresolved_action (uid_of uid.now)
+-- the declaration that is lent
+abbrev pub lent_declaration : UnresolvedDeclaration → Unresolved
+lent_declaration (variant.EntityType ty) = unresolved_type ty.now
+lent_declaration (variant.Action action) = unresolved_action action.now
 
 -- what an iterator over unresolved declarations has left
 abbrev pub unresolved_left : UnresolvedDeclarations → List Unresolved
-unresolved_left it =
-    map (λ name. unresolved_type (type_name name)) it.types ++ map (λ uid. unresolved_action (uid_of uid)) it.actions
+unresolved_left it = map unresolved_type it.types ++ map unresolved_action it.actions
+
+-- where something that is defined elsewhere was declared
+abbrev pub unresolved_loc : Unresolved → Option Loc
+unresolved_loc (unresolved_type it) = it.loc
+unresolved_loc (unresolved_action it) = action_loc it
+
+-- where the first of some declarations was made, if there is one
+abbrev pub loc_of_first : List Unresolved → Option Loc
+loc_of_first [] = None
+loc_of_first (first ∷ others) = unresolved_loc first

@@ -4,20 +4,20 @@ ghost use Rattle.std.specs.Fmt.{WritesOnOk};
 ghost use Rattle.std.specs.Prelude.{◌≡◌, ◌≢◌, [], IfErr, IfOk, OnOk, Some, map};
 ghost use Rattle.std.specs.List.{flat_map};
 ghost use Rattle.std.specs.List.Sorted.{IsPermutation, IsSorted};
-ghost use Rattle.cedar_schema_elements.specs.ValidatorActionId.{plain_action_entry};
+ghost use Rattle.cedar_schema_elements.specs.ValidatorActionId.{action_of};
 ghost use Rattle.cedar_below.specs.EntityType.{type_name};
 ghost use Rattle.cedar_below.specs.EntityUID.{uid_of};
 ghost use Rattle.cedar_below.specs.PlainName.{name_cmp};
 ghost use Rattle.cedar_below.specs.PlainUid.{uid_cmp};
-ghost use Rattle.cedar_schema_elements.specs.ValidatorEntityType.{plain_entry};
+ghost use Rattle.cedar_schema_elements.specs.ValidatorEntityType.{entity_type_of};
 ghost use Rattle.cedar_queries.specs.Incomplete.{IsIncomplete};
 ghost use Rattle.cedar_queries.specs.IncompleteText.{complete_error_text, external_action_text, external_type_text, incomplete_text};
-ghost use Rattle.cedar_queries.specs.Unresolved.{external_actions, external_types, unresolved};
+ghost use Rattle.cedar_queries.specs.Unresolved.{external_actions, external_types, loc_of_first, unresolved};
 
 use crate::descent::{Actions, EntityTypes};
-use crate::selected::Selected;
+use crate::selected::SelectedValues;
 use crate::tests_of_values::IsExternal;
-use crate::unresolved::is_complete;
+use crate::unresolved::{UnresolvedDeclaration, is_complete, unresolved_declarations};
 use cedar_below::{EntityType, EntityUID, Loc, M, Memory};
 use itertools::Itertools;
 use std::alloc::Global;
@@ -104,22 +104,24 @@ impl From<Memory> for CompleteError {
 
 /// References to the names of the external entity types.
 fn external_names(alloc: Global, types: &EntityTypes) -> M<Vec<&EntityType>>
-    ensures { IfOk result (λ names. map (λ name. type_name name.now) names.items ≡ external_types (map plain_entry types.now.entries)) }
+    ensures { IfOk result (λ names. map (λ name. type_name name.now) names.items
+        ≡ map (λ it. (entity_type_of it).name) (external_types types.now.entries)) }
 {
     let mut names = Vec::new(alloc);
-    for name in Selected::new(types, IsExternal) {
-        names.push(name)?;
+    for ty in SelectedValues::new(types, IsExternal) {
+        names.push(ty.name())?;
     }
     Ok(names)
 }
 
 /// References to the uids of the external actions.
 fn external_uids(alloc: Global, actions: &Actions) -> M<Vec<&EntityUID>>
-    ensures { IfOk result (λ uids. map (λ uid. uid_of uid.now) uids.items ≡ external_actions (map plain_action_entry actions.now.entries)) }
+    ensures { IfOk result (λ uids. map (λ uid. uid_of uid.now) uids.items
+        ≡ map (λ it. (action_of it).uid) (external_actions actions.now.entries)) }
 {
     let mut uids = Vec::new(alloc);
-    for uid in Selected::new(actions, IsExternal) {
-        uids.push(uid)?;
+    for action in SelectedValues::new(actions, IsExternal) {
+        uids.push(action.name())?;
     }
     Ok(uids)
 }
@@ -135,7 +137,8 @@ fn in_order<'a, T: Ord>(references: Vec<&'a T>) -> M<Vec<&'a T>>
 
 /// The names of the external entity types, in order.
 fn external_types(alloc: Global, types: &EntityTypes) -> M<Vec<EntityType>>
-    ensures names { IfOk result (λ names. IsPermutation (external_types (map plain_entry types.now.entries)) (map type_name names.items)) }
+    ensures names { IfOk result (λ names. IsPermutation
+        (map (λ it. (entity_type_of it).name) (external_types types.now.entries)) (map type_name names.items)) }
     ensures sorted { IfOk result (λ names. IsSorted name_cmp (map type_name names.items)) }
 {
     let mut names = Vec::new(alloc);
@@ -147,7 +150,8 @@ fn external_types(alloc: Global, types: &EntityTypes) -> M<Vec<EntityType>>
 
 /// The uids of the external actions, in order.
 fn external_actions(alloc: Global, actions: &Actions) -> M<Vec<EntityUID>>
-    ensures uids { IfOk result (λ uids. IsPermutation (external_actions (map plain_action_entry actions.now.entries)) (map uid_of uids.items)) }
+    ensures uids { IfOk result (λ uids. IsPermutation
+        (map (λ it. (action_of it).uid) (external_actions actions.now.entries)) (map uid_of uids.items)) }
     ensures sorted { IfOk result (λ uids. IsSorted uid_cmp (map uid_of uids.items)) }
 {
     let mut uids = Vec::new(alloc);
@@ -158,21 +162,24 @@ fn external_actions(alloc: Global, actions: &Actions) -> M<Vec<EntityUID>>
 }
 
 /// Where the first external entity type was declared, or else the first external action.
-fn first_loc(types: &EntityTypes, actions: &Actions) -> Option<Loc> {
-    match types.values().find(|ty| ty.is_external()) {
-        Some(ty) => ty.loc,
-        None => actions.values().find(|action| action.is_external())?.loc(),
+fn first_loc(types: &EntityTypes, actions: &Actions) -> Option<Loc>
+    ensures { result ≡ loc_of_first (unresolved types.now.entries actions.now.entries) }
+{
+    match unresolved_declarations(types, actions).next()? {
+        UnresolvedDeclaration::EntityType(ty) => ty.loc,
+        UnresolvedDeclaration::Action(action) => action.loc(),
     }
 }
 
-/// That nothing is declared elsewhere; else what is, in order. Or out of memory.
+/// That nothing is declared elsewhere; else the error carries what is, in order, with the location of
+/// the first. Or out of memory.
 pub fn check_complete(
     alloc: Global,
     types: &EntityTypes,
     actions: &Actions,
 ) -> Result<(), CompleteError>
-    ensures complete { OnOk result (unresolved (map plain_entry types.now.entries) (map plain_action_entry actions.now.entries) ≡ []) }
-    ensures incomplete { IfErr result (IsIncomplete (map plain_entry types.now.entries) (map plain_action_entry actions.now.entries)) }
+    ensures complete { OnOk result (unresolved types.now.entries actions.now.entries ≡ []) }
+    ensures incomplete { IfErr result (IsIncomplete types.now.entries actions.now.entries) }
 {
     if is_complete(types, actions) {
         return Ok(());

@@ -70,7 +70,7 @@ fn add_descendants<'a>(
 
 /// The names of the descendants of an entity type, in some order, each once, and then its own,
 /// which stands there twice where it is a descendant of itself. Of an entity type that isn't there
-/// just its own name.
+/// just its own name. Out of memory is the only refusal.
 pub fn entity_types_in<'a>(
     alloc: Global,
     types: &'a EntityTypes,
@@ -105,7 +105,8 @@ fn add_actions_in<'a>(
 }
 
 /// For each of some uids in turn the uids of the descendants of its action, in some order, and then
-/// the uid itself, repeats among them; None where one of them is that of no action.
+/// the uid itself, repeats among them; None where one of them is that of no action. Out of memory
+/// is the only refusal.
 pub fn actions_in_set<'a>(
     alloc: Global,
     actions: &'a Actions,

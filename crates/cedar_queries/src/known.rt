@@ -86,7 +86,7 @@ fn joined_attributes(alloc: Global, types: &EntityTypes, lub: &EntityLUB) -> M<A
 /// The attributes that are known of entities of a kind. Of one entity type they are the declared
 /// ones, with their locations; of a union of more they are joined over its members in permissive
 /// mode, without locations; of entities of any type none is known. An entity type that the schema
-/// lacks counts as one without attributes.
+/// lacks counts as one without attributes. Out of memory is the only refusal.
 pub fn known_attributes(alloc: Global, types: &EntityTypes, kind: &EntityKind) -> M<Attributes>
     ensures { IfOk result (λ attrs. AreAttributesOf (map plain_entry types.now.entries) (kind_ty kind.now) (fields_of attrs)) }
 {
@@ -100,7 +100,7 @@ pub fn known_attributes(alloc: Global, types: &EntityTypes, kind: &EntityKind) -
 }
 
 /// The attributes of a type: a record's own, those that are known of a kind of entities, and of
-/// every other type none.
+/// every other type none. Out of memory is the only refusal.
 pub fn all_attributes(alloc: Global, types: &EntityTypes, ty: &Type) -> M<Attributes>
     ensures { IfOk result (λ attrs. AreAttributesOf (map plain_entry types.now.entries) (ty_of ty.now) (fields_of attrs)) }
 {

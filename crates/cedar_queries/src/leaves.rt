@@ -115,6 +115,7 @@ fn add_contexts<'a>(pending: &mut Vec<&'a Type>, actions: &'a Actions) -> M<()>
 }
 
 /// The leaves of the types of attributes, tags and contexts, each as often as it stands there.
+/// Out of memory is the only refusal.
 pub fn leaf_types<'a>(
     alloc: Global,
     types: &'a EntityTypes,

@@ -24,7 +24,8 @@ use std::collections::BTreeMap;
 /// The entity types of a schema, each under its name.
 type EntityTypes = BTreeMap<EntityType, ValidatorEntityType>;
 
-/// The attribute of a name among those of a type, if there is one.
+/// The attribute of a name among those of a type, if there is one. Out of memory is the only
+/// refusal.
 pub fn lookup_attribute_type(
     alloc: Global,
     types: &EntityTypes,

@@ -1,4 +1,4 @@
-//! The keys of those entries of a map whose values pass a test.
+//! The keys, or the values, of those entries of a map whose values pass a test.
 
 ghost use Rattle.std.specs.Prelude.{◌≡◌, Bool, length};
 ghost use Rattle.std.specs.Iterator.{at_most};
@@ -69,3 +69,56 @@ impl<'a, K, V, T: Test<V>> Iterator for Selected<'a, K, V, T> {
 }
 
 impl<'a, K, V, T: Test<V>> FusedIterator for Selected<'a, K, V, T> {}
+
+/// The values that are left of those of a map that pass a test, in the order of their keys.
+#[derive(Drop)]
+pub struct SelectedValues<'a, K, V, T: Test<V>> {
+    rest: btree_map::Values<'a, K, V>,
+    test: T,
+}
+
+impl<'a, K, V, T: Test<V>> Model for SelectedValues<'a, K, V, T> {
+    ghost use Rattle.std.specs.Prelude.{List};
+    ghost use Rattle.std.specs.List.{filter};
+
+    ghost Value = { List V };
+
+    ghost view = { λ a. filter (T.holds a.test) a.rest };
+}
+
+impl<'a, K: Ord, V, T: Test<V>> SelectedValues<'a, K, V, T> {
+    ghost use Rattle.cedar_queries.specs.Selected.{values_where};
+
+    /// All values of the map that pass.
+    pub(crate) fn new(map: &'a BTreeMap<K, V>, test: T) -> Self
+        ensures { result ≡ values_where (T.holds test) map.now.entries }
+    {
+        SelectedValues {
+            rest: map.values(),
+            test,
+        }
+    }
+}
+
+impl<'a, K, V, T: Test<V>> Iterator for SelectedValues<'a, K, V, T> {
+    type Item = &'a V;
+
+    ghost next_gives = { TakesFirst deref };
+
+    ghost remaining = { λ s. at_most (length s) };
+
+    fn next(&mut self) -> Option<&'a V> {
+        while let Some(value) = self.rest.next() {
+            if self.test.passes(value) {
+                return Some(value);
+            }
+        }
+        None
+    }
+
+    fn size_hint(&self) -> (usize, Option<usize>) {
+        (0, Some(self.rest.len()))
+    }
+}
+
+impl<'a, K, V, T: Test<V>> FusedIterator for SelectedValues<'a, K, V, T> {}

@@ -26,7 +26,8 @@ pub(crate) fn built_in_words(alloc: Global, extensions: &Extensions) -> M<Vec<Id
     Ok(words)
 }
 
-/// The full name of a built-in type: its base name in the namespace `__cedar`.
+/// The full name of a built-in type: its base name in the namespace `__cedar`. Out of memory is
+/// the only refusal.
 pub fn built_in_type_name(alloc: Global, word: &Id) -> M<InternalName>
     ensures { IfOk result (λ name. name_of name ≡ built_in_name (id_text word.now)) }
 {

@@ -19,8 +19,12 @@ use cedar_names::json_schema::ConditionalName;
 use std::alloc::Global;
 
 /// All names that fragments define over some extensions: those that they declare, the built-in
-/// types and their aliases, and the types of actions. Refused with `TypeShadowing` or
-/// `ActionShadowing` if a declared name would shadow another.
+/// types and their aliases, and the types of actions.
+///
+/// They are refused with one of these kinds:
+///
+/// - `TypeShadowing`, `ActionShadowing`: a declared name would shadow another (RFC 70)
+/// - `Memory`: memory ran out
 pub fn defined_names(
     alloc: Global,
     fragments: &[ValidatorSchemaFragment<ConditionalName, ConditionalName>],

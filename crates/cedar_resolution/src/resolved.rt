@@ -47,10 +47,15 @@ pub struct Resolved {
     pub defs: AllDefs,
 }
 
-/// The same fragments, where each name is that of what it resolves to among all that the fragments
-/// define over some extensions, with these names. Refused with `TypeShadowing` or `ActionShadowing`
-/// if a declared name would shadow another, with `ActionNotDefined` if a parent of an action names no
-/// action, and with `TypeNotDefined` if another name resolves to nothing.
+/// The same fragments, where each name is that of what it resolves to among all that the
+/// fragments define over some extensions, with these names.
+///
+/// They are refused with one of these kinds:
+///
+/// - `TypeShadowing`, `ActionShadowing`: a declared name would shadow another (RFC 70)
+/// - `ActionNotDefined`: a parent of an action names no action
+/// - `TypeNotDefined`: another name resolves to nothing
+/// - `Memory`: memory ran out
 pub fn resolve_fragments(
     alloc: Global,
     fragments: Vec<ValidatorSchemaFragment<ConditionalName, ConditionalName>>,

@@ -50,7 +50,8 @@ impl Located {
         self.namespaces.values()
     }
 
-    /// The same common types and namespaces with the same locations.
+    /// The same common types and namespaces with the same locations. Out of memory is the only
+    /// refusal.
     pub fn clone(&self) -> M<Self>
         ensures common_types { IfOk result (λ copy.
             map shown_common_type (common_entries copy) ≡ map shown_common_type (common_entries self.now)) }
@@ -71,7 +72,7 @@ impl Located {
 ///
 /// Its common types are those whose declaration has a location and whose base name is none of `Bool`,
 /// `Long` and `String`, in order. Its namespaces are those of the definitions, the empty one left out,
-/// and `__cedar`, where the built-in types are.
+/// and `__cedar`, where the built-in types are. Out of memory is the only refusal.
 pub fn located_in(
     alloc: Global,
     fragments: &[ValidatorSchemaFragment<ConditionalName, ConditionalName>],

@@ -26,7 +26,7 @@ pub struct LocatedCommonType {
 
 impl LocatedCommonType {
     /// The common type of a full name, which was declared at the location of the name and is
-    /// defined as a type.
+    /// defined as a type. Out of memory is the only refusal.
     pub fn new(alloc: Global, name: &InternalName, ty: LocatedType) -> M<Self>
         ensures name { IfOk result (λ it. string_bytes it.name ≡ (name_of name.now).base) }
         ensures full_name { IfOk result (λ it. name_of it.full_name ≡ name_of name.now) }
@@ -53,7 +53,7 @@ impl LocatedCommonType {
         })
     }
 
-    /// An equal common type with the same locations.
+    /// An equal common type with the same locations. Out of memory is the only refusal.
     pub fn clone(&self) -> M<Self>
         ensures name { IfOk result (λ copy. string_bytes copy.name ≡ string_bytes self.now.name) }
         ensures full_name { IfOk result (λ copy. name_of copy.full_name ≡ name_of self.now.full_name) }

@@ -20,7 +20,7 @@ pub struct LocatedNamespace {
 }
 
 impl LocatedNamespace {
-    /// An equal namespace with the same locations.
+    /// An equal namespace with the same locations. Out of memory is the only refusal.
     pub fn clone(&self) -> M<Self>
         ensures { IfOk result (λ copy. shown_namespace copy ≡ shown_namespace self.now) }
     {

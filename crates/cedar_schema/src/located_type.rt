@@ -47,7 +47,7 @@ impl LocatedType {
         (self.ty, self.loc)
     }
 
-    /// An equal type at the same location.
+    /// An equal type at the same location. Out of memory is the only refusal.
     pub fn clone(&self) -> M<Self>
         ensures ty { IfOk result (λ copy. ty_of (type_at copy) ≡ ty_of (type_at self.now)) }
         ensures loc { IfOk result (λ copy. loc_at copy ≡ loc_at self.now) }

@@ -23,18 +23,20 @@ pub trait SchemaLookup: Sized {
 
     /// The type of a literal uid: that of the entities of the uid's entity type. None unless the
     /// uid is that of an action of the schema, where its type is a type of actions, or else its
-    /// type is declared.
+    /// type is declared. Out of memory is the only refusal.
     fn euid_literal(alloc: Global, uid: &EntityUID, schema: &ValidatorSchema) -> M<Option<Self>>
         ensures known { IfOk result (λ literal. IsSome literal
             ↔ IsKnownUid (schema_of schema.now).entity_types (schema_of schema.now).actions (uid_of uid.now)) }
         ensures ty { IfOk result (λ literal. IfSome literal (λ ty. stands_for ty ≡ union_of ((uid_of uid.now).ty ∷ []))) };
 
     /// The attributes of the type: a record's own; those that are known of an entity's kind, as
-    /// [`KnownAttrs::all_known_attrs`] gives them; and of every other type none.
+    /// [`KnownAttrs::all_known_attrs`] gives them; and of every other type none. Out of memory is
+    /// the only refusal.
     fn all_attributes(&self, alloc: Global, schema: &ValidatorSchema) -> M<Attributes>
         ensures { IfOk result (λ attrs. AreAttributesOf (schema_of schema.now).entity_types (stands_for self.now) (fields_of attrs)) };
 
-    /// The attribute of this name among the type's, if there is one.
+    /// The attribute of this name among the type's, if there is one. Out of memory is the only
+    /// refusal.
     fn lookup_attribute_type(
         alloc: Global,
         schema: &ValidatorSchema,
@@ -106,7 +108,7 @@ pub trait KnownAttrs {
     /// The attributes that are known of entities of the kind: of one entity type those that it
     /// declares; of a union of more those that its members have in common, joined in permissive
     /// mode and without locations; of entities of any type none. An entity type that the schema
-    /// lacks counts as one without attributes.
+    /// lacks counts as one without attributes. Out of memory is the only refusal.
     fn all_known_attrs(&self, alloc: Global, schema: &ValidatorSchema) -> M<Attributes>
         ensures { IfOk result (λ attrs. AreAttributesOf (schema_of schema.now).entity_types (stands_for self.now) (fields_of attrs)) };
 }
@@ -119,7 +121,8 @@ impl KnownAttrs for EntityKind {
     }
 }
 
-/// The attributes of the entity of a literal uid: those of its type, if the uid is known.
+/// The attributes of the entity of a literal uid: those of its type, if the uid is known. Out of
+/// memory is the only refusal.
 pub fn literal_attributes<T: SchemaLookup + Drop>(
     alloc: Global,
     uid: &EntityUID,
@@ -136,7 +139,8 @@ pub fn literal_attributes<T: SchemaLookup + Drop>(
     }
 }
 
-/// The attribute of this name that is known of entities of a kind, if there is one.
+/// The attribute of this name that is known of entities of a kind, if there is one. Out of memory
+/// is the only refusal.
 pub fn known_attribute<K: KnownAttrs>(
     alloc: Global,
     schema: &ValidatorSchema,

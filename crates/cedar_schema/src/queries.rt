@@ -199,7 +199,7 @@ impl ValidatorSchema {
 
     /// The names of the descendants of an entity type, in some order, each once, and then its own,
     /// which stands there twice where it is a descendant of itself. Of an entity type that the
-    /// schema hasn't just its own name.
+    /// schema hasn't just its own name. Out of memory is the only refusal.
     pub fn get_entity_types_in<'a>(
         &'a self,
         alloc: Global,
@@ -214,7 +214,7 @@ impl ValidatorSchema {
 
     /// For each of some uids in turn the uids of the descendants of its action, in some order, and
     /// then the uid itself, repeats among them; None where one of them is that of no action of the
-    /// schema.
+    /// schema. Out of memory is the only refusal.
     pub fn get_actions_in_set<'a>(
         &'a self,
         alloc: Global,
@@ -239,16 +239,16 @@ impl ValidatorSchema {
     }
 
     /// What is declared to be elsewhere (RFC 116): the external entity types in order, and then the external
-    /// actions in order.
+    /// actions in order, each as the schema has it.
     pub fn unresolved_declarations(&self) -> UnresolvedDeclarations<'_>
-        ensures { unresolved_left result ≡ unresolved (schema_of self.now).entity_types (schema_of self.now).actions }
+        ensures { unresolved_left result ≡ unresolved (schema_entries self.now) (action_entries self.now) }
     {
         cedar_queries::unresolved_declarations(&self.entity_types, &self.action_ids)
     }
 
     /// Whether nothing is declared to be elsewhere.
     pub fn is_complete(&self) -> bool
-        ensures { IsTrue result ↔ (unresolved (schema_of self.now).entity_types (schema_of self.now).actions ≡ []) }
+        ensures { IsTrue result ↔ (unresolved (schema_entries self.now) (action_entries self.now) ≡ []) }
     {
         cedar_queries::is_complete(&self.entity_types, &self.action_ids)
     }
@@ -256,14 +256,15 @@ impl ValidatorSchema {
     /// That nothing is declared to be elsewhere; else the error carries what is, in order, with the
     /// location of the first. Or out of memory.
     pub fn check_complete(&self, alloc: Global) -> Result<(), CompleteError>
-        ensures complete { OnOk result (unresolved (schema_of self.now).entity_types (schema_of self.now).actions ≡ []) }
-        ensures incomplete { IfErr result (IsIncomplete (schema_of self.now).entity_types (schema_of self.now).actions) }
+        ensures complete { OnOk result (unresolved (schema_entries self.now) (action_entries self.now) ≡ []) }
+        ensures incomplete { IfErr result (IsIncomplete (schema_entries self.now) (action_entries self.now)) }
     {
         cedar_queries::check_complete(alloc, &self.entity_types, &self.action_ids)
     }
 
     /// The leaves of the types of attributes, tags and contexts: whatever stands there that is
-    /// neither a record nor a set of elements of a type, as often as it stands there, in any order.
+    /// neither a record nor a set of elements of a type, as often as it stands there, in any
+    /// order. Out of memory is the only refusal.
     pub fn leaf_types(&self, alloc: Global) -> M<TypeIterator<'_>>
         ensures { IfOk result (λ leaves. IsPermutation
             (schema_leaves (schema_of self.now).entity_types (schema_of self.now).actions) (leaves_of (pending_types leaves))) }
@@ -272,7 +273,8 @@ impl ValidatorSchema {
     }
 
     /// The entities of the actions that the schema defines, by uid: without attributes and tags,
-    /// each just below the actions that list it among their descendants, external ones too.
+    /// each just below the actions that list it among their descendants, external ones too. Out
+    /// of memory is the only refusal.
     pub fn action_entities(&self, alloc: Global, _extensions: &Extensions) -> M<Entities>
         ensures { IfOk result (λ entities. AreActionEntities
             (schema_with (schema_of self.now).entity_types (action_entries self.now) (entities_of entities))) }

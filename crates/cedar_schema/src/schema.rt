@@ -147,14 +147,33 @@ impl ValidatorSchema {
         })
     }
 
-    /// The schema that fragments declare over the given extensions, where the names in the fragments say
-    /// what they may stand for.
+    /// The schema that fragments declare over the given extensions, where the names in the
+    /// fragments say what they may stand for.
     ///
-    /// The names of the extension types have to fit, which [`Extensions::type_names_fit`] tests. An
-    /// error other than out of memory names a fault of the declarations of all fragments together
-    /// (Cedar's rules of schemas, with RFC 24 for resolution, RFC 70 for shadowing and RFC 82 for
-    /// tags); where there is none, the schema is the one that is declared, and the only one. How
-    /// the declarations are split into fragments, and their order, makes no difference.
+    /// The names of the extension types have to fit, which [`Extensions::type_names_fit`] tests.
+    /// An error other than out of memory names a fault of the declarations of all fragments
+    /// together (Cedar's rules of schemas, with RFC 24 for resolution, RFC 70 for shadowing and
+    /// RFC 82 for tags); where there is none, the schema is the one that is declared, and the
+    /// only one. How the declarations are split into fragments, and their order, makes no
+    /// difference.
+    ///
+    /// The kinds of errors are:
+    ///
+    /// - `TypeShadowing`, `ActionShadowing`: one declared name would shadow another (RFC 70)
+    /// - `TypeNotDefined`, `ActionNotDefined`: a reference or a parent of an action names nothing
+    /// - `UndeclaredEntityTypes`: a type of actions stands where an entity type has to
+    /// - `DuplicateCommonType`: a common type has two definitions, or is built in
+    /// - `DuplicateEntityType`, `DuplicateAction`: an entity type or an action has two
+    ///   definitions
+    /// - `CycleInCommonTypeReferences`: the definition of a common type leads back to it
+    /// - `CycleInActionHierarchy`: an action is its own descendant
+    /// - `ContextOrShapeNotRecord`: a context or a shape is no record type
+    /// - `UnknownExtensionType`: an extension type wasn't handed in
+    /// - `ExternalWithEnumAncestor`: an external entity type is a descendant of an enumerated one
+    /// - `EnumEntityInHierarchy`: an enumerated entity type has a parent, by an external
+    ///   declaration
+    /// - `UnsupportedFeature`: a record type admits attributes that it doesn't list
+    /// - `Memory`: memory ran out
     pub fn from_schema_fragments(
         alloc: Global,
         fragments: Vec<ValidatorSchemaFragment<ConditionalName, ConditionalName>>,
@@ -169,11 +188,33 @@ impl ValidatorSchema {
         Ok(ValidatorSchema::from_parts(alloc, parts)?)
     }
 
-    /// The schema that fragments declare over the given extensions, as they are written. For the rest it
-    /// is as [`ValidatorSchema::from_schema_fragments`].
+    /// The schema that fragments declare over the given extensions, as they are written.
     ///
-    /// Beside the refusals of that call, a definition is refused by itself for actions with attributes,
-    /// all of which the refusal names, for an entity type with the id `Action`, and for a reserved name.
+    /// The names of the extension types have to fit, which [`Extensions::type_names_fit`] tests.
+    /// An error other than out of memory names a fault of the declarations of all fragments
+    /// together; where there is none, the schema is the one that is declared, and the only one. A
+    /// definition is refused by itself, whatever else is declared, for actions with attributes
+    /// and for an entity type with the id `Action`, external ones too.
+    ///
+    /// The kinds of errors are:
+    ///
+    /// - `TypeShadowing`, `ActionShadowing`: one declared name would shadow another (RFC 70)
+    /// - `TypeNotDefined`, `ActionNotDefined`: a reference or a parent of an action names nothing
+    /// - `UndeclaredEntityTypes`: a type of actions stands where an entity type has to
+    /// - `DuplicateCommonType`: a common type has two definitions, or is built in
+    /// - `DuplicateEntityType`, `DuplicateAction`: an entity type or an action has two
+    ///   definitions
+    /// - `CycleInCommonTypeReferences`: the definition of a common type leads back to it
+    /// - `CycleInActionHierarchy`: an action is its own descendant
+    /// - `ContextOrShapeNotRecord`: a context or a shape is no record type
+    /// - `UnknownExtensionType`: an extension type wasn't handed in
+    /// - `ExternalWithEnumAncestor`: an external entity type is a descendant of an enumerated one
+    /// - `EnumEntityInHierarchy`: an enumerated entity type has a parent, by an external
+    ///   declaration
+    /// - `UnsupportedFeature`: an action is written with attributes, where it names all such
+    ///   actions of one definition; or a record type admits attributes that it doesn't list
+    /// - `ActionEntityTypeDeclared`: an entity type has the id `Action`
+    /// - `Memory`: memory ran out
     pub fn from_raw_fragments(
         alloc: Global,
         fragments: Vec<Fragment<RawName>>,
@@ -189,7 +230,31 @@ impl ValidatorSchema {
         Ok(ValidatorSchema::from_parts(alloc, parts)?)
     }
 
-    /// The schema that one fragment declares, as [`ValidatorSchema::from_raw_fragments`].
+    /// The schema that one fragment declares over the given extensions, as it is written.
+    ///
+    /// The names of the extension types have to fit, which [`Extensions::type_names_fit`] tests.
+    /// An error other than out of memory names a fault of the declarations; where there is none,
+    /// the schema is the one that is declared, and the only one.
+    ///
+    /// The kinds of errors are:
+    ///
+    /// - `TypeShadowing`, `ActionShadowing`: one declared name would shadow another (RFC 70)
+    /// - `TypeNotDefined`, `ActionNotDefined`: a reference or a parent of an action names nothing
+    /// - `UndeclaredEntityTypes`: a type of actions stands where an entity type has to
+    /// - `DuplicateCommonType`: a common type has two definitions, or is built in
+    /// - `DuplicateEntityType`, `DuplicateAction`: an entity type or an action has two
+    ///   definitions
+    /// - `CycleInCommonTypeReferences`: the definition of a common type leads back to it
+    /// - `CycleInActionHierarchy`: an action is its own descendant
+    /// - `ContextOrShapeNotRecord`: a context or a shape is no record type
+    /// - `UnknownExtensionType`: an extension type wasn't handed in
+    /// - `ExternalWithEnumAncestor`: an external entity type is a descendant of an enumerated one
+    /// - `EnumEntityInHierarchy`: an enumerated entity type has a parent, by an external
+    ///   declaration
+    /// - `UnsupportedFeature`: an action is written with attributes, where it names all such
+    ///   actions of one definition; or a record type admits attributes that it doesn't list
+    /// - `ActionEntityTypeDeclared`: an entity type has the id `Action`
+    /// - `Memory`: memory ran out
     pub fn from_schema_frag(
         alloc: Global,
         fragment: Fragment<RawName>,
@@ -206,8 +271,27 @@ impl ValidatorSchema {
         ValidatorSchema::from_raw_fragments(alloc, fragments, extensions)
     }
 
-    /// The schema that a definition in the empty namespace declares, as
-    /// [`ValidatorSchema::from_raw_fragments`].
+    /// The schema that a definition in the empty namespace declares over the given extensions, as
+    /// it is written.
+    ///
+    /// The names of the extension types have to fit, which [`Extensions::type_names_fit`] tests.
+    /// An error other than out of memory names a fault of the declarations; where there is none,
+    /// the schema is the one that is declared, and the only one.
+    ///
+    /// The kinds of errors are these, since one definition in the empty namespace declares each
+    /// name once and has no qualified ones:
+    ///
+    /// - `TypeNotDefined`, `ActionNotDefined`: a reference or a parent of an action names nothing
+    /// - `UndeclaredEntityTypes`: a type of actions stands where an entity type has to
+    /// - `CycleInCommonTypeReferences`: the definition of a common type leads back to it
+    /// - `CycleInActionHierarchy`: an action is its own descendant
+    /// - `ContextOrShapeNotRecord`: a context or a shape is no record type
+    /// - `UnknownExtensionType`: an extension type wasn't handed in
+    /// - `ExternalWithEnumAncestor`: an external entity type is a descendant of an enumerated one
+    /// - `UnsupportedFeature`: an action is written with attributes, where it names all such
+    ///   actions of one definition; or a record type admits attributes that it doesn't list
+    /// - `ActionEntityTypeDeclared`: an entity type has the id `Action`
+    /// - `Memory`: memory ran out
     pub fn from_namespace_def(
         alloc: Global,
         definition: NamespaceDefinition<RawName>,
@@ -229,7 +313,7 @@ impl ValidatorSchema {
     /// have to come to an end.
     ///
     /// Nothing is checked, and descendants stay as they are given: [`ValidatorSchema::try_validate`] closes
-    /// and checks.
+    /// and checks. Out of memory is the only refusal.
     pub fn new<
         T: IntoIterator<Item = ValidatorEntityType>,
         A: IntoIterator<Item = ValidatorActionId> + Drop,
@@ -258,17 +342,25 @@ impl ValidatorSchema {
         ValidatorSchema::from_parts(alloc, parts)
     }
 
-    /// The schema, checked, with all its descendants closed and the entities of its actions made anew.
+    /// The schema, checked, with all its descendants closed and the entities of its actions made
+    /// anew.
     ///
-    /// It is refused, memory aside, exactly where it isn't valid, and with a fault of it by name: an entity
-    /// type that is named in attributes, tags or a context and is neither declared nor the type of an
-    /// action, or a descendant, a principal or a resource that isn't declared (`UndeclaredEntityTypes`); an
-    /// extension type that wasn't handed in (`UnknownExtensionType`); an entity type of the base name `Action`
-    /// (`ActionEntityTypeDeclared`), an action of another (`InvalidActionType`); a cycle of actions
-    /// (`CycleInActionHierarchy`); an external entity type below an enumerated one
-    /// (`ExternalWithEnumAncestor`), an enumerated one below any (`EnumEntityInHierarchy`); a descendant of an
-    /// action that is no action (`UndeclaredActionsDescendant`); or one that shadows another
-    /// (`TypeShadowing`, `ActionShadowing`). Descendants count in any number of steps.
+    /// It is refused, memory aside, exactly where it isn't valid, and with a fault of it.
+    /// Descendants count in any number of steps. The kinds of errors are:
+    ///
+    /// - `UndeclaredEntityTypes`: an entity type that is named in attributes, tags or a context
+    ///   is neither declared nor the type of an action; or a descendant, a principal or a resource
+    ///   isn't declared
+    /// - `UnknownExtensionType`: an extension type wasn't handed in
+    /// - `ActionEntityTypeDeclared`: an entity type has the base name `Action`
+    /// - `InvalidActionType`: the type of an action has another base name
+    /// - `CycleInActionHierarchy`: an action is its own descendant
+    /// - `ExternalWithEnumAncestor`: an external entity type is a descendant of an enumerated one
+    /// - `EnumEntityInHierarchy`: an enumerated entity type is a descendant of any
+    /// - `UndeclaredActionsDescendant`: a descendant of an action is no action of the schema
+    /// - `TypeShadowing`, `ActionShadowing`: an entity type or an action would shadow another
+    ///   (RFC 70)
+    /// - `Memory`: memory ran out
     pub fn try_validate(self, alloc: Global, extensions: &Extensions) -> Result<Self, SchemaError>
         ensures fault { IfErr result (λ error. (fault_of error ≡ out_of_memory)
             ⊎ IsSchemaFault extensions.now (schema_of self) (fault_of error)) }
@@ -292,7 +384,7 @@ impl ValidatorSchema {
     }
 
     /// An equal schema, which shows the same of its fragments. Its entity types and actions, their
-    /// names and their attributes are located alike.
+    /// names and their attributes are located alike. Out of memory is the only refusal.
     pub fn clone(&self) -> M<Self>
         ensures schema { IfOk result (λ copy. SameSchema (schema_of copy) (schema_of self.now)) }
         ensures entity_types { IfOk result (λ copy. HoldsPairwise IsTypeCopied (schema_entries self.now) (schema_entries copy)) }

@@ -72,7 +72,8 @@ impl ValidatorActionId {
     }
 
     /// An action that is for the requests of these principals and resources, whose context is of
-    /// this type. The principals, the resources and the descendants have to come to an end.
+    /// this type. The principals, the resources and the descendants have to come to an end. Out
+    /// of memory is the only refusal.
     pub fn new_defined<
         P: IntoIterator<Item = EntityType>,
         R: IntoIterator<Item = EntityType> + Drop,
@@ -112,6 +113,7 @@ impl ValidatorActionId {
     }
 
     /// An external action, which is declared elsewhere. The descendants have to come to an end.
+    /// Out of memory is the only refusal.
     pub fn new_external<D: IntoIterator<Item = EntityUID>>(
         alloc: Global,
         name: EntityUID,
@@ -246,7 +248,7 @@ impl ValidatorActionId {
         }
     }
 
-    /// An equal action, located alike, its uid too.
+    /// An equal action, located alike, its uid too. Out of memory is the only refusal.
     pub fn clone(&self) -> M<Self>
         ensures uid { IfOk result (λ copy. (action_of copy).uid ≡ (action_of self.now).uid) }
         ensures name_loc { IfOk result (λ copy. name_loc copy ≡ name_loc self.now) }

@@ -69,7 +69,7 @@ impl ValidatorApplySpec<EntityType> {
         self.resources.contains(ty)
     }
 
-    /// Equal sets.
+    /// Equal sets. Out of memory is the only refusal.
     pub fn clone(&self) -> M<Self>
         ensures principals { IfOk result (λ copy. SameItems (principal_names copy) (principal_names self.now)) }
         ensures resources { IfOk result (λ copy. SameItems (resource_names copy) (resource_names self.now)) }
@@ -86,7 +86,7 @@ impl ValidatorApplySpec<ConditionalName> {
     ghost use Rattle.cedar_schema_elements.specs.ValidatorApplySpec.{principal_references, resource_references};
     ghost use Rattle.cedar_below.specs.Lists.{SameItems};
 
-    /// Equal sets.
+    /// Equal sets. Out of memory is the only refusal.
     pub fn clone(&self) -> M<Self>
         ensures principals { IfOk result (λ copy. SameItems (principal_references copy) (principal_references self.now)) }
         ensures resources { IfOk result (λ copy. SameItems (resource_references copy) (resource_references self.now)) }

@@ -89,7 +89,8 @@ fn action_entity(alloc: Global, uppers: &mut Uppers, uid: &EntityUID) -> M<Entit
 }
 
 /// The entities of the actions of a schema: one for each action that is defined, without attributes
-/// and tags, just below the actions that list it among their descendants, external ones too.
+/// and tags, just below the actions that list it among their descendants, external ones too. Out
+/// of memory is the only refusal.
 pub fn action_entities(
     alloc: Global,
     actions: &BTreeMap<EntityUID, ValidatorActionId>,

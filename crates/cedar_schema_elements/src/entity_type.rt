@@ -76,7 +76,7 @@ impl ValidatorEntityType {
     }
 
     /// A standard entity type: with attributes, and with tags if a type of tags is given. The
-    /// descendants have to come to an end.
+    /// descendants have to come to an end. Out of memory is the only refusal.
     pub fn new_standard<I: IntoIterator<Item = EntityType>>(
         alloc: Global,
         name: EntityType,
@@ -102,7 +102,7 @@ impl ValidatorEntityType {
     }
 
     /// An enumerated entity type, whose only entities have these ids. The descendants have to come
-    /// to an end.
+    /// to an end. Out of memory is the only refusal.
     pub fn new_enum<I: IntoIterator<Item = EntityType>>(
         alloc: Global,
         name: EntityType,
@@ -123,7 +123,7 @@ impl ValidatorEntityType {
     }
 
     /// An external entity type, which is declared elsewhere. The descendants have to come to an
-    /// end.
+    /// end. Out of memory is the only refusal.
     pub fn new_external<I: IntoIterator<Item = EntityType>>(
         alloc: Global,
         name: EntityType,
@@ -224,7 +224,8 @@ impl ValidatorEntityType {
         Ok(copy)
     }
 
-    /// An equal entity type, located alike, its name and its attributes too.
+    /// An equal entity type, located alike, its name and its attributes too. Out of memory is the
+    /// only refusal.
     pub fn clone(&self) -> M<Self>
         ensures entity_type { IfOk result (λ copy. entity_type_of copy ≡ entity_type_of self.now) }
         ensures name_loc { IfOk result (λ copy. name_loc copy ≡ name_loc self.now) }

@@ -33,7 +33,7 @@ pub struct StandardValidatorEntityType {
 }
 
 impl ValidatorEntityTypeKind {
-    /// An equal kind.
+    /// An equal kind. Out of memory is the only refusal.
     pub fn clone(&self) -> M<Self>
         ensures kind { IfOk result (λ copy. plain_kind copy ≡ plain_kind self.now) }
         ensures located { IfOk result (λ copy. (others same : AttributesOf) (name : Text)
@@ -89,7 +89,7 @@ impl StandardValidatorEntityType {
         self.tags.as_ref()
     }
 
-    /// An equal entity type.
+    /// An equal entity type. Out of memory is the only refusal.
     pub fn clone(&self) -> M<Self>
         ensures standard { IfOk result (λ copy. plain_standard copy ≡ plain_standard self.now) }
         ensures located { IfOk result (λ copy. (name : Text)

@@ -50,9 +50,14 @@ impl ValidatorApplySpec<ConditionalName> {
     ghost use Rattle.std.specs.Prelude.{◌++◌};
     ghost use Rattle.cedar_schema_elements.specs.ValidatorApplySpec.{principal_names, principal_references, resource_names, resource_references};
 
-    /// The same requests, where each reference is the entity type that it resolves to over the names that
-    /// are held. They are refused with `TypeNotDefined` if a reference resolves to nothing, and with
-    /// `ReservedName` if one resolves to a reserved name, which no entity type has.
+    /// The same requests, where each reference is the entity type that it resolves to over the
+    /// names that are held.
+    ///
+    /// They are refused with one of these kinds:
+    ///
+    /// - `TypeNotDefined`: a reference resolves to nothing
+    /// - `ReservedName`: a reference resolves to a reserved name, which no entity type has
+    /// - `Memory`: memory ran out
     pub fn fully_qualify_type_references(
         self,
         alloc: Global,

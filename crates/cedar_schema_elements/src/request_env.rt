@@ -47,7 +47,7 @@ impl UnlinkedRequestEnv {
         }
     }
 
-    /// The same types, of which that of the context is shared.
+    /// The same types, of which that of the context is shared. Out of memory is the only refusal.
     pub fn clone(&self) -> M<Self>
         ensures { IfOk result (λ copy. owned_environment copy ≡ owned_environment self.now) }
     {

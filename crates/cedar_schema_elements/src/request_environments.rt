@@ -69,7 +69,7 @@ fn add_principals(
 
 /// The environments of the requests that the actions of a schema are for: for each action that is
 /// defined, each of its principals with each of its resources, under the action's uid, with the
-/// type of its context, which is shared. Each once.
+/// type of its context, which is shared. Each once. Out of memory is the only refusal.
 pub fn environments(
     alloc: Global,
     actions: &BTreeMap<EntityUID, ValidatorActionId>,

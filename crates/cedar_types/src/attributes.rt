@@ -103,7 +103,7 @@ impl AttributeType {
         self.is_required
     }
 
-    /// An equal attribute at the same location.
+    /// An equal attribute at the same location. Out of memory is the only refusal.
     pub fn clone(&self) -> M<Self>
         ensures attribute { IfOk result (λ copy. attribute_of copy ≡ attribute_of self.now) }
         ensures loc { IfOk result (λ copy. attribute_loc copy ≡ attribute_loc self.now) }
@@ -142,7 +142,7 @@ impl Attributes {
         })
     }
 
-    /// No attributes.
+    /// No attributes. Out of memory is the only refusal.
     pub fn empty(alloc: Global) -> M<Self>
         ensures { IfOk result (λ all. fields_of all ≡ end) }
     {
@@ -150,7 +150,7 @@ impl Attributes {
     }
 
     /// The attributes of these names, with their locations. Of repeated names the last wins. The
-    /// items have to come to an end.
+    /// items have to come to an end. Out of memory is the only refusal.
     pub fn with_attributes<I: IntoIterator<Item = (String, AttributeType)>>(
         alloc: Global,
         items: I,
@@ -169,7 +169,7 @@ impl Attributes {
     }
 
     /// The attributes of these names, each of which has to be there. Of repeated names the last
-    /// wins. The items have to come to an end.
+    /// wins. The items have to come to an end. Out of memory is the only refusal.
     pub fn with_required_attributes<I: IntoIterator<Item = (String, Rc<Type>)>>(
         alloc: Global,
         items: I,
@@ -221,7 +221,8 @@ impl Attributes {
         self.attrs.get_counted(name)
     }
 
-    /// The same attributes at the same locations, which are shared.
+    /// The same attributes at the same locations, which are shared. Out of memory is the only
+    /// refusal.
     pub fn clone(&self) -> M<Self>
         ensures attributes { IfOk result (λ copy. fields_of copy ≡ fields_of self.now) }
         ensures located { IfOk result (λ copy. (name : Text) → located_at name copy ≡ located_at name self.now) }

@@ -29,7 +29,7 @@ impl EntityKind {
         }
     }
 
-    /// An equal kind.
+    /// An equal kind. Out of memory is the only refusal.
     pub fn clone(&self) -> M<Self>
         ensures { IfOk result (λ copy. kind_ty copy ≡ kind_ty self.now) }
     {

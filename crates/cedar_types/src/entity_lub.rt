@@ -70,7 +70,7 @@ impl EntityLUB {
     ghost use Rattle.cedar_types.specs.EntityLUB.{lub_names, lub_types, only_type};
     ghost use Rattle.cedar_type_rules.specs.EntityUnion.{only_name, AreDisjoint, IsUnionOf};
 
-    /// The union of a single entity type.
+    /// The union of a single entity type. Out of memory is the only refusal.
     pub fn single_entity(alloc: Global, ty: EntityType) -> M<Self>
         ensures names { IfOk result (λ lub. lub_names lub ≡ type_name ty ∷ []) }
         ensures types { IfOk result (λ lub. lub_types lub ≡ ty ∷ []) }
@@ -175,7 +175,7 @@ impl EntityLUB {
         true
     }
 
-    /// The union of the entity types of both unions.
+    /// The union of the entity types of both unions. Out of memory is the only refusal.
     pub fn least_upper_bound(&self, other: &EntityLUB) -> M<EntityLUB>
         ensures { IfOk result (λ lub. IsUnionOf (lub_names self.now) (lub_names other.now) (lub_names lub)) }
     {
@@ -186,7 +186,7 @@ impl EntityLUB {
         })
     }
 
-    /// An equal union.
+    /// An equal union. Out of memory is the only refusal.
     pub fn clone(&self) -> M<Self>
         ensures { IfOk result (λ copy. lub_names copy ≡ lub_names self.now) }
     {

@@ -205,6 +205,9 @@ impl Type {
     }
 
     /// Whether a value has this type, as of the expression that stands for it.
+    ///
+    /// Where a call names no function, and the value would have the type if that gave one of the
+    /// extension type that is asked for there, the answer is the lookup fault.
     pub fn typecheck_value<'v>(
         &self,
         value: &'v Value,

@@ -109,7 +109,8 @@ impl Type {
         Type::Set { element_type: None }
     }
 
-    /// The open record type without attributes, which every record has.
+    /// The open record type without attributes, which every record has. Out of memory is the only
+    /// refusal.
     pub fn any_record(alloc: Global) -> M<Self>
         ensures { IfOk result (λ ty. ty_of ty ≡ record_of end OpenTag.OpenAttributes) }
     {
@@ -126,7 +127,7 @@ impl Type {
         Type::Entity(EntityKind::AnyEntity)
     }
 
-    /// The type of the entities of one entity type.
+    /// The type of the entities of one entity type. Out of memory is the only refusal.
     pub fn named_entity_reference(alloc: Global, ty: EntityType) -> M<Self>
         ensures { IfOk result (λ entity. ty_of entity ≡ union_of (type_name ty ∷ [])) }
     {
@@ -141,7 +142,7 @@ impl Type {
     }
 
     /// The record type of these attributes. Of repeated names the last wins. The items have to come
-    /// to an end.
+    /// to an end. Out of memory is the only refusal.
     pub fn record_with_attributes<I: IntoIterator<Item = (String, AttributeType)>>(
         alloc: Global,
         items: I,
@@ -159,7 +160,7 @@ impl Type {
     }
 
     /// The record type of these attributes, each of which has to be there. Of repeated names the
-    /// last wins. The items have to come to an end.
+    /// last wins. The items have to come to an end. Out of memory is the only refusal.
     pub fn record_with_required_attributes<I: IntoIterator<Item = (String, Rc<Type>)>>(
         alloc: Global,
         items: I,
@@ -182,7 +183,7 @@ impl Type {
         name == "Bool" || name == "Long" || name == "String"
     }
 
-    /// An equal type, with the same locations of attributes.
+    /// An equal type, with the same locations of attributes. Out of memory is the only refusal.
     pub fn clone(&self) -> M<Self>
         ensures same { IfOk result (λ copy. ty_of copy ≡ ty_of self.now) }
         ensures listed { IfOk result (λ copy. (name : Text) → listed_at name copy ≡ listed_at name self.now) }

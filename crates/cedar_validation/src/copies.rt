@@ -8,14 +8,16 @@ use crate::parts::{Actions, Types};
 use cedar_below::{EntityType, EntityUID, M, copied_entries};
 use cedar_schema_elements::{ValidatorActionId, ValidatorEntityType};
 
-/// Equal entity types with the same locations, each under an equal name.
+/// Equal entity types with the same locations, each under an equal name. Out of memory is the
+/// only refusal.
 pub fn copied_types(types: &Types) -> M<Types>
     ensures { IfOk result (λ copies. HoldsPairwise IsTypeCopied types.now.entries copies.entries) }
 {
     copied_entries(types, EntityType::clone, ValidatorEntityType::clone)
 }
 
-/// Equal actions with the same locations, each under an equal uid.
+/// Equal actions with the same locations, each under an equal uid. Out of memory is the only
+/// refusal.
 pub fn copied_actions(actions: &Actions) -> M<Actions>
     ensures { IfOk result (λ copies. HoldsPairwise IsActionCopied actions.now.entries copies.entries) }
 {

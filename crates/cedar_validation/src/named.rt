@@ -22,7 +22,8 @@ use cedar_schema_elements::{ValidatorActionId, ValidatorEntityType};
 use std::alloc::Global;
 use std::collections::BTreeMap;
 
-/// The entity types, each under its name; of those of one name the last.
+/// The entity types, each under its name; of those of one name the last. Out of memory is the
+/// only refusal.
 pub fn types_by_name(alloc: Global, types: Vec<ValidatorEntityType>) -> M<Types>
     ensures last { IfOk result (λ named. (name : Name) → get_by (λ key. name_cmp (type_name name) (type_name key)) named
         ≡ last_named (type_name name) types.items) }
@@ -42,7 +43,8 @@ pub fn types_by_name(alloc: Global, types: Vec<ValidatorEntityType>) -> M<Types>
     Ok(named)
 }
 
-/// The actions, each under its uid; of those of one uid the last.
+/// The actions, each under its uid; of those of one uid the last. Out of memory is the only
+/// refusal.
 pub fn actions_by_uid(alloc: Global, actions: Vec<ValidatorActionId>) -> M<Actions>
     ensures last { IfOk result (λ named. (uid : Uid) → get_by (λ key. uid_cmp (uid_of uid) (uid_of key)) named
         ≡ last_of_uid (uid_of uid) actions.items) }

@@ -1,7 +1,10 @@
 //! Definitions and fragments that are put together, and the names that they show.
 
 use crate::declarations::{Conditional, Definition, definition_of, fragment_of};
-use cedar_fragments::namespace::ValidatorNamespaceDef;
+use cedar_below::M;
+use cedar_fragments::namespace::{
+    ActionsDef, CommonTypeDefs, EntityTypesDef, ValidatorNamespaceDef,
+};
 use cedar_names::json_schema::{ConditionalName, Type, TypeVariant};
 use shorthand::checked::{holds, same};
 use shorthand::names::{internal_namespace, located_at, unreserved_id};
@@ -51,12 +54,50 @@ fn first_names(alloc: Global, definition: &Definition) -> Result<String, Fail> {
     Ok(format!(in alloc; "{common} {entity} {} {id}", action.entity_type())?)
 }
 
+/// The names of the common types that are lent.
+fn lent_common_types(alloc: Global, defs: &CommonTypeDefs<ConditionalName>) -> M<String> {
+    let mut names = String::new(alloc);
+    for def in defs.iter() {
+        names.push_str(format!(in alloc; "{} ", def.name)?.as_str())?;
+    }
+    Ok(names)
+}
+
+/// The names of the entity types that are lent.
+fn lent_entity_types(alloc: Global, defs: &EntityTypesDef<ConditionalName>) -> M<String> {
+    let mut names = String::new(alloc);
+    for def in defs.iter() {
+        names.push_str(format!(in alloc; "{} ", def.name)?.as_str())?;
+    }
+    Ok(names)
+}
+
+/// The ids of the actions that are lent.
+fn lent_actions(alloc: Global, defs: &ActionsDef<ConditionalName, ConditionalName>) -> M<String> {
+    let mut ids = String::new(alloc);
+    for def in defs.iter() {
+        ids.push_str(format!(in alloc; "{} ", def.uid.eid().as_str())?.as_str())?;
+    }
+    Ok(ids)
+}
+
+/// A definition of two declarations of each kind.
+const TWO_OF_EACH: &str =
+    "N: type C = Long; type D = Long; external entity E; entity F; action a; action b";
+
 #[test]
 fn definitions_show_their_names(rt: HostRuntime) -> Result<(), Fail> {
     let alloc = rt.alloc();
-    let definition = definition_of(alloc, "N: type C = Long; external entity E; action a")?;
+    let definition = definition_of(alloc, TWO_OF_EACH)?;
     let names = first_names(alloc, &definition)?;
-    same("names", names.as_str(), "N::C N::E N::Action a")
+    same("names", names.as_str(), "N::C N::E N::Action a")?;
+    let (common_types, entity_types, actions) = definition.into_parts();
+    let names = lent_common_types(alloc, &common_types)?;
+    same("common types", names.as_str(), "N::C N::D ")?;
+    let names = lent_entity_types(alloc, &entity_types)?;
+    same("entity types", names.as_str(), "N::E N::F ")?;
+    let ids = lent_actions(alloc, &actions)?;
+    same("actions", ids.as_str(), "a b ")
 }
 
 /// Whole numbers, at a place.

@@ -54,8 +54,8 @@ fn of_lacking(alloc: Global, schema: &ValidatorSchema) -> M<String> {
     let mut shown = String::new(alloc);
     for declaration in schema.unresolved_declarations() {
         let loc = match declaration {
-            UnresolvedDeclaration::EntityType(name) => name.loc(),
-            UnresolvedDeclaration::Action(uid) => uid.loc(),
+            UnresolvedDeclaration::EntityType(ty) => ty.name().loc(),
+            UnresolvedDeclaration::Action(action) => action.name().loc(),
         };
         show(alloc, &mut shown, loc)?;
     }

@@ -212,8 +212,8 @@ fn lacks(alloc: Global, schema: &ValidatorSchema) -> M<String> {
     let mut texts = Vec::new(alloc);
     for declaration in schema.unresolved_declarations() {
         texts.push(match declaration {
-            UnresolvedDeclaration::EntityType(name) => name.to_string(alloc)?,
-            UnresolvedDeclaration::Action(uid) => uid_text(alloc, uid)?,
+            UnresolvedDeclaration::EntityType(ty) => ty.name().to_string(alloc)?,
+            UnresolvedDeclaration::Action(action) => uid_text(alloc, action.name())?,
         })?;
     }
     joined(alloc, &texts)

@@ -62,7 +62,8 @@ impl AllDefs {
         &self.entity_defs
     }
 
-    /// Adds the name to those of entity types. After memory ran out all names are as before.
+    /// Adds the name to those of entity types. Out of memory is the only refusal, after which all
+    /// names are as before.
     pub fn mark_as_defined_as_entity_type(&mut self, name: InternalName) -> M<()>
         ensures added { OnOk result (HasAlso (held_names self.new).entities (held_names self.old).entities (name_of name ∷ [])) }
         ensures common_stay { (held_names self.new).common ≡ (held_names self.old).common }
@@ -72,7 +73,8 @@ impl AllDefs {
         add_name(&mut self.entity_defs, name)
     }
 
-    /// Adds the name to those of common types. After memory ran out all names are as before.
+    /// Adds the name to those of common types. Out of memory is the only refusal, after which all
+    /// names are as before.
     pub fn mark_as_defined_as_common_type(&mut self, name: InternalName) -> M<()>
         ensures added { OnOk result (HasAlso (held_names self.new).common (held_names self.old).common (name_of name ∷ [])) }
         ensures entities_stay { (held_names self.new).entities ≡ (held_names self.old).entities }
@@ -150,7 +152,8 @@ impl AllDefs {
         }
     }
 
-    /// What the fragments themselves declare, without types of actions, built-in types and aliases.
+    /// What the fragments themselves declare, without types of actions, built-in types and
+    /// aliases. Out of memory is the only refusal.
     pub fn new<N, A>(alloc: Global, fragments: &[ValidatorSchemaFragment<N, A>]) -> M<Self>
         ensures { IfOk result (λ defs. HoldsJust (held_names defs) (declared_names N A fragments.now)) }
     {
@@ -161,7 +164,7 @@ impl AllDefs {
         Ok(defs)
     }
 
-    /// What one fragment itself declares.
+    /// What one fragment itself declares. Out of memory is the only refusal.
     pub fn single_fragment<N, A>(alloc: Global, fragment: &ValidatorSchemaFragment<N, A>) -> M<Self>
         ensures { IfOk result (λ defs. HoldsJust (held_names defs) (fragment_names N A fragment.now)) }
     {
@@ -172,7 +175,8 @@ impl AllDefs {
 }
 
 impl AllDefs {
-    /// The same names, and among those of entity types also the type of each action.
+    /// The same names, and among those of entity types also the type of each action. Out of
+    /// memory is the only refusal.
     pub fn with_action_types(self) -> M<Self>
         ensures entities { IfOk result (λ defs. HasAlso (held_names defs).entities (held_names self).entities
             (map (λ uid. uid.ty) (held_names self).actions)) }

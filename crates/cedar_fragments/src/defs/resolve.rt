@@ -81,9 +81,11 @@ pub(crate) fn resolve_at(
 pub trait ResolveName {
     ghost reference: { Self → Reference };
 
-    /// The full name of what the name stands for: the first of its possibilities that is defined in a
-    /// kind that it permits. It is refused with `TypeNotDefined`, which holds the reference itself, if
-    /// there is none.
+    /// The full name of what the name stands for: the first of its possibilities that is defined
+    /// in a kind that it permits.
+    ///
+    /// It is refused with `TypeNotDefined`, which holds the reference itself, if there is none,
+    /// or with `Memory` if memory runs out.
     fn resolve(self, all_defs: &AllDefs) -> Result<InternalName, QualifyError>
         ensures resolved { IfOk result (λ name. ResolvesTo (held_names all_defs.now) (reference self) (name_of name)) }
         ensures refused { IfErr result (IsRefused (held_names all_defs.now) (reference self)) };
@@ -98,8 +100,8 @@ impl ResolveName for ConditionalName {
     }
 }
 
-/// The full names of what some names stand for, in order. It is refused with `TypeNotDefined` if one
-/// stands for nothing.
+/// The full names of what some names stand for, in order. It is refused with `TypeNotDefined` if
+/// one stands for nothing, or with `Memory` if memory runs out.
 pub fn resolve_all<N: ResolveName + Drop>(
     names: Vec<N>,
     all_defs: &AllDefs,

@@ -92,10 +92,18 @@ impl AllDefs {
         Ok(())
     }
 
-    /// Checks that no name would shadow another: an unqualified name of a type and a qualified one
-    /// that isn't reserved must not have one base name, in any mix of common and entity types, and
-    /// an action of an unqualified type and one of a qualified type must not have one id. Refused
-    /// with `TypeShadowing` or `ActionShadowing`, which name such a pair, the unqualified one first.
+    /// Checks that no name would shadow another (RFC 70): an unqualified name of a type and a
+    /// qualified one that isn't reserved must not have one base name, in any mix of common and
+    /// entity types, and an action of an unqualified type and one of a qualified type must not
+    /// have one id.
+    ///
+    /// It is refused with one of these kinds:
+    ///
+    /// - `TypeShadowing`: two names of types are such a pair, of which it names the unqualified
+    ///   one first
+    /// - `ActionShadowing`: two actions are such a pair, of which it names the one of the
+    ///   unqualified type first
+    /// - `Memory`: memory ran out
     pub fn rfc_70_shadowing_checks(&self) -> Result<(), SchemaError>
         ensures types { OnOk result (NoTypeShadows (type_names (held_names self.now)) (type_names (held_names self.now))) }
         ensures actions { OnOk result (NoActionShadows (held_names self.now).actions) }

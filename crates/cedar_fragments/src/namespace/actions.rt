@@ -9,12 +9,14 @@ ghost use Rattle.cedar_below.specs.PlainName.{action_word};
 ghost use Rattle.cedar_declarations.specs.Fault.{Fault, reserved_name, out_of_memory};
 ghost use Rattle.cedar_declarations.specs.SchemaError.{fault_of};
 ghost use Rattle.std.specs.List.{AllByRecursion};
+ghost use Rattle.std.specs.Slice.Iter.{iter_rest};
 ghost use Rattle.std.specs.List.Sorted.{IsStrictlySortedBy};
 ghost use Rattle.cedar_below.specs.EntityUID.{uid_of};
 ghost use Rattle.cedar_below.specs.Text.{Text, text_cmp};
 ghost use Rattle.cedar_declarations.specs.IllFormed.{HasAttributes};
 ghost use Rattle.cedar_fragments.specs.ActionDeclarations.{fragment_parent, fragment_requests, action_fragment_body, action_fragment_declarations};
 ghost use Rattle.cedar_fragments.specs.DefinitionFault.{IsDefinitionFault, IsSound, NamesAllWithAttributes};
+ghost use Rattle.cedar_fragments.specs.Located.{action_defs};
 ghost use Rattle.cedar_fragments.specs.WithAttributes.{with_attributes};
 ghost use Rattle.cedar_names.specs.Declaration.{action_declarations};
 ghost use Rattle.cedar_names.specs.ActionBody.{parent_action, parent_actions, requests_by, applies_to, action_body};
@@ -37,6 +39,7 @@ use cedar_names::json_schema::{
 };
 use std::alloc::Global;
 use std::collections::BTreeMap;
+use std::slice;
 
 /// The actions that a definition declares, each under its uid.
 #[derive(Debug, Drop)]
@@ -87,6 +90,13 @@ impl<N, A> ActionsDef<N, A> {
         ActionsDef {
             defs: Vec::new(alloc),
         }
+    }
+
+    /// The actions, in order.
+    pub fn iter(&self) -> slice::Iter<'_, ActionDef<N, A>>
+        ensures { iter_rest result ≡ action_defs N A self.now }
+    {
+        self.defs.iter()
     }
 }
 

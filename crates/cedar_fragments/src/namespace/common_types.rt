@@ -1,6 +1,7 @@
 //! The common types of a namespace.
 
 ghost use Rattle.std.specs.Prelude.{◌≡◌, IfOk};
+ghost use Rattle.std.specs.Slice.Iter.{iter_rest};
 ghost use Rattle.cedar_fragments.specs.Located.{common_type_defs, located_common_names, written_common_names};
 ghost use Rattle.cedar_fragments.specs.TypeDeclarations.{common_type_declarations};
 ghost use Rattle.cedar_names.specs.ConditionalExpr.{positional_reference};
@@ -15,6 +16,7 @@ use cedar_below::{InternalName, Loc, M};
 use cedar_names::json_schema::{CommonType, CommonTypeId, ConditionalName, RawName, Type};
 use std::alloc::Global;
 use std::collections::BTreeMap;
+use std::slice;
 
 /// The common types that a definition declares, each under its full name.
 #[derive(Debug, Drop)]
@@ -29,6 +31,15 @@ pub struct CommonTypeDef<N> {
     pub name: InternalName,
     /// The type that it is defined as.
     pub ty: Type<N>,
+}
+
+impl<N> CommonTypeDefs<N> {
+    /// The common types, in order.
+    pub fn iter(&self) -> slice::Iter<'_, CommonTypeDef<N>>
+        ensures { iter_rest result ≡ common_type_defs N self.now }
+    {
+        self.defs.iter()
+    }
 }
 
 impl CommonTypeDefs<ConditionalName> {

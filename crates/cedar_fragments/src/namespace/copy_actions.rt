@@ -16,7 +16,7 @@ use cedar_below::{M, copied_items};
 use cedar_names::json_schema::FragmentName;
 
 impl<N: FragmentName + Drop> ActionRequests<N> {
-    /// Equal requests with the same locations.
+    /// Equal requests with the same locations. Out of memory is the only refusal.
     pub fn clone(&self) -> M<Self>
         ensures requests { IfOk result (λ copy. ShowsSame (RefersAlike N N.is_alike) (fragment_requests N) (Some self.now) (Some copy)) }
         ensures locs { IfOk result (λ copy. ShowsSame (LocatesAlike N N.is_alike) (requests_locs N) (Some self.now) (Some copy)) }
@@ -43,7 +43,7 @@ fn copied_requests<N: FragmentName + Drop>(
 }
 
 impl<A: FragmentName + Drop> ActionParent<A> {
-    /// An equal parent with the same locations.
+    /// An equal parent with the same locations. Out of memory is the only refusal.
     pub fn clone(&self) -> M<Self>
         ensures reference { IfOk result (ShowsSame (RefersAlike A A.is_alike) (fragment_parent A) self.now) }
         ensures locs { IfOk result (ShowsSame (LocatesAlike A A.is_alike) (parent_locs A) self.now) }
@@ -57,7 +57,7 @@ impl<A: FragmentName + Drop> ActionParent<A> {
 }
 
 impl<N: FragmentName + Drop, A: FragmentName + Drop> ActionFragment<N, A> {
-    /// Equal declarations with the same locations.
+    /// Equal declarations with the same locations. Out of memory is the only refusal.
     pub fn clone(&self) -> M<Self>
         ensures body { IfOk result (DeclaresSame N N.is_alike A A.is_alike
             (λ (refer : ReferenceType → N → Reference). action_fragment_body N refer A) self.now) }
@@ -72,7 +72,7 @@ impl<N: FragmentName + Drop, A: FragmentName + Drop> ActionFragment<N, A> {
 }
 
 impl<N: FragmentName + Drop, A: FragmentName + Drop> ActionDef<N, A> {
-    /// An equal action with the same locations.
+    /// An equal action with the same locations. Out of memory is the only refusal.
     pub fn clone(&self) -> M<Self>
         ensures declaration { IfOk result (DeclaresSame N N.is_alike A A.is_alike
             (λ (refer : ReferenceType → N → Reference). action_fragment_declaration N refer A) self.now) }
@@ -86,7 +86,7 @@ impl<N: FragmentName + Drop, A: FragmentName + Drop> ActionDef<N, A> {
 }
 
 impl<N: FragmentName + Drop, A: FragmentName + Drop> ActionsDef<N, A> {
-    /// Equal actions with the same locations, in their order.
+    /// Equal actions with the same locations, in their order. Out of memory is the only refusal.
     pub fn clone(&self) -> M<Self>
         ensures declarations { IfOk result (DeclaresSame N N.is_alike A A.is_alike
             (λ (refer : ReferenceType → N → Reference). action_fragment_declarations N refer A) self.now) }

@@ -28,7 +28,7 @@ fn copied_namespace(namespace: &Option<InternalName>) -> M<Option<InternalName>>
 }
 
 impl<N: FragmentName + Drop, A: FragmentName + Drop> ValidatorNamespaceDef<N, A> {
-    /// An equal definition with the same locations.
+    /// An equal definition with the same locations. Out of memory is the only refusal.
     pub fn clone(&self) -> M<Self>
         ensures declarations { IfOk result (DeclaresSame N N.is_alike A A.is_alike
             (λ (refer : ReferenceType → N → Reference). definition_declarations N refer A) self.now) }
@@ -48,7 +48,7 @@ impl<N: FragmentName + Drop, A: FragmentName + Drop> ValidatorNamespaceDef<N, A>
 }
 
 impl<N: FragmentName + Drop, A: FragmentName + Drop> ValidatorSchemaFragment<N, A> {
-    /// An equal fragment with the same locations.
+    /// An equal fragment with the same locations. Out of memory is the only refusal.
     pub fn clone(&self) -> M<Self>
         ensures declarations { IfOk result (DeclaresSame N N.is_alike A A.is_alike
             (λ (refer : ReferenceType → N → Reference). fragment_declarations N refer A) self.now) }

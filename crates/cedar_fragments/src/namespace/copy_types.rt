@@ -37,7 +37,7 @@ fn copied_tags<N: FragmentName + Drop>(tags: &Option<Type<N>>) -> M<Option<Type<
 }
 
 impl<N: FragmentName + Drop> CommonTypeDef<N> {
-    /// An equal common type with the same locations.
+    /// An equal common type with the same locations. Out of memory is the only refusal.
     pub fn clone(&self) -> M<Self>
         ensures declaration { IfOk result (ShowsSame (RefersAlike N N.is_alike) (common_type_declaration N) self.now) }
         ensures locs { IfOk result (ShowsSame (LocatesAlike N N.is_alike) (common_type_locs N) self.now) }
@@ -51,7 +51,8 @@ impl<N: FragmentName + Drop> CommonTypeDef<N> {
 }
 
 impl<N: FragmentName + Drop> CommonTypeDefs<N> {
-    /// Equal common types with the same locations, in their order.
+    /// Equal common types with the same locations, in their order. Out of memory is the only
+    /// refusal.
     pub fn clone(&self) -> M<Self>
         ensures declarations { IfOk result (ShowsSame (RefersAlike N N.is_alike) (common_type_declarations N) self.now) }
         ensures locs { IfOk result (ShowsSame (LocatesAlike N N.is_alike) (common_types_locs N) self.now) }
@@ -64,7 +65,7 @@ impl<N: FragmentName + Drop> CommonTypeDefs<N> {
 }
 
 impl<N: FragmentName + Drop> EntityTypeFragment<N> {
-    /// Equal declarations with the same locations.
+    /// Equal declarations with the same locations. Out of memory is the only refusal.
     pub fn clone(&self) -> M<Self>
         ensures body { IfOk result (ShowsSame (RefersAlike N N.is_alike) (fragment_body N) self.now) }
         ensures locs { IfOk result (ShowsSame (LocatesAlike N N.is_alike) (entity_fragment_locs N) self.now) }
@@ -89,7 +90,7 @@ impl<N: FragmentName + Drop> EntityTypeFragment<N> {
 }
 
 impl<N: FragmentName + Drop> EntityTypeDef<N> {
-    /// An equal entity type with the same locations.
+    /// An equal entity type with the same locations. Out of memory is the only refusal.
     pub fn clone(&self) -> M<Self>
         ensures declaration { IfOk result (ShowsSame (RefersAlike N N.is_alike) (entity_type_declaration N) self.now) }
         ensures locs { IfOk result (ShowsSame (LocatesAlike N N.is_alike) (entity_type_locs N) self.now) }
@@ -102,7 +103,8 @@ impl<N: FragmentName + Drop> EntityTypeDef<N> {
 }
 
 impl<N: FragmentName + Drop> EntityTypesDef<N> {
-    /// Equal entity types with the same locations, in their order.
+    /// Equal entity types with the same locations, in their order. Out of memory is the only
+    /// refusal.
     pub fn clone(&self) -> M<Self>
         ensures declarations { IfOk result (ShowsSame (RefersAlike N N.is_alike) (entity_type_declarations N) self.now) }
         ensures locs { IfOk result (ShowsSame (LocatesAlike N N.is_alike) (entity_types_locs N) self.now) }

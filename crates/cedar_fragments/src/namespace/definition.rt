@@ -49,13 +49,16 @@ pub(crate) fn lend(namespace: &Option<InternalName>) -> Option<&InternalName>
 }
 
 impl ValidatorNamespaceDef<ConditionalName, ConditionalName> {
-    /// The declarations of a definition that is written in the namespace, None being the empty one.
+    /// The declarations of a definition that is written in the namespace, None being the empty
+    /// one.
     ///
-    /// It is refused with `UnsupportedFeature` if an action is written with attributes, which then
-    /// names all such actions in order; with `ActionEntityTypeDeclared` if an entity type has the
-    /// id `Action`; and with `ReservedName` if an entity type or an action is declared in a
-    /// reserved namespace. All of this holds of external declarations too. The only other refusal
-    /// is that memory ran out.
+    /// It is refused with one of these kinds, also for external declarations:
+    ///
+    /// - `UnsupportedFeature`: an action is written with attributes; it names all such actions,
+    ///   in order
+    /// - `ActionEntityTypeDeclared`: an entity type has the id `Action`
+    /// - `ReservedName`: an entity type or an action is declared in a reserved namespace
+    /// - `Memory`: memory ran out
     pub fn from_namespace_definition(
         alloc: Global,
         namespace: Option<InternalName>,

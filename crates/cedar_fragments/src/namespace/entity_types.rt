@@ -2,6 +2,7 @@
 
 ghost use Rattle.std.specs.Prelude.{◌≡◌, ◌⊎◌, IfOk, IfErr, OnOk, map, Contains, []};
 ghost use Rattle.std.specs.List.{AllByRecursion};
+ghost use Rattle.std.specs.Slice.Iter.{iter_rest};
 ghost use Rattle.cedar_below.specs.EntityType.{type_name};
 ghost use Rattle.cedar_below.specs.Identifier.{reserved_word};
 ghost use Rattle.cedar_below.specs.PlainName.{IsActionType};
@@ -12,6 +13,7 @@ ghost use Rattle.cedar_names.specs.declared.json_schema.reference_type.Reference
 ghost use Rattle.cedar_declarations.specs.Fault.{Fault, action_entity_type, reserved_name, out_of_memory};
 ghost use Rattle.cedar_declarations.specs.SchemaError.{fault_of};
 ghost use Rattle.cedar_fragments.specs.DefinitionFault.{IsDefinitionFault, IsSound, NamesNoAttributes};
+ghost use Rattle.cedar_fragments.specs.Located.{entity_type_defs};
 ghost use Rattle.cedar_fragments.specs.TypeDeclarations.{fragment_body, entity_type_declarations};
 ghost use Rattle.cedar_names.specs.Declaration.{entity_declarations};
 ghost use Rattle.cedar_names.specs.Reference.{name_within, path_within};
@@ -35,6 +37,7 @@ use cedar_names::json_schema::{
 };
 use std::alloc::Global;
 use std::collections::BTreeMap;
+use std::slice;
 
 /// The entity types that a definition declares, each under its full name.
 #[derive(Debug, Drop)]
@@ -71,6 +74,13 @@ impl<N> EntityTypesDef<N> {
         EntityTypesDef {
             defs: Vec::new(alloc),
         }
+    }
+
+    /// The entity types, in order.
+    pub fn iter(&self) -> slice::Iter<'_, EntityTypeDef<N>>
+        ensures { iter_rest result ≡ entity_type_defs N self.now }
+    {
+        self.defs.iter()
     }
 }
 

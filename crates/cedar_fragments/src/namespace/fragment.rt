@@ -39,8 +39,17 @@ fn internal_namespace(namespace: Option<Name>) -> Option<InternalName>
 }
 
 impl ValidatorSchemaFragment<ConditionalName, ConditionalName> {
-    /// The fragment over conditional names, with one definition for each that is written, in order,
-    /// be it empty. It is refused as one of its definitions is.
+    /// The fragment over conditional names, with one definition for each that is written, in
+    /// order, be it empty.
+    ///
+    /// It is refused with one of these kinds, also for external declarations:
+    ///
+    /// - `UnsupportedFeature`: an action is written with attributes; it names all such actions of
+    ///   one definition, in order
+    /// - `ActionEntityTypeDeclared`: an entity type has the id `Action`
+    /// - `Memory`: memory ran out
+    ///
+    /// Since no namespace of a fragment is reserved, `ReservedName` never comes.
     pub fn from_schema_fragment(
         alloc: Global,
         fragment: Fragment<RawName>,

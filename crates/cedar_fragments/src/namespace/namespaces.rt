@@ -52,7 +52,8 @@ impl<'a, N, A> Iterator for Namespaces<'a, N, A> {
 impl<'a, N, A> FusedIterator for Namespaces<'a, N, A> {}
 
 impl<N: Drop, A: Drop> ValidatorSchemaFragment<N, A> {
-    /// The fragment of these definitions, in order. The definitions have to come to an end.
+    /// The fragment of these definitions, in order. The definitions have to come to an end. Out
+    /// of memory is the only refusal.
     pub fn from_namespaces<I: IntoIterator<Item = ValidatorNamespaceDef<N, A>>>(
         alloc: Global,
         items: I,

@@ -170,10 +170,14 @@ fn qualify_requests(
 }
 
 impl ActionFragment<ConditionalName, ConditionalName> {
-    /// The same action, where each name is that of what it resolves to. It is refused with
-    /// `ActionNotDefined` if a parent names no action, with `TypeNotDefined` if another name
-    /// resolves to nothing, and with `ReservedName` if a principal or a resource resolves to a
-    /// reserved name.
+    /// The same action, where each name is that of what it resolves to.
+    ///
+    /// It is refused with one of these kinds:
+    ///
+    /// - `ActionNotDefined`: a parent names no action
+    /// - `TypeNotDefined`: another name resolves to nothing
+    /// - `ReservedName`: a principal or a resource resolves to a reserved name
+    /// - `Memory`: memory ran out
     pub fn fully_qualify_type_references(
         self,
         all_defs: &AllDefs,
@@ -207,8 +211,14 @@ impl ActionFragment<ConditionalName, ConditionalName> {
 }
 
 impl ActionsDef<ConditionalName, ConditionalName> {
-    /// The same actions, where each name is that of what it resolves to. It is refused as one of
-    /// them is.
+    /// The same actions, where each name is that of what it resolves to.
+    ///
+    /// They are refused with one of these kinds:
+    ///
+    /// - `ActionNotDefined`: a parent of one of them names no action
+    /// - `TypeNotDefined`: another name resolves to nothing
+    /// - `ReservedName`: a principal or a resource resolves to a reserved name
+    /// - `Memory`: memory ran out
     pub fn fully_qualify_type_references(
         self,
         all_defs: &AllDefs,

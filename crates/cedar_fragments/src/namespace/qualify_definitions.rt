@@ -22,10 +22,14 @@ use cedar_declarations::SchemaError;
 use cedar_names::json_schema::ConditionalName;
 
 impl ValidatorNamespaceDef<ConditionalName, ConditionalName> {
-    /// The same definition, where each name is that of what it resolves to. It is refused with
-    /// `ActionNotDefined` if a parent of an action names no action, with `TypeNotDefined` if another
-    /// name resolves to nothing, and with `ReservedName` if a principal or a resource resolves to a
-    /// reserved name.
+    /// The same definition, where each name is that of what it resolves to.
+    ///
+    /// It is refused with one of these kinds:
+    ///
+    /// - `ActionNotDefined`: a parent of an action names no action
+    /// - `TypeNotDefined`: another name resolves to nothing
+    /// - `ReservedName`: a principal or a resource resolves to a reserved name
+    /// - `Memory`: memory ran out
     pub fn fully_qualify_type_references(
         self,
         all_defs: &AllDefs,
@@ -60,8 +64,15 @@ impl ValidatorNamespaceDef<ConditionalName, ConditionalName> {
 }
 
 impl ValidatorSchemaFragment<ConditionalName, ConditionalName> {
-    /// The same fragment, where each name is that of what it resolves to: one definition for each,
-    /// in order, of the same namespace, be it empty. It is refused as one of its definitions is.
+    /// The same fragment, where each name is that of what it resolves to: one definition for
+    /// each, in order, of the same namespace, be it empty.
+    ///
+    /// It is refused with one of these kinds:
+    ///
+    /// - `ActionNotDefined`: a parent of an action names no action
+    /// - `TypeNotDefined`: another name resolves to nothing
+    /// - `ReservedName`: a principal or a resource resolves to a reserved name
+    /// - `Memory`: memory ran out
     pub fn fully_qualify_type_references(
         self,
         all_defs: &AllDefs,

@@ -26,8 +26,8 @@ use cedar_below::InternalName;
 use cedar_names::json_schema::{AttributesOrContext, ConditionalName, QualifyError, Type};
 
 impl CommonTypeDefs<ConditionalName> {
-    /// The same common types, where each name is that of what it resolves to. It is refused with
-    /// `TypeNotDefined` if a name resolves to nothing.
+    /// The same common types, where each name is that of what it resolves to. They are refused
+    /// with `TypeNotDefined` if a name resolves to nothing, or with `Memory` if memory runs out.
     pub fn fully_qualify_type_references(
         self,
         all_defs: &AllDefs,
@@ -69,7 +69,7 @@ fn qualify_tags(
 
 impl EntityTypeFragment<ConditionalName> {
     /// The same entity type, where each name is that of what it resolves to. It is refused with
-    /// `TypeNotDefined` if a name resolves to nothing.
+    /// `TypeNotDefined` if a name resolves to nothing, or with `Memory` if memory runs out.
     pub fn fully_qualify_type_references(
         self,
         all_defs: &AllDefs,
@@ -105,8 +105,8 @@ impl EntityTypeFragment<ConditionalName> {
 }
 
 impl EntityTypesDef<ConditionalName> {
-    /// The same entity types, where each name is that of what it resolves to. It is refused with
-    /// `TypeNotDefined` if a name resolves to nothing.
+    /// The same entity types, where each name is that of what it resolves to. They are refused
+    /// with `TypeNotDefined` if a name resolves to nothing, or with `Memory` if memory runs out.
     pub fn fully_qualify_type_references(
         self,
         all_defs: &AllDefs,

@@ -86,7 +86,7 @@ impl ConditionalName {
         &self.reference_type
     }
 
-    /// An equal reference with the same locations.
+    /// An equal reference with the same locations. Out of memory is the only refusal.
     pub fn clone(&self) -> M<Self>
         ensures possibilities { IfOk result
             (λ copy. possibilities_of copy ≡ possibilities_of self.now) }

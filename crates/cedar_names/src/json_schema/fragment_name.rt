@@ -13,7 +13,7 @@ use cedar_below::{EntityType, InternalName, M};
 pub trait FragmentName {
     ghost is_alike: { Self → Self → Type 0 };
 
-    /// An equal name with the same locations.
+    /// An equal name with the same locations. Out of memory is the only refusal.
     fn copied(&self) -> M<Self>
     where
         Self: Sized,

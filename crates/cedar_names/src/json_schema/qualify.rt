@@ -102,7 +102,7 @@ fn qualify_record(
 impl Type<RawName> {
     /// The same type, where each name is conditional in the namespace, None being the empty one: a
     /// name of a common type, of an entity type, or of either, whichever its position permits.
-    /// Locations are kept.
+    /// Locations are kept. Out of memory is the only refusal.
     pub fn conditionally_qualify_type_references(
         self,
         alloc: Global,
