@@ -98,6 +98,7 @@ whole-read c None e = absurd (false≢true e)
 -- each character below 160 is read from how it is printed
 abbrev reads_back : Option ℕ → ℕ → Bool
 reads_back last c = is_whole c (run (Some (Whole last)) (spelled c))
+
 table_read : (last : Option ℕ) → every 160 (reads_back last) ≡ true
 unfolding digits
 table_read last = refl
@@ -105,6 +106,7 @@ table_read last = refl
 -- and is printed by the same bytes
 abbrev has_same_bytes : ℕ → Bool
 has_same_bytes c = alike (encodes (spelled c)) (escaped c)
+
 table_bytes : every 160 has_same_bytes ≡ true
 unfolding digits encode
 table_bytes = refl
@@ -112,8 +114,10 @@ table_bytes = refl
 -- those that need no escape stand for themselves
 abbrev is_plain : ℕ → Bool
 is_plain c = not (c == 92) && (not (c == 34) && not (is_control c))
+
 abbrev is_plain_spelled : ℕ → Bool
 is_plain_spelled c = implies (is_plain c) (alike (spelled c) (c ∷ []))
+
 table_plain : every 160 is_plain_spelled ≡ true
 unfolding digits
 table_plain = refl
@@ -121,6 +125,7 @@ table_plain = refl
 -- those that are printed by their number
 abbrev is_code_spelled : ℕ → Bool
 is_code_spelled c = implies (is_coded c) (alike (92 ∷ 117 ∷ 123 ∷ (digits 16 false c ++ 125 ∷ [])) (spelled c))
+
 table_coded : every 160 is_code_spelled ≡ true
 unfolding digits
 table_coded = refl
@@ -133,8 +138,10 @@ digit_fits test (Some digit) = test digit
 -- a first digit begins the number of one
 abbrev first_digit_fits : ℕ → ℕ → Bool
 first_digit_fits c digit = implies (begins_code digit) (((is_coded digit || (digit == 9)) && nat_lt digit 160) && alike (digits 16 false digit) (c ∷ []))
+
 abbrev first_fits : ℕ → Bool
 first_fits c = digit_fits (first_digit_fits c) (code_digit c)
+
 table_first : every 128 first_fits ≡ true
 unfolding digits
 table_first = refl
@@ -144,8 +151,10 @@ abbrev second_digit_fits : ℕ → ℕ → ℕ → Bool
 second_digit_fits c code digit =
     implies ((is_coded code || (code == 9)) && is_control (code * 16 + digit))
     ((is_coded (code * 16 + digit) && nat_lt (code * 16 + digit) 160) && alike (digits 16 false (code * 16 + digit)) (digits 16 false code ++ c ∷ []))
+
 abbrev second_fits : ℕ → ℕ → Bool
 second_fits c code = digit_fits (second_digit_fits c code) (code_digit c)
+
 table_second : every 128 (λ c. every 16 (second_fits c)) ≡ true
 unfolding digits
 table_second = refl
@@ -277,6 +286,7 @@ digit-ascii c digit e = ⊎_elim
     (λ none. absurd cc)
     (chosen (is_in_range 97 102 c) (Some (c - 87)) None digit rest.1))
     (chosen (is_in_range 48 57 c) (Some (c - 48)) (cond (is_in_range 97 102 c) (Some (c - 87)) None) digit e)
+
 -- a whole character, or what begins one, after a backslash
 step-backslash : (es chars : List ℕ) (c : ℕ) (next : Escape) → chars ≡ all_spelled es ++ 92 ∷ [] → after_backslash c ≡ Some next
     → Then es chars c next
@@ -310,7 +320,7 @@ step-first es chars c next is e = option_and_then_some first_digit (code_digit c
       range.0,
       ltb-true digit 160 range.1,
       more-step es chars (92 ∷ 117 ∷ 123 ∷ []) (92 ∷ 117 ∷ 123 ∷ digits 16 false digit) c is
-      (ap (λ rest. 92 ∷ 117 ∷ 123 ∷ rest) (sym ((text_eq-Decides (digits 16 false digit) (c ∷ [])).0 fits.1))),
+          (ap (λ rest. 92 ∷ 117 ∷ 123 ∷ rest) (sym ((text_eq-Decides (digits 16 false digit) (c ∷ [])).0 fits.1))),
     )) (λ none. absurd cc) (chosen (begins_code digit) _ _ next goes))
 
 -- a second digit after a first
@@ -329,8 +339,8 @@ step-second es chars c code next valid is e = option_and_then_some (second_digit
       ap (λ it. it || (code * 16 + digit == 9)) range.0,
       ltb-true (code * 16 + digit) 160 range.1,
       more-step es chars (92 ∷ 117 ∷ 123 ∷ digits 16 false code) (92 ∷ 117 ∷ 123 ∷ digits 16 false (code * 16 + digit)) c is
-      (ap (λ rest. 92 ∷ 117 ∷ 123 ∷ rest)
-      (sym ((text_eq-Decides (digits 16 false (code * 16 + digit)) (digits 16 false code ++ c ∷ [])).0 fits.1))),
+          (ap (λ rest. 92 ∷ 117 ∷ 123 ∷ rest)
+          (sym ((text_eq-Decides (digits 16 false (code * 16 + digit)) (digits 16 false code ++ c ∷ [])).0 fits.1))),
     )) (λ none. absurd cc) (chosen (nat_lt code 16 && is_control (code * 16 + digit)) _ _ next goes))
 
 -- what is read goes on with a character that may stand there
@@ -347,6 +357,7 @@ step (Whole last) es chars c next is e =
   where
     flat : chars ≡ all_spelled es ++ []
     flat = is ∙ sym (append-nil (all_spelled es))
+
     plain : (c == 92) ≡ false → (c == 34) ≡ false → is_control c ≡ false → is_plain c ≡ true
     plain a b d = ap (λ it. not it && (not (c == 34) && not (is_control c))) a ∙ ap (λ it. not it && not (is_control c)) b ∙ ap not d
 step Backslash es chars c next is e = step-backslash es chars c next is e
@@ -401,8 +412,8 @@ finish es chars front back d all is begun ends = (
   es ++ d ∷ [],
   scalars-more es d all is,
   sym (append_assoc chars back (34 ∷ []))
-  ∙ ap (λ whole. whole ++ 34 ∷ []) (ap (λ whole. whole ++ back) begun ∙ append_assoc (all_spelled es) front back
-  ∙ ap (λ rest. all_spelled es ++ rest) ends ∙ flat_map_more spelled [] es d),
+      ∙ ap (λ whole. whole ++ 34 ∷ []) (ap (λ whole. whole ++ back) begun ∙ append_assoc (all_spelled es) front back
+      ∙ ap (λ rest. all_spelled es ++ rest) ends ∙ flat_map_more spelled [] es d),
 )
 
 -- what is read of an id in quotes goes on to the whole of one
@@ -508,13 +519,12 @@ pub characters : (text : Text) (ys : List ℕ) (c : ℕ) → IsUtf8 text → ys 
     → c ≡ get_or (chars text) (length ys) c → (zs : List ℕ) × (chars text ≡ ys ++ c ∷ zs)
 characters text ys c utf8 front below here =
     let all = chars text in
-    let n = length ys in
-    (
+    let n = length ys in (
       drop (n + 1) all,
       sym (take-append-drop (n + 1) all)
-      ∙ ap (λ first. first ++ drop (n + 1) all) (take_more all n c below ∙ ap (λ last. take n all ++ last ∷ []) (sym here)
-      ∙ ap (λ first. first ++ c ∷ []) (sym front))
-      ∙ append_assoc ys (c ∷ []) (drop (n + 1) all),
+          ∙ ap (λ first. first ++ drop (n + 1) all) (take_more all n c below ∙ ap (λ last. take n all ++ last ∷ []) (sym here)
+          ∙ ap (λ first. first ++ c ∷ []) (sym front))
+          ∙ append_assoc ys (c ∷ []) (drop (n + 1) all),
     )
 
 -- the characters that came so far, and the next
@@ -556,8 +566,7 @@ begins_id : (escape : Escape) (id : Text) (at : ℕ) (ys : List ℕ) → IsUtf8 
 begins_id escape id at ys utf8 has =
     let all : scalars has.es ≡ true =
     subst (λ es. scalars es ≡ true) (sym (chars_from_encodes has.es id utf8 has.bytes)) (scalars-chars id utf8) in
-    let on = goes_on escape has.es ys all has.read in
-    (
+    let on = goes_on escape has.es ys all has.read in (
       encodes on.0,
       (
         encodes on.1,

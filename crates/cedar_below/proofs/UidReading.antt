@@ -62,7 +62,7 @@ longer_name name (base, path) = (
   record { base = 97 ∷ []; path = name.path ++ name.base ∷ [] },
   (refl, All-push IsIdentifier name.path name.base path base),
   ap (λ front. front ++ 97 ∷ []) (sym (flat_map_more (λ part. part ++ codes "::") [] name.path name.base)
-  ∙ sym (append_assoc (joined name.path) name.base (codes "::"))),
+      ∙ sym (append_assoc (joined name.path) name.base (codes "::"))),
 )
 
 -- what stands before the first quote of a uid's text
@@ -86,8 +86,7 @@ within_front (b ∷ p) (c ∷ q) x y free e =
 -- what begins a uid without a quote begins a name
 begins_name : (front : Text) → HasNoQuote front → Begins IsUidText front → Begins IsNameText front
 begins_name front free (rest, (uid, ids, utf8, is)) =
-    let within = within_front (name_text uid.ty ++ codes "::") front (escaped_text uid.eid ++ codes "\"") rest free (sym (uid_text-split uid) ∙ is) in
-    (
+    let within = within_front (name_text uid.ty ++ codes "::") front (escaped_text uid.eid ++ codes "\"") rest free (sym (uid_text-split uid) ∙ is) in (
       within.0 ++ 97 ∷ [],
       subst IsNameText (ap (λ all. all ++ 97 ∷ []) within.1 ∙ append_assoc front within.0 (97 ∷ [])) (longer_name uid.ty ids),
     )
@@ -95,13 +94,14 @@ begins_name front free (rest, (uid, ids, utf8, is)) =
 -- what begins a name begins a uid
 begins_uid : (front : Text) → Begins IsNameText front → Begins IsUidText front
 begins_uid front (rest, (name, ids, is)) =
-    let uid : PlainUid = record { ty = name; eid = [] } in
-    (
+    let uid : PlainUid = record { ty = name; eid = [] } in (
       rest ++ codes "::\"\"",
       (
-        uid, ids, IsUtf8-nil,
+        uid,
+        ids,
+        IsUtf8-nil,
         ap (λ cs. name_text name ++ (codes "::\"" ++ (flat_map escaped cs ++ codes "\""))) chars-nil
-        ∙ ap (λ all. all ++ codes "::\"\"") is ∙ append_assoc front rest (codes "::\"\""),
+            ∙ ap (λ all. all ++ codes "::\"\"") is ∙ append_assoc front rest (codes "::\"\""),
       ),
     )
 
@@ -200,7 +200,7 @@ stops_in_id name before after at ids is stop =
       begins = (
         stop.begins.0,
         subst IsUidText (sym (append_assoc before (34 ∷ take at after) stop.begins.0) ∙ ap (λ front. front ++ stop.begins.0) (sym (take_behind before after at)))
-        (joined_uid name before (take at after ++ stop.begins.0) ids is stop.begins.1),
+            (joined_uid name before (take at after ++ stop.begins.0) ids is stop.begins.1),
       );
       longest = λ longer more inside utf8 (rest, begun).
           let k = longer - (length before + 1) in

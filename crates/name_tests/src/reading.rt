@@ -199,6 +199,55 @@ fn uids_print_with_their_ids_escaped(rt: HostRuntime) -> Result<(), Fail> {
     Ok(())
 }
 
+#[test]
+fn uids_are_read_from_their_text(rt: HostRuntime) -> Result<(), Fail> {
+    let alloc = rt.alloc();
+    for &(eid, printed) in UIDS {
+        let uid = EntityUID::from_str(alloc, printed)?;
+        same(printed, uid.eid().as_str(), eid)?;
+        same(printed, uid.to_string(alloc)?.as_str(), printed)?;
+    }
+    Ok(())
+}
+
+/// Texts that no uid prints as, each with the byte at which it stops being a uid's.
+const NO_UIDS: &[(&str, usize)] = &[
+    ("", 0),
+    ("\"x\"", 0),
+    ("::\"x\"", 0),
+    ("A", 1),
+    ("A\"x\"", 1),
+    ("A:\"x\"", 2),
+    ("A::", 3),
+    ("A:: \"x\"", 3),
+    ("A::B", 4),
+    ("A::::\"x\"", 3),
+    ("A::\"x", 5),
+    ("A::\"x\" ", 6),
+    ("A::\"x\"y\"", 6),
+    ("A::\"\\x41\"", 5),
+    ("A::\"\\'\"", 5),
+    ("A::\"\t\"", 4),
+    ("A::\"é\u{85}\"", 6),
+    ("A::\"\\u{41}\"", 8),
+    ("A::\"\\u{07}\"", 7),
+    ("A::\"\\u{1F}\"", 8),
+    ("A::\"\\u{9}\"", 8),
+    ("A::\"\\\"", 6),
+    ("__cedar::\"", 10),
+];
+
+#[test]
+fn texts_stop_being_uids(rt: HostRuntime) -> Result<(), Fail> {
+    let alloc = rt.alloc();
+    for &(word, at) in NO_UIDS {
+        let read = answer(alloc, EntityUID::from_str(alloc, word))?;
+        same(word, read.as_str(), stops(alloc, at)?.as_str())?;
+    }
+    let reserved = answer(alloc, EntityUID::from_str(alloc, "__cedar::A::\"x\""))?;
+    same("a reserved type", reserved.as_str(), RESERVED)
+}
+
 /// Names of extension types between blanks, each with what is answered of them.
 const EXTENSIONS: &[(&str, &str)] = &[
     ("", "they fit"),

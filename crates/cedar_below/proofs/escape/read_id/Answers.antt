@@ -33,13 +33,13 @@ loop-c-preserved c =
     let goes : escape_then c.loop-c.escape c.in-Some.c ≡ Some c.in-Some-then.next = sym c.then.ensures ∙ c.in-Some-then.is in
     let count : c.loop-c.at + len_utf8 c.in-Some.c ≡ c.loop-c.at + c.len_utf8-at.result = ap (λ n. c.loop-c.at + n) (sym c.len_utf8-at.ensures.value) in
     elim c.match-whole.branch [
-    | in-Some-whole+in_ok-push w ↦ HasReadId-like (sym w.in_ok-push.ensures.bytes ∙ ap string_bytes (sym w.id-is)) count
-        (HasReadId-whole c.loop-c.escape (string_bytes c.loop-c.id) c.loop-c.at c.loop-c.yielded c.in-Some.c c.in-Some-then.next w.in-Some-whole.whole
-        c.loop-c.invariant goes (sym c.whole.ensures ∙ w.in-Some-whole.is))
-    | in_default w ↦ HasReadId-like (ap string_bytes (sym w.id-is)) count
-        (HasReadId-more c.loop-c.escape (string_bytes c.loop-c.id) c.loop-c.at c.loop-c.yielded c.in-Some.c c.in-Some-then.next
-        c.loop-c.invariant goes (sym c.whole.ensures ∙ w.in_default.is))
-  ]
+      | in-Some-whole+in_ok-push w ↦ HasReadId-like (sym w.in_ok-push.ensures.bytes ∙ ap string_bytes (sym w.id-is)) count
+          (HasReadId-whole c.loop-c.escape (string_bytes c.loop-c.id) c.loop-c.at c.loop-c.yielded c.in-Some.c c.in-Some-then.next w.in-Some-whole.whole
+          c.loop-c.invariant goes (sym c.whole.ensures ∙ w.in-Some-whole.is))
+      | in_default w ↦ HasReadId-like (ap string_bytes (sym w.id-is)) count
+          (HasReadId-more c.loop-c.escape (string_bytes c.loop-c.id) c.loop-c.at c.loop-c.yielded c.in-Some.c c.in-Some-then.next
+          c.loop-c.invariant goes (sym c.whole.ensures ∙ w.in_default.is))
+    ]
 
 pub returns-in-Closed-clause-id : goal.returns-in-Closed-clause-id
 returns-in-Closed-clause-id c =

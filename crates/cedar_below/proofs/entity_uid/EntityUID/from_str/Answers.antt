@@ -46,12 +46,11 @@ returns-in-Ok-from_internal-clause-uid c =
 pub returns-clause-fault : goal.returns-clause-fault
 returns-clause-fault c =
     let parts = split_parts 34 c.args.text.now (Some (c.in-Some.before, c.in-Some.after)) c.in-Some.ensures.cases (omega arith) in
-    let named = subst (IsTypeBefore c.in-Some.before.now) c.in-Some-2.is c.in_ok-name.ensures in
-    (
+    let named = subst (IsTypeBefore c.in-Some.before.now) c.in-Some-2.is c.in_ok-name.ensures in (
       record { ty = name_of c.in-Some-2.name; eid = string_bytes c.in-Ok.id },
       IsOfIdentifiers-name_of c.in-Some-2.name,
       c.in-Err-from_internal.ensures.refused.1,
       IsUtf8-string_bytes c.in-Ok.id,
       uid_by_parts (record { ty = name_of c.in-Some-2.name; eid = string_bytes c.in-Ok.id }) c.in-Some.before.now c.in-Some.after.now named.0
-      c.in-Ok.ensures.id ∙ sym parts.0,
+          c.in-Ok.ensures.id ∙ sym parts.0,
     )
