@@ -50,7 +50,7 @@ spelled c =
     (cond (is_control c) (92 ∷ 117 ∷ 123 ∷ (digits 16 false c ++ 125 ∷ [])) (c ∷ [])))))))
 
 -- a test that each number below one passes
-abbrev every : ℕ → (ℕ → Bool) → Bool
+abbrev pub every : ℕ → (ℕ → Bool) → Bool
 every zero test = true
 every (suc n) test = every n test && test n
 
@@ -59,7 +59,7 @@ less_or_last : (c n : ℕ) → c < suc n → (c < n) ⊎ (c ≡ n)
 less_or_last c n below = ⊎_elim (λ same. inr same) (λ less. inl less) (eq-or-lt_of_le (omega (arith, below)))
 
 -- each number below it passes
-every-at : (n : ℕ) (test : ℕ → Bool) → every n test ≡ true → (c : ℕ) → c < n → test c ≡ true
+pub every-at : (n : ℕ) (test : ℕ → Bool) → every n test ≡ true → (c : ℕ) → c < n → test c ≡ true
 every-at zero test all c below = absurd (omega (arith, below))
 every-at (suc n) test all c below = ⊎_elim
     (λ less. every-at n test (both_true (every n test) (test n) all).0 c less)
@@ -67,7 +67,7 @@ every-at (suc n) test all c below = ⊎_elim
     (less_or_last c n below)
 
 -- texts of characters are the same, as a test
-abbrev alike : List ℕ → List ℕ → Bool
+abbrev pub alike : List ℕ → List ℕ → Bool
 alike a b = pointwise nat_eq a b
 
 -- one test passes where another does
@@ -174,7 +174,7 @@ HasEscape (Code code) es chars =
 HasEscape Closed es chars = chars ≡ all_spelled es ++ 34 ∷ []
 
 -- a test that fails chooses the other
-cond_false : {X : Type 0} (test : Bool) (first other : X) → test ≡ false → cond test first other ≡ other
+pub cond_false : {X : Type 0} (test : Bool) (first other : X) → test ≡ false → cond test first other ≡ other
 cond_false test first other e = ap (λ it. cond it first other) e
 
 -- a number is below another or not
@@ -183,18 +183,18 @@ below_or_not c n =
     ⊎_elim (λ same. inr (omega (arith, same))) (λ rest. ⊎_elim (λ less. inl less) (λ more. inr (omega (arith, more))) rest) (cases_order c n)
 
 -- a character from 160 on is no other one
-other : (c k : ℕ) → 160 ≤ c → k < 160 → (c == k) ≡ false
+pub other : (c k : ℕ) → 160 ≤ c → k < 160 → (c == k) ≡ false
 other c k large small = ne_eqb c k (λ e. absurd (omega (arith, large, small, e)))
 
 -- and no control
-no_control : (c : ℕ) → 160 ≤ c → is_control c ≡ false
+pub no_control : (c : ℕ) → 160 ≤ c → is_control c ≡ false
 no_control c large =
     ap (λ low. (nat_le 0 c && low) || (nat_le 127 c && nat_le c 159)) (lt-leb c 31 (omega (arith, large)))
     ∙ ap (λ test. test || (nat_le 127 c && nat_le c 159)) (and-false (nat_le 0 c))
     ∙ ap (λ low. nat_le 127 c && low) (lt-leb c 159 (omega (arith, large))) ∙ and-false (nat_le 127 c)
 
 -- it is printed as it is
-spelled-wide : (c : ℕ) → 160 ≤ c → spelled c ≡ c ∷ []
+pub spelled-wide : (c : ℕ) → 160 ≤ c → spelled c ≡ c ∷ []
 spelled-wide c large =
     cond_false (c == 0) _ _ (other c 0 large (omega arith)) ∙ cond_false (c == 9) _ _ (other c 9 large (omega arith))
     ∙ cond_false (c == 10) _ _ (other c 10 large (omega arith)) ∙ cond_false (c == 13) _ _ (other c 13 large (omega arith))
@@ -217,7 +217,7 @@ encodes-spelled c = ⊎_elim
     (below_or_not c 160)
 
 -- and of what an id is printed with
-encodes-all_spelled : (es : List ℕ) → encodes (all_spelled es) ≡ flat_map escaped es
+pub encodes-all_spelled : (es : List ℕ) → encodes (all_spelled es) ≡ flat_map escaped es
 encodes-all_spelled [] = refl
 encodes-all_spelled (c ∷ es) =
     encodes-append (spelled c) (all_spelled es) ∙ ap (λ front. front ++ encodes (all_spelled es)) (encodes-spelled c)
@@ -232,7 +232,7 @@ spelled-plain c plain = ⊎_elim
     (below_or_not c 160)
 
 -- a character is read from how it is printed
-run-spelled : (last : Option ℕ) (c : ℕ) → run (Some (Whole last)) (spelled c) ≡ Some (Whole (Some c))
+pub run-spelled : (last : Option ℕ) (c : ℕ) → run (Some (Whole last)) (spelled c) ≡ Some (Whole (Some c))
 run-spelled last c = ⊎_elim
     (λ small. whole-read c (run (Some (Whole last)) (spelled c)) (every-at 160 (reads_back last) (table_read last) c small))
     (λ large. ap (run (Some (Whole last))) (spelled-wide c large)
@@ -432,7 +432,7 @@ goes_on (Code code) es chars all (valid, small, is) = ⊎_elim
 goes_on Closed es chars all is = ([], es, all, append-nil chars ∙ is)
 
 -- the bytes of an id's characters in quotes are a quoted id
-quoted : (es : List ℕ) → scalars es ≡ true → escaped_text (encodes es) ++ codes "\"" ≡ encodes (all_spelled es ++ 34 ∷ [])
+pub quoted : (es : List ℕ) → scalars es ≡ true → escaped_text (encodes es) ++ codes "\"" ≡ encodes (all_spelled es ++ 34 ∷ [])
 unfolding encode
 quoted es all =
     ap (λ chars. flat_map escaped chars ++ codes "\"") (chars-encodes es all)
@@ -602,22 +602,24 @@ stops_at_char text escape id at ys zs c utf8 id-utf8 is has none =
       other = λ named. dead (ys ++ c ∷ []) (encodes zs) none_read (subst IsQuoted
           (whole ∙ sym (ap (λ first. first ++ encodes zs) (encodes-append ys (c ∷ []) ∙ ap (λ one. encodes ys ++ one) (append-nil (encode c)))
           ∙ append_assoc (encodes ys) (encode c) (encodes zs))) named);
-      within = (let all = counted_within text ys zs c at utf8 is has.count in omega (arith, all));
-      whole = subst IsUtf8 (sym front) (ys, (scalars-front ys (c ∷ zs) (subst (λ it. scalars it ≡ true) is (scalars-chars text utf8)), refl));
-      begins = subst (Begins IsQuoted) (sym front) (begins_id escape id at ys id-utf8 has);
-      longest = λ longer more inside (ds, (ds-scalar, ds-bytes)) (rest, begun).
-          let split : encodes (ys ++ c ∷ zs) ≡ encodes ds ++ drop longer text =
-          encodes-append ys (c ∷ zs) ∙ sym whole ∙ sym (take-append-drop longer text)
-          ∙ ap (λ first. first ++ drop longer text) (sym ds-bytes) in
-          let within = begins_with ds (ys ++ c ∷ zs) (drop longer text) split in
-          let bytes = ap length ds-bytes in
-          let count = has.count in
-          let long = length-take longer text in
-          let on = further ys ds c zs within.0 within.1 (omega (arith, more, inside, bytes, count, long)) in
-          let parts : take longer text ++ rest ≡ encodes (ys ++ c ∷ []) ++ (encodes on.0 ++ rest) =
-          ap (λ first. first ++ rest) (sym ds-bytes ∙ ap encodes (on.1 ∙ sym (append_assoc ys (c ∷ []) on.0))
-          ∙ encodes-append (ys ++ c ∷ []) on.0) ∙ append_assoc (encodes (ys ++ c ∷ [])) (encodes on.0) rest in
-          dead (ys ++ c ∷ []) (encodes on.0 ++ rest) none_read (subst IsQuoted parts begun);
+      beginning = record {
+        within = (let all = counted_within text ys zs c at utf8 is has.count in omega (arith, all));
+        whole = subst IsUtf8 (sym front) (ys, (scalars-front ys (c ∷ zs) (subst (λ it. scalars it ≡ true) is (scalars-chars text utf8)), refl));
+        begins = subst (Begins IsQuoted) (sym front) (begins_id escape id at ys id-utf8 has);
+        longest = λ longer more inside (ds, (ds-scalar, ds-bytes)) (rest, begun).
+            let split : encodes (ys ++ c ∷ zs) ≡ encodes ds ++ drop longer text =
+            encodes-append ys (c ∷ zs) ∙ sym whole ∙ sym (take-append-drop longer text)
+            ∙ ap (λ first. first ++ drop longer text) (sym ds-bytes) in
+            let within = begins_with ds (ys ++ c ∷ zs) (drop longer text) split in
+            let bytes = ap length ds-bytes in
+            let count = has.count in
+            let long = length-take longer text in
+            let on = further ys ds c zs within.0 within.1 (omega (arith, more, inside, bytes, count, long)) in
+            let parts : take longer text ++ rest ≡ encodes (ys ++ c ∷ []) ++ (encodes on.0 ++ rest) =
+            ap (λ first. first ++ rest) (sym ds-bytes ∙ ap encodes (on.1 ∙ sym (append_assoc ys (c ∷ []) on.0))
+            ∙ encodes-append (ys ++ c ∷ []) on.0) ∙ append_assoc (encodes (ys ++ c ∷ [])) (encodes on.0) rest in
+            dead (ys ++ c ∷ []) (encodes on.0 ++ rest) none_read (subst IsQuoted parts begun);
+      };
     }
 
 -- a text that is read to its end but for the quote stops there
@@ -630,10 +632,12 @@ stops_at_id_end text escape id at utf8 id-utf8 has unfinished =
           let known = unquoted text named in
           let same : all_spelled known.0 ++ 34 ∷ [] ≡ chars text = encodes_same _ _ (known.1 ∙ sym (encodes-chars text utf8)) in
           unfinished (same_escape escape Closed (sym has.runs ∙ ap (run (Some (Whole None))) (sym same) ∙ run-all_spelled None known.0));
-      within = omega arith;
-      whole = subst IsUtf8 (sym all) utf8;
-      begins = subst (Begins IsQuoted) (encodes-chars text utf8 ∙ sym all) (begins_id escape id at (chars text) id-utf8 has);
-      longest = λ longer more inside _. absurd (omega (arith, more, inside));
+      beginning = record {
+        within = omega arith;
+        whole = subst IsUtf8 (sym all) utf8;
+        begins = subst (Begins IsQuoted) (encodes-chars text utf8 ∙ sym all) (begins_id escape id at (chars text) id-utf8 has);
+        longest = λ longer more inside _. absurd (omega (arith, more, inside));
+      };
     }
 
 -- a text that is read to the quote is the id as it stands in quotes

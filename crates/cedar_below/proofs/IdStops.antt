@@ -30,11 +30,13 @@ begins_alike (byte ∷ text) rest (suc longer) some within = refl
 pub stops_at_start : (text : Text) → begins_identifier text ≡ false → StopsAt IsIdentifier text 0
 stops_at_start text none = record {
   other = λ is. false≢true (sym none ∙ identifier_begins text is);
-  within = omega arith;
-  whole = IsUtf8-nil;
-  begins = (97 ∷ [], refl);
-  longest = λ longer more within _ (rest, is). false≢true
-      (sym none ∙ sym (begins_alike text rest longer more within) ∙ identifier_begins (take longer text ++ rest) is);
+  beginning = record {
+    within = omega arith;
+    whole = IsUtf8-nil;
+    begins = (97 ∷ [], refl);
+    longest = λ longer more within _ (rest, is). false≢true
+        (sym none ∙ sym (begins_alike text rest longer more within) ∙ identifier_begins (take longer text ++ rest) is);
+  };
 }
 
 -- the front of what begins as an identifier goes on to one
@@ -52,14 +54,16 @@ pub stops_within : (text : Text) (at : ℕ) → begins_identifier text ≡ true 
     → at < length text → is_identifier_byte (get_or text at 0) ≡ false → StopsAt IsIdentifier text at
 stops_within text at begins all within stop = record {
   other = λ is. false≢true (sym (list_all_at is_identifier_byte text at 0 within stop) ∙ identifier_bytes text is);
-  within = omega (arith, within);
-  whole = word_text (take at text) all;
-  begins = front_begins text at begins all;
-  longest = λ longer more inside _ (rest, is).
-      let long : at < length (take longer text) = omega (arith, more, inside, length-take longer text) in
-      let same : get_or (take longer text ++ rest) at 0 ≡ get_or text at 0 =
-      get_or-append (take longer text) rest 0 at long ∙ get_or-take longer text at 0 more in
-      let here : at < length (take longer text ++ rest) = omega (arith, long, length-append (take longer text) rest) in
-      false≢true (sym (list_all_at is_identifier_byte (take longer text ++ rest) at 0 here (ap is_identifier_byte same ∙ stop))
-      ∙ identifier_bytes (take longer text ++ rest) is);
+  beginning = record {
+    within = omega (arith, within);
+    whole = word_text (take at text) all;
+    begins = front_begins text at begins all;
+    longest = λ longer more inside _ (rest, is).
+        let long : at < length (take longer text) = omega (arith, more, inside, length-take longer text) in
+        let same : get_or (take longer text ++ rest) at 0 ≡ get_or text at 0 =
+        get_or-append (take longer text) rest 0 at long ∙ get_or-take longer text at 0 more in
+        let here : at < length (take longer text ++ rest) = omega (arith, long, length-append (take longer text) rest) in
+        false≢true (sym (list_all_at is_identifier_byte (take longer text ++ rest) at 0 here (ap is_identifier_byte same ∙ stop))
+        ∙ identifier_bytes (take longer text ++ rest) is);
+  };
 }

@@ -15,6 +15,7 @@ pub mod PlainNames
 pub mod ShownLemmas
 pub mod Texts
 pub mod TextsOfNames
+pub mod TextsOfUids
 pub mod TreeLemmas
 mod TurnLemmas
 pub mod UidReading

@@ -35,8 +35,8 @@ run-append (Some reading) [] more = refl
 run-append (Some reading) (byte ∷ text) more = run-append (reading_then reading byte) text more
 
 -- the parts of a path, with `::` after each
-abbrev pub joined : List Text → Text
-joined path = flat_map (λ part. part ++ codes "::") path
+abbrev pub path_text : List Text → Text
+path_text path = flat_map (λ part. part ++ codes "::") path
 
 -- a byte that begins an identifier may stand in one
 start_is_byte : (byte : ℕ) → is_identifier_start byte ≡ true → is_identifier_byte byte ≡ true
@@ -63,27 +63,27 @@ run-identifier (byte ∷ text) is =
     ap (λ test. run (cond test (Some Inside) None) text) halves.0 ∙ run-inside text rest.1
 
 -- after the parts of a path the next part begins
-run-joined : (path : List Text) → All IsIdentifier path → run (Some Start) (joined path) ≡ Some Start
-run-joined [] all = refl
-run-joined (part ∷ path) all =
+run-path_text : (path : List Text) → All IsIdentifier path → run (Some Start) (path_text path) ≡ Some Start
+run-path_text [] all = refl
+run-path_text (part ∷ path) all =
     let first = run-identifier part (all 0 part (omega arith)) in
-    let rest = run-joined path (λ k d below. all (suc k) d (omega (arith, below))) in
-    run-append (Some Start) (part ++ codes "::") (joined path)
-    ∙ ap (λ reading. run reading (joined path)) (run-append (Some Start) part (codes "::") ∙ ap (λ reading. run reading (codes "::")) first)
+    let rest = run-path_text path (λ k d below. all (suc k) d (omega (arith, below))) in
+    run-append (Some Start) (part ++ codes "::") (path_text path)
+    ∙ ap (λ reading. run reading (path_text path)) (run-append (Some Start) part (codes "::") ∙ ap (λ reading. run reading (codes "::")) first)
     ∙ rest
 
 -- the text of a name is read to the end of a part
 pub run-name_text : (name : PlainName) → IsOfIdentifiers name → run (Some Start) (name_text name) ≡ Some Inside
 run-name_text name (base, path) =
-    run-append (Some Start) (joined name.path) name.base
-    ∙ ap (λ reading. run reading name.base) (run-joined name.path path)
+    run-append (Some Start) (path_text name.path) name.base
+    ∙ ap (λ reading. run reading name.base) (run-path_text name.path path)
     ∙ run-identifier name.base base
 
 -- what is read of a name: the parts that are finished, and the one that has begun
 abbrev pub HasRead : Reading → List Text → Text → Text → Type 0
-HasRead Start path part text = (part ≡ []) × (text ≡ joined path)
-HasRead Inside path part text = IsIdentifier part × (text ≡ joined path ++ part)
-HasRead Colon path part text = IsIdentifier part × (text ≡ joined path ++ (part ++ 58 ∷ []))
+HasRead Start path part text = (part ≡ []) × (text ≡ path_text path)
+HasRead Inside path part text = IsIdentifier part × (text ≡ path_text path ++ part)
+HasRead Colon path part text = IsIdentifier part × (text ≡ path_text path ++ (part ++ 58 ∷ []))
 
 -- the identifiers of a path are identifiers
 pub ids_are_identifiers : (ids : List Id) → All IsIdentifier (map id_text ids)
@@ -92,13 +92,13 @@ ids_are_identifiers ids = All-map IsIdentifier id_text ids (λ k d below. (slice
 -- what is read is read so
 run-HasRead : (reading : Reading) (path : List Text) (part text : Text) → All IsIdentifier path → HasRead reading path part text
     → run (Some Start) text ≡ Some reading
-run-HasRead Start path part text all (none, is) = ap (run (Some Start)) is ∙ run-joined path all
+run-HasRead Start path part text all (none, is) = ap (run (Some Start)) is ∙ run-path_text path all
 run-HasRead Inside path part text all (identifier, is) =
-    ap (run (Some Start)) is ∙ run-append (Some Start) (joined path) part
-    ∙ ap (λ reading. run reading part) (run-joined path all) ∙ run-identifier part identifier
+    ap (run (Some Start)) is ∙ run-append (Some Start) (path_text path) part
+    ∙ ap (λ reading. run reading part) (run-path_text path all) ∙ run-identifier part identifier
 run-HasRead Colon path part text all (identifier, is) =
-    ap (run (Some Start)) is ∙ run-append (Some Start) (joined path) (part ++ 58 ∷ [])
-    ∙ ap (λ reading. run reading (part ++ 58 ∷ [])) (run-joined path all)
+    ap (run (Some Start)) is ∙ run-append (Some Start) (path_text path) (part ++ 58 ∷ [])
+    ∙ ap (λ reading. run reading (part ++ 58 ∷ [])) (run-path_text path all)
     ∙ run-append (Some Start) part (58 ∷ []) ∙ ap (λ reading. run reading (58 ∷ [])) (run-identifier part identifier)
 
 -- at first nothing is read
@@ -151,11 +151,11 @@ pub HasRead-byte : (reading : Reading) (byte : ℕ) (path : List Text) (part tex
     → HasRead reading path part text → HasRead Inside path (part ++ byte ∷ []) (text ++ byte ∷ [])
 HasRead-byte Start byte path part text start (none, is) = (
   subst (λ begun. IsIdentifier (begun ++ byte ∷ [])) (sym none) (single_identifier byte start),
-  ap (λ all. all ++ byte ∷ []) is ∙ ap (λ begun. joined path ++ (begun ++ byte ∷ [])) (sym none),
+  ap (λ all. all ++ byte ∷ []) is ∙ ap (λ begun. path_text path ++ (begun ++ byte ∷ [])) (sym none),
 )
 HasRead-byte Inside byte path part text more (identifier, is) = (
   longer_identifier part byte identifier more,
-  ap (λ all. all ++ byte ∷ []) is ∙ append_assoc (joined path) part (byte ∷ []),
+  ap (λ all. all ++ byte ∷ []) is ∙ append_assoc (path_text path) part (byte ∷ []),
 )
 HasRead-byte Colon byte path part text never read = absurd never
 
@@ -165,7 +165,7 @@ pub HasRead-colon : (reading : Reading) (byte : ℕ) (path : List Text) (part te
 HasRead-colon Start byte path part text never read = absurd never
 HasRead-colon Inside byte path part text colon (identifier, is) = (
   identifier,
-  ap (λ all. all ++ byte ∷ []) is ∙ append_assoc (joined path) part (byte ∷ []) ∙ ap (λ last. joined path ++ (part ++ last ∷ [])) colon,
+  ap (λ all. all ++ byte ∷ []) is ∙ append_assoc (path_text path) part (byte ∷ []) ∙ ap (λ last. path_text path ++ (part ++ last ∷ [])) colon,
 )
 HasRead-colon Colon byte path part text never read = absurd never
 
@@ -183,9 +183,9 @@ HasRead-part Start byte path part text never read = absurd never
 HasRead-part Inside byte path part text never read = absurd never
 HasRead-part Colon byte path part text colon (identifier, is) = (
   refl,
-  ap (λ all. all ++ byte ∷ []) is ∙ append_assoc (joined path) (part ++ 58 ∷ []) (byte ∷ [])
-      ∙ ap (λ rest. joined path ++ rest) (append_assoc part (58 ∷ []) (byte ∷ []))
-      ∙ ap (λ last. joined path ++ (part ++ 58 ∷ last ∷ [])) colon
+  ap (λ all. all ++ byte ∷ []) is ∙ append_assoc (path_text path) (part ++ 58 ∷ []) (byte ∷ [])
+      ∙ ap (λ rest. path_text path ++ rest) (append_assoc part (58 ∷ []) (byte ∷ []))
+      ∙ ap (λ last. path_text path ++ (part ++ 58 ∷ last ∷ [])) colon
       ∙ flat_map_more (λ part. part ++ codes "::") [] path part,
 )
 
@@ -200,9 +200,9 @@ HasRead-begins Colon path part text all (identifier, is) =
     let name : PlainName = record { base = 97 ∷ []; path = path ++ part ∷ [] } in
     let prints : name_text name ≡ text ++ 58 ∷ 97 ∷ [] =
     ap (λ front. front ++ 97 ∷ []) (sym (flat_map_more (λ part. part ++ codes "::") [] path part))
-    ∙ append_assoc (joined path) (part ++ codes "::") (97 ∷ [])
-    ∙ ap (λ rest. joined path ++ rest) (append_assoc part (codes "::") (97 ∷ []) ∙ sym (append_assoc part (58 ∷ []) (58 ∷ 97 ∷ [])))
-    ∙ sym (append_assoc (joined path) (part ++ 58 ∷ []) (58 ∷ 97 ∷ []))
+    ∙ append_assoc (path_text path) (part ++ codes "::") (97 ∷ [])
+    ∙ ap (λ rest. path_text path ++ rest) (append_assoc part (codes "::") (97 ∷ []) ∙ sym (append_assoc part (58 ∷ []) (58 ∷ 97 ∷ [])))
+    ∙ sym (append_assoc (path_text path) (part ++ 58 ∷ []) (58 ∷ 97 ∷ []))
     ∙ ap (λ front. front ++ 58 ∷ 97 ∷ []) (sym is) in
     (58 ∷ 97 ∷ [], (name, (refl, All-push IsIdentifier path part all identifier), prints))
 
@@ -285,16 +285,16 @@ bytes-append text more first rest =
     list_all-append is_name_byte text more ∙ ap (λ test. test && list_all is_name_byte more) first ∙ rest
 
 -- the bytes of a path may stand in a name
-joined_bytes : (path : List Text) → All IsIdentifier path → list_all is_name_byte (joined path) ≡ true
-joined_bytes [] all = refl
-joined_bytes (part ∷ path) all =
-    bytes-append (part ++ codes "::") (joined path)
+path_text-bytes : (path : List Text) → All IsIdentifier path → list_all is_name_byte (path_text path) ≡ true
+path_text-bytes [] all = refl
+path_text-bytes (part ∷ path) all =
+    bytes-append (part ++ codes "::") (path_text path)
     (bytes-append part (codes "::") (identifier_word part (all 0 part (omega arith))) refl)
-    (joined_bytes path (λ k d below. all (suc k) d (omega (arith, below))))
+    (path_text-bytes path (λ k d below. all (suc k) d (omega (arith, below))))
 
 -- and so may those of a name's text
 pub name_bytes : (name : PlainName) → IsOfIdentifiers name → list_all is_name_byte (name_text name) ≡ true
-name_bytes name (base, path) = bytes-append (joined name.path) name.base (joined_bytes name.path path) (identifier_word name.base base)
+name_bytes name (base, path) = bytes-append (path_text name.path) name.base (path_text-bytes name.path path) (identifier_word name.base base)
 
 -- a byte of a name is of ASCII
 name_byte-ascii : (byte : ℕ) → is_name_byte byte ≡ true → byte < 128
@@ -325,11 +325,13 @@ stops_at_byte text at reading path part all read within none = record {
   other = λ named. dead-begins (take (length text) text)
       (run-dead text at (length text) reading path part all read none within (omega arith))
       ([], subst IsNameText (sym (append-nil (take (length text) text) ∙ take_all (length text) text (omega arith))) named);
-  within = omega (arith, within);
-  whole = begins_text (take at text) (HasRead-begins reading path part (take at text) all read);
-  begins = HasRead-begins reading path part (take at text) all read;
-  longest = λ longer more inside _. dead-begins (take longer text)
-      (run-dead text at longer reading path part all read none more inside);
+  beginning = record {
+    within = omega (arith, within);
+    whole = begins_text (take at text) (HasRead-begins reading path part (take at text) all read);
+    begins = HasRead-begins reading path part (take at text) all read;
+    longest = λ longer more inside _. dead-begins (take longer text)
+        (run-dead text at longer reading path part all read none more inside);
+  };
 }
 
 -- options of readings are equal where these are
@@ -342,8 +344,10 @@ pub stops_at_end : (text : Text) (reading : Reading) (path : List Text) (part : 
 stops_at_end text reading path part all read unfinished = record {
   other = λ (name, ids, is). unfinished
       (same_reading reading Inside (sym (run-HasRead reading path part text all read) ∙ ap (run (Some Start)) (sym is) ∙ run-name_text name ids));
-  within = omega arith;
-  whole = subst IsUtf8 (sym (take_all (length text) text (omega arith))) (begins_text text (HasRead-begins reading path part text all read));
-  begins = subst (Begins IsNameText) (sym (take_all (length text) text (omega arith))) (HasRead-begins reading path part text all read);
-  longest = λ longer more inside _. absurd (omega (arith, more, inside));
+  beginning = record {
+    within = omega arith;
+    whole = subst IsUtf8 (sym (take_all (length text) text (omega arith))) (begins_text text (HasRead-begins reading path part text all read));
+    begins = subst (Begins IsNameText) (sym (take_all (length text) text (omega arith))) (HasRead-begins reading path part text all read);
+    longest = λ longer more inside _. absurd (omega (arith, more, inside));
+  };
 }

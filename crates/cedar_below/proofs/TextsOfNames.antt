@@ -9,7 +9,7 @@ use Rattle.cedar_below.specs.InternalName.{name_of}
 use Rattle.cedar_below.specs.NameText.{IsOfIdentifiers}
 use Rattle.cedar_below.specs.PlainName.{PlainName, name_text}
 use Rattle.cedar_below.specs.Text.{Text}
-use Rattle.cedar_below.proofs.NameReading.{both_true, ids_are_identifiers, joined}
+use Rattle.cedar_below.proofs.NameReading.{both_true, ids_are_identifiers, path_text}
 
 -- each byte of the text may stand in an identifier
 abbrev IsWord : Text → Type 0
@@ -60,15 +60,15 @@ All-rest first rest all k d below = all (suc k) d (omega (arith, below))
 
 -- paths and base names that print alike are the same
 parts_by_text : (path other : List Text) (base last : Text) → All IsIdentifier path → All IsIdentifier other → IsIdentifier base
-    → IsIdentifier last → joined path ++ base ≡ joined other ++ last → (path ≡ other) × (base ≡ last)
+    → IsIdentifier last → path_text path ++ base ≡ path_text other ++ last → (path ≡ other) × (base ≡ last)
 parts_by_text [] [] base last _ _ _ _ e = (refl, e)
 parts_by_text [] (q ∷ other) base last _ _ is _ e =
-    absurd (no_cut is_identifier_byte 58 refl base q (58 ∷ (joined other ++ last)) (word base is) (e ∙ shifted q (joined other) last))
+    absurd (no_cut is_identifier_byte 58 refl base q (58 ∷ (path_text other ++ last)) (word base is) (e ∙ shifted q (path_text other) last))
 parts_by_text (p ∷ path) [] base last _ _ _ is e =
-    absurd (no_cut is_identifier_byte 58 refl last p (58 ∷ (joined path ++ base)) (word last is) (sym e ∙ shifted p (joined path) base))
+    absurd (no_cut is_identifier_byte 58 refl last p (58 ∷ (path_text path ++ base)) (word last is) (sym e ∙ shifted p (path_text path) base))
 parts_by_text (p ∷ path) (q ∷ other) base last all others is its e =
     let halves = cut is_identifier_byte 58 refl p q _ _ (word p (all 0 p (omega arith))) (word q (others 0 q (omega arith)))
-    (sym (shifted p (joined path) base) ∙ e ∙ shifted q (joined other) last) in
+    (sym (shifted p (path_text path) base) ∙ e ∙ shifted q (path_text other) last) in
     let rest = parts_by_text path other base last (All-rest p path all) (All-rest q other others) is its (cons_rest halves.1) in
     (λ i. halves.0 i ∷ rest.0 i, rest.1)
 

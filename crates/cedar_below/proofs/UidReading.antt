@@ -17,12 +17,12 @@ use Rattle.cedar_below.specs.NameFault.{IsNameFault}
 use Rattle.cedar_below.specs.NameText.{IsNameText, IsOfIdentifiers}
 use Rattle.cedar_below.specs.PlainName.{PlainName, name_text}
 use Rattle.cedar_below.specs.PlainUid.{PlainUid}
-use Rattle.cedar_below.specs.Stops.{Begins, StopsAt}
+use Rattle.cedar_below.specs.Stops.{Begins, IsLongestBeginning, StopsAt}
 use Rattle.cedar_below.specs.Text.{Text}
-use Rattle.cedar_below.specs.UidReading.{IsLongestBeginning, IsTypeFault}
+use Rattle.cedar_below.specs.UidReading.{IsTypeFault}
 use Rattle.cedar_below.specs.UidText.{IsQuoted, IsReservedUidText, IsUidText, escaped, escaped_text, uid_text}
 use Rattle.cedar_below.proofs.EscapeReading.{below_or_not, utf8_rest}
-use Rattle.cedar_below.proofs.NameReading.{begins_text, bytes-append, both_true, is_name_byte, joined, name_bytes}
+use Rattle.cedar_below.proofs.NameReading.{begins_text, bytes-append, both_true, is_name_byte, path_text, name_bytes}
 use Rattle.cedar_below.proofs.TextsOfNames.{cons_head, cons_rest, cut}
 
 -- a byte that is no quote
@@ -49,11 +49,11 @@ name_bytes-no_quote (byte ∷ text) all =
     ap (λ test. test && list_all is_no_quote text) (name_byte-no_quote byte halves.0) ∙ name_bytes-no_quote text halves.1
 
 -- a name with `::` has no quote
-name_front-no_quote : (name : PlainName) → IsOfIdentifiers name → HasNoQuote (name_text name ++ codes "::")
+pub name_front-no_quote : (name : PlainName) → IsOfIdentifiers name → HasNoQuote (name_text name ++ codes "::")
 name_front-no_quote name ids = name_bytes-no_quote (name_text name ++ codes "::") (bytes-append (name_text name) (codes "::") (name_bytes name ids) refl)
 
 -- a uid's text is the name of its type with `::`, and its id in quotes
-uid_text-split : (uid : PlainUid) → uid_text uid ≡ (name_text uid.ty ++ codes "::") ++ 34 ∷ (escaped_text uid.eid ++ codes "\"")
+pub uid_text-split : (uid : PlainUid) → uid_text uid ≡ (name_text uid.ty ++ codes "::") ++ 34 ∷ (escaped_text uid.eid ++ codes "\"")
 uid_text-split uid = sym (append_assoc (name_text uid.ty) (codes "::") (34 ∷ (escaped_text uid.eid ++ codes "\"")))
 
 -- the name with `::` and a letter is a name's text
@@ -62,7 +62,7 @@ longer_name name (base, path) = (
   record { base = 97 ∷ []; path = name.path ++ name.base ∷ [] },
   (refl, All-push IsIdentifier name.path name.base path base),
   ap (λ front. front ++ 97 ∷ []) (sym (flat_map_more (λ part. part ++ codes "::") [] name.path name.base)
-      ∙ sym (append_assoc (joined name.path) name.base (codes "::"))),
+      ∙ sym (append_assoc (path_text name.path) name.base (codes "::"))),
 )
 
 -- what stands before the first quote of a uid's text
@@ -134,34 +134,38 @@ take_behind before after k =
     ∙ take-append-add front after k ∙ append_assoc before (34 ∷ []) (take k after)
 
 -- a text without quotes stops being a uid's where it stops beginning a name
-pub stops_without_quote : (text : Text) (at : ℕ) → HasNoQuote text → IsLongestBeginning text at → StopsAt IsUidText text at
+pub stops_without_quote : (text : Text) (at : ℕ) → HasNoQuote text → IsLongestBeginning IsNameText text at → StopsAt IsUidText text at
 stops_without_quote text at free most = record {
   other = no_uid text free;
-  within = most.within;
-  whole = most.whole;
-  begins = begins_uid (take at text) most.begins;
-  longest = λ longer more inside utf8 begun. most.longest longer more inside utf8
-      (begins_name (take longer text) (front-no_quote longer text free) begun);
+  beginning = record {
+    within = most.within;
+    whole = most.whole;
+    begins = begins_uid (take at text) most.begins;
+    longest = λ longer more inside utf8 begun. most.longest longer more inside utf8
+        (begins_name (take longer text) (front-no_quote longer text free) begun);
+  };
 }
 
 -- and so does one in which no name and `::` stand before the first quote
 pub stops_before_quote : (before after : Text) (at : ℕ) → HasNoQuote before
-    → ((name : PlainName) → IsOfIdentifiers name → before ≢ name_text name ++ codes "::") → IsLongestBeginning before at
+    → ((name : PlainName) → IsOfIdentifiers name → before ≢ name_text name ++ codes "::") → IsLongestBeginning IsNameText before at
     → StopsAt IsUidText (before ++ 34 ∷ after) at
 stops_before_quote before after at free none most =
     let front : take at (before ++ 34 ∷ after) ≡ take at before = take-append-le at before (34 ∷ after) most.within in
     record {
       other = λ is. let uid = uid_front before after free is in none uid.0 uid.1 uid.2;
-      within = (let inside = most.within in let long = length-append before (34 ∷ after) in omega (arith, inside, long));
-      whole = subst IsUtf8 (sym front) most.whole;
-      begins = subst (Begins IsUidText) (sym front) (begins_uid (take at before) most.begins);
-      longest = λ longer more inside utf8 begun. ⊎_elim
-          (λ beyond. behind_quote longer beyond begun)
-          (λ short.
-          let same : take longer (before ++ 34 ∷ after) ≡ take longer before = take-append-le longer before (34 ∷ after) short in
-          most.longest longer more short (subst IsUtf8 same utf8)
-          (begins_name (take longer before) (front-no_quote longer before free) (subst (Begins IsUidText) same begun)))
-          (below_or_not (length before) longer);
+      beginning = record {
+        within = (let inside = most.within in let long = length-append before (34 ∷ after) in omega (arith, inside, long));
+        whole = subst IsUtf8 (sym front) most.whole;
+        begins = subst (Begins IsUidText) (sym front) (begins_uid (take at before) most.begins);
+        longest = λ longer more inside utf8 begun. ⊎_elim
+            (λ beyond. behind_quote longer beyond begun)
+            (λ short.
+            let same : take longer (before ++ 34 ∷ after) ≡ take longer before = take-append-le longer before (34 ∷ after) short in
+            most.longest longer more short (subst IsUtf8 same utf8)
+            (begins_name (take longer before) (front-no_quote longer before free) (subst (Begins IsUidText) same begun)))
+            (below_or_not (length before) longer);
+      };
     }
   where
     behind_quote : (longer : ℕ) → length before < longer → ¬ Begins IsUidText (take longer (before ++ 34 ∷ after))
@@ -194,29 +198,31 @@ stops_in_id name before after at ids is stop =
     IsUtf8-append before (34 ∷ []) (subst IsUtf8 (sym is) (begins_text (name_text name ++ codes "::") (97 ∷ [], longer_name name ids))) quote_text in
     record {
       other = λ whole. stop.other (uid_front before after free whole).3;
-      within = (let inside = stop.within in let long = length-append before (34 ∷ after) in omega (arith, inside, long));
-      whole = subst IsUtf8 (append_assoc before (34 ∷ []) (take at after) ∙ sym (take_behind before after at))
-          (IsUtf8-append (before ++ 34 ∷ []) (take at after) text stop.whole);
-      begins = (
-        stop.begins.0,
-        subst IsUidText (sym (append_assoc before (34 ∷ take at after) stop.begins.0) ∙ ap (λ front. front ++ stop.begins.0) (sym (take_behind before after at)))
-            (joined_uid name before (take at after ++ stop.begins.0) ids is stop.begins.1),
-      );
-      longest = λ longer more inside utf8 (rest, begun).
-          let k = longer - (length before + 1) in
-          let many : longer ≡ length before + 1 + k = omega (arith, more) in
-          let long = length-append before (34 ∷ after) in
-          let front : take longer (before ++ 34 ∷ after) ≡ before ++ 34 ∷ take k after =
-          ap (λ n. take n (before ++ 34 ∷ after)) many ∙ take_behind before after k in
-          let uid = uid_front before (take k after ++ rest) free (subst IsUidText
-          (ap (λ first. first ++ rest) front ∙ append_assoc before (34 ∷ take k after) rest) begun) in
-          stop.longest k (omega (arith, more, many)) (omega (arith, many, inside, long))
-          (utf8_rest (before ++ 34 ∷ []) (take k after) text (subst IsUtf8 (front ∙ sym (append_assoc before (34 ∷ []) (take k after))) utf8))
-          (rest, uid.3);
+      beginning = record {
+        within = (let inside = stop.beginning.within in let long = length-append before (34 ∷ after) in omega (arith, inside, long));
+        whole = subst IsUtf8 (append_assoc before (34 ∷ []) (take at after) ∙ sym (take_behind before after at))
+            (IsUtf8-append (before ++ 34 ∷ []) (take at after) text stop.beginning.whole);
+        begins = (
+          stop.beginning.begins.0,
+          subst IsUidText (sym (append_assoc before (34 ∷ take at after) stop.beginning.begins.0) ∙ ap (λ front. front ++ stop.beginning.begins.0) (sym (take_behind before after at)))
+              (joined_uid name before (take at after ++ stop.beginning.begins.0) ids is stop.beginning.begins.1),
+        );
+        longest = λ longer more inside utf8 (rest, begun).
+            let k = longer - (length before + 1) in
+            let many : longer ≡ length before + 1 + k = omega (arith, more) in
+            let long = length-append before (34 ∷ after) in
+            let front : take longer (before ++ 34 ∷ after) ≡ before ++ 34 ∷ take k after =
+            ap (λ n. take n (before ++ 34 ∷ after)) many ∙ take_behind before after k in
+            let uid = uid_front before (take k after ++ rest) free (subst IsUidText
+            (ap (λ first. first ++ rest) front ∙ append_assoc before (34 ∷ take k after) rest) begun) in
+            stop.beginning.longest k (omega (arith, more, many)) (omega (arith, many, inside, long))
+            (utf8_rest (before ++ 34 ∷ []) (take k after) text (subst IsUtf8 (front ∙ sym (append_assoc before (34 ∷ []) (take k after))) utf8))
+            (rest, uid.3);
+      };
     }
 
--- where a text is a name, or stops being one, its longest beginning ends
-pub beginning_of_name : (text : Text) → IsUtf8 text → IsNameText text → IsLongestBeginning text (length text)
+-- a name is the whole of its longest beginning
+pub beginning_of_name : (text : Text) → IsUtf8 text → IsNameText text → IsLongestBeginning IsNameText text (length text)
 beginning_of_name text utf8 is =
     let all : take (length text) text ≡ text = take_all (length text) text (omega arith) in
     record {
@@ -225,10 +231,6 @@ beginning_of_name text utf8 is =
       begins = subst (Begins IsNameText) (sym all) ([], subst IsNameText (sym (append-nil text)) is);
       longest = λ longer more inside _ _. absurd (omega (arith, more, inside));
     }
-
-pub beginning_where_it_stops : (text : Text) (at : ℕ) → StopsAt IsNameText text at → IsLongestBeginning text at
-beginning_where_it_stops text at stop =
-    record { within = stop.within; whole = stop.whole; begins = stop.begins; longest = stop.longest }
 
 -- no quote stands in a text in which each byte is another
 pub no_quote_by_bytes : (text : Text) → ((i : ℕ) → i < length text → get_or text i 0 ≢ 34) → HasNoQuote text
@@ -261,7 +263,7 @@ uid_by_parts uid before after front rest = uid_text-split uid ∙ (λ i. sym fro
 
 -- why a text doesn't go on to a uid, from why it is no name
 pub type_fault_by_name : (text : Text) (fault : NameFault) → IsNameFault IsNameText (λ _. ⊥) (λ _. ⊥) text fault → IsTypeFault text fault
-type_fault_by_name text (NotAName at) stop = beginning_where_it_stops text at stop
+type_fault_by_name text (NotAName at) stop = stop.beginning
 type_fault_by_name text Reserved is = absurd is
 type_fault_by_name text NoCommonType is = absurd is
 type_fault_by_name text (Memory refused) is = tt

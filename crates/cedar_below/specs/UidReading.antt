@@ -1,24 +1,16 @@
-use Rattle.std.specs.Prelude.{◌≡◌, ◌≢◌, ◌++◌, ◌<◌, ◌≤◌, ⊤, ℕ, Option, None, Some, codes, length, take}
-use Rattle.std.specs.Str.{IsUtf8}
+use Rattle.std.specs.Prelude.{◌≡◌, ◌≢◌, ◌++◌, ⊤, Option, None, Some, codes}
 use Rattle.cedar_below.specs.declared.internal_name.InternalName.{InternalName}
 use Rattle.cedar_below.specs.declared.name_fault.NameFault.{NameFault}
 use Rattle.cedar_below.specs.declared.name_fault.NameFault.TheVariants.{NotAName, Reserved, NoCommonType, Memory}
 use Rattle.cedar_below.specs.InternalName.{name_loc, name_of}
 use Rattle.cedar_below.specs.NameText.{IsNameText, IsOfIdentifiers}
 use Rattle.cedar_below.specs.PlainName.{PlainName, name_text}
-use Rattle.cedar_below.specs.Stops.{Begins}
+use Rattle.cedar_below.specs.Stops.{IsLongestBeginning}
 use Rattle.cedar_below.specs.Text.{Text}
-
--- the longest front of a text with which a name begins ends at this byte
-pub record IsLongestBeginning (text : Text) (at : ℕ) : Type 0 where
-  pub within : at ≤ length text
-  pub whole : IsUtf8 (take at text)
-  pub begins : Begins IsNameText (take at text)
-  pub longest : (longer : ℕ) → at < longer → longer ≤ length text → IsUtf8 (take longer text) → ¬ Begins IsNameText (take longer text)
 
 -- why what stands before the quote of a uid doesn't go on to it
 abbrev pub IsTypeFault : Text → NameFault → Type 0
-IsTypeFault before (NotAName at) = IsLongestBeginning before at
+IsTypeFault before (NotAName at) = IsLongestBeginning IsNameText before at
 IsTypeFault before Reserved = ⊥
 IsTypeFault before NoCommonType = ⊥
 IsTypeFault before (Memory refused) = ⊤

@@ -10,8 +10,8 @@ use std::{error, fmt};
 /// Why no name was read from a text.
 #[derive(Clone, Copy, Debug, PartialEq, Eq)]
 pub enum NameFault {
-    /// The text stops being a name at this byte, counted from 0: what stands before it begins a
-    /// name, and no more of the text does. At the end of the text more is wanted.
+    /// The text stops being a name, or a uid, at this byte, counted from 0: what stands before it
+    /// begins one, and no more of the text does. At the end of the text more is wanted.
     NotAName(usize),
     /// The text is a name that is reserved: a part of it is `__cedar` (RFC 52).
     Reserved,
@@ -30,7 +30,7 @@ impl fmt::Display for NameFault {
 
     fn fmt<W: fmt::Write>(&self, f: &mut fmt::Formatter<W>) -> fmt::Result {
         match self {
-            NameFault::NotAName(at) => write!(f, "the text stops being a name at byte {at}"),
+            NameFault::NotAName(at) => write!(f, "the text can't be read on from byte {at}"),
             NameFault::Reserved => f.write_str("a part of the name is the reserved word __cedar"),
             NameFault::NoCommonType => f.write_str("the name is that of a type of Cedar's own"),
             NameFault::Memory(_) => f.write_str("out of memory"),

@@ -2,6 +2,7 @@
 
 ghost use Rattle.std.specs.Prelude.{◌≡◌, ◌↔◌, IsTrue};
 ghost use Rattle.std.specs.Cmp.{IsTotalOrder};
+ghost use Rattle.std.specs.Str.{IsUtf8};
 ghost use Rattle.cedar_below.specs.Eid.{eid_text};
 ghost use Rattle.cedar_below.specs.EntityType.{type_name};
 ghost use Rattle.cedar_below.specs.EntityUID.{uid_of};
@@ -9,9 +10,11 @@ ghost use Rattle.cedar_below.specs.Id.{id_text};
 ghost use Rattle.cedar_below.specs.InternalName.{name_of};
 ghost use Rattle.cedar_below.specs.IsValue.{IsName};
 ghost use Rattle.cedar_below.specs.Name.{plain_name};
+ghost use Rattle.cedar_below.specs.NameText.{IsOfIdentifiers};
 ghost use Rattle.cedar_below.specs.PlainName.{PlainName, name_cmp, name_text};
 ghost use Rattle.cedar_below.specs.PlainUid.{PlainUid, uid_cmp};
 ghost use Rattle.cedar_below.specs.Text.{text_cmp};
+ghost use Rattle.cedar_below.specs.UidText.{uid_text};
 ghost use Rattle.cedar_below.specs.UnreservedId.{unreserved_id_text};
 
 use crate::eid::Eid;
@@ -92,6 +95,14 @@ pub fn uids_are_totally_ordered()
 /// A name is known by its text: names that print alike are the same, ignoring locations.
 pub fn names_are_known_by_their_text()
     ensures { (a b : InternalName) → name_text (name_of a) ≡ name_text (name_of b) → name_of a ≡ name_of b }
+{}
+
+/// A uid is known by its text: uids that print alike are the same, ignoring locations, whether or
+/// not their types are reserved.
+pub fn uids_are_known_by_their_text()
+    ensures plain { (a b : PlainUid) → IsOfIdentifiers a.ty → IsOfIdentifiers b.ty → IsUtf8 a.eid → IsUtf8 b.eid
+        → uid_text a ≡ uid_text b → a ≡ b }
+    ensures uids { (a b : EntityUID) → uid_text (uid_of a) ≡ uid_text (uid_of b) → uid_of a ≡ uid_of b }
 {}
 
 /// What a name stands for isn't reserved, and its parts are identifiers.

@@ -21,7 +21,7 @@ fn answer<T: Display + Drop>(alloc: Global, read: Result<T, NameFault>) -> Resul
 
 /// What is answered where a text stops being a name at a byte.
 fn stops(alloc: Global, at: usize) -> Result<String, Fail> {
-    Ok(format!(in alloc; "the text stops being a name at byte {at}")?)
+    Ok(format!(in alloc; "the text can't be read on from byte {at}")?)
 }
 
 /// Texts that are no names, each with the byte at which it stops being one.
