@@ -1,111 +1,108 @@
--- Parents of actions, as edges and in the bag.
-use Rattle.std.proofs.Common.{◌≡◌, List, map, ap, sym, subst, refl, inl, ⊎_elim, Contains}
-use Rattle.cedar_below.proofs.Lists.{Contains-preimage}
+-- Parents and descent of actions, as edges and in the bag.
+use Rattle.std.proofs.Common.{◌≡◌, List, map, ap, sym, ◌∙◌, refl, inl, ⊎_elim, Contains}
+use Rattle.std.proofs.lemmas.Simd.{map-map}
+use Rattle.std.specs.BTreeMap.{BTreeMap}
 use Rattle.cedar_below.proofs.Uids.{entity_uid_eq-same}
+use Rattle.cedar_below.specs.Chain.{Chain, one, more}
 use Rattle.cedar_below.specs.EntityUID.{uid_of}
 use Rattle.cedar_below.specs.PlainUid.{PlainUid}
+use Rattle.cedar_below.specs.contracts.entity_uid.EntityUIDPartialEq.TheImpl as uid_eq
 use Rattle.cedar_below.specs.declared.entity_type.EntityType.{EntityType}
 use Rattle.cedar_below.specs.declared.entity_uid.EntityUID.{EntityUID}
 use Rattle.cedar_below.specs.declared.extension.Extensions.{Extensions}
 use Rattle.cedar_below.specs.declared.internal_name.InternalName.{InternalName}
-use Rattle.std.specs.BTreeMap.{BTreeMap}
-use Rattle.cedar_declarations.proofs.OccurrenceLemmas.{Contains-flat_map, Contains-given, Contains-image}
+use Rattle.cedar_declarations.proofs.OccurrenceLemmas.{Contains-image}
 use Rattle.cedar_declarations.specs.Bag.{Bag, action_uids, declared_actions}
-use Rattle.cedar_declarations.specs.Descent.{HasParentAction}
+use Rattle.cedar_declarations.specs.Descent.{HasParentAction, IsDescendantAction}
 use Rattle.cedar_declarations.specs.Names.{NamesAction}
+use Rattle.cedar_declarations.specs.ResolvedExpr.{resolved_reference}
 use Rattle.cedar_declarations.specs.Together.{IsActionParent}
-use Rattle.cedar_schema_elements.specs.declared.entity_type.ValidatorEntityType.{ValidatorEntityType}
+use Rattle.cedar_elaboration.specs.declared.type_scope.TypeScope.{TypeScope}
+use Rattle.cedar_fragments.specs.ActionDeclarations.{action_fragment_body}
+use Rattle.cedar_fragments.specs.FragmentDeclarations.{resolved_action_type}
 use Rattle.cedar_fragments.specs.declared.namespace.actions.ActionFragment.{ActionFragment}
-use Rattle.cedar_resolution.specs.Collected.{collected_actions}
 use Rattle.cedar_names.specs.ActionBody.{ActionBody}
 use Rattle.cedar_names.specs.Reference.{ActionReference}
+use Rattle.cedar_schema_elements.specs.declared.entity_type.ValidatorEntityType.{ValidatorEntityType}
+use Rattle.cedar_builder.proofs.NodeParents as any
 use Rattle.cedar_builder.specs.ActionNodes.{IsAbove}
+use Rattle.cedar_builder.specs.ActionSteps.{reference_to_action}
 use Rattle.cedar_builder.specs.ActionsReady.{AreActionsOf}
-use Rattle.cedar_builder.specs.ActionSteps.{parents_in, parents_of, plain_edge, reference_to_action}
-use Rattle.cedar_elaboration.specs.declared.type_scope.TypeScope.{TypeScope}
+use Rattle.cedar_builder.specs.DeclaredNodes.{parents_in, plain_edge}
 
-abbrev Entry : Type 0
-Entry = PlainUid × ActionBody
+-- the uid of an action with the parents that are declared
+abbrev pub listed : EntityUID × ActionFragment InternalName EntityType → PlainUid × List ActionReference
+listed it = (uid_of it.0, (action_fragment_body InternalName resolved_reference EntityType resolved_action_type it.1).parents)
 
--- a uid and a parent of it are so by one of the declarations
-pub parent_from : (entries : List Entry) (uid : PlainUid) (reference : ActionReference) → Contains (parents_in entries) (uid, reference)
-    → (body : ActionBody) × Contains entries (uid, body) × Contains body.parents reference
-parent_from entries uid reference among =
-    let it = Contains-flat_map (λ (each : Entry). parents_of each.0 each.1.parents) entries (uid, reference) among in
-    let found = Contains-preimage (λ each. (it.0.0, each)) it.0.1.parents (uid, reference) it.2 in
-    let P : PlainUid → Type 0 = λ each. Contains entries (each, it.0.1) in
-    let Q : ActionReference → Type 0 = Contains it.0.1.parents in
-    (it.0.1, subst P (ap (λ each. each.0) found.2) it.1, subst Q (ap (λ each. each.1) found.2) found.1)
+-- the edges are those to what is declared from its parents
+abbrev pub AreEdges : List (EntityUID × ActionFragment InternalName EntityType) → List (EntityUID × EntityUID) → Type 0
+AreEdges declared edges = map (plain_edge uid_of reference_to_action) edges
+    ≡ parents_in (map listed declared)
 
--- a parent of a declaration stands beside its uid
-pub parent_to : (entries : List Entry) (uid : PlainUid) (body : ActionBody) (reference : ActionReference)
-    → Contains entries (uid, body) → Contains body.parents reference → Contains (parents_in entries) (uid, reference)
-parent_to entries uid body reference among parent =
-    Contains-given (λ (each : Entry). parents_of each.0 each.1.parents) entries (uid, body) (uid, reference) among
-    (Contains-image (λ each. (uid, each)) body.parents reference parent)
+-- the parents of what is declared
+abbrev parents_of : ActionBody → List ActionReference
+parents_of body = body.parents
+
+-- a chain of edges to an action is one to each of the same uid
+pub chain_to_same : (edges : List (EntityUID × EntityUID)) {upper lower : EntityUID} (other : EntityUID)
+    → Chain (IsAbove edges) upper lower → uid_of lower ≡ uid_of other → Chain (IsAbove edges) upper other
+chain_to_same edges {upper = upper} {lower = lower} other (one step) same =
+    let named : uid_of step.0.1 ≡ uid_of other = (entity_uid_eq-same step.0.1 lower).0 step.3 ∙ same in
+    one (step.0, step.1, step.2, (entity_uid_eq-same step.0.1 other).1 named)
+chain_to_same edges other (more step rest) same = more step (chain_to_same edges other rest same)
+
+-- a descendant is declared
+pub descendant_declared : (bag : Bag) {lower upper : PlainUid} → IsDescendantAction bag lower upper → Contains (action_uids bag) lower
+descendant_declared bag {lower = lower} (one step) =
+    Contains-image (λ (it : PlainUid × ActionBody). it.0) (declared_actions bag) (lower, step.1.0) step.1.1
+descendant_declared bag {lower = lower} (more step rest) =
+    Contains-image (λ (it : PlainUid × ActionBody). it.0) (declared_actions bag) (lower, step.1.0) step.1.1
 
 module _ (bag : Bag) (extensions : Extensions) (declared : List (EntityUID × ActionFragment InternalName EntityType))
     (types : BTreeMap EntityType ValidatorEntityType) (scope : TypeScope)
     (ready : AreActionsOf bag extensions declared types scope) where
-  -- what stands beside a uid among the parents is a parent of it in the bag
-  parent_in_bag : (uid : PlainUid) (reference : ActionReference)
-      → Contains (parents_in (collected_actions declared)) (uid, reference) → IsActionParent bag uid reference
-  parent_in_bag uid reference among =
-      let P : List Entry → Type 0 = λ entries. Contains (parents_in entries) (uid, reference) in
-      parent_from (declared_actions bag) uid reference (subst P ready.actions among)
-
-  -- and the other way round
-  bag_parent : (uid : PlainUid) (reference : ActionReference) → IsActionParent bag uid reference
-      → Contains (parents_in (collected_actions declared)) (uid, reference)
-  bag_parent uid reference parent =
-      let P : List Entry → Type 0 = λ entries. Contains (parents_in entries) (uid, reference) in
-      subst P (sym ready.actions) (parent_to (declared_actions bag) uid parent.0 reference parent.1 parent.2)
-
   -- a parent by its uid alone is declared
-  pub parent_declared : (lower upper : PlainUid) → IsActionParent bag lower (reference_to_action upper)
+  parent_declared : (lower upper : PlainUid) → IsActionParent bag lower (reference_to_action upper)
       → Contains (action_uids bag) upper
   parent_declared lower upper parent =
       let found = ready.named lower (reference_to_action upper) parent in
       ⊎_elim (λ here. here.1) (λ later. absurd later.1) found.1.0
 
-  module _ (edges : List (EntityUID × EntityUID))
-      (are : map plain_edge edges ≡ parents_in (collected_actions declared)) where
-    -- an edge leads from an action to a parent of it
-    edge_parent : (upper lower : EntityUID) → IsAbove edges upper lower
-        → IsActionParent bag (uid_of lower) (reference_to_action (uid_of upper))
-    edge_parent upper lower above =
-        let edge = above.0 in
-        let P : PlainUid × ActionReference → Type 0 = Contains (parents_in (collected_actions declared)) in
-        let Q : List (PlainUid × ActionReference) → Type 0 = λ parents. Contains parents (plain_edge edge) in
-        let named : plain_edge edge ≡ plain_edge (upper, lower) =
-        λ i. ((entity_uid_eq-same edge.1 lower).0 above.3 i, reference_to_action ((entity_uid_eq-same edge.0 upper).0 above.2 i)) in
-        parent_in_bag (uid_of lower) (reference_to_action (uid_of upper))
-        (subst P named (subst Q are (Contains-image plain_edge edges edge above.1)))
+  module _ (edges : List (EntityUID × EntityUID)) (are : AreEdges declared edges) where
+    -- the edges are those of the bag
+    in_bag : map (plain_edge uid_of reference_to_action) edges ≡ parents_in (map (any.with_parents parents_of) (declared_actions bag))
+    in_bag = are ∙ ap parents_in (sym (map-map (any.with_parents parents_of) _ declared) ∙ ap (map (any.with_parents parents_of)) ready.actions)
+
+    -- a parent of an action in the bag is named
+    resolves : (lower upper : PlainUid) → IsActionParent bag lower (reference_to_action upper)
+        → NamesAction (action_uids bag) (reference_to_action upper) upper
+    resolves lower upper parent = (inl (refl, parent_declared lower upper parent), refl)
+
+    -- and nothing else
+    alone : (uid other : PlainUid) → NamesAction (action_uids bag) (reference_to_action uid) other → uid ≡ other
+    alone uid other names =
+        let ty : uid.ty ≡ other.ty = ⊎_elim (λ here. here.0) (λ later. absurd later.1) names.0 in
+        λ i. record { ty = ty i; eid = sym names.1 i }
 
     -- the upper action of an edge is declared
     pub edge_declared : (upper lower : EntityUID) → IsAbove edges upper lower → Contains (action_uids bag) (uid_of upper)
-    edge_declared upper lower above = parent_declared (uid_of lower) (uid_of upper) (edge_parent upper lower above)
-
-    -- and a parent of the lower
-    pub edge_has_parent : (upper lower : EntityUID) → IsAbove edges upper lower
-        → HasParentAction bag (uid_of lower) (uid_of upper)
-    edge_has_parent upper lower above = (
-      reference_to_action (uid_of upper),
-      edge_parent upper lower above,
-      (inl (refl, edge_declared upper lower above), refl),
-    )
+    edge_declared upper lower above =
+        parent_declared (uid_of lower) (uid_of upper) (any.edge_parent (uid_eq.ghosts).eq uid_of entity_uid_eq-same reference_to_action
+        parents_of (declared_actions bag) edges in_bag upper lower above)
 
     -- a parent of an action is so by an edge
     pub parent_edge : (lower upper : PlainUid) → HasParentAction bag lower upper → (edge : EntityUID × EntityUID)
         × Contains edges edge × (uid_of edge.0 ≡ upper) × (uid_of edge.1 ≡ lower)
-    parent_edge lower upper parent =
-        let P : List (PlainUid × ActionReference) → Type 0 = λ parents. Contains parents (lower, parent.0) in
-        let it = Contains-preimage plain_edge edges (lower, parent.0) (subst P (sym are) (bag_parent lower parent.0 parent.1)) in
-        let Q : ActionReference → Type 0 = λ reference. NamesAction (action_uids bag) reference upper in
-        let names = subst Q (sym (ap (λ (each : PlainUid × ActionReference). each.1) it.2)) parent.2 in
-        let ty : (uid_of it.0.0).ty ≡ upper.ty = ⊎_elim (λ here. here.0) (λ later. absurd later.1) names.0 in (
-          it.0,
-          it.1,
-          λ i. record { ty = ty i; eid = sym names.1 i },
-          ap (λ (each : PlainUid × ActionReference). each.0) it.2,
-        )
+    parent_edge = any.parent_edge (uid_eq.ghosts).eq uid_of entity_uid_eq-same reference_to_action parents_of (declared_actions bag) edges in_bag
+        (NamesAction (action_uids bag)) resolves alone
+
+    -- what a chain of edges leads to is a descendant
+    pub chain_descends : {upper lower : EntityUID} → Chain (IsAbove edges) upper lower → IsDescendantAction bag (uid_of lower) (uid_of upper)
+    chain_descends = any.chain_descends (uid_eq.ghosts).eq uid_of entity_uid_eq-same reference_to_action parents_of (declared_actions bag) edges
+        in_bag (NamesAction (action_uids bag)) resolves alone
+
+    -- a chain of edges leads to each descendant
+    pub descends_by_chain : {lower upper : PlainUid} → IsDescendantAction bag lower upper → (key : EntityUID)
+        → upper ≡ uid_of key → (uid : EntityUID) × (uid_of uid ≡ lower) × Chain (IsAbove edges) key uid
+    descends_by_chain = any.descends_by_chain (uid_eq.ghosts).eq uid_of entity_uid_eq-same reference_to_action parents_of (declared_actions bag)
+        edges in_bag (NamesAction (action_uids bag)) resolves alone

@@ -1,9 +1,10 @@
 -- What the steps promise, read of a bag for which they are ready.
-use Rattle.std.proofs.Common.{◌≡◌, ◌⊎◌, ◌↔◌, IsTrue, List, Option, None, Some, IsSome, IsSomeAnd, HashMap, map, ap, sym, subst, ◌∙◌, refl, inl, inr, ⊎_elim, arith, Contains}
+use Rattle.std.proofs.Common.{◌≡◌, ◌⊎◌, ◌↔◌, List, Option, None, Some, IsSome, HashMap, map, ap, sym, subst, ◌∙◌, refl, inl, inr, ⊎_elim, Contains}
 use Rattle.std.proofs.lemmas.List.Elements.{Contains-append_cases}
 use Rattle.std.proofs.lemmas.List.Folds.{flat_map-map}
 use Rattle.std.proofs.lemmas.Simd.{map-map}
 use Rattle.std.specs.BTreeMap.{BTreeMap}
+use Rattle.std.specs.List.{flat_map}
 use Rattle.cedar_schema_elements.proofs.SetLemmas.{list_any-uids}
 use Rattle.cedar_schema_elements.specs.ValidatorActionId.{action_of, plain_action_entry}
 use Rattle.cedar_schema_elements.specs.declared.action_id.ValidatorActionId.{ValidatorActionId}
@@ -12,6 +13,7 @@ use Rattle.cedar_below.specs.EntityUID.{uid_of}
 use Rattle.cedar_below.specs.InternalName.{name_of}
 use Rattle.cedar_below.specs.PlainName.{PlainName, IsActionType}
 use Rattle.cedar_below.specs.PlainUid.{PlainUid}
+use Rattle.cedar_below.specs.contracts.entity_uid.EntityUIDPartialEq.TheImpl as uid_eq
 use Rattle.cedar_below.specs.declared.entity_type.EntityType.{EntityType}
 use Rattle.cedar_below.specs.declared.entity_uid.EntityUID.{EntityUID}
 use Rattle.cedar_below.specs.declared.extension.Extensions.{Extensions}
@@ -25,7 +27,7 @@ use Rattle.cedar_declarations.specs.Counted.{CountsIn, CountsInRequests, IsCount
 use Rattle.cedar_declarations.specs.DeclaredSchema.{IsDeclaredAction, IsDeclaredActionKind, IsNamedBy}
 use Rattle.cedar_declarations.specs.Defined.{names_of}
 use Rattle.cedar_declarations.specs.Descent.{IsDescendantAction}
-use Rattle.cedar_declarations.specs.Fault.{Fault, action_attributes, open_record, undeclared_entity_types, type_not_defined, action_not_defined, type_shadowing, action_shadowing, duplicate_entity_type, duplicate_common_type, duplicate_action, action_cycle, common_type_cycle, action_entity_type, shape_not_record, context_not_record, unknown_extension_type, reserved_name, external_below_enumerated, enumerated_below, undeclared_action_descendant, invalid_action_type, common_type_left, action_left, out_of_memory}
+use Rattle.cedar_declarations.specs.Fault.{Fault, duplicate_action, context_not_record, out_of_memory}
 use Rattle.cedar_declarations.specs.IllFormed.{IsFault}
 use Rattle.cedar_declarations.specs.Names.{IsDefined, ResolvesTo}
 use Rattle.cedar_below.specs.Lists.{Twice}
@@ -35,71 +37,46 @@ use Rattle.cedar_declarations.specs.ResolvedExpr.{resolved_reference}
 use Rattle.cedar_declarations.specs.Together.{ActionSays, action_definition_in, defined_actions}
 use Rattle.cedar_declarations.specs.ElaboratesTo.{IsRecordType}
 use Rattle.cedar_schema_elements.specs.declared.entity_type.ValidatorEntityType.{ValidatorEntityType}
-use Rattle.cedar_fragments.specs.ActionDeclarations.{action_fragment_body, fragment_requests}
-use Rattle.cedar_fragments.specs.FragmentDeclarations.{resolved_action_type}
+use Rattle.cedar_fragments.specs.ActionDeclarations.{fragment_requests}
 use Rattle.cedar_fragments.specs.declared.namespace.actions.ActionFragment.{ActionFragment}
 use Rattle.cedar_fragments.specs.declared.namespace.actions.ActionRequests.{ActionRequests}
-use Rattle.cedar_resolution.specs.Collected.{collected_actions}
 use Rattle.cedar_names.specs.ActionBody.{ActionBody, Requests, requests, elsewhere}
 use Rattle.cedar_names.specs.Declaration.{Body}
 use Rattle.cedar_names.specs.Expr.{Expr}
 use Rattle.cedar_names.specs.Reference.{Reference}
 use Rattle.cedar_names.specs.declared.json_schema.reference_type.ReferenceType.TheVariants.{Entity}
 use Rattle.cedar_type_rules.specs.Ty.{Ty}
-use Rattle.cedar_builder.proofs.ActionDescent.{chain_descends, chain_to_same, descendant_declared, descends_by_chain}
-use Rattle.cedar_builder.proofs.ActionParents.{edge_declared}
-use Rattle.cedar_builder.proofs.ActionsTogether.{of_actions}
-use Rattle.cedar_builder.specs.ActionNodes.{AreCollected, AreLinked, AreReady, AreTheSame, IsCollected, IsCollectedAt, IsLinkingFault, LeadsTo, has_descendant, node_at}
+use Rattle.cedar_builder.proofs.ActionParents.{AreEdges, chain_descends, chain_to_same, descendant_declared, descends_by_chain, edge_declared}
+use Rattle.cedar_builder.proofs.ActionsTogether.{definitions_alike}
+use Rattle.cedar_builder.proofs.NodesCollected.{by_test}
+use Rattle.cedar_builder.proofs.NodesLinked.{alike_after, alike_before, collected_apart, descendants}
+use Rattle.cedar_builder.proofs.ReadyLemmas.{action_type, expr_fault}
+use Rattle.cedar_builder.specs.DeclaredNodes.{AreReady, IsCollected, IsCollectedAt, IsCollectingFault, SaysTogether, defined_in, definition_in}
+use Rattle.cedar_builder.specs.ActionNodes.{AreLinked, AreTheSame, IsElaboratedAction, IsLinkingFault, SameAction, has_descendant, node_at}
 use Rattle.cedar_builder.specs.ActionsReady.{AreActionsOf}
 use Rattle.cedar_builder.specs.SoundActions.{ActionsAreSound}
-use Rattle.cedar_builder.specs.ActionSteps.{AreNamed, AreSoundRequests, HasNoRecord, IsCollectingFault, IsNameFault, IsElaboratedKind, SaysTogether, definitions_in, entry_uids, names_in, parents_in, plain_edge, requests_in}
+use Rattle.cedar_builder.specs.ActionSteps.{AreNamed, AreSoundRequests, HasNoRecord, IsElaboratedKind, IsNameFault, IsRequestsFault, is_action_definition, names_in, requests_in}
 use Rattle.cedar_elaboration.specs.Scope.{Covers, extension_name, extensions_in_scope}
-use Rattle.cedar_elaboration.specs.Refusals.{IsExprFault}
 use Rattle.cedar_elaboration.specs.declared.type_scope.TypeScope.{TypeScope}
 
 abbrev Entry : Type 0
 Entry = PlainUid × Requests
 
+-- an action is external
+abbrev pub IsExternal : ValidatorActionId → Type 0
+IsExternal it = (action_of it).kind ≡ external_action
+
+-- the uid of an action
+abbrev pub uid_in : ValidatorActionId → PlainUid
+uid_in it = (action_of it).uid
+
+-- the action is what is declared gives, under whatever uid
+abbrev pub GivesAction : TypeScope → Requests → ValidatorActionId → Type 0
+GivesAction scope applies_to it = IsElaboratedAction scope (uid_in it) applies_to it
+
 -- a declaration with the requests that it is for
 abbrev requested : PlainUid × ActionBody → Entry
 requested it = (it.0, it.1.applies_to)
-
--- what stands before an action that stands after
-same_before : (before : Option ValidatorActionId) (it : ValidatorActionId) → AreTheSame before (Some it)
-    → (old : ValidatorActionId) × (before ≡ Some old) × AreTheSame (Some old) (Some it)
-same_before None it same = absurd same
-same_before (Some old) it same = (old, refl, same)
-
--- what stood before still stands
-same_after : (before after : Option ValidatorActionId) → AreTheSame before after → IsSome before → IsSome after
-same_after None None same there = there
-same_after None (Some new) same there = absurd same
-same_after (Some old) None same there = absurd same
-same_after (Some old) (Some new) same there = there
-
--- what is some with a property
-with_property : {X : Type 0} (o : Option X) (x : X) (P : X → Type 0) → o ≡ Some x → IsSomeAnd o P → P x
-with_property {X = X} o x P is holds = let Q : Option X → Type 0 = λ each. IsSomeAnd each P in subst Q is holds
-
--- no action's uid has another type
-action_type : (bag : Bag) (name : PlainName) → Contains (map (λ uid. uid.ty) (action_uids bag)) name → IsActionType name
-action_type bag name among =
-    let uid = Contains-preimage (λ (each : PlainUid). each.ty) (action_uids bag) name among in
-    let it = Contains-preimage (λ each. each.0) (declared_actions bag) uid.0 uid.1 in
-    let found = action_declaration bag it.0.0 it.0.1 it.1 in
-    sym (ap (λ (each : PlainUid). each.ty.base) (found.3 ∙ it.2) ∙ ap (λ (each : PlainName). each.base) uid.2)
-
--- no action leads to another as they are collected
-collected_apart : {S : Type 0} (scope : TypeScope) (entries : List Entry) (nodes : HashMap EntityUID ValidatorActionId S)
-    → AreCollected scope entries nodes → (upper lower : EntityUID) → ¬ LeadsTo nodes upper lower
-collected_apart scope entries nodes collected upper lower leads = by (node_at nodes upper) (collected upper) leads where
-  by : (o : Option ValidatorActionId) → IsCollectedAt scope entries (uid_of upper) o
-      → ¬ IsSomeAnd o (λ node. IsTrue (has_descendant node lower))
-  by None none has = has
-  by (Some it) is has =
-      let P : List PlainUid → Type 0 = λ uids. Contains uids (uid_of lower) in
-      let none = subst P is.no_descendants ((list_any-uids lower it.descendants.keys).0 has) in
-      omega (arith, none.1)
 
 -- a principal or a resource over full names is a reference to one name
 one_place : (it : Option (ActionRequests InternalName)) (reference : Reference)
@@ -112,36 +89,45 @@ one_place (Some it) reference place = ⊎_elim (from it.principals.items) (from 
   from names among =
       let found = Contains-preimage (resolved_reference Entity) names reference among in (name_of found.0, sym found.2)
 
+-- the definitions of a bag, by the test
+bag_definitions : (bag : Bag) → flat_map (definition_in is_action_definition) (requests_in (declared_actions bag)) ≡ defined_actions bag
+bag_definitions bag =
+    definitions_alike (requests_in (declared_actions bag))
+    ∙ flat_map-map (λ (it : Entry). action_definition_in it.0 it.1) requested (declared_actions bag)
+
 -- what the declarations of a bag say together, the bag says
-bag_says : (bag : Bag) (uid : PlainUid) (applies_to : Requests) → SaysTogether (requests_in (declared_actions bag)) uid applies_to
+bag_says : (bag : Bag) (uid : PlainUid) (applies_to : Requests)
+    → SaysTogether is_action_definition (requests_in (declared_actions bag)) uid applies_to
     → ActionSays bag uid applies_to
 bag_says bag uid applies_to says = by applies_to says where
-  same_uids : entry_uids (requests_in (declared_actions bag)) ≡ action_uids bag
+  same_uids : map (λ it. it.0) (requests_in (declared_actions bag)) ≡ action_uids bag
   same_uids = map-map _ _ (declared_actions bag)
-
-  same_definitions : definitions_in (requests_in (declared_actions bag)) ≡ defined_actions bag
-  same_definitions = flat_map-map (λ (it : Entry). action_definition_in it.0 it.1) requested (declared_actions bag)
 
   P : List PlainUid → Type 0
   P uids = Contains uids uid
 
-  by : (of : Requests) → SaysTogether (requests_in (declared_actions bag)) uid of → ActionSays bag uid of
+  by : (of : Requests) → SaysTogether is_action_definition (requests_in (declared_actions bag)) uid of → ActionSays bag uid of
   by elsewhere there = (
     subst P same_uids there.0,
-    λ among. there.1 (subst P (sym (ap entry_uids same_definitions)) among),
+    λ among. there.1 (subst P (sym (ap (map (λ it. it.0)) (bag_definitions bag))) among),
   )
   by (requests principals resources context) there =
-      let Q : List Entry → Type 0 = λ entries. Contains entries (uid, requests principals resources context) in
-      subst Q same_definitions there
+      subst (λ entries. Contains entries (uid, requests principals resources context)) (bag_definitions bag) there
+
+-- at each uid stands what its declarations say together
+abbrev pub AreCollected : {S : Type 0} → TypeScope → List Entry → HashMap EntityUID ValidatorActionId S → Type 0
+AreCollected scope entries nodes =
+    (key : EntityUID) → IsCollectedAt is_action_definition IsExternal uid_in (GivesAction scope) entries (uid_of key) (node_at nodes key)
 
 module _ (bag : Bag) (extensions : Extensions) (declared : List (EntityUID × ActionFragment InternalName EntityType))
     (types : BTreeMap EntityType ValidatorEntityType) (scope : TypeScope)
     (ready : AreActionsOf bag extensions declared types scope) where
   abbrev Entries : List Entry
-  Entries = requests_in (collected_actions declared)
+  Entries = map (λ it. (uid_of it.0, fragment_requests InternalName resolved_reference it.1.requests)) declared
 
+  -- those of the bag, each with the requests that it is for
   same_entries : Entries ≡ requests_in (declared_actions bag)
-  same_entries = ap requests_in ready.actions
+  same_entries = sym (map-map requested _ declared) ∙ ap requests_in ready.actions
 
   -- a declared action of the bag is among those that are handed in
   among_collected : (uid : PlainUid) (body : ActionBody) → Contains (declared_actions bag) (uid, body)
@@ -160,34 +146,30 @@ module _ (bag : Bag) (extensions : Extensions) (declared : List (EntityUID × Ac
       (it.0.1, subst Q (ap (λ (each : Entry). each.0) it.2) it.1, ap (λ (each : Entry). each.1) it.2)
 
   -- the uids that are handed in are those of the bag
-  same_uids : entry_uids Entries ≡ action_uids bag
-  same_uids = ap entry_uids same_entries ∙ map-map _ _ (declared_actions bag)
+  same_uids : map (λ it. it.0) Entries ≡ action_uids bag
+  same_uids = ap (map (λ (it : Entry). it.0)) same_entries ∙ map-map _ _ (declared_actions bag)
 
   -- the definitions that are handed in are those of the bag
-  same_definitions : definitions_in Entries ≡ defined_actions bag
-  same_definitions =
-      ap definitions_in same_entries ∙ flat_map-map (λ (it : Entry). action_definition_in it.0 it.1) requested (declared_actions bag)
+  same_definitions : flat_map (definition_in is_action_definition) Entries ≡ defined_actions bag
+  same_definitions = ap (flat_map (definition_in is_action_definition)) same_entries ∙ bag_definitions bag
 
   -- a declared uid is that of an action that is handed in
   key_of : (uid : PlainUid) → Contains (action_uids bag) uid → (key : EntityUID) × (uid_of key ≡ uid)
   key_of uid among =
       let P : List PlainUid → Type 0 = λ uids. Contains uids uid in
       let entry = Contains-preimage (λ (it : Entry). it.0) Entries uid (subst P (sym same_uids) among) in
-      let body = Contains-preimage requested (collected_actions declared) entry.0 entry.1 in
-      let item = Contains-preimage (λ (it : EntityUID × ActionFragment InternalName EntityType). (uid_of it.0, _)) declared body.0 body.1 in
-      (item.0.0, ap (λ (it : PlainUid × ActionBody). it.0) item.2 ∙ (ap (λ (it : Entry). it.0) body.2 ∙ entry.2))
+      let item = Contains-preimage (λ (it : EntityUID × ActionFragment InternalName EntityType). (uid_of it.0, _)) declared entry.0 entry.1 in
+      (item.0.0, ap (λ (it : Entry). it.0) item.2 ∙ entry.2)
 
   -- a principal or a resource that is handed in is a reference to one name
   one_placed : (uid : PlainUid) (applies_to : Requests) (reference : Reference) → Contains Entries (uid, applies_to)
       → IsPrincipalOrResource applies_to reference → (name : PlainName) × (reference ≡ reference_to_one Entity name)
   one_placed uid applies_to reference among place =
-      let body = Contains-preimage requested (collected_actions declared) (uid, applies_to) among in
       let item = Contains-preimage
-      (λ (it : EntityUID × ActionFragment InternalName EntityType).
-      (uid_of it.0, action_fragment_body InternalName resolved_reference EntityType resolved_action_type it.1)) declared body.0 body.1 in
-      let P : Requests → Type 0 = λ each. IsPrincipalOrResource each reference in
+      (λ (it : EntityUID × ActionFragment InternalName EntityType). (uid_of it.0, fragment_requests InternalName resolved_reference it.1.requests))
+      declared (uid, applies_to) among in
       one_place item.0.1.requests reference
-      (subst P (sym (ap (λ (it : PlainUid × ActionBody). it.1.applies_to) item.2 ∙ ap (λ (it : Entry). it.1) body.2)) place)
+      (subst (λ each. IsPrincipalOrResource each reference) (sym (ap (λ (it : Entry). it.1) item.2)) place)
 
   -- what counts in a declaration counts in the bag
   counted : (uid : PlainUid) (applies_to : Requests) (expr : Expr) → Contains Entries (uid, applies_to)
@@ -245,62 +227,24 @@ module _ (bag : Bag) (extensions : Extensions) (declared : List (EntityUID × Ac
   )
 
   -- the kind of an action is the declared one
-  said_kind : (uid : PlainUid) (applies_to : Requests) (kind : ActionKind) → SaysTogether Entries uid applies_to
+  said_kind : (uid : PlainUid) (applies_to : Requests) (kind : ActionKind) → SaysTogether is_action_definition Entries uid applies_to
       → IsElaboratedKind scope applies_to kind → IsDeclaredActionKind (definitions bag extensions) applies_to kind
   said_kind uid elsewhere (defined_action principal_types resource_types ty) says elaborated = elaborated
   said_kind uid elsewhere external_action says elaborated = tt
   said_kind uid (requests principals resources context) external_action says elaborated = elaborated
   said_kind uid (requests principals resources context) (defined_action principal_types resource_types ty) says elaborated =
       let all = requests principals resources context in
-      let among = said_definition of_actions Entries uid all tt says in (
+      let among = said_definition (by_test is_action_definition) Entries uid all refl says in (
         names_resolved uid all principals principal_types among (λ reference there. inl there) elaborated.0,
         names_resolved uid all resources resource_types among (λ reference there. inr there) elaborated.1,
         elaborated.2 (definitions bag extensions) (known_counted uid all context among refl),
       )
 
   -- what is said of the declarations the bag says
-  said_in_bag : (uid : PlainUid) (applies_to : Requests) → SaysTogether Entries uid applies_to → ActionSays bag uid applies_to
+  said_in_bag : (uid : PlainUid) (applies_to : Requests) → SaysTogether is_action_definition Entries uid applies_to → ActionSays bag uid applies_to
   said_in_bag uid applies_to says =
-      let P : List Entry → Type 0 = λ entries. SaysTogether entries uid applies_to in
+      let P : List Entry → Type 0 = λ entries. SaysTogether is_action_definition entries uid applies_to in
       bag_says bag uid applies_to (subst P same_entries says)
-
-  -- the refusal of an expression that counts is a fault of the bag
-  expr_fault : (expr : Expr) (fault : Fault) → IsCounted bag expr
-      → IsExprFault (definitions bag extensions) (extensions_in_scope scope) expr fault
-      → (fault ≡ out_of_memory) ⊎ IsFault bag extensions fault
-  expr_fault expr open_record counts refused = inr (expr, counts, refused)
-  expr_fault expr (type_not_defined references) counts refused = inr (
-    refused.0,
-    λ reference among. (inl (expr, counts, (refused.1 reference among).0), (refused.1 reference among).1),
-  )
-  expr_fault expr (unknown_extension_type name) counts refused = inr (
-    expr,
-    counts,
-    refused.0,
-    refused.1,
-    λ among. let P : List PlainName → Type 0 = λ names. Contains names name in refused.2 (subst P (sym ready.extensions) among),
-  )
-  expr_fault expr (reserved_name name) counts refused = absurd (ready.unreserved name refused.2.is_entity.1 refused.2.reserved)
-  expr_fault expr out_of_memory counts refused = inl refl
-  expr_fault expr (action_attributes ids) counts refused = absurd refused
-  expr_fault expr (undeclared_entity_types names) counts refused = absurd refused
-  expr_fault expr (action_not_defined actions) counts refused = absurd refused
-  expr_fault expr (type_shadowing plain qualified) counts refused = absurd refused
-  expr_fault expr (action_shadowing plain qualified) counts refused = absurd refused
-  expr_fault expr (duplicate_entity_type name) counts refused = absurd refused
-  expr_fault expr (duplicate_common_type name) counts refused = absurd refused
-  expr_fault expr (duplicate_action uid) counts refused = absurd refused
-  expr_fault expr (action_cycle uid) counts refused = absurd refused
-  expr_fault expr (common_type_cycle name) counts refused = absurd refused
-  expr_fault expr (action_entity_type name) counts refused = absurd refused
-  expr_fault expr (shape_not_record name) counts refused = absurd refused
-  expr_fault expr (context_not_record uid) counts refused = absurd refused
-  expr_fault expr (external_below_enumerated lower upper) counts refused = absurd refused
-  expr_fault expr (enumerated_below lower upper) counts refused = absurd refused
-  expr_fault expr (undeclared_action_descendant uid) counts refused = absurd refused
-  expr_fault expr (invalid_action_type uid) counts refused = absurd refused
-  expr_fault expr common_type_left counts refused = absurd refused
-  expr_fault expr action_left counts refused = absurd refused
 
   -- a context that is no record type is a fault of the bag
   context_fault : (uid : PlainUid) (applies_to : Requests) → Contains Entries (uid, applies_to) → HasNoRecord scope applies_to
@@ -312,7 +256,7 @@ module _ (bag : Bag) (extensions : Extensions) (declared : List (EntityUID × Ac
         principals,
         resources,
         context,
-        subst P same_definitions (declared_definition of_actions Entries uid all tt among),
+        subst P same_definitions (declared_definition (by_test is_action_definition) Entries uid all refl among),
         (none.0, none.1 (definitions bag extensions) (known_counted uid all context among refl), none.2),
       )
 
@@ -354,22 +298,22 @@ module _ (bag : Bag) (extensions : Extensions) (declared : List (EntityUID × Ac
       refused
 
   -- a refusal of declarations is a fault of the bag, unless memory ran out
-  pub collecting_fault : (fault : Fault) → IsCollectingFault scope (names_in types) Entries fault
+  pub collecting_fault : (fault : Fault) → IsCollectingFault is_action_definition uid_of (λ key. IsRequestsFault scope (names_in types) (uid_of key)) duplicate_action Entries fault
       → (fault ≡ out_of_memory) ⊎ IsFault bag extensions fault
   collecting_fault fault refused =
       let P : Fault → Type 0 = IsFault bag extensions in
-      let Q : List Entry → PlainUid → Type 0 = λ entries uid. Twice (entry_uids entries) uid in
+      let Q : List Entry → PlainUid → Type 0 = λ entries uid. Twice (map (λ it. it.0) entries) uid in
       ⊎_elim
       (λ wanting. inl wanting)
       (λ others. ⊎_elim
       (λ one. ⊎_elim
       (λ wanting. inl wanting)
       (λ reasons. ⊎_elim
-      (λ expr. expr_fault expr.0 fault (counted one.0 one.1 expr.0 one.2 expr.1)
-      (expr.2.each (definitions bag extensions) (known_counted one.0 one.1 expr.0 one.2 expr.1)))
+      (λ expr. expr_fault bag extensions (extensions_in_scope scope) ready.extensions ready.unreserved expr.0 fault (counted (uid_of one.0) one.1 expr.0 one.2 expr.1)
+      (expr.2.each (definitions bag extensions) (known_counted (uid_of one.0) one.1 expr.0 one.2 expr.1)))
       (λ rest. ⊎_elim
-      (λ context. inr (subst P (sym context.0) (context_fault one.0 one.1 one.2 context.1)))
-      (λ name. inr (name_fault one.0 one.1 name.0 fault one.2 name.1 name.2))
+      (λ context. inr (subst P (sym context.0) (context_fault (uid_of one.0) one.1 one.2 context.1)))
+      (λ name. inr (name_fault (uid_of one.0) one.1 name.0 fault one.2 name.1 name.2))
       rest)
       reasons)
       one.3)
@@ -378,22 +322,23 @@ module _ (bag : Bag) (extensions : Extensions) (declared : List (EntityUID × Ac
       refused
 
   module _ {S : Type 0} (before : HashMap EntityUID ValidatorActionId S) (collected : AreCollected scope Entries before)
-      (once : (uid : PlainUid) → ¬ Twice (entry_uids (definitions_in Entries)) uid)
-      (edges : List (EntityUID × EntityUID)) (are : map plain_edge edges ≡ parents_in (collected_actions declared)) where
+      (once : (uid : PlainUid) → ¬ Twice (defined_in is_action_definition Entries) uid)
+      (edges : List (EntityUID × EntityUID)) (are : AreEdges declared edges) where
     -- a declared uid has an action
     stands : (key : EntityUID) → Contains (action_uids bag) (uid_of key) → IsSome (node_at before key)
     stands key among = by (node_at before key) (collected key) where
       P : List PlainUid → Type 0
       P uids = Contains uids (uid_of key)
 
-      by : (o : Option ValidatorActionId) → IsCollectedAt scope Entries (uid_of key) o → IsSome o
+      by : (o : Option ValidatorActionId) → IsCollectedAt is_action_definition IsExternal uid_in (GivesAction scope) Entries (uid_of key) o → IsSome o
       by None none = absurd (none (subst P (sym same_uids) among))
       by (Some it) is = refl
 
     -- the nodes and the edges are ready to be linked
-    pub ready_to_link : AreReady edges before
+    pub ready_to_link : AreReady (uid_eq.ghosts).eq has_descendant edges before
     ready_to_link = record {
-      apart = collected_apart scope Entries before collected;
+      apart = collected_apart (uid_eq.ghosts).eq uid_of has_descendant (λ it. it.descendants.keys) (λ it key. list_any-uids key it.descendants.keys)
+          is_action_definition IsExternal uid_in (GivesAction scope) (λ body it given. given.no_descendants) Entries before collected;
       uppers = λ upper lower above.
           stands upper (edge_declared bag extensions declared types scope ready edges are upper lower above);
     }
@@ -408,44 +353,23 @@ module _ (bag : Bag) (extensions : Extensions) (declared : List (EntityUID × Ac
         refused
 
     module _ (after : HashMap EntityUID ValidatorActionId S) (linked : AreLinked edges before after) where
-      -- the descendants of an action are the declared ones
-      descendants : (key : EntityUID) (it : ValidatorActionId) → node_at after key ≡ Some it → (lower : PlainUid)
-          → Contains (action_of it).descendants lower ↔ IsDescendantAction bag lower (uid_of key)
-      descendants key it found lower = (
-        λ among.
-            let named = Contains-preimage uid_of it.descendants.keys lower among in
-            let P : PlainUid → Type 0 = Contains (action_of it).descendants in
-            let has : IsTrue (has_descendant it named.0) =
-            (list_any-uids named.0 it.descendants.keys).1 (subst P (sym named.2) among) in
-            let Q : Option ValidatorActionId → Type 0 = λ o. IsSomeAnd o (λ node. IsTrue (has_descendant node named.0)) in
-            let R : PlainUid → Type 0 = λ each. IsDescendantAction bag each (uid_of key) in
-            subst R named.2
-            (chain_descends bag extensions declared types scope ready edges are
-            ((linked.linked key named.0).0 (subst Q (sym found) has))),
-        λ descends.
-            let chain = descends_by_chain bag extensions declared types scope ready edges are descends key refl in
-            let has : IsTrue (has_descendant it chain.0) =
-            with_property (node_at after key) it (λ node. IsTrue (has_descendant node chain.0)) found
-            ((linked.linked key chain.0).1 chain.2) in
-            let P : PlainUid → Type 0 = Contains (action_of it).descendants in
-            subst P chain.1 ((list_any-uids chain.0 it.descendants.keys).0 has),
-      )
-
       -- what stands at a key after all is what the bag declares of the uid
       pub declared_at : (key : EntityUID) (it : ValidatorActionId) → node_at after key ≡ Some it
           → IsDeclaredAction bag extensions (plain_action_entry (key, it))
       declared_at key it found =
-          let P : Option ValidatorActionId → Type 0 = AreTheSame (node_at before key) in
-          let old = same_before (node_at before key) it (subst P found (linked.same key)) in
-          let Q : Option ValidatorActionId → Type 0 = IsCollectedAt scope Entries (uid_of key) in
-          let is : IsCollected scope Entries (uid_of key) old.0 = subst Q old.1 (collected key) in
-          let R : ActionKind → Type 0 = IsDeclaredActionKind (definitions bag extensions) is.applies_to in
+          let old = alike_before SameAction (node_at before key) it (subst (AreTheSame (node_at before key)) found (linked.same key)) in
+          let is : IsCollected is_action_definition IsExternal uid_in (GivesAction scope) Entries (uid_of key) old.0 =
+          subst (IsCollectedAt is_action_definition IsExternal uid_in (GivesAction scope) Entries (uid_of key)) old.1 (collected key) in
           record {
-            applies_to = is.applies_to;
-            says = said_in_bag (uid_of key) is.applies_to is.says;
-            uid = sym old.2.0 ∙ is.uid;
-            kind = subst R old.2.1 (said_kind (uid_of key) is.applies_to (action_of old.0).kind is.says is.kind);
-            descendants = descendants key it found;
+            applies_to = is.body;
+            says = said_in_bag (uid_of key) is.body is.says;
+            uid = sym old.2.0 ∙ is.name;
+            kind = subst (IsDeclaredActionKind (definitions bag extensions) is.body) old.2.1
+                (said_kind (uid_of key) is.body (action_of old.0).kind is.says is.given.kind);
+            descendants = descendants (uid_eq.ghosts).eq uid_of has_descendant (λ each. each.descendants.keys)
+                (λ each other. list_any-uids other each.descendants.keys) edges (IsDescendantAction bag)
+                (λ upper lower. chain_descends bag extensions declared types scope ready edges are)
+                (λ lower upper. descends_by_chain bag extensions declared types scope ready edges are) after linked.linked key it found;
           }
 
       -- under each declared uid something stands after all
@@ -455,7 +379,7 @@ module _ (bag : Bag) (extensions : Extensions) (declared : List (EntityUID × Ac
           let key = key_of uid among in
           let P : PlainUid → Type 0 = Contains (action_uids bag) in
           let there = stands key.0 (subst P (sym key.1) among) in
-          (key.0, key.1, same_after (node_at before key.0) (node_at after key.0) (linked.same key.0) there)
+          (key.0, key.1, alike_after SameAction (node_at before key.0) (node_at after key.0) (linked.same key.0) there)
 
       -- no action is a descendant of itself
       no_cycle : (uid : PlainUid) → ¬ IsDescendantAction bag uid uid
@@ -470,7 +394,7 @@ module _ (bag : Bag) (extensions : Extensions) (declared : List (EntityUID × Ac
         no_context_fault : (uid : PlainUid) → ¬ IsFault bag extensions (context_not_record uid)
         no_context_fault uid fault =
             let P : List Entry → Type 0 = λ entries. Contains entries (uid, requests fault.0 fault.1 fault.2) in
-            let among = said_definition of_actions Entries uid (requests fault.0 fault.1 fault.2) tt (subst P (sym same_definitions) fault.3) in
+            let among = said_definition (by_test is_action_definition) Entries uid (requests fault.0 fault.1 fault.2) refl (subst P (sym same_definitions) fault.3) in
             let record_context = (sound uid (requests fault.0 fault.1 fault.2) among).record_context in
             let Q : Ty → Type 0 = IsRecordType in
             fault.4.2 (subst Q (elaborated_once (definitions bag extensions) ready.one_definition
@@ -496,7 +420,7 @@ module _ (bag : Bag) (extensions : Extensions) (declared : List (EntityUID × Ac
         pub certain : ActionsAreSound bag extensions
         certain = record {
           once = λ uid twice. once uid
-              (let P : List Entry → Type 0 = λ entries. Twice (entry_uids entries) uid in
+              (let P : List Entry → Type 0 = λ entries. Twice (map (λ it. it.0) entries) uid in
               subst P (sym same_definitions) twice);
           no_cycle = no_cycle;
           records = no_context_fault;

@@ -1,64 +1,28 @@
 -- Definitions of actions among their declarations.
-use Rattle.std.proofs.Common.{◌≡◌, ◌⊎◌, ◌↔◌, List, map, inl, inr, ⊎_elim, refl, arith, Contains}
+use Rattle.std.proofs.Common.{◌≡◌, ◌↔◌, false, List, refl, sym, ap}
+use Rattle.std.proofs.lemmas.Bool.{false≢true}
+use Rattle.std.specs.List.{flat_map}
 use Rattle.cedar_below.specs.PlainUid.{PlainUid}
-use Rattle.cedar_declarations.proofs.Definitions.{Definitions}
-use Rattle.cedar_declarations.proofs.OccurrenceLemmas.{Contains-single}
-use Rattle.cedar_declarations.proofs.TogetherLemmas.{AreRequests}
-use Rattle.cedar_below.specs.Lists.{Twice}
+use Rattle.cedar_declarations.specs.PlainSchema.{ActionKind, defined_action, external_action}
 use Rattle.cedar_declarations.specs.Together.{action_definition_in}
+use Rattle.cedar_elaboration.specs.declared.type_scope.TypeScope.{TypeScope}
 use Rattle.cedar_names.specs.ActionBody.{Requests, requests, elsewhere}
-use Rattle.cedar_builder.specs.ActionSteps.{SaysTogether, definitions_in, entry_uids}
+use Rattle.cedar_builder.specs.ActionSteps.{IsElaboratedKind, is_action_definition}
+use Rattle.cedar_builder.specs.DeclaredNodes.{definition_in}
 
-abbrev Entry : Type 0
-Entry = PlainUid × Requests
+-- declarations give the same definitions by the test
+pub definitions_alike : (entries : List (PlainUid × Requests))
+    → flat_map (definition_in is_action_definition) entries ≡ flat_map (λ it. action_definition_in it.0 it.1) entries
+definitions_alike entries = ap (λ give. flat_map give entries) (λ i it. alike it.0 it.1 i) where
+  alike : (uid : PlainUid) (applies_to : Requests) → definition_in is_action_definition (uid, applies_to) ≡ action_definition_in uid applies_to
+  alike uid (requests principals resources context) = refl
+  alike uid elsewhere = refl
 
--- requests are those of a definition, or aren't
-pub decided : (applies_to : Requests) → AreRequests applies_to ⊎ ¬ AreRequests applies_to
-decided (requests principals resources context) = inl tt
-decided elsewhere = inr (λ are. are)
-
--- a definition is what its declaration gives
-pub given : (uid : PlainUid) (applies_to : Requests) → AreRequests applies_to
-    → Contains (action_definition_in uid applies_to) (uid, applies_to)
-given uid (requests principals resources context) are = (0, omega arith, refl)
-given uid elsewhere are = absurd are
-
--- a declaration gives nothing but a definition, itself
-pub only : (uid : PlainUid) (applies_to : Requests) (entry : Entry) → Contains (action_definition_in uid applies_to) entry
-    → ((uid, applies_to) ≡ entry) × AreRequests applies_to
-only uid (requests principals resources context) entry here =
-    (Contains-single (uid, requests principals resources context) entry here, tt)
-only uid elsewhere entry here = absurd (omega (arith, here.1))
-
--- and gives it once
-pub single : (uid : PlainUid) (applies_to : Requests) (other : PlainUid)
-    → ¬ Twice (map (λ it. it.0) (action_definition_in uid applies_to)) other
-single uid (requests principals resources context) other twice = ⊎_elim (λ here. omega (arith, here.1.1)) (λ later. later) twice
-single uid elsewhere other twice = twice
-
--- a definition of an action says what it declares
-pub says_itself : (entries : List Entry) (uid : PlainUid) (applies_to : Requests) → AreRequests applies_to
-    → SaysTogether entries uid applies_to ↔ Contains (definitions_in entries) (uid, applies_to)
-says_itself entries uid (requests principals resources context) are = (λ says. says, λ among. among)
-says_itself entries uid elsewhere are = absurd are
-
--- an external declaration says that its uid is declared and has no definition
-pub says_declared : (entries : List Entry) (uid : PlainUid) (applies_to : Requests) → ¬ AreRequests applies_to
-    → SaysTogether entries uid applies_to
-    ↔ (Contains (entry_uids entries) uid × ¬ Contains (entry_uids (definitions_in entries)) uid)
-says_declared entries uid (requests principals resources context) are = absurd (are tt)
-says_declared entries uid elsewhere are = (λ says. says, λ both. both)
-
--- definitions of actions among their declarations
-abbrev pub of_actions : Definitions PlainUid Requests
-of_actions = record {
-  definition_in = action_definition_in;
-  IsDefinition = AreRequests;
-  decided = decided;
-  given = given;
-  only = only;
-  single = single;
-  Says = SaysTogether;
-  says_itself = says_itself;
-  says_declared = says_declared;
-}
+-- an action is external exactly where no definition is elaborated
+pub external_told : (scope : TypeScope) (applies_to : Requests) (kind : ActionKind) → IsElaboratedKind scope applies_to kind
+    → (kind ≡ external_action) ↔ (is_action_definition applies_to ≡ false)
+external_told scope (requests principals resources context) (defined_action principal_types resource_types ty) elaborated =
+    (λ is. absurd cc, λ none. absurd (false≢true (sym none)))
+external_told scope (requests principals resources context) external_action elaborated = absurd elaborated
+external_told scope elsewhere (defined_action principal_types resource_types ty) elaborated = absurd elaborated
+external_told scope elsewhere external_action elaborated = (λ is. refl, λ none. refl)

@@ -5,16 +5,17 @@ use Rattle.std.proofs.lemmas.List.Elements.{Contains-append_cases}
 use Rattle.std.proofs.lemmas.Map.Entries.{lookup_from_place, place_from_lookup}
 use Rattle.std.proofs.lemmas.Option.{get_or_from_slice_get, slice_get-get_or, slice_get_within}
 use Rattle.std.specs.HashMap.{IsUnique}
+use Rattle.cedar_below.proofs.Names.{entity_type_eq-same}
 use Rattle.cedar_below.specs.EntityType.{type_name}
 use Rattle.cedar_below.specs.contracts.entity_type.EntityTypeEq.TheImpl as entity_type_equal
 use Rattle.cedar_below.specs.contracts.entity_type.EntityTypePartialEq.TheImpl as entity_type_eq
 use Rattle.cedar_below.specs.declared.entity_type.EntityType.{EntityType}
 use Rattle.cedar_graph.proofs.KeyedEdges.{some_with}
+use Rattle.cedar_graph.proofs.Numbers.{get_alike}
 use Rattle.cedar_declarations.proofs.OccurrenceLemmas.{Contains-image, Contains-single}
 use Rattle.cedar_schema_elements.specs.ValidatorEntityType.{entity_type_of}
 use Rattle.cedar_schema_elements.specs.declared.entity_type.ValidatorEntityType.{ValidatorEntityType}
 use Rattle.cedar_types.proofs.MemberLemmas.{Contains-named, list_any-names}
-use Rattle.cedar_builder.proofs.EntityTypesPut.{node_alike}
 use Rattle.cedar_builder.specs.EntityTypeNodes.{IsEnumerated, IsEnumeratedAt, IsExternalAt, LeadsTo, has_descendant, node_at}
 
 -- what holds of each that was shown, and of one more
@@ -73,4 +74,4 @@ module _ {S : Type 0} (nodes : HashMap EntityType ValidatorEntityType S) where
       let named = Contains-named it.0.descendants.keys (type_name lower) ((list_any-names lower it.0.descendants.keys).0 it.2) in
       let Q : Option ValidatorEntityType → Type 0 = IsExternalAt in
       each entry.0 it.0 entry.1 (subst P it.1 is) named.0 named.1
-      (subst Q (node_alike nodes lower named.0 (sym named.2)) external)
+      (subst Q (get_alike entity_type_equal.Laws.laws-law nodes lower named.0 ((entity_type_eq-same lower named.0).1 (sym named.2))) external)

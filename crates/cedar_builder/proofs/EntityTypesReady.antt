@@ -1,34 +1,35 @@
 -- What the steps promise, read of a bag for which they are ready.
-use Rattle.std.proofs.Common.{◌≡◌, ◌⊎◌, ◌↔◌, is_some, IsTrue, List, [], ◌∷◌, Option, None, Some, IsSome, IsSomeAnd, HashMap, map, ap, sym, subst, ◌∙◌, refl, inl, inr, ⊎_elim, arith, Contains}
+use Rattle.std.proofs.Common.{◌≡◌, ◌⊎◌, true, is_some, List, [], ◌∷◌, Option, None, Some, IsSome, HashMap, map, ap, sym, subst, ◌∙◌, refl, inl, inr, ⊎_elim, arith, Contains}
 use Rattle.std.proofs.lemmas.Bool.{false≢true}
+use Rattle.std.specs.List.{flat_map}
 use Rattle.std.proofs.lemmas.List.Elements.{Contains-append_cases}
 use Rattle.cedar_below.proofs.Lists.{Contains-preimage}
 use Rattle.cedar_below.specs.EntityType.{type_name}
 use Rattle.cedar_below.specs.PlainName.{PlainName, IsActionType}
-use Rattle.cedar_below.specs.PlainUid.{PlainUid}
+use Rattle.cedar_below.specs.contracts.entity_type.EntityTypePartialEq.TheImpl as entity_type_eq
 use Rattle.cedar_below.specs.Text.{Text}
 use Rattle.cedar_below.specs.declared.entity_type.EntityType.{EntityType}
 use Rattle.cedar_below.specs.declared.extension.Extensions.{Extensions}
 use Rattle.cedar_below.specs.declared.internal_name.InternalName.{InternalName}
-use Rattle.cedar_declarations.proofs.DeclarationLemmas.{action_declaration, entity_declaration}
+use Rattle.cedar_declarations.proofs.DeclarationLemmas.{entity_declaration}
 use Rattle.cedar_declarations.proofs.Definitions.{declared_definition, key_defined, said_declared, said_definition}
 use Rattle.cedar_declarations.proofs.OccurrenceLemmas.{Contains-image, Contains-single, value_once}
 use Rattle.cedar_declarations.proofs.ResolutionLemmas.{elaborated_once}
-use Rattle.cedar_declarations.proofs.TogetherLemmas.{IsDefinition, entity_counted, of_entity_types}
-use Rattle.cedar_declarations.specs.Bag.{Bag, action_uids, declared_actions, declared_entities, defined_names, definitions}
+use Rattle.cedar_declarations.proofs.TogetherLemmas.{IsDefinition, entity_counted}
+use Rattle.cedar_declarations.specs.Bag.{Bag, action_uids, declared_entities, defined_names, definitions}
 use Rattle.cedar_declarations.specs.Counted.{CountsIn, CountsInEntity, IsCounted, IsAtEntityTypePosition, entity_parents}
 use Rattle.cedar_declarations.specs.DeclaredSchema.{AreDeclaredTags, IsDeclaredEntityType, IsDeclaredKind}
 use Rattle.cedar_declarations.specs.Defined.{Defined}
 use Rattle.cedar_declarations.specs.Descent.{HasParent, IsDescendant}
 use Rattle.cedar_declarations.specs.EntityTypeKind.{EntityTypeKind, standard_kind, enumerated_kind, external_kind}
-use Rattle.cedar_declarations.specs.Fault.{Fault, action_attributes, open_record, undeclared_entity_types, type_not_defined, action_not_defined, type_shadowing, action_shadowing, duplicate_entity_type, duplicate_common_type, duplicate_action, action_cycle, common_type_cycle, action_entity_type, shape_not_record, context_not_record, unknown_extension_type, reserved_name, external_below_enumerated, enumerated_below, undeclared_action_descendant, invalid_action_type, common_type_left, action_left, out_of_memory}
+use Rattle.cedar_declarations.specs.Fault.{Fault, undeclared_entity_types, duplicate_entity_type, shape_not_record, enumerated_below, out_of_memory}
 use Rattle.cedar_declarations.specs.IllFormed.{IsFault}
 use Rattle.cedar_declarations.specs.Names.{IsDefined, ResolvesTo}
 use Rattle.cedar_below.specs.Lists.{Twice}
 use Rattle.cedar_declarations.specs.Resolved.{reference_to_one}
-use Rattle.cedar_declarations.specs.Together.{EntitiesSay, EntitySays, IsExternalType, IsParent, entity_definitions}
+use Rattle.cedar_declarations.specs.Together.{EntitySays, IsExternalType, IsParent, defined_entities, entity_definition_in, entity_definitions}
 use Rattle.cedar_declarations.specs.ElaboratesTo.{IsNoRecord, IsRecordType}
-use Rattle.cedar_schema_elements.specs.ValidatorEntityType.{PlainEntityType, entity_type_of, descendant_names, plain_entry}
+use Rattle.cedar_schema_elements.specs.ValidatorEntityType.{PlainEntityType, entity_type_of, plain_entry}
 use Rattle.cedar_schema_elements.specs.declared.entity_type.ValidatorEntityType.{ValidatorEntityType}
 use Rattle.cedar_fragments.specs.declared.namespace.entity_types.EntityTypeFragment.{EntityTypeFragment}
 use Rattle.cedar_names.specs.Declaration.{Body}
@@ -37,20 +38,48 @@ use Rattle.cedar_names.specs.Expr.{Expr}
 use Rattle.cedar_names.specs.Reference.{Reference}
 use Rattle.cedar_names.specs.declared.json_schema.reference_type.ReferenceType.TheVariants.{Entity}
 use Rattle.cedar_type_rules.specs.Ty.{Ty}
-use Rattle.cedar_types.proofs.MemberLemmas.{Contains-named, list_any-names}
-use Rattle.cedar_builder.proofs.EntityTypeDescent.{chain_descends, descends_by_chain, edge_above}
-use Rattle.cedar_builder.proofs.EntityTypeParents.{edge_parent, edge_has_parent, one_resolves, parent_edge, parent_in_bag, parent_placed}
+use Rattle.cedar_types.proofs.MemberLemmas.{list_any-names}
+use Rattle.cedar_builder.proofs.EntityTypeParents.{AreEdges, RefusesReserved, an_edge, chain_descends, descends_by_chain, edge_has_parent, edge_parent, listed, listed_parent, one_resolves, parent_edge, parent_placed}
+use Rattle.cedar_builder.proofs.NodesCollected.{by_test}
+use Rattle.cedar_builder.proofs.NodesLinked.{alike_after, alike_before, collected_apart, descendants}
+use Rattle.cedar_builder.proofs.ReadyLemmas.{action_type, expr_fault}
+use Rattle.cedar_builder.specs.DeclaredNodes.{IsCollected, IsCollectedAt, IsCollectingFault, IsParentFault, SaysTogether, defined_in, definition_in, parents_in}
 use Rattle.cedar_resolution.specs.Collected.{collected_entities}
-use Rattle.cedar_builder.specs.EntityTypeNodes.{AreCollected, AreLinked, AreTheSame, IsAbove, IsEnumerated, IsEnumeratedAt, IsExternalAt, IsCollected, IsCollectedAt, IsLinkingFault, LeadsTo, has_descendant, node_at}
+use Rattle.cedar_builder.specs.EntityTypeNodes.{AreLinked, AreTheSame, IsAbove, IsElaboratedEntity, IsEnumerated, IsEnumeratedAt, IsExternalAt, IsLinkingFault, LeadsTo, SameType, has_descendant, node_at}
 use Rattle.cedar_builder.specs.EntityTypesReady.{IsReady}
 use Rattle.cedar_builder.specs.SoundEntityTypes.{EntityTypesAreSound}
-use Rattle.cedar_builder.specs.EntityTypeSteps.{HasNoRecord, IsCollectingFault, IsParentFault, IsSoundBody, IsElaboratedKind, AreElaboratedTags, entry_names, parents_in, plain_edge}
+use Rattle.cedar_builder.specs.EntityTypeSteps.{AreElaboratedTags, HasNoRecord, IsBodyFault, IsElaboratedKind, IsSoundBody, entry_names, is_entity_definition}
 use Rattle.cedar_elaboration.specs.Scope.{Covers, extension_name, extensions_in_scope}
-use Rattle.cedar_elaboration.specs.Refusals.{IsExprFault}
 use Rattle.cedar_elaboration.specs.declared.type_scope.TypeScope.{TypeScope}
 
 abbrev Entry : Type 0
 Entry = PlainName × EntityBody
+
+-- an entity type is external
+abbrev pub IsExternal : ValidatorEntityType → Type 0
+IsExternal it = (entity_type_of it).kind ≡ external_kind
+
+-- the name of an entity type
+abbrev pub name_of : ValidatorEntityType → PlainName
+name_of it = (entity_type_of it).name
+
+-- the entity type is what is declared gives, under whatever name
+abbrev pub GivesEntity : TypeScope → EntityBody → ValidatorEntityType → Type 0
+GivesEntity scope body it = IsElaboratedEntity scope (name_of it) body it
+
+-- a definition passes the test
+passes : (body : EntityBody) → IsDefinition body → is_entity_definition body ≡ true
+passes (standard parents shape tags) is = refl
+passes (enumerated ids) is = refl
+passes (external parents) is = absurd is
+
+-- declarations give the same definitions by the test
+definitions_alike : (entries : List Entry) → flat_map (definition_in is_entity_definition) entries ≡ entity_definitions entries
+definitions_alike entries = ap (λ give. flat_map give entries) (λ i it. alike it.0 it.1 i) where
+  alike : (name : PlainName) (body : EntityBody) → definition_in is_entity_definition (name, body) ≡ entity_definition_in name body
+  alike name (standard parents shape tags) = refl
+  alike name (enumerated ids) = refl
+  alike name (external parents) = refl
 
 -- the type of tags that is elaborated is the declared one
 tags_declared : (scope : TypeScope) (defined : Defined) (tags : Option Expr) (ty : Option Ty)
@@ -122,42 +151,17 @@ external_kind_elaborated scope (enumerated ids) (enumerated_kind choices) elabor
 external_kind_elaborated scope (enumerated ids) external_kind elaborated is = absurd elaborated
 external_kind_elaborated scope (external parents) kind elaborated is = (parents, refl)
 
--- what stands before an entity type that stands after
-same_before : (before : Option ValidatorEntityType) (it : ValidatorEntityType) → AreTheSame before (Some it)
-    → (old : ValidatorEntityType) × (before ≡ Some old) × (entity_type_of old ≡ entity_type_of it)
-same_before None it same = absurd same
-same_before (Some old) it same = (old, refl, same)
-
--- what stood before still stands
-pub same_after : (before after : Option ValidatorEntityType) → AreTheSame before after → IsSome before → IsSome after
-same_after None None same there = there
-same_after None (Some new) same there = absurd same
-same_after (Some old) None same there = absurd same
-same_after (Some old) (Some new) same there = there
-
--- what is some with a property
-with_property : {X : Type 0} (o : Option X) (x : X) (P : X → Type 0) → o ≡ Some x → IsSomeAnd o P → P x
-with_property {X = X} o x P is holds = let Q : Option X → Type 0 = λ each. IsSomeAnd each P in subst Q is holds
-
--- no action's uid has another type
-action_type : (bag : Bag) (name : PlainName) → Contains (map (λ uid. uid.ty) (action_uids bag)) name → IsActionType name
-action_type bag name among =
-    let uid = Contains-preimage (λ (each : PlainUid). each.ty) (action_uids bag) name among in
-    let it = Contains-preimage (λ each. each.0) (declared_actions bag) uid.0 uid.1 in
-    let found = action_declaration bag it.0.0 it.0.1 it.1 in
-    sym (ap (λ (each : PlainUid). each.ty.base) (found.3 ∙ it.2) ∙ ap (λ (each : PlainName). each.base) uid.2)
+-- at each name stands what its declarations say together
+abbrev pub AreCollected : {S : Type 0} → TypeScope → List Entry → HashMap EntityType ValidatorEntityType S → Type 0
+AreCollected scope entries nodes =
+    (key : EntityType) → IsCollectedAt is_entity_definition IsExternal name_of (GivesEntity scope) entries (type_name key) (node_at nodes key)
 
 -- no entity type leads to another as they are collected
-pub collected_apart : {S : Type 0} (scope : TypeScope) (entries : List Entry) (nodes : HashMap EntityType ValidatorEntityType S)
+pub no_edges : {S : Type 0} (scope : TypeScope) (entries : List Entry) (nodes : HashMap EntityType ValidatorEntityType S)
     → AreCollected scope entries nodes → (upper lower : EntityType) → ¬ LeadsTo nodes upper lower
-collected_apart scope entries nodes collected upper lower leads = by (node_at nodes upper) (collected upper) leads where
-  by : (o : Option ValidatorEntityType) → IsCollectedAt scope entries (type_name upper) o
-      → ¬ IsSomeAnd o (λ node. IsTrue (has_descendant node lower))
-  by None none has = has
-  by (Some it) is has =
-      let P : List PlainName → Type 0 = λ names. Contains names (type_name lower) in
-      let none = subst P is.no_descendants ((list_any-names lower it.descendants.keys).0 has) in
-      omega (arith, none.1)
+no_edges scope entries nodes collected = collected_apart (entity_type_eq.ghosts).eq type_name has_descendant (λ it. it.descendants.keys)
+    (λ it key. list_any-names key it.descendants.keys) is_entity_definition IsExternal name_of (GivesEntity scope) (λ body it given. given.no_descendants)
+    entries nodes collected
 
 module _ (bag : Bag) (extensions : Extensions) (declared : List (EntityType × EntityTypeFragment InternalName))
     (scope : TypeScope) (ready : IsReady bag extensions declared scope) where
@@ -188,55 +192,26 @@ module _ (bag : Bag) (extensions : Extensions) (declared : List (EntityType × E
   known_counted name body expr among counts = ready.knows expr (counted bag name body expr (among_declared name body among) counts)
 
   -- the kind of an entity type is the declared one
-  said_kind : (name : PlainName) (body : EntityBody) (kind : EntityTypeKind) → EntitiesSay Entries name body
+  said_kind : (name : PlainName) (body : EntityBody) (kind : EntityTypeKind) → SaysTogether is_entity_definition Entries name body
       → IsElaboratedKind scope body kind → IsDeclaredKind (definitions bag extensions) body kind
   said_kind name body kind says elaborated =
       kind_declared scope (definitions bag extensions) body kind
-      (λ expr counts. known_counted name body expr (said_definition of_entity_types Entries name body (entity_counted body expr counts) says) counts)
+      (λ expr counts. known_counted name body expr (said_definition (by_test is_entity_definition) Entries name body (passes body (entity_counted body expr counts)) says) counts)
       elaborated
 
-  -- what is said of the declarations the bag says
-  said_in_bag : (name : PlainName) (body : EntityBody) → EntitiesSay Entries name body → EntitySays bag name body
-  said_in_bag name body says =
-      let P : List Entry → Type 0 = λ entries. EntitiesSay entries name body in subst P ready.entities says
+  -- the definitions that are handed in are those of the bag
+  same_definitions : flat_map (definition_in is_entity_definition) Entries ≡ defined_entities bag
+  same_definitions = definitions_alike Entries ∙ ap entity_definitions ready.entities
 
-  -- the refusal of an expression that counts is a fault of the bag
-  expr_fault : (expr : Expr) (fault : Fault) → IsCounted bag expr
-      → IsExprFault (definitions bag extensions) (extensions_in_scope scope) expr fault
-      → (fault ≡ out_of_memory) ⊎ IsFault bag extensions fault
-  expr_fault expr open_record counts refused = inr (expr, counts, refused)
-  expr_fault expr (type_not_defined references) counts refused = inr (
-    refused.0,
-    λ reference among. (inl (expr, counts, (refused.1 reference among).0), (refused.1 reference among).1),
+  -- what is said of the declarations the bag says
+  said_in_bag : (name : PlainName) (body : EntityBody) → SaysTogether is_entity_definition Entries name body → EntitySays bag name body
+  said_in_bag name (external parents) says = (
+    subst (λ entries. Contains (entry_names entries) name) ready.entities says.0,
+    λ among. says.1 (subst (λ entries. Contains (entry_names entries) name) (sym same_definitions) among),
   )
-  expr_fault expr (unknown_extension_type name) counts refused = inr (
-    expr,
-    counts,
-    refused.0,
-    refused.1,
-    λ among. let P : List PlainName → Type 0 = λ names. Contains names name in refused.2 (subst P (sym ready.extensions) among),
-  )
-  expr_fault expr (reserved_name name) counts refused = absurd (ready.unreserved name refused.2.is_entity.1 refused.2.reserved)
-  expr_fault expr out_of_memory counts refused = inl refl
-  expr_fault expr (action_attributes ids) counts refused = absurd refused
-  expr_fault expr (undeclared_entity_types names) counts refused = absurd refused
-  expr_fault expr (action_not_defined actions) counts refused = absurd refused
-  expr_fault expr (type_shadowing plain qualified) counts refused = absurd refused
-  expr_fault expr (action_shadowing plain qualified) counts refused = absurd refused
-  expr_fault expr (duplicate_entity_type name) counts refused = absurd refused
-  expr_fault expr (duplicate_common_type name) counts refused = absurd refused
-  expr_fault expr (duplicate_action uid) counts refused = absurd refused
-  expr_fault expr (action_cycle uid) counts refused = absurd refused
-  expr_fault expr (common_type_cycle name) counts refused = absurd refused
-  expr_fault expr (action_entity_type name) counts refused = absurd refused
-  expr_fault expr (shape_not_record name) counts refused = absurd refused
-  expr_fault expr (context_not_record uid) counts refused = absurd refused
-  expr_fault expr (external_below_enumerated lower upper) counts refused = absurd refused
-  expr_fault expr (enumerated_below lower upper) counts refused = absurd refused
-  expr_fault expr (undeclared_action_descendant uid) counts refused = absurd refused
-  expr_fault expr (invalid_action_type uid) counts refused = absurd refused
-  expr_fault expr common_type_left counts refused = absurd refused
-  expr_fault expr action_left counts refused = absurd refused
+  said_in_bag name (standard parents shape tags) says =
+      subst (λ entries. Contains entries (name, standard parents shape tags)) same_definitions says
+  said_in_bag name (enumerated ids) says = subst (λ entries. Contains entries (name, enumerated ids)) same_definitions says
 
   -- a shape that is no record type is a fault of the bag
   shape_fault : (name : PlainName) (body : EntityBody) → Contains Entries (name, body) → HasNoRecord scope body
@@ -256,67 +231,67 @@ module _ (bag : Bag) (extensions : Extensions) (declared : List (EntityType × E
   shape_fault name (external parents) among none = absurd none
 
   -- a refusal of parents is a fault of the bag, unless memory ran out
-  pub parent_fault : (fault : Fault) → IsParentFault (parents_in Entries) fault → (fault ≡ out_of_memory) ⊎ IsFault bag extensions fault
-  parent_fault fault refused =
-      ⊎_elim
+  pub parent_fault : (fault : Fault)
+      → IsParentFault RefusesReserved (parents_in (map listed declared)) fault → (fault ≡ out_of_memory) ⊎ IsFault bag extensions fault
+  parent_fault fault refused = ⊎_elim
       (λ wanting. inl wanting)
       (λ reserved.
-      let parent = parent_in_bag bag extensions declared scope ready reserved.0 (reference_to_one Entity reserved.1) reserved.4 in
+      let name = reserved.3.0 in
+      let parent = listed_parent bag extensions declared scope ready reserved.0 reserved.1 reserved.2 in
+      let placed = parent_placed bag reserved.0 reserved.1 parent in
       absurd (⊎_elim
       (λ here. ⊎_elim
       (λ common. common.0)
-      (λ is_entity. ready.unreserved reserved.1 is_entity.1 reserved.3)
+      (λ is_entity. ready.unreserved name is_entity.1 reserved.3.2)
       here.1)
       (λ later. later.1)
-      (one_resolves bag extensions declared scope ready reserved.1
-      (parent_placed bag reserved.0 (reference_to_one Entity reserved.1) parent))))
+      (one_resolves bag extensions declared scope ready name (subst (IsAtEntityTypePosition bag) reserved.3.3 placed))))
       refused
 
   -- a refusal of declarations is a fault of the bag, unless memory ran out
-  pub collecting_fault : (fault : Fault) → IsCollectingFault scope Entries fault → (fault ≡ out_of_memory) ⊎ IsFault bag extensions fault
+  pub collecting_fault : (fault : Fault) → IsCollectingFault is_entity_definition type_name (λ key. IsBodyFault scope (type_name key)) duplicate_entity_type Entries fault → (fault ≡ out_of_memory) ⊎ IsFault bag extensions fault
   collecting_fault fault refused =
       let P : Fault → Type 0 = IsFault bag extensions in
-      let Q : List Entry → PlainName → Type 0 = λ entries name. Twice (entry_names (entity_definitions entries)) name in
       ⊎_elim
       (λ wanting. inl wanting)
       (λ others. ⊎_elim
       (λ one. ⊎_elim
       (λ wanting. inl wanting)
       (λ body. ⊎_elim
-      (λ expr. expr_fault expr.0 fault (counted bag one.0 one.1 expr.0 (among_declared one.0 one.1 one.2) expr.1)
-      (expr.2.each (definitions bag extensions) (known_counted one.0 one.1 expr.0 one.2 expr.1)))
-      (λ shape. inr (subst P (sym shape.0) (shape_fault one.0 one.1 one.2 shape.1)))
+      (λ expr. expr_fault bag extensions (extensions_in_scope scope) ready.extensions ready.unreserved expr.0 fault (counted bag (type_name one.0) one.1 expr.0 (among_declared (type_name one.0) one.1 one.2) expr.1)
+      (expr.2.each (definitions bag extensions) (known_counted (type_name one.0) one.1 expr.0 one.2 expr.1)))
+      (λ shape. inr (subst P (sym shape.0) (shape_fault (type_name one.0) one.1 one.2 shape.1)))
       body)
       one.3)
-      (λ twice. inr (subst P (sym twice.1) (subst (λ entries. Q entries twice.0) ready.entities twice.2)))
+      (λ twice. inr (subst P (sym twice.1) (subst (λ entries. Twice (entry_names entries) twice.0) same_definitions twice.2)))
       others)
       refused
 
   module _ {S : Type 0} (before : HashMap EntityType ValidatorEntityType S) (collected : AreCollected scope Entries before)
-      (once : (name : PlainName) → ¬ Twice (entry_names (entity_definitions Entries)) name) where
+      (once : (name : PlainName) → ¬ Twice (defined_in is_entity_definition Entries) name) where
     -- a definition is what is said of its name
-    said_is : (name : PlainName) (body other : EntityBody) → IsDefinition body → Contains Entries (name, body)
-        → EntitiesSay Entries name other → other ≡ body
-    said_is name body (external parents) is among says = absurd (says.1 (key_defined of_entity_types Entries name body is among))
+    said_is : (name : PlainName) (body other : EntityBody) → is_entity_definition body ≡ true → Contains Entries (name, body)
+        → SaysTogether is_entity_definition Entries name other → other ≡ body
+    said_is name body (external parents) is among says = absurd (says.1 (key_defined (by_test is_entity_definition) Entries name body is among))
     said_is name body (standard parents shape tags) is among says =
-        value_once (entity_definitions Entries) once name (standard parents shape tags) body says (declared_definition of_entity_types Entries name body is among)
+        value_once (flat_map (definition_in is_entity_definition) Entries) once name (standard parents shape tags) body says (declared_definition (by_test is_entity_definition) Entries name body is among)
     said_is name body (enumerated ids) is among says =
-        value_once (entity_definitions Entries) once name (enumerated ids) body says (declared_definition of_entity_types Entries name body is among)
+        value_once (flat_map (definition_in is_entity_definition) Entries) once name (enumerated ids) body says (declared_definition (by_test is_entity_definition) Entries name body is among)
 
     -- a declared name has an entity type
     pub stands : (key : EntityType) → Contains (entry_names Entries) (type_name key) → IsSome (node_at before key)
     stands key among = by (node_at before key) (collected key) where
-      by : (o : Option ValidatorEntityType) → IsCollectedAt scope Entries (type_name key) o → IsSome o
+      by : (o : Option ValidatorEntityType) → IsCollectedAt is_entity_definition IsExternal name_of (GivesEntity scope) Entries (type_name key) o → IsSome o
       by None none = absurd (none among)
       by (Some it) is = refl
 
     -- an entity type stands under a declared name
     stands_declared : (key : EntityType) → IsSome (node_at before key) → Contains (entry_names Entries) (type_name key)
     stands_declared key there = by (node_at before key) (collected key) there where
-      by : (o : Option ValidatorEntityType) → IsCollectedAt scope Entries (type_name key) o → IsSome o
+      by : (o : Option ValidatorEntityType) → IsCollectedAt is_entity_definition IsExternal name_of (GivesEntity scope) Entries (type_name key) o → IsSome o
           → Contains (entry_names Entries) (type_name key)
       by None none there = absurd (false≢true there)
-      by (Some it) is there = said_declared of_entity_types Entries (type_name key) is.body is.says
+      by (Some it) is there = said_declared (by_test is_entity_definition) Entries (type_name key) is.body is.says
 
     -- a name that is declared by its choices has an enumerated entity type
     enumerated_at : (key : EntityType) (choices : List Text) → Contains Entries (type_name key, enumerated choices)
@@ -325,54 +300,54 @@ module _ (bag : Bag) (extensions : Extensions) (declared : List (EntityType × E
       named : Contains (entry_names Entries) (type_name key)
       named = Contains-image (λ (it : Entry). it.0) Entries (type_name key, enumerated choices) among
 
-      by : (o : Option ValidatorEntityType) → IsCollectedAt scope Entries (type_name key) o → IsSome o → IsEnumeratedAt o
+      by : (o : Option ValidatorEntityType) → IsCollectedAt is_entity_definition IsExternal name_of (GivesEntity scope) Entries (type_name key) o → IsSome o → IsEnumeratedAt o
       by None none there = absurd (false≢true there)
       by (Some it) is there =
           let P : EntityBody → Type 0 = λ body. IsElaboratedKind scope body (entity_type_of it).kind in
           elaborated_enumerated scope choices (entity_type_of it).kind
-          (subst P (said_is (type_name key) (enumerated choices) is.body tt among is.says) is.kind)
+          (subst P (said_is (type_name key) (enumerated choices) is.body refl among is.says) is.given.kind)
 
     -- and the other way round
     at_enumerated : (key : EntityType) → IsEnumeratedAt (node_at before key)
         → (choices : List Text) × Contains Entries (type_name key, enumerated choices)
     at_enumerated key there = by (node_at before key) (collected key) there where
-      by : (o : Option ValidatorEntityType) → IsCollectedAt scope Entries (type_name key) o → IsEnumeratedAt o
+      by : (o : Option ValidatorEntityType) → IsCollectedAt is_entity_definition IsExternal name_of (GivesEntity scope) Entries (type_name key) o → IsEnumeratedAt o
           → (choices : List Text) × Contains Entries (type_name key, enumerated choices)
       by None none there = absurd there
       by (Some it) is there =
-          let found = enumerated_elaborated scope is.body (entity_type_of it).kind is.kind there in
-          let P : EntityBody → Type 0 = EntitiesSay Entries (type_name key) in
-          (found.0, said_definition of_entity_types Entries (type_name key) (enumerated found.0) tt (subst P found.1 is.says))
+          let found = enumerated_elaborated scope is.body (entity_type_of it).kind is.given.kind there in
+          let P : EntityBody → Type 0 = SaysTogether is_entity_definition Entries (type_name key) in
+          (found.0, said_definition (by_test is_entity_definition) Entries (type_name key) (enumerated found.0) refl (subst P found.1 is.says))
 
     -- a name that is declared and not defined has an external entity type
     external_at : (key : EntityType) → Contains (entry_names Entries) (type_name key)
-        → ¬ Contains (entry_names (entity_definitions Entries)) (type_name key) → IsExternalAt (node_at before key)
+        → ¬ Contains (entry_names (flat_map (definition_in is_entity_definition) Entries)) (type_name key) → IsExternalAt (node_at before key)
     external_at key among none = by (node_at before key) (collected key) (stands key among) where
-      said : (body : EntityBody) (kind : EntityTypeKind) → EntitiesSay Entries (type_name key) body → IsElaboratedKind scope body kind
+      said : (body : EntityBody) (kind : EntityTypeKind) → SaysTogether is_entity_definition Entries (type_name key) body → IsElaboratedKind scope body kind
           → kind ≡ external_kind
       said (external parents) kind says elaborated = elaborated_external scope parents kind elaborated
       said (standard parents shape tags) kind says elaborated =
-          absurd (none (Contains-image (λ (it : Entry). it.0) (entity_definitions Entries) (type_name key, standard parents shape tags) says))
+          absurd (none (Contains-image (λ (it : Entry). it.0) (flat_map (definition_in is_entity_definition) Entries) (type_name key, standard parents shape tags) says))
       said (enumerated ids) kind says elaborated =
-          absurd (none (Contains-image (λ (it : Entry). it.0) (entity_definitions Entries) (type_name key, enumerated ids) says))
+          absurd (none (Contains-image (λ (it : Entry). it.0) (flat_map (definition_in is_entity_definition) Entries) (type_name key, enumerated ids) says))
 
-      by : (o : Option ValidatorEntityType) → IsCollectedAt scope Entries (type_name key) o → IsSome o → IsExternalAt o
+      by : (o : Option ValidatorEntityType) → IsCollectedAt is_entity_definition IsExternal name_of (GivesEntity scope) Entries (type_name key) o → IsSome o → IsExternalAt o
       by None none there = absurd (false≢true there)
-      by (Some it) is there = said is.body (entity_type_of it).kind is.says is.kind
+      by (Some it) is there = said is.body (entity_type_of it).kind is.says is.given.kind
 
     -- and the other way round
     at_external : (key : EntityType) → IsExternalAt (node_at before key) → (parents : List Reference)
-        × EntitiesSay Entries (type_name key) (external parents)
+        × SaysTogether is_entity_definition Entries (type_name key) (external parents)
     at_external key there = by (node_at before key) (collected key) there where
-      by : (o : Option ValidatorEntityType) → IsCollectedAt scope Entries (type_name key) o → IsExternalAt o
-          → (parents : List Reference) × EntitiesSay Entries (type_name key) (external parents)
+      by : (o : Option ValidatorEntityType) → IsCollectedAt is_entity_definition IsExternal name_of (GivesEntity scope) Entries (type_name key) o → IsExternalAt o
+          → (parents : List Reference) × SaysTogether is_entity_definition Entries (type_name key) (external parents)
       by None none there = absurd there
       by (Some it) is there =
-          let found = external_kind_elaborated scope is.body (entity_type_of it).kind is.kind there in
-          let P : EntityBody → Type 0 = EntitiesSay Entries (type_name key) in
+          let found = external_kind_elaborated scope is.body (entity_type_of it).kind is.given.kind there in
+          let P : EntityBody → Type 0 = SaysTogether is_entity_definition Entries (type_name key) in
           (found.0, subst P found.1 is.says)
 
-    module _ (edges : List (EntityType × EntityType)) (are : map plain_edge edges ≡ parents_in (collected_entities declared)) where
+    module _ (edges : List (EntityType × EntityType)) (are : AreEdges declared edges) where
       -- an edge to what isn't declared is to a type of actions
       undeclared_fault : (upper lower : EntityType) → IsAbove edges upper lower → node_at before upper ≡ None
           → IsFault bag extensions (undeclared_entity_types (type_name upper ∷ []))
@@ -437,8 +412,8 @@ module _ (bag : Bag) (extensions : Extensions) (declared : List (EntityType × E
           )
           by choices enumerated_so reference (enumerated ids) among parent resolves = absurd (omega (arith, parent.1))
           by choices enumerated_so reference (standard parents shape tags) among parent resolves =
-              let other = said_is (type_name lower) (enumerated choices) (standard parents shape tags) tt enumerated_so
-              (declared_definition of_entity_types Entries (type_name lower) (standard parents shape tags) tt
+              let other = said_is (type_name lower) (enumerated choices) (standard parents shape tags) refl enumerated_so
+              (declared_definition (by_test is_entity_definition) Entries (type_name lower) (standard parents shape tags) refl
               (among_collected (type_name lower) (standard parents shape tags) among)) in
               cc
 
@@ -450,7 +425,7 @@ module _ (bag : Bag) (extensions : Extensions) (declared : List (EntityType × E
           (λ wanting. inl wanting)
           (λ others. inr (⊎_elim
           (λ one.
-          let above = edge_above edges one.0 one.0.0 one.0.1 one.1 refl refl in
+          let above : IsAbove edges one.0.0 one.0.1 = an_edge edges one.0 one.0.0 one.0.1 one.1 refl refl in
           ⊎_elim
           (λ missing. subst P (sym missing.0) (undeclared_fault one.0.0 one.0.1 above missing.1))
           (λ alone. subst P (sym alone.0) (enumerated_fault one.0.0 one.0.1 above alone.1))
@@ -468,45 +443,24 @@ module _ (bag : Bag) (extensions : Extensions) (declared : List (EntityType × E
           refused
 
       module _ (after : HashMap EntityType ValidatorEntityType S) (linked : AreLinked edges before after) where
-        -- the descendants of an entity type are the declared ones
-        descendants : (key : EntityType) (it : ValidatorEntityType) → node_at after key ≡ Some it → (lower : PlainName)
-            → Contains (descendant_names it) lower ↔ IsDescendant bag extensions lower (type_name key)
-        descendants key it found lower = (
-          λ among.
-              let named = Contains-named it.descendants.keys lower among in
-              let P : PlainName → Type 0 = Contains (descendant_names it) in
-              let has : IsTrue (has_descendant it named.0) =
-              (list_any-names named.0 it.descendants.keys).1 (subst P (sym named.2) among) in
-              let Q : Option ValidatorEntityType → Type 0 = λ o. IsSomeAnd o (λ node. IsTrue (has_descendant node named.0)) in
-              let R : PlainName → Type 0 = λ each. IsDescendant bag extensions each (type_name key) in
-              subst R named.2
-              (chain_descends bag extensions declared scope ready edges are
-              ((linked.linked key named.0).0 (subst Q (sym found) has))),
-          λ descends.
-              let chain = descends_by_chain bag extensions declared scope ready edges are descends key refl in
-              let has : IsTrue (has_descendant it chain.0) =
-              with_property (node_at after key) it (λ node. IsTrue (has_descendant node chain.0)) found
-              ((linked.linked key chain.0).1 chain.2) in
-              let P : PlainName → Type 0 = Contains (descendant_names it) in
-              subst P chain.1 ((list_any-names chain.0 it.descendants.keys).0 has),
-        )
-
         -- what stands at a key after all is what the bag declares of the name
         pub declared_at : (key : EntityType) (it : ValidatorEntityType) → node_at after key ≡ Some it
             → IsDeclaredEntityType bag extensions (plain_entry (key, it))
         declared_at key it found =
-            let P : Option ValidatorEntityType → Type 0 = AreTheSame (node_at before key) in
-            let old = same_before (node_at before key) it (subst P found (linked.same key)) in
-            let Q : Option ValidatorEntityType → Type 0 = IsCollectedAt scope Entries (type_name key) in
-            let is : IsCollected scope Entries (type_name key) old.0 = subst Q old.1 (collected key) in
-            let R : EntityTypeKind → Type 0 = IsDeclaredKind (definitions bag extensions) is.body in
+            let old = alike_before SameType (node_at before key) it (subst (AreTheSame (node_at before key)) found (linked.same key)) in
+            let is : IsCollected is_entity_definition IsExternal name_of (GivesEntity scope) Entries (type_name key) old.0 =
+            subst (IsCollectedAt is_entity_definition IsExternal name_of (GivesEntity scope) Entries (type_name key)) old.1 (collected key) in
             record {
               body = is.body;
               says = said_in_bag (type_name key) is.body is.says;
               name = ap (λ (each : PlainEntityType). each.name) (sym old.2) ∙ is.name;
-              kind = subst R (ap (λ (each : PlainEntityType). each.kind) old.2)
-                  (said_kind (type_name key) is.body (entity_type_of old.0).kind is.says is.kind);
-              descendants = descendants key it found;
+              kind = subst (IsDeclaredKind (definitions bag extensions) is.body) (ap (λ (each : PlainEntityType). each.kind) old.2)
+                  (said_kind (type_name key) is.body (entity_type_of old.0).kind is.says is.given.kind);
+              descendants = descendants (entity_type_eq.ghosts).eq type_name has_descendant (λ each. each.descendants.keys)
+                  (λ each other. list_any-names other each.descendants.keys) edges (IsDescendant bag extensions)
+                  (λ upper lower. chain_descends bag extensions declared scope ready edges are)
+                  (λ lower upper. descends_by_chain bag extensions declared scope ready edges are)
+                  after linked.linked key it found;
             }
 
         -- under each declared name something stands after all
@@ -517,15 +471,14 @@ module _ (bag : Bag) (extensions : Extensions) (declared : List (EntityType × E
             let P : List Entry → PlainName → Type 0 = λ entries each. Contains (entry_names entries) each in
             let there = stands key.0 (subst (λ each. P Entries each) (sym key.1)
             (subst (λ entries. P entries name) (sym ready.entities) among)) in
-            (key.0, key.1, same_after (node_at before key.0) (node_at after key.0) (linked.same key.0) there)
+            (key.0, key.1, alike_after SameType (node_at before key.0) (node_at after key.0) (linked.same key.0) there)
 
         -- what is certain of the declarations
         pub certain : ((name : PlainName) (body : EntityBody) → Contains Entries (name, body) → IsSoundBody scope body)
             → EntityTypesAreSound bag extensions
         certain sound = record {
           once = λ name twice. once name
-              (let P : List Entry → Type 0 = λ entries. Twice (entry_names (entity_definitions entries)) name in
-              subst P (sym ready.entities) twice);
+              (subst (λ entries. Twice (entry_names entries) name) (sym same_definitions) twice);
           records = λ name fault. no_shape_fault name fault.0 fault.1 fault.2 fault.3 fault.4;
           closed = λ name body expr among counts. (sound name body (among_collected name body among)).closed expr counts;
           extension_types = λ name body expr among counts word mentioned.
@@ -552,7 +505,7 @@ module _ (bag : Bag) (extensions : Extensions) (declared : List (EntityType × E
                 → Contains (entry_names (declared_entities bag)) upper
             parent_declared name upper parent =
                 let edge = parent_edge bag extensions declared scope ready edges are name upper parent in
-                let there = linked.uppers edge.0.0 edge.0.1 (edge_above edges edge.0 edge.0.0 edge.0.1 edge.1 refl refl) in
+                let there = linked.uppers edge.0.0 edge.0.1 (an_edge edges edge.0 edge.0.0 edge.0.1 edge.1 refl refl) in
                 let P : List Entry → PlainName → Type 0 = λ entries each. Contains (entry_names entries) each in
                 subst (λ entries. P entries upper) ready.entities
                 (subst (λ each. P Entries each) edge.2 (stands_declared edge.0.0 there))
@@ -562,7 +515,7 @@ module _ (bag : Bag) (extensions : Extensions) (declared : List (EntityType × E
             no_enumerated_below lower upper choices among parent =
                 let edge = parent_edge bag extensions declared scope ready edges are lower upper parent in
                 let P : PlainName → Type 0 = λ each. Contains Entries (each, enumerated choices) in
-                linked.lowers edge.0.0 edge.0.1 (edge_above edges edge.0 edge.0.0 edge.0.1 edge.1 refl refl)
+                linked.lowers edge.0.0 edge.0.1 (an_edge edges edge.0 edge.0.0 edge.0.1 edge.1 refl refl)
                 (enumerated_at edge.0.1 choices (subst P (sym edge.3) (among_collected lower (enumerated choices) among)))
 
             no_external_below : (lower upper : PlainName) (choices : List Text) → IsExternalType bag lower
@@ -572,10 +525,9 @@ module _ (bag : Bag) (extensions : Extensions) (declared : List (EntityType × E
                 let chain = descends_by_chain bag extensions declared scope ready edges are descends key.0 (sym key.1) in
                 let P : PlainName → Type 0 = λ each. Contains Entries (each, enumerated choices) in
                 let Q : List Entry → PlainName → Type 0 = λ entries each. Contains (entry_names entries) each in
-                let R : List Entry → PlainName → Type 0 = λ entries each. Contains (entry_names (entity_definitions entries)) each in
                 linked.external_above key.0 chain.0 chain.2
                 (enumerated_at key.0 choices (subst P (sym key.1) (among_collected upper (enumerated choices) among)))
                 (external_at chain.0
                 (subst (λ each. Q Entries each) (sym chain.1) (subst (λ entries. Q entries lower) (sym ready.entities) is.0))
-                (λ defined. is.1 (subst (λ entries. R entries lower) ready.entities
-                (subst (λ each. R Entries each) chain.1 defined))))
+                (λ defined. is.1 (subst (λ entries. Contains (entry_names entries) lower) same_definitions
+                (subst (Contains (defined_in is_entity_definition Entries)) chain.1 defined))))

@@ -1,5 +1,5 @@
 -- What the private steps promise of actions as nodes of a graph, which stand in a map under their uids.
-use Rattle.std.specs.Prelude.{◌≡◌, ◌⊎◌, ◌↔◌, Bool, List, [], Option, None, Some, IsSome, Contains}
+use Rattle.std.specs.Prelude.{◌≡◌, ◌⊎◌, ◌↔◌, Bool, List, [], Option}
 use Rattle.std.specs.HashMap.{HashMap, get}
 use Rattle.std.specs.HashSet.{contains}
 use Rattle.cedar_schema_elements.specs.ValidatorActionId.{action_of}
@@ -11,42 +11,15 @@ use Rattle.cedar_below.specs.contracts.entity_uid.EntityUIDPartialEq.TheImpl as 
 use Rattle.cedar_below.specs.declared.entity_uid.EntityUID.{EntityUID}
 use Rattle.cedar_graph.specs.Edges.{HasEdge, IsEdgeIn, AreAlike}
 use Rattle.cedar_declarations.specs.Fault.{Fault, action_cycle, out_of_memory}
-use Rattle.cedar_declarations.specs.PlainSchema.{external_action}
 use Rattle.cedar_names.specs.ActionBody.{Requests}
-use Rattle.cedar_builder.specs.ActionSteps.{SaysTogether, IsElaboratedKind, entry_uids}
+use Rattle.cedar_builder.specs.ActionSteps.{IsElaboratedKind}
 use Rattle.cedar_elaboration.specs.declared.type_scope.TypeScope.{TypeScope}
-
--- at a key stands an action that isn't external
-abbrev pub IsDefinedAt : Option ValidatorActionId → Type 0
-IsDefinedAt None = ⊥
-IsDefinedAt (Some it) = ¬ ((action_of it).kind ≡ external_action)
 
 -- the action is what a declaration of the uid says alone, and has no descendants
 pub record IsElaboratedAction (scope : TypeScope) (stated : PlainUid) (applies_to : Requests) (it : ValidatorActionId) : Type 0 where
   pub uid : (action_of it).uid ≡ stated
   pub kind : IsElaboratedKind scope applies_to (action_of it).kind
   pub no_descendants : (action_of it).descendants ≡ []
-
--- the action is what the declarations of the uid say together, and has no descendants
-pub record IsCollected (scope : TypeScope) (entries : List (PlainUid × Requests)) (stated : PlainUid)
-    (it : ValidatorActionId) : Type 0 where
-  pub uid : (action_of it).uid ≡ stated
-  pub applies_to : Requests
-  pub says : SaysTogether entries stated applies_to
-  pub kind : IsElaboratedKind scope applies_to (action_of it).kind
-  pub no_descendants : (action_of it).descendants ≡ []
-
--- at a uid stands what its declarations say together, or none where it has none
-abbrev pub IsCollectedAt : TypeScope → List (PlainUid × Requests) → PlainUid → Option ValidatorActionId → Type 0
-IsCollectedAt scope entries uid None = ¬ Contains (entry_uids entries) uid
-IsCollectedAt scope entries uid (Some it) = IsCollected scope entries uid it
-
--- what stands at the uid of an action before and after it is put there: an external one changes nothing where one
--- stands, and any other replaces an external one
-abbrev pub IsPut : ValidatorActionId → Option ValidatorActionId → Option ValidatorActionId → Type 0
-IsPut it None after = after ≡ Some it
-IsPut it (Some old) after = (((action_of it).kind ≡ external_action) × (after ≡ Some old))
-    ⊎ ((¬ ((action_of it).kind ≡ external_action)) × ((action_of old).kind ≡ external_action) × (after ≡ Some it))
 
 -- whether the one action is among the descendants of the other
 abbrev pub has_descendant : ValidatorActionId → EntityUID → Bool
@@ -61,24 +34,19 @@ module _ {S : Type 0} where
   abbrev pub LeadsTo : HashMap EntityUID ValidatorActionId S → EntityUID → EntityUID → Type 0
   LeadsTo nodes upper lower = HasEdge (uid_eq.ghosts).eq has_descendant nodes upper lower
 
-  -- at each uid stands what its declarations say together
-  abbrev pub AreCollected : TypeScope → List (PlainUid × Requests) → HashMap EntityUID ValidatorActionId S → Type 0
-  AreCollected scope entries nodes = (key : EntityUID) → IsCollectedAt scope entries (uid_of key) (node_at nodes key)
-
 -- the one is a parent of the other by some edge
 abbrev pub IsAbove : List (EntityUID × EntityUID) → EntityUID → EntityUID → Type 0
 IsAbove = IsEdgeIn (uid_eq.ghosts).eq
 
--- what stands at a key before and after are actions that are the same but for their descendants, or none
+-- actions are the same but for their descendants and locations
+abbrev pub SameAction : ValidatorActionId → ValidatorActionId → Type 0
+SameAction before after = ((action_of before).uid ≡ (action_of after).uid) × ((action_of before).kind ≡ (action_of after).kind)
+
+-- what stands at a key before and after are such actions, or none
 abbrev pub AreTheSame : Option ValidatorActionId → Option ValidatorActionId → Type 0
-AreTheSame = AreAlike (λ before after. ((action_of before).uid ≡ (action_of after).uid) × ((action_of before).kind ≡ (action_of after).kind))
+AreTheSame = AreAlike SameAction
 
 module _ {S : Type 0} where
-  -- no node has descendants, and one stands at the upper end of each edge
-  pub record AreReady (edges : List (EntityUID × EntityUID)) (nodes : HashMap EntityUID ValidatorActionId S) : Type 0 where
-    pub apart : (upper lower : EntityUID) → ¬ LeadsTo nodes upper lower
-    pub uppers : (upper lower : EntityUID) → IsAbove edges upper lower → IsSome (node_at nodes upper)
-
   -- after as before, but for descendants, which are now those that chains of edges lead to; and no chain is a cycle
   pub record AreLinked (edges : List (EntityUID × EntityUID)) (before after : HashMap EntityUID ValidatorActionId S) :
       Type 0 where

@@ -1,17 +1,14 @@
 -- What the private steps promise of declarations: those of one uid together, their parents, and what is elaborated.
-use Rattle.std.specs.Prelude.{◌≡◌, ◌⊎◌, ◌↔◌, ◌∷◌, [], List, Contains, map}
+use Rattle.std.specs.Prelude.{Bool, true, false, ◌≡◌, ◌⊎◌, ◌↔◌, ◌∷◌, [], List, Contains, map}
 use Rattle.std.specs.BTreeMap.{BTreeMap}
 use Rattle.std.specs.List.{flat_map}
 use Rattle.cedar_below.specs.EntityType.{type_name}
-use Rattle.cedar_below.specs.EntityUID.{uid_of}
 use Rattle.cedar_below.specs.PlainName.{PlainName, IsReserved}
 use Rattle.cedar_below.specs.PlainUid.{PlainUid}
 use Rattle.cedar_below.specs.declared.entity_type.EntityType.{EntityType}
-use Rattle.cedar_below.specs.declared.entity_uid.EntityUID.{EntityUID}
 use Rattle.cedar_declarations.specs.Counted.{CountsInRequests, IsPrincipalOrResource}
-use Rattle.cedar_declarations.specs.Fault.{Fault, context_not_record, duplicate_action, reserved_name, undeclared_entity_types, out_of_memory}
+use Rattle.cedar_declarations.specs.Fault.{Fault, context_not_record, reserved_name, undeclared_entity_types, out_of_memory}
 use Rattle.cedar_declarations.specs.Mentions.{HasOpenRecord}
-use Rattle.cedar_below.specs.Lists.{Twice}
 use Rattle.cedar_declarations.specs.PlainSchema.{ActionKind, defined_action, external_action}
 use Rattle.cedar_declarations.specs.Resolved.{reference_to_one}
 use Rattle.cedar_declarations.specs.Together.{action_definition_in}
@@ -42,26 +39,9 @@ entry_uids entries = map (λ it. it.0) entries
 abbrev pub definitions_in : List (PlainUid × Requests) → List (PlainUid × Requests)
 definitions_in entries = flat_map (λ it. action_definition_in it.0 it.1) entries
 
--- what the declarations of a uid say together, parents aside: what its definition says, or that it is external
-abbrev pub SaysTogether : List (PlainUid × Requests) → PlainUid → Requests → Type 0
-SaysTogether entries uid elsewhere = Contains (entry_uids entries) uid × ¬ Contains (entry_uids (definitions_in entries)) uid
-SaysTogether entries uid applies_to = Contains (definitions_in entries) (uid, applies_to)
-
--- a uid with each of some references
-abbrev pub parents_of : PlainUid → List ActionReference → List (PlainUid × ActionReference)
-parents_of uid references = map (λ reference. (uid, reference)) references
-
--- each uid with each of its parents
-abbrev pub parents_in : List (PlainUid × ActionBody) → List (PlainUid × ActionReference)
-parents_in entries = flat_map (λ it. parents_of it.0 it.1.parents) entries
-
 -- the reference to the action of the uid alone
 abbrev pub reference_to_action : PlainUid → ActionReference
 reference_to_action uid = record { id = uid.eid; ty = reference_to_one Entity uid.ty }
-
--- an edge from a parent to an action, as plain data: the uid of the action, with its parent
-abbrev pub plain_edge : EntityUID × EntityUID → PlainUid × ActionReference
-plain_edge edge = (uid_of edge.1, reference_to_action (uid_of edge.0))
 
 -- the names are just those that the references are to
 abbrev pub AreNamed : List Reference → List PlainName → Type 0
@@ -111,9 +91,7 @@ IsRequestsFault scope types uid applies_to fault = (fault ≡ out_of_memory)
     ⊎ (((fault ≡ context_not_record uid) × HasNoRecord scope applies_to)
     ⊎ ((name : PlainName) × IsPrincipalOrResource applies_to (reference_to_one Entity name) × IsNameFault types name fault)))
 
--- why the declarations are refused: the requests of some one are, or a uid has two definitions; or memory ran out
-abbrev pub IsCollectingFault : TypeScope → List PlainName → List (PlainUid × Requests) → Fault → Type 0
-IsCollectingFault scope types entries fault = (fault ≡ out_of_memory)
-    ⊎ (((uid : PlainUid) × (applies_to : Requests) × Contains entries (uid, applies_to)
-    × IsRequestsFault scope types uid applies_to fault)
-    ⊎ ((uid : PlainUid) × (fault ≡ duplicate_action uid) × Twice (entry_uids (definitions_in entries)) uid))
+-- the declaration of an action is its definition: it isn't external (RFC 116)
+abbrev pub is_action_definition : Requests → Bool
+is_action_definition elsewhere = false
+is_action_definition _ = true

@@ -10,11 +10,10 @@ use Rattle.cedar_below.specs.declared.entity_type.EntityType.{EntityType}
 use Rattle.cedar_graph.specs.Edges.{HasEdge, IsEdgeIn, AreAlike}
 use Rattle.cedar_declarations.specs.EntityTypeKind.{EntityTypeKind, enumerated_kind, external_kind}
 use Rattle.cedar_declarations.specs.Fault.{Fault, undeclared_entity_types, enumerated_below, external_below_enumerated, out_of_memory}
-use Rattle.cedar_declarations.specs.Together.{EntitiesSay}
 use Rattle.cedar_schema_elements.specs.ValidatorEntityType.{entity_type_of, descendant_names}
 use Rattle.cedar_schema_elements.specs.declared.entity_type.ValidatorEntityType.{ValidatorEntityType}
 use Rattle.cedar_names.specs.EntityBody.{EntityBody}
-use Rattle.cedar_builder.specs.EntityTypeSteps.{IsElaboratedKind, entry_names}
+use Rattle.cedar_builder.specs.EntityTypeSteps.{IsElaboratedKind}
 use Rattle.cedar_elaboration.specs.declared.type_scope.TypeScope.{TypeScope}
 
 -- the kind is enumerated
@@ -32,37 +31,11 @@ abbrev pub IsExternalAt : Option ValidatorEntityType → Type 0
 IsExternalAt None = ⊥
 IsExternalAt (Some it) = (entity_type_of it).kind ≡ external_kind
 
--- at a key stands an entity type that isn't external
-abbrev pub IsDefinedAt : Option ValidatorEntityType → Type 0
-IsDefinedAt None = ⊥
-IsDefinedAt (Some it) = ¬ ((entity_type_of it).kind ≡ external_kind)
-
 -- the entity type is what a declaration of the name says alone, and has no descendants
 pub record IsElaboratedEntity (scope : TypeScope) (stated : PlainName) (body : EntityBody) (it : ValidatorEntityType) : Type 0 where
   pub name : (entity_type_of it).name ≡ stated
   pub kind : IsElaboratedKind scope body (entity_type_of it).kind
   pub no_descendants : descendant_names it ≡ []
-
--- the entity type is what the declarations of the name say together, and has no descendants
-pub record IsCollected (scope : TypeScope) (entries : List (PlainName × EntityBody)) (stated : PlainName)
-    (it : ValidatorEntityType) : Type 0 where
-  pub name : (entity_type_of it).name ≡ stated
-  pub body : EntityBody
-  pub says : EntitiesSay entries stated body
-  pub kind : IsElaboratedKind scope body (entity_type_of it).kind
-  pub no_descendants : descendant_names it ≡ []
-
--- at a name stands what its declarations say together, or none where it has none
-abbrev pub IsCollectedAt : TypeScope → List (PlainName × EntityBody) → PlainName → Option ValidatorEntityType → Type 0
-IsCollectedAt scope entries name None = ¬ Contains (entry_names entries) name
-IsCollectedAt scope entries name (Some it) = IsCollected scope entries name it
-
--- what stands at the name of an entity type before and after it is put there: an external one changes nothing where one
--- stands, and any other replaces an external one
-abbrev pub IsPut : ValidatorEntityType → Option ValidatorEntityType → Option ValidatorEntityType → Type 0
-IsPut it None after = after ≡ Some it
-IsPut it (Some old) after = (((entity_type_of it).kind ≡ external_kind) × (after ≡ Some old))
-    ⊎ ((¬ ((entity_type_of it).kind ≡ external_kind)) × ((entity_type_of old).kind ≡ external_kind) × (after ≡ Some it))
 
 -- whether the one entity type is among the descendants of the other
 abbrev pub has_descendant : ValidatorEntityType → EntityType → Bool
@@ -77,17 +50,17 @@ module _ {S : Type 0} where
   abbrev pub LeadsTo : HashMap EntityType ValidatorEntityType S → EntityType → EntityType → Type 0
   LeadsTo nodes upper lower = HasEdge (entity_type_eq.ghosts).eq has_descendant nodes upper lower
 
-  -- at each name stands what its declarations say together
-  abbrev pub AreCollected : TypeScope → List (PlainName × EntityBody) → HashMap EntityType ValidatorEntityType S → Type 0
-  AreCollected scope entries nodes = (key : EntityType) → IsCollectedAt scope entries (type_name key) (node_at nodes key)
-
 -- the one is a parent of the other by some edge
 abbrev pub IsAbove : List (EntityType × EntityType) → EntityType → EntityType → Type 0
 IsAbove = IsEdgeIn (entity_type_eq.ghosts).eq
 
--- what stands at a key before and after are entity types that are the same but for their descendants, or none
+-- entity types are the same but for their descendants and locations
+abbrev pub SameType : ValidatorEntityType → ValidatorEntityType → Type 0
+SameType before after = entity_type_of before ≡ entity_type_of after
+
+-- what stands at a key before and after are such entity types, or none
 abbrev pub AreTheSame : Option ValidatorEntityType → Option ValidatorEntityType → Type 0
-AreTheSame = AreAlike (λ before after. entity_type_of before ≡ entity_type_of after)
+AreTheSame = AreAlike SameType
 
 module _ {S : Type 0} where
   -- the upper entity type stands in the map, and the lower isn't enumerated

@@ -1,21 +1,13 @@
 -- What the private steps promise of declarations: those of one name together, their parents, and what is elaborated.
-use Rattle.std.specs.Prelude.{◌≡◌, ◌⊎◌, List, Option, Some, None, Contains, map}
-use Rattle.std.specs.List.{flat_map}
-use Rattle.cedar_below.specs.EntityType.{type_name}
-use Rattle.cedar_below.specs.PlainName.{PlainName, IsReserved}
-use Rattle.cedar_below.specs.declared.entity_type.EntityType.{EntityType}
-use Rattle.cedar_declarations.specs.Counted.{CountsInEntity, entity_parents}
+use Rattle.std.specs.Prelude.{Bool, true, false, ◌≡◌, ◌⊎◌, List, Option, Some, None, map}
+use Rattle.cedar_below.specs.PlainName.{PlainName}
+use Rattle.cedar_declarations.specs.Counted.{CountsInEntity}
 use Rattle.cedar_declarations.specs.EntityTypeKind.{EntityTypeKind, standard_kind, enumerated_kind, external_kind}
-use Rattle.cedar_declarations.specs.Fault.{Fault, duplicate_entity_type, reserved_name, shape_not_record, out_of_memory}
+use Rattle.cedar_declarations.specs.Fault.{Fault, shape_not_record, out_of_memory}
 use Rattle.cedar_declarations.specs.Mentions.{HasOpenRecord}
-use Rattle.cedar_below.specs.Lists.{Twice}
-use Rattle.cedar_declarations.specs.Resolved.{reference_to_one}
-use Rattle.cedar_declarations.specs.Together.{entity_definitions}
 use Rattle.cedar_declarations.specs.ElaboratesTo.{IsRecordType}
 use Rattle.cedar_names.specs.EntityBody.{EntityBody, standard, enumerated, external}
 use Rattle.cedar_names.specs.Expr.{Expr}
-use Rattle.cedar_names.specs.Reference.{Reference}
-use Rattle.cedar_names.specs.declared.json_schema.reference_type.ReferenceType.TheVariants.{Entity}
 use Rattle.cedar_type_rules.specs.Ty.{Ty, Fields, record_of}
 use Rattle.cedar_type_rules.specs.declared.open_tag.OpenTag.TheVariants.{ClosedAttributes}
 use Rattle.cedar_elaboration.specs.Scope.{ElaboratesAs, CoversExtensions}
@@ -25,24 +17,6 @@ use Rattle.cedar_elaboration.specs.declared.type_scope.TypeScope.{TypeScope}
 -- the names of declarations
 abbrev pub entry_names : List (PlainName × EntityBody) → List PlainName
 entry_names entries = map (λ it. it.0) entries
-
--- a name with each of some references
-abbrev pub parents_of : PlainName → List Reference → List (PlainName × Reference)
-parents_of name references = map (λ reference. (name, reference)) references
-
--- each name with each of its parents
-abbrev pub parents_in : List (PlainName × EntityBody) → List (PlainName × Reference)
-parents_in entries = flat_map (λ it. parents_of it.0 (entity_parents it.1)) entries
-
--- an edge from a parent to an entity type, as plain data: the name of the entity type, with its parent
-abbrev pub plain_edge : EntityType × EntityType → PlainName × Reference
-plain_edge edge = (type_name edge.1, reference_to_one Entity (type_name edge.0))
-
--- why parents are refused: one has a reserved name, or memory ran out
-abbrev pub IsParentFault : List (PlainName × Reference) → Fault → Type 0
-IsParentFault parents fault = (fault ≡ out_of_memory)
-    ⊎ ((lower name : PlainName) × (fault ≡ reserved_name name) × IsReserved name
-    × Contains parents (lower, reference_to_one Entity name))
 
 -- the type of tags is the one that is declared, elaborated, or there is none
 abbrev pub AreElaboratedTags : TypeScope → Option Expr → Option Ty → Type 0
@@ -81,8 +55,7 @@ IsBodyFault scope name body fault = (fault ≡ out_of_memory)
     ⊎ (((expr : Expr) × CountsInEntity body expr × IsRefusal scope expr fault)
     ⊎ ((fault ≡ shape_not_record name) × HasNoRecord scope body))
 
--- why the declarations are refused: some one is, or a name has two definitions; or memory ran out
-abbrev pub IsCollectingFault : TypeScope → List (PlainName × EntityBody) → Fault → Type 0
-IsCollectingFault scope entries fault = (fault ≡ out_of_memory)
-    ⊎ (((name : PlainName) × (body : EntityBody) × Contains entries (name, body) × IsBodyFault scope name body fault)
-    ⊎ ((name : PlainName) × (fault ≡ duplicate_entity_type name) × Twice (entry_names (entity_definitions entries)) name))
+-- the declaration of an entity type is its definition: it isn't external (RFC 116)
+abbrev pub is_entity_definition : EntityBody → Bool
+is_entity_definition (external parents) = false
+is_entity_definition _ = true

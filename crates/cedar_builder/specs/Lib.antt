@@ -3,6 +3,7 @@ pub mod ActionSteps
 pub mod ActionsReady
 pub mod DeclaredActions
 pub mod DeclaredEntityTypes
+pub mod DeclaredNodes
 pub mod EntityTypeNodes
 pub mod EntityTypeSteps
 pub mod EntityTypesReady

@@ -12,8 +12,9 @@ ghost use Rattle.cedar_builder.specs.ActionsReady.{AreActionsOf};
 ghost use Rattle.cedar_builder.specs.SoundActions.{ActionsAreSound};
 
 use crate::action_links::linked_nodes;
-use crate::action_nodes::collected_nodes;
-use crate::action_parents::parent_edges;
+use crate::action_nodes::ActionScope;
+use crate::declared_node::collected_nodes;
+use crate::parents::parent_edges;
 use cedar_below::{EntityType, EntityUID, InternalName};
 use cedar_declarations::SchemaError;
 use cedar_elaboration::TypeScope;
@@ -49,7 +50,13 @@ pub fn actions(
         → (fault_of error ≡ out_of_memory) ⊎ IsFault bag extensions (fault_of error)) }
 {
     let edges = parent_edges(alloc, &declared)?;
-    let nodes = collected_nodes(alloc, declared, entity_types, scope)?;
+    let scope = ActionScope {
+        entity_types,
+        types: scope,
+    };
+    let nodes = collected_nodes::<EntityUID, ActionScope, ValidatorActionId>(
+        alloc, declared, &scope,
+    )?;
     let linked = linked_nodes(alloc, nodes, edges)?;
     Ok(into_btree_map(alloc, linked)?)
 }

@@ -11,9 +11,9 @@ ghost use Rattle.cedar_builder.specs.DeclaredEntityTypes.{AreDeclaredEntityTypes
 ghost use Rattle.cedar_builder.specs.EntityTypesReady.{IsReady};
 ghost use Rattle.cedar_builder.specs.SoundEntityTypes.{EntityTypesAreSound};
 
+use crate::declared_node::collected_nodes;
 use crate::entity_type_links::linked_nodes;
-use crate::entity_type_nodes::collected_nodes;
-use crate::entity_type_parents::parent_edges;
+use crate::parents::parent_edges;
 use cedar_below::{EntityType, InternalName};
 use cedar_declarations::SchemaError;
 use cedar_elaboration::TypeScope;
@@ -46,7 +46,9 @@ pub fn entity_types(
         → (fault_of error ≡ out_of_memory) ⊎ IsFault bag extensions (fault_of error)) }
 {
     let edges = parent_edges(alloc, &declared)?;
-    let nodes = collected_nodes(alloc, declared, scope)?;
+    let nodes = collected_nodes::<EntityType, TypeScope, ValidatorEntityType>(
+        alloc, declared, scope,
+    )?;
     let linked = linked_nodes(alloc, nodes, edges)?;
     Ok(into_btree_map(alloc, linked)?)
 }

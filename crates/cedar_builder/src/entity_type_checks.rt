@@ -7,8 +7,7 @@ ghost use Rattle.cedar_declarations.specs.SchemaError.{fault_of};
 ghost use Rattle.cedar_schema_elements.specs.ValidatorEntityType.{entity_type_of};
 ghost use Rattle.cedar_builder.specs.EntityTypeNodes.{IsEdgeFault, IsEdgeSound, IsEnumerated, IsEnumeratedAt, IsExternalAt, IsLinkFault, LeadsTo, node_at};
 
-use crate::entity_type_nodes::Nodes;
-use crate::entity_type_parents::Edge;
+use crate::entity_type_links::{Edge, Nodes};
 use cedar_below::{EntityType, NonEmpty};
 use cedar_declarations::SchemaError;
 use cedar_schema_elements::{ValidatorEntityType, ValidatorEntityTypeKind};

@@ -1,37 +1,24 @@
 //! Entity types linked with their descendants.
 
-ghost use Rattle.std.specs.Prelude.{◌↔◌, IfErr, IfOk, IsSome, OnOk};
-ghost use Rattle.cedar_below.specs.Chain.{Chain};
+ghost use Rattle.std.specs.Prelude.{IfErr, IfOk};
 ghost use Rattle.cedar_below.specs.declared.entity_type.EntityType.{EntityType as Key};
 ghost use Rattle.cedar_declarations.specs.SchemaError.{fault_of};
 ghost use Rattle.cedar_schema_elements.specs.ValidatorEntityType.{AreLocatedAsKeys};
-ghost use Rattle.cedar_builder.specs.EntityTypeNodes.{AreLinked, AreTheSame, IsAbove, IsLinkingFault, LeadsTo, node_at};
+ghost use Rattle.cedar_builder.specs.EntityTypeNodes.{AreLinked, IsLinkingFault, LeadsTo};
 
 use crate::entity_type_checks::{check_descendants, check_edges};
-use crate::entity_type_nodes::Nodes;
-use crate::entity_type_parents::Edge;
-use cedar_below::{EntityType, M, Memory};
+use crate::links::link;
+use cedar_below::{EntityType, Memory};
 use cedar_declarations::SchemaError;
-use cedar_graph::{add_edges, compute_tc};
 use cedar_schema_elements::ValidatorEntityType;
 use std::alloc::Global;
+use std::collections::HashMap;
 
-/// Adds to the descendants of each entity type those that chains of edges lead to from it.
-fn link(alloc: Global, nodes: &mut Nodes, edges: Vec<Edge>) -> M<()>
-    ensures located { OnOk result (AreLocatedAsKeys nodes.old.entries → AreLocatedAsKeys nodes.new.entries) }
-    ensures same { OnOk result ((key : Key) → AreTheSame (node_at nodes.old key) (node_at nodes.new key)) }
-    ensures leads { OnOk result (((upper lower : Key) → ¬ LeadsTo nodes.old upper lower)
-        → ((upper lower : Key) → IsAbove edges.items upper lower → IsSome (node_at nodes.old upper))
-        → (upper lower : Key) → LeadsTo nodes.new upper lower ↔ Chain (IsAbove edges.items) upper lower) }
-{
-    // That no two keys are equal is known from their iterator.
-    let _keys = nodes.keys();
-    add_edges::<EntityType, ValidatorEntityType>(nodes, edges)?;
-    match compute_tc::<EntityType, ValidatorEntityType>(alloc, nodes, false) {
-        Ok(()) => Ok(()),
-        Err(_refused) => Err(Memory),
-    }
-}
+/// Entity types, each under its name.
+pub(crate) type Nodes = HashMap<EntityType, ValidatorEntityType>;
+
+/// An edge from a parent to an entity type that has it.
+pub(crate) type Edge = (EntityType, EntityType);
 
 /// The entity types with all their descendants, which they must not have before.
 pub(crate) fn linked_nodes(
@@ -45,7 +32,10 @@ pub(crate) fn linked_nodes(
         → IsLinkingFault edges.items nodes (fault_of error)) }
 {
     check_edges(alloc, &nodes, &edges)?;
-    link(alloc, &mut nodes, edges)?;
+    match link::<EntityType, ValidatorEntityType>(alloc, &mut nodes, edges, false) {
+        Ok(()) => {}
+        Err(_refused) => return Err(SchemaError::Memory(Memory)),
+    }
     check_descendants(&nodes)?;
     Ok(nodes)
 }

@@ -6,7 +6,7 @@ use Rattle.cedar_declarations.specs.Fault.{out_of_memory}
 use Rattle.cedar_declarations.specs.SchemaError.{fault_of}
 use Rattle.std.proofs.lemmas.List.Elements.{Contains-append_cases}
 use Rattle.cedar_declarations.proofs.OccurrenceLemmas.{Contains-single}
-use Rattle.cedar_builder.proofs.EntityTypeEdges.{item_among, take_item}
+use Rattle.cedar_builder.proofs.NodeEdges.{item_among, take_item}
 use Rattle.cedar_builder.specs.EntityTypeNodes.{IsEdgeFault, IsEdgeSound}
 use Rattle.cedar_builder.proofs.entity_type_checks.check_edges.Goals as goal
 

@@ -1,20 +1,31 @@
-use Rattle.std.proofs.Common.{List, inl, inr, ⊎_elim, subst, Contains}
+use Rattle.std.proofs.Common.{◌≡◌, BuildHasherDefault, FoldHasher, HashMap, List, inl, inr, ⊎_elim, subst, Contains}
 use Rattle.std.proofs.lemmas.Result.{err_from_is_err_and}
+use Rattle.cedar_below.specs.EntityType.{type_name}
 use Rattle.cedar_below.specs.declared.entity_type.EntityType.{EntityType}
+use Rattle.cedar_graph.proofs.AddedEdges.{alike_weaker}
+use Rattle.cedar_schema_elements.specs.EntityTypeKind.{plain_kind}
+use Rattle.cedar_schema_elements.specs.declared.entity_type.ValidatorEntityType.{ValidatorEntityType}
 use Rattle.cedar_declarations.specs.SchemaError.{fault_of}
 use Rattle.cedar_builder.proofs.EntityTypeLinks.{are_linked, below_fault, upper_stands}
-use Rattle.cedar_builder.specs.EntityTypeNodes.{IsEdgeFault, IsEdgeSound, IsLinkingFault, LeadsTo}
+use Rattle.cedar_builder.specs.EntityTypeNodes.{IsEdgeFault, IsEdgeSound, IsLinkingFault, LeadsTo, SameType, node_at}
 use Rattle.cedar_builder.proofs.entity_type_links.linked_nodes.Goals as goal
+
+-- each edge is sound
+abbrev AreSound : List (EntityType × EntityType) → HashMap EntityType ValidatorEntityType (BuildHasherDefault FoldHasher) → Type 0
+AreSound edges nodes = (edge : EntityType × EntityType) → Contains edges edge → IsEdgeSound nodes edge.1 edge.0
+
+-- entity types that are alike are the same
+alike_same : (a b : ValidatorEntityType) → (a.name ≡ b.name) × (a.kind ≡ b.kind) × (a.loc ≡ b.loc) → SameType a b
+alike_same a b alike i = record { name = type_name (alike.0 i); kind = plain_kind (alike.1 i) }
 
 pub returns-clause-linked : goal.returns-clause-linked
 returns-clause-linked c = λ none.
     let edges = c.args.edges.items in
     let before = c.args.nodes in
-    let P : List (EntityType × EntityType) → Type 0 = λ items. (edge : EntityType × EntityType) → Contains items edge
-    → IsEdgeSound before edge.1 edge.0 in
-    let sound : P edges = subst P c.deref.ensures.value c.in_ok-check_edges.ensures.sound in
-    are_linked edges before sound c.link.new.nodes c.in_ok-link.ensures.same
-    (c.in_ok-link.ensures.leads none (upper_stands edges before sound)) c.in_ok-check_descendants.ensures.sound
+    let sound : AreSound edges before = subst (λ items. AreSound items before) c.deref.ensures.value c.in_ok-check_edges.ensures.sound in
+    are_linked edges before sound c.link.new.nodes
+    (λ key. alike_weaker _ SameType alike_same (node_at before key) (node_at c.link.new.nodes key) (c.in-Ok.ensures.alike key))
+    (c.in-Ok.ensures.linked (record { apart = none; uppers = upper_stands edges before sound })) c.in_ok-check_descendants.ensures.sound
 
 pub returns-in_err-check_edges-clause-fault : goal.returns-in_err-check_edges-clause-fault
 returns-in_err-check_edges-clause-fault c =
@@ -31,13 +42,12 @@ returns-in_err-check_descendants-clause-fault c =
     let edges = c.args.edges.items in
     let before = c.args.nodes in
     let fault = fault_of c.in_err-check_descendants.field-0.0 in
-    let P : List (EntityType × EntityType) → Type 0 = λ items. (edge : EntityType × EntityType) → Contains items edge
-    → IsEdgeSound before edge.1 edge.0 in
-    let sound : P edges = subst P c.deref.ensures.value c.in_ok-check_edges.ensures.sound in
+    let sound : AreSound edges before = subst (λ items. AreSound items before) c.deref.ensures.value c.in_ok-check_edges.ensures.sound in
     let at_fault : ((upper lower : EntityType) → ¬ LeadsTo before upper lower) → IsLinkingFault edges before fault =
     λ none. ⊎_elim (λ wanting. inl wanting)
-    (λ below. below_fault edges before sound c.link.new.nodes c.in_ok-link.ensures.same
-    (c.in_ok-link.ensures.leads none (upper_stands edges before sound)) below.0 below.1 below.2 below.3 below.4 fault below.5)
+    (λ below. below_fault edges before sound c.link.new.nodes
+    (λ key. alike_weaker _ SameType alike_same (node_at before key) (node_at c.link.new.nodes key) (c.in-Ok.ensures.alike key))
+    (c.in-Ok.ensures.linked (record { apart = none; uppers = upper_stands edges before sound })) below.0 below.1 below.2 below.3 below.4 fault below.5)
     c.in_err-check_descendants.ensures.fault in
     let p = err_from_is_err_and c.from_residual-in_err-check_descendants.result c.from_residual-in_err-check_descendants.ensures.1 in
     rw (p.1, p.2) at_fault

@@ -9,7 +9,7 @@ use Rattle.cedar_declarations.proofs.OccurrenceLemmas.{Contains-image}
 use Rattle.cedar_declarations.specs.SchemaError.{fault_of}
 use Rattle.cedar_declarations.specs.ResolvedExpr.{resolved_reference}
 use Rattle.cedar_names.specs.declared.json_schema.reference_type.ReferenceType.TheVariants.{Entity}
-use Rattle.cedar_builder.proofs.ActionEdges.{item_among, take_item}
+use Rattle.cedar_builder.proofs.NodeEdges.{item_among, take_item}
 use Rattle.cedar_builder.proofs.RequestTypes.{included_more}
 use Rattle.cedar_builder.specs.ActionSteps.{IsRequestTypeFault, names_in}
 use Rattle.cedar_builder.proofs.request_types.declared_types.Goals as goal

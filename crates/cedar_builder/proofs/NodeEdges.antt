@@ -1,0 +1,62 @@
+-- Edges to what is declared from its parents, as they are listed one after another.
+use Rattle.std.proofs.Common.{◌≡◌, ◌⊎◌, ◌<◌, ◌+◌, ℕ, List, [], ◌∷◌, ◌++◌, map, take, length, get_or, ap, sym, subst, ◌∙◌, inl, inr, ⊎_elim, append_assoc, Contains}
+use Rattle.std.proofs.lemmas.Grind.{flat_map-append}
+use Rattle.std.proofs.lemmas.List.{append-nil, map-append, take_more}
+use Rattle.std.proofs.lemmas.List.Elements.{Contains-get_or}
+use Rattle.cedar_declarations.proofs.OccurrenceLemmas.{Contains-given, Contains-image}
+use Rattle.cedar_declarations.specs.Fault.{Fault, out_of_memory}
+use Rattle.cedar_builder.specs.DeclaredNodes.{IsParentFault, parents_in}
+
+-- one more item of a list
+pub take_item : {A : Type 0} (xs : List A) (i : ℕ) (x : A) → i < length xs → x ≡ get_or xs i x → take (i + 1) xs ≡ take i xs ++ x ∷ []
+take_item xs i x below is = take_more xs i x below ∙ ap (λ each. take i xs ++ each ∷ []) (sym is)
+
+-- and of what stands for each
+pub map_item : {A B : Type 0} (f : A → B) (xs : List A) (i : ℕ) (x : A) → i < length xs → x ≡ get_or xs i x
+    → map f (take i xs) ++ f x ∷ [] ≡ map f (take (i + 1) xs)
+map_item f xs i x below is = sym (ap (map f) (take_item xs i x below is) ∙ map-append f (take i xs) (x ∷ []))
+
+-- the item at a place stands in the list
+pub item_among : {A : Type 0} (xs : List A) (i : ℕ) (x : A) → i < length xs → x ≡ get_or xs i x → Contains xs x
+item_among xs i x below is = subst (Contains xs) (sym is) (Contains-get_or xs i x below)
+
+-- one more edge is one more parent
+pub pushed_parent : {Edge Name Reference : Type 0} (plain : Edge → Name × Reference) (initial : List (Name × Reference))
+    (edges pushed : List Edge) (name : Name) (done : List Reference) (reference : Reference) (edge : Edge) → pushed ≡ edges ++ edge ∷ []
+    → plain edge ≡ (name, reference) → map plain edges ≡ initial ++ map (λ each. (name, each)) done
+    → map plain pushed ≡ initial ++ map (λ each. (name, each)) (done ++ reference ∷ [])
+pushed_parent plain initial edges pushed name done reference edge is one so_far =
+    ap (map plain) is
+    ∙ (map-append plain edges (edge ∷ [])
+    ∙ ((λ i. so_far i ++ one i ∷ [])
+    ∙ (append_assoc initial (map (λ each. (name, each)) done) ((name, reference) ∷ [])
+    ∙ ap (λ parents. initial ++ parents) (sym (map-append (λ each. (name, each)) done (reference ∷ []))))))
+
+module _ {Name Reference : Type 0} (entries : List (Name × List Reference)) (name : Name) (parents : List Reference) where
+  -- the parents of one more declaration come after those before
+  pub parents_more : parents_in (entries ++ (name, parents) ∷ []) ≡ parents_in entries ++ map (λ each. (name, each)) parents
+  parents_more =
+      flat_map-append (λ (it : Name × List Reference). map (λ each. (it.0, each)) it.1) entries ((name, parents) ∷ [])
+      ∙ ap (λ more. parents_in entries ++ more) (append-nil (map (λ each. (name, each)) parents))
+
+  -- a refusal of the parents of one declaration is one of the parents of all
+  pub parent_fault_wider : (Refuses : Reference → Fault → Type 0) (fault : Fault) → Contains entries (name, parents)
+      → IsParentFault Refuses (map (λ each. (name, each)) parents) fault → IsParentFault Refuses (parents_in entries) fault
+  parent_fault_wider Refuses fault among refused = ⊎_elim
+      (λ wanting. inl wanting)
+      (λ one. inr (
+        one.0,
+        one.1,
+        Contains-given (λ (it : Name × List Reference). map (λ each. (it.0, each)) it.1) entries (name, parents) (one.0, one.1) among one.2,
+        one.3,
+      ))
+      refused
+
+-- a parent that is refused is one of some
+pub parent_fault : {Name Reference : Type 0} (Refuses : Reference → Fault → Type 0) (name : Name) (parents : List Reference)
+    (reference : Reference) (fault : Fault) → Contains parents reference → (fault ≡ out_of_memory) ⊎ Refuses reference fault
+    → IsParentFault Refuses (map (λ each. (name, each)) parents) fault
+parent_fault Refuses name parents reference fault among refused = ⊎_elim
+    (λ wanting. inl wanting)
+    (λ one. inr (name, reference, Contains-image (λ each. (name, each)) parents reference among, one))
+    refused

@@ -1,0 +1,38 @@
+-- What a bag owes to the steps that build its entity types and its actions.
+use Rattle.std.proofs.Common.{◌≡◌, ◌⊎◌, List, map, ap, sym, subst, ◌∙◌, refl, inl, inr, Contains}
+use Rattle.cedar_below.proofs.Lists.{Contains-preimage}
+use Rattle.cedar_below.specs.Extensions.{extension_types}
+use Rattle.cedar_below.specs.PlainName.{PlainName, IsActionType, IsReserved}
+use Rattle.cedar_below.specs.PlainUid.{PlainUid}
+use Rattle.cedar_below.specs.declared.extension.Extensions.{Extensions}
+use Rattle.cedar_declarations.proofs.DeclarationLemmas.{action_declaration}
+use Rattle.cedar_declarations.specs.Bag.{Bag, action_uids, declared_actions, definitions}
+use Rattle.cedar_declarations.specs.Counted.{IsCounted}
+use Rattle.cedar_declarations.specs.Fault.{Fault, open_record, type_not_defined, unknown_extension_type, reserved_name, out_of_memory}
+use Rattle.cedar_declarations.specs.IllFormed.{IsFault}
+use Rattle.cedar_elaboration.specs.Refusals.{IsExprFault}
+use Rattle.cedar_names.specs.Expr.{Expr}
+
+-- no action's uid has another type
+pub action_type : (bag : Bag) (name : PlainName) → Contains (map (λ uid. uid.ty) (action_uids bag)) name → IsActionType name
+action_type bag name among =
+    let uid = Contains-preimage (λ (each : PlainUid). each.ty) (action_uids bag) name among in
+    let it = Contains-preimage (λ each. each.0) (declared_actions bag) uid.0 uid.1 in
+    let found = action_declaration bag it.0.0 it.0.1 it.1 in
+    sym (ap (λ (each : PlainUid). each.ty.base) (found.3 ∙ it.2) ∙ ap (λ (each : PlainName). each.base) uid.2)
+
+module _ (bag : Bag) (given : Extensions) (known : List PlainName) (all : known ≡ extension_types given)
+    (unreserved : (name : PlainName) → Contains (definitions bag given).entities name → ¬ IsReserved name) where
+  -- the refusal of an expression that counts is a fault of the bag
+  pub expr_fault : (expr : Expr) (fault : Fault) → IsCounted bag expr → IsExprFault (definitions bag given) known expr fault
+      → (fault ≡ out_of_memory) ⊎ IsFault bag given fault
+  expr_fault expr open_record counts refused = inr (expr, counts, refused)
+  expr_fault expr (type_not_defined references) counts refused = inr (
+    refused.0,
+    λ reference among. (inl (expr, counts, (refused.1 reference among).0), (refused.1 reference among).1),
+  )
+  expr_fault expr (unknown_extension_type name) counts refused =
+      inr (expr, counts, refused.0, refused.1, λ among. refused.2 (subst (λ names. Contains names name) (sym all) among))
+  expr_fault expr (reserved_name name) counts refused = absurd (unreserved name refused.2.is_entity.1 refused.2.reserved)
+  expr_fault expr out_of_memory counts refused = inl refl
+  expr_fault expr _ counts refused = absurd refused

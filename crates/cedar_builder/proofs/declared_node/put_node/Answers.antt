@@ -1,0 +1,55 @@
+use Rattle.std.proofs.Common.{sym, ap, ◌∙◌, inr}
+use Rattle.std.proofs.lemmas.Bool.{false≢true}
+use Rattle.cedar_builder.proofs.NodesPut.{at_another, at_its_own, defined_at, put_first, put_in_place, put_located, put_nothing}
+use Rattle.cedar_builder.proofs.declared_node.put_node.Goals as goal
+use Rattle.cedar_builder.proofs.declared_node.put_node.Goals.{in-Some+else-is_external+else-not-is_external, in_default}
+
+pub returns-then-is_external-clause-put : goal.returns-then-is_external-clause-put
+returns-then-is_external-clause-put g c = λ key same.
+    let is = g.V.SchemaNode in
+    put_nothing g.met.K.Eq.laws is.key_name is.node_name is.IsExternal g.met.V.SchemaNode.same_key
+    c.args.nodes.now c.name.result.now key c.args.node c.name.ensures.name same c.in-Some.old.now (sym c.in-Some.ensures.value)
+    (c.is_external.ensures.0 c.if-is_external.true)
+
+pub returns-then-not-is_external-clause-fault : goal.returns-then-not-is_external-clause-fault
+returns-then-not-is_external-clause-fault g c = inr (
+  c.duplicate.ensures ∙ ap g.V.SchemaNode.duplicate_fault (c.in_ok-copy_name.ensures.name ∙ c.name-then-not-is_external.ensures.name),
+  λ is. false≢true (sym c.if-is_external.false ∙ c.is_external.ensures.1 is),
+  (
+    c.name.result.now,
+    c.name.ensures.name,
+    defined_at g.V.SchemaNode.IsExternal _ c.in-Some.old.now (sym c.in-Some.ensures.value)
+        (λ is. false≢true (sym c.if-not-is_external.true ∙ c.is_external-in-Some.ensures.1 is)),
+  ),
+)
+
+pub returns-clause-other : goal.returns-clause-other
+returns-clause-other g c = λ key apart.
+    let is = g.V.SchemaNode in
+    at_another g.met.K.Eq.laws is.key_name is.node_name is.IsExternal g.met.V.SchemaNode.same_key c.args.nodes.now
+    c.remove-external.new.self c.insert.new.self c.in_ok-name.name c.args.node (c.in_ok-name.ensures.name ∙ c.name-2.ensures.name)
+    c.remove-external.ensures.updates.0 c.in_ok-insert.ensures.updates.0 key apart
+
+pub returns-clause-put : goal.returns-clause-put
+returns-clause-put g c = λ key same.
+    let is = g.V.SchemaNode in
+    let after = at_its_own g.met.K.Eq.laws is.key_name is.node_name is.IsExternal g.met.V.SchemaNode.same_key c.args.nodes.now
+    c.remove-external.new.self c.insert.new.self c.in_ok-name.name c.args.node (c.in_ok-name.ensures.name ∙ c.name-2.ensures.name)
+    c.remove-external.ensures.updates.0 c.in_ok-insert.ensures.updates.0 key same in
+    elim c.match-get.branch [
+      | in-Some+else-is_external+else-not-is_external w ↦
+          put_in_place g.met.K.Eq.laws is.key_name is.node_name is.IsExternal g.met.V.SchemaNode.same_key c.args.nodes.now c.name.result.now
+          key c.args.node c.name.ensures.name same w.in-Some.old.now (sym w.in-Some.ensures.value)
+          (λ external. false≢true (sym w.if-is_external.false ∙ w.is_external.ensures.1 external))
+          (w.is_external-in-Some.ensures.0 w.if-not-is_external.false) _ after
+      | in_default w ↦
+          put_first g.met.K.Eq.laws is.key_name is.node_name is.IsExternal g.met.V.SchemaNode.same_key c.args.nodes.now c.name.result.now
+          key c.args.node c.name.ensures.name same (sym (rw w.in_default.is at c.get.ensures.value)) _ after
+    ]
+
+pub returns-clause-located : goal.returns-clause-located
+returns-clause-located g c =
+    put_located g.K.PartialEq.eq g.V.SchemaNode.IsLocatedAs c.args.nodes.now c.remove-external.new.self c.insert.new.self c.in_ok-name.name
+    c.args.node (g.K.PartialEq.eq c.in_ok-name.name) c.in_ok-insert.field-0 c.remove-external.ensures.entries
+    c.remove-external.ensures.updates.1 c.in_ok-insert.ensures.old c.in_ok-insert.ensures.entries
+    (c.in_ok-name.ensures.located c.args.node c.name-2.ensures.located)

@@ -1,7 +1,0 @@
-use Rattle.std.proofs.Common.{◌≡◌, map, take}
-use Rattle.cedar_resolution.specs.Collected.{collected_entities}
-use Rattle.cedar_builder.specs.EntityTypeSteps.{parents_in, plain_edge}
-use Rattle.cedar_builder.proofs.entity_type_parents.parent_edges.Given as goal
-
-abbrev pub invariant-loop-item : goal.invariant-loop-item
-invariant-loop-item l = map plain_edge l.edges.items ≡ parents_in (collected_entities (take l.item-index l.declared))
