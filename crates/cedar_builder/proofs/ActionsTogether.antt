@@ -23,6 +23,5 @@ pub external_told : (scope : TypeScope) (applies_to : Requests) (kind : ActionKi
     → (kind ≡ external_action) ↔ (is_action_definition applies_to ≡ false)
 external_told scope (requests principals resources context) (defined_action principal_types resource_types ty) elaborated =
     (λ is. absurd cc, λ none. absurd (false≢true (sym none)))
-external_told scope (requests principals resources context) external_action elaborated = absurd elaborated
-external_told scope elsewhere (defined_action principal_types resource_types ty) elaborated = absurd elaborated
 external_told scope elsewhere external_action elaborated = (λ is. refl, λ none. refl)
+external_told scope _ _ elaborated = absurd elaborated

@@ -13,20 +13,18 @@ use Rattle.cedar_builder.specs.EntityTypeNodes.{AreLinked, AreTheSame, IsAbove, 
 -- an enumerated entity type stands at a key before and after
 enumerated_same : (o p : Option ValidatorEntityType) → AreTheSame o p → IsEnumeratedAt o ↔ IsEnumeratedAt p
 enumerated_same None None same = (λ there. there, λ there. there)
-enumerated_same None (Some it) same = absurd same
-enumerated_same (Some it) None same = absurd same
 enumerated_same (Some it) (Some other) same =
     let P : PlainEntityType → Type 0 = λ each. IsEnumerated each.kind in
     (λ there. subst P same there, λ there. subst P (sym same) there)
+enumerated_same _ _ same = absurd same
 
 -- an external entity type stands at a key before and after
 external_same : (o p : Option ValidatorEntityType) → AreTheSame o p → IsExternalAt o ↔ IsExternalAt p
 external_same None None same = (λ there. there, λ there. there)
-external_same None (Some it) same = absurd same
-external_same (Some it) None same = absurd same
 external_same (Some it) (Some other) same =
     let P : PlainEntityType → Type 0 = λ each. each.kind ≡ external_kind in
     (λ there. subst P same there, λ there. subst P (sym same) there)
+external_same _ _ same = absurd same
 
 module _ {S : Type 0} (edges : List (EntityType × EntityType)) (before : HashMap EntityType ValidatorEntityType S)
     (sound : (edge : EntityType × EntityType) → Contains edges edge → IsEdgeSound before edge.1 edge.0) where

@@ -129,27 +129,22 @@ enumerated_elaborated scope (external parents) external_kind elaborated is = abs
 -- a declaration by choices is elaborated as an enumerated kind
 elaborated_enumerated : (scope : TypeScope) (choices : List Text) (kind : EntityTypeKind) → IsElaboratedKind scope (enumerated choices) kind
     → IsEnumerated kind
-elaborated_enumerated scope choices (standard_kind fields openness ty) elaborated = absurd elaborated
 elaborated_enumerated scope choices (enumerated_kind ids) elaborated = tt
-elaborated_enumerated scope choices external_kind elaborated = absurd elaborated
+elaborated_enumerated scope choices _ elaborated = absurd elaborated
 
 -- an external declaration is elaborated as the external kind
 elaborated_external : (scope : TypeScope) (parents : List Reference) (kind : EntityTypeKind) → IsElaboratedKind scope (external parents) kind
     → kind ≡ external_kind
-elaborated_external scope parents (standard_kind fields openness ty) elaborated = absurd elaborated
-elaborated_external scope parents (enumerated_kind ids) elaborated = absurd elaborated
 elaborated_external scope parents external_kind elaborated = refl
+elaborated_external scope parents _ elaborated = absurd elaborated
 
 -- what is elaborated as the external kind is an external declaration
 external_kind_elaborated : (scope : TypeScope) (body : EntityBody) (kind : EntityTypeKind) → IsElaboratedKind scope body kind
     → kind ≡ external_kind → (parents : List Reference) × (body ≡ external parents)
 external_kind_elaborated scope (standard parents shape tags) (standard_kind fields openness ty) elaborated is = cc
-external_kind_elaborated scope (standard parents shape tags) (enumerated_kind choices) elaborated is = absurd elaborated
-external_kind_elaborated scope (standard parents shape tags) external_kind elaborated is = absurd elaborated
-external_kind_elaborated scope (enumerated ids) (standard_kind fields openness ty) elaborated is = absurd elaborated
 external_kind_elaborated scope (enumerated ids) (enumerated_kind choices) elaborated is = cc
-external_kind_elaborated scope (enumerated ids) external_kind elaborated is = absurd elaborated
 external_kind_elaborated scope (external parents) kind elaborated is = (parents, refl)
+external_kind_elaborated scope _ _ elaborated is = absurd elaborated
 
 -- at each name stands what its declarations say together
 abbrev pub AreCollected : {S : Type 0} → TypeScope → List Entry → HashMap EntityType ValidatorEntityType S → Type 0

@@ -26,9 +26,8 @@ module _ {Node : Type 0} (is_alike : Node → Node → Type 0) where
   -- what stood before still stands
   pub alike_after : (before after : Option Node) → AreAlike is_alike before after → IsSome before → IsSome after
   alike_after None None alike there = there
-  alike_after None (Some new) alike there = absurd alike
-  alike_after (Some old) None alike there = absurd alike
   alike_after (Some old) (Some new) alike there = there
+  alike_after _ _ alike there = absurd alike
 
 -- a refusal of a closure is one along the chains that its chains are
 pub refusal_along : {K : Type 0} (Reaches Others : K → K → Type 0) → ((from to : K) → Reaches from to → Others from to)

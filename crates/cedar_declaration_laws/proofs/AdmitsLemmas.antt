@@ -118,29 +118,23 @@ mutual
   pub admitted_of : (defined : Defined) (extensions : Extensions) {expr : Expr} {ty : Ty} → ElaboratesTo defined expr ty
       → (value : Tree) → Has extensions value ty → Admits defined extensions value expr
   admitted_of defined extensions as_text (text_value it) has = admits_text it
-  admitted_of defined extensions as_text _ has = absurd has
   admitted_of defined extensions as_long (number_value it) has = admits_long it
-  admitted_of defined extensions as_long _ has = absurd has
   admitted_of defined extensions as_truth (truth_value it) has = admits_truth it
-  admitted_of defined extensions as_truth _ has = absurd has
   admitted_of defined extensions (as_set element) (set_value values) has =
       admits_set (each_admitted defined extensions _ _ (λ value holds. admitted_of defined extensions element value holds) values has)
-  admitted_of defined extensions (as_set element) _ has = absurd has
   admitted_of defined extensions (as_record written) (map_value values) has =
       let P : List Text → Type 0 = Included (entry_names values) in
       admits_record (subst P (same_names defined written) has.0) (members_admitted_of defined extensions written values has.1)
-  admitted_of defined extensions (as_record written) _ has = absurd has
   admitted_of defined extensions (as_entity reference name resolves is_entity no_common) (uid_value uid) has =
       let same : name ≡ uid.ty = ⊎_elim (λ is. is) (λ none. absurd (omega (arith, none.1))) (Contains-cons_cases name [] uid.ty has) in
       let P : PlainName → Type 0 = λ each. ResolvesTo (names_of defined) reference each in
       let Q : PlainName → Type 0 = λ each. IsEntity (names_of defined) reference.kind each in
       let R : PlainName → Type 0 = λ each. (body : Expr) → IsCommon defined reference.kind each body → ⊥ in
       admits_entity uid reference (subst P same resolves) (subst Q same is_entity) (subst R same no_common)
-  admitted_of defined extensions (as_entity reference name resolves is_entity no_common) _ has = absurd has
   admitted_of defined extensions (as_common reference name body resolves is_common written) value has =
       admits_common reference name body resolves is_common (admitted_of defined extensions written value has)
   admitted_of defined extensions (as_extension name) (call_value function args) has = admits_extension function args name has
-  admitted_of defined extensions (as_extension name) _ has = absurd has
+  admitted_of defined extensions _ _ has = absurd has
 
   -- the same of the attributes of a record
   members_admitted_of : (defined : Defined) (extensions : Extensions) {members : Members} {fields : Fields}

@@ -76,44 +76,40 @@ module _ (schema : PlainSchema) where
   actions_declare_no_type : (actions : List (PlainUid × SchemaAction)) (bag : Bag) → HoldsPairwise (IsActionDeclaration schema) actions bag
       → declared_entities bag ≡ []
   actions_declare_no_type [] [] turn = refl
-  actions_declare_no_type [] (d ∷ rest) turn = absurd turn
-  actions_declare_no_type (it ∷ others) [] turn = absurd turn
   actions_declare_no_type (it ∷ others) (d ∷ rest) turn =
       ap (λ body. entity_in (declared_name d) body ++ declared_entities rest) turn.0.declares
       ∙ actions_declare_no_type others rest turn.1
+  actions_declare_no_type _ _ turn = absurd turn
 
   -- the declarations of entity types declare their names
   types_declare_their_names : (types : List (PlainName × SchemaEntityType)) (bag after : Bag)
       → HoldsPairwise (IsTypeDeclaration schema) types bag → declared_entities after ≡ []
       → map (λ it. it.0) (declared_entities (bag ++ after)) ≡ map (λ it. it.0) types
   types_declare_their_names [] [] after turn none = ap (map (λ (it : PlainName × EntityBody). it.0)) none
-  types_declare_their_names [] (d ∷ rest) after turn none = absurd turn
-  types_declare_their_names (it ∷ others) [] after turn none = absurd turn
   types_declare_their_names (it ∷ others) (d ∷ rest) after turn none =
       ap (λ body. map (λ (each : PlainName × EntityBody). each.0) (entity_in (declared_name d) body ++ declared_entities (rest ++ after)))
       turn.0.declares
       ∙ (λ i. turn.0.name i ∷ types_declare_their_names others rest after turn.1 none i)
+  types_declare_their_names _ _ after turn none = absurd turn
 
   -- the declarations of entity types declare no actions
   types_declare_no_action : (types : List (PlainName × SchemaEntityType)) (bag after : Bag)
       → HoldsPairwise (IsTypeDeclaration schema) types bag → declared_actions (bag ++ after) ≡ declared_actions after
   types_declare_no_action [] [] after turn = refl
-  types_declare_no_action [] (d ∷ rest) after turn = absurd turn
-  types_declare_no_action (it ∷ others) [] after turn = absurd turn
   types_declare_no_action (it ∷ others) (d ∷ rest) after turn =
       ap (λ body. action_in (declared_uid d) body ++ declared_actions (rest ++ after)) turn.0.declares
       ∙ types_declare_no_action others rest after turn.1
+  types_declare_no_action _ _ after turn = absurd turn
 
   -- the declarations of actions declare their uids
   actions_declare_their_uids : (actions : List (PlainUid × SchemaAction)) (bag : Bag)
       → HoldsPairwise (IsActionDeclaration schema) actions bag → map (λ it. it.0) (declared_actions bag) ≡ map (λ it. it.0) actions
   actions_declare_their_uids [] [] turn = refl
-  actions_declare_their_uids [] (d ∷ rest) turn = absurd turn
-  actions_declare_their_uids (it ∷ others) [] turn = absurd turn
   actions_declare_their_uids (it ∷ others) (d ∷ rest) turn =
       ap (λ body. map (λ (each : PlainUid × ActionBody). each.0) (action_in (declared_uid d) body ++ declared_actions rest))
       turn.0.declares
       ∙ (λ i. turn.0.uid i ∷ actions_declare_their_uids others rest turn.1 i)
+  actions_declare_their_uids _ _ turn = absurd turn
 
 module _ (schema : PlainSchema) (bag : Bag) (order : IsInOrder schema) (written : IsConvertedBack schema bag) where
   -- no entity type is defined twice

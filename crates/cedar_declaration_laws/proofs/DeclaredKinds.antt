@@ -30,14 +30,9 @@ use Rattle.cedar_type_rules.specs.declared.open_tag.OpenTag.TheVariants.{ClosedA
 -- a record type that an expression is elaborated as is closed
 elaborated_closed : (defined : Defined) {expr : Expr} {ty : Ty} → ElaboratesTo defined expr ty → IsRecordType ty → (fields : Fields)
     × (ty ≡ record_of fields ClosedAttributes)
-elaborated_closed defined as_text is = absurd is
-elaborated_closed defined as_long is = absurd is
-elaborated_closed defined as_truth is = absurd is
-elaborated_closed defined (as_set element) is = absurd is
 elaborated_closed defined (as_record {fields = fields} members) is = (fields, refl)
-elaborated_closed defined (as_entity reference name resolves is_entity none) is = absurd is
 elaborated_closed defined (as_common reference name body resolves common written) is = elaborated_closed defined written is
-elaborated_closed defined (as_extension name) is = absurd is
+elaborated_closed defined _ is = absurd is
 
 -- a type is a record type or isn't
 pub decide_record : (ty : Ty) → IsDecided (IsRecordType ty)

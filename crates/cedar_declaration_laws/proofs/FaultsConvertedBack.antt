@@ -52,17 +52,15 @@ use Rattle.cedar_type_rules.specs.declared.open_tag.OpenTag.TheVariants.{ClosedA
 -- what is written as enumerated is
 enumerated_written : (namespace : Option PlainName) (IsAbove : PlainName → Type 0) (kind : EntityTypeKind) (choices : List Text)
     → IsKindWritten namespace IsAbove kind (enumerated choices) → IsEnumerated kind
-enumerated_written namespace IsAbove (standard_kind fields openness tags) choices is = absurd is
 enumerated_written namespace IsAbove (enumerated_kind ids) choices is = tt
-enumerated_written namespace IsAbove external_kind choices is = absurd is
+enumerated_written namespace IsAbove _ choices is = absurd is
 
 module _ (defined : Defined) where
   -- the shape of a declared kind is elaborated as a record type
   shape_written : (parents : List Reference) (shape : Expr) (tags : Option Expr) (kind : EntityTypeKind)
       → IsDeclaredKind defined (standard parents shape tags) kind → (ty : Ty) × ElaboratesTo defined shape ty × IsRecordType ty
   shape_written parents shape tags (standard_kind fields openness ty) is = (record_of fields ClosedAttributes, is.0, tt)
-  shape_written parents shape tags (enumerated_kind choices) is = absurd is
-  shape_written parents shape tags external_kind is = absurd is
+  shape_written parents shape tags _ is = absurd is
 
   -- the context of a declared kind is elaborated as that of the kind
   context_written : (principals resources : List Reference) (context : Expr) (kind : ActionKind)

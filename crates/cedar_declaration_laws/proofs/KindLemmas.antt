@@ -21,8 +21,7 @@ module _ (defined other : Defined) (same : SameDefined defined other) where
   tags_there : (tags : Option Expr) (ty : Option Ty) → AreDeclaredTags defined tags ty → AreDeclaredTags other tags ty
   tags_there None None fits = tt
   tags_there (Some expr) (Some ty) fits = elaborated_there defined other same fits
-  tags_there None (Some ty) fits = absurd fits
-  tags_there (Some expr) None fits = absurd fits
+  tags_there _ _ fits = absurd fits
 
   -- a kind fits what is the same
   pub kind_there : (body found : EntityBody) (kind : EntityTypeKind) → SameEntityBody body found

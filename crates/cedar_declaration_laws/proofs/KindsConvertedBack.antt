@@ -87,9 +87,8 @@ module _ (defined : Defined) (namespace : Option PlainName) where
       → ((ty : Ty) → tags ≡ Some ty → (expr : Expr) → type_written namespace ty ≡ Some expr → ElaboratesTo defined expr ty)
       → AreDeclaredTags defined written tags
   tags_back (Some ty) (Some expr) is back = back ty refl expr is
-  tags_back (Some ty) None is back = absurd is
-  tags_back None (Some expr) is back = absurd is
   tags_back None None is back = tt
+  tags_back _ _ is back = absurd is
 
   -- a kind of entity type that is written is the one that is declared, where its types are elaborated
   kind_back : (IsAbove : PlainName → Type 0) (kind : EntityTypeKind) (body : EntityBody) → IsKindWritten namespace IsAbove kind body
@@ -102,14 +101,9 @@ module _ (defined : Defined) (namespace : Option PlainName) where
   )
   kind_back IsAbove (standard_kind fields OpenAttributes tags) (standard parents shape written) is back =
       let clash : None ≡ Some shape = is.1 in absurd cc
-  kind_back IsAbove (standard_kind fields openness tags) (enumerated ids) is back = absurd is
-  kind_back IsAbove (standard_kind fields openness tags) (external parents) is back = absurd is
-  kind_back IsAbove (enumerated_kind choices) (standard parents shape written) is back = absurd is
   kind_back IsAbove (enumerated_kind choices) (enumerated ids) is back = is
-  kind_back IsAbove (enumerated_kind choices) (external parents) is back = absurd is
-  kind_back IsAbove external_kind (standard parents shape written) is back = absurd is
-  kind_back IsAbove external_kind (enumerated ids) is back = absurd is
   kind_back IsAbove external_kind (external parents) is back = tt
+  kind_back IsAbove _ _ is back = absurd is
 
   -- names that are written in full are those that the references resolve to, where each is named again
   names_back : (names : List PlainName) (references : List Reference) → AreFullNames namespace (λ name. Contains names name) references
@@ -137,9 +131,8 @@ module _ (defined : Defined) (namespace : Option PlainName) where
     names_back rs resources is.1 (λ name among. again name (inr among)),
     back ty refl context is.2,
   )
-  requests_back (defined_action ps rs ty) elsewhere is back again = absurd is
-  requests_back external_action (requests principals resources context) is back again = absurd is
   requests_back external_action elsewhere is back again = tt
+  requests_back _ _ is back again = absurd is
 
 module _ (schema : PlainSchema) (bag : Bag) (extensions : Extensions) (writable : IsWritable schema)
     (written : IsConvertedBack schema bag) (valid : IsValidSchema extensions schema) where

@@ -114,13 +114,9 @@ module _ (names others : Names) where
   mutual
     -- an open record stands in what is alike
     pub open_alike : {expr other : Expr} → AreAlike names others expr other → HasOpenRecord expr → HasOpenRecord other
-    open_alike alike_text has = absurd has
-    open_alike alike_long has = absurd has
-    open_alike alike_truth has = absurd has
     open_alike (alike_set element) has = open_alike element has
     open_alike (alike_record additional members) has = ⊎_elim (λ is. inl is) (λ later. inr (members_open_alike members later)) has
-    open_alike (alike_named same) has = absurd has
-    open_alike (alike_extension name) has = absurd has
+    open_alike _ has = absurd has
 
     -- the same of the attributes of a record
     members_open_alike : {members more : Members} → MembersAlike names others members more → MembersHaveOpenRecord members
@@ -133,13 +129,10 @@ module _ (names others : Names) where
     -- an extension type stands in what is alike
     pub extension_alike : {expr other : Expr} → AreAlike names others expr other → (word : Text) → MentionsExtension expr word
         → MentionsExtension other word
-    extension_alike alike_text word has = absurd has
-    extension_alike alike_long word has = absurd has
-    extension_alike alike_truth word has = absurd has
     extension_alike (alike_set element) word has = extension_alike element word has
     extension_alike (alike_record additional members) word has = members_extension_alike members word has
-    extension_alike (alike_named same) word has = absurd has
     extension_alike (alike_extension name) word has = has
+    extension_alike _ word has = absurd has
 
     -- the same of the attributes of a record
     members_extension_alike : {members more : Members} → MembersAlike names others members more → (word : Text)
@@ -152,14 +145,11 @@ module _ (names others : Names) where
     -- for each reference one that means the same stands in what is alike
     pub refers_alike : {expr other : Expr} → AreAlike names others expr other → (reference : Reference) → Refers expr reference
         → (found : Reference) × Refers other found × MeansTheSame names others reference found
-    refers_alike alike_text reference refers = absurd refers
-    refers_alike alike_long reference refers = absurd refers
-    refers_alike alike_truth reference refers = absurd refers
     refers_alike (alike_set element) reference refers = refers_alike element reference refers
     refers_alike (alike_record additional members) reference refers = members_refer_alike members reference refers
     refers_alike (alike_named {reference = r} {other = r'} same) reference refers =
         let P : Reference → Type 0 = λ each. MeansTheSame names others each r' in (r', refl, subst P refers same)
-    refers_alike (alike_extension name) reference refers = absurd refers
+    refers_alike _ reference refers = absurd refers
 
     -- the same of the attributes of a record
     members_refer_alike : {members more : Members} → MembersAlike names others members more → (reference : Reference)

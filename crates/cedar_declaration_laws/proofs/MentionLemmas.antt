@@ -32,9 +32,6 @@ mutual
   -- an entity type that stands in a type which is elaborated is one that references can name
   pub mentions_entity : (defined : Defined) {expr : Expr} {ty : Ty} → ElaboratesTo defined expr ty → (name : PlainName)
       → MentionsEntity ty name → Contains defined.entities name
-  mentions_entity defined as_text name mentions = absurd mentions
-  mentions_entity defined as_long name mentions = absurd mentions
-  mentions_entity defined as_truth name mentions = absurd mentions
   mentions_entity defined (as_set element) name mentions = mentions_entity defined element name mentions
   mentions_entity defined (as_record members) name mentions = members_mention_entity defined members name mentions
   mentions_entity defined (as_entity reference other resolves is_entity none) name mentions =
@@ -42,7 +39,7 @@ mutual
       ⊎_elim (λ same. subst P same is_entity.1) (λ nothing. absurd (omega (arith, nothing.1))) (Contains-cons_cases other [] name mentions)
   mentions_entity defined (as_common reference other body resolves is_common written) name mentions =
       mentions_entity defined written name mentions
-  mentions_entity defined (as_extension word) name mentions = absurd mentions
+  mentions_entity defined _ name mentions = absurd mentions
 
   -- the same of the attributes of a record
   members_mention_entity : (defined : Defined) {members : Members} {fields : Fields}
@@ -65,18 +62,15 @@ mutual
       → ((name : PlainName) (body : Expr) → Contains defined.common (name, body) → HasKnownExtensions extensions body)
       → {expr : Expr} {ty : Ty} → ElaboratesTo defined expr ty → HasKnownExtensions extensions expr
       → (name : PlainName) → MentionsExtensionType ty name → Contains (extension_types extensions) name
-  known_written defined extensions each as_text known name mentions = absurd mentions
-  known_written defined extensions each as_long known name mentions = absurd mentions
-  known_written defined extensions each as_truth known name mentions = absurd mentions
   known_written defined extensions each (as_set element) known name mentions =
       known_written defined extensions each element known name mentions
   known_written defined extensions each (as_record members) known name mentions =
       members_known_written defined extensions each members known name mentions
-  known_written defined extensions each (as_entity reference other resolves is_entity none) known name mentions = absurd mentions
   known_written defined extensions each (as_common reference other body resolves is_common written) known name mentions =
       known_written defined extensions each written (each other body is_common.1) name mentions
   known_written defined extensions each (as_extension word) known name mentions =
       let P : PlainName → Type 0 = Contains (extension_types extensions) in subst P mentions (known word refl)
+  known_written defined extensions each _ known name mentions = absurd mentions
 
   -- the same of the attributes of a record
   members_known_written : (defined : Defined) (extensions : Extensions)

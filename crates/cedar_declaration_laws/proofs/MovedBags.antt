@@ -33,12 +33,7 @@ entity_definition_keys names others name name' same (standard ps shape tags) (st
     (λ each. each ∷ []) same
 entity_definition_keys names others name name' same (enumerated choices) (enumerated choices') like = ap (λ each. each ∷ []) same
 entity_definition_keys names others name name' same (external ps) (external ps') like = refl
-entity_definition_keys names others name name' same (standard ps shape tags) (enumerated choices) like = absurd like
-entity_definition_keys names others name name' same (standard ps shape tags) (external ps') like = absurd like
-entity_definition_keys names others name name' same (enumerated choices) (standard ps shape tags) like = absurd like
-entity_definition_keys names others name name' same (enumerated choices) (external ps) like = absurd like
-entity_definition_keys names others name name' same (external ps) (standard ps' shape tags) like = absurd like
-entity_definition_keys names others name name' same (external ps) (enumerated choices) like = absurd like
+entity_definition_keys names others name name' same _ _ like = absurd like
 
 -- requests that are alike are defined under the same key
 action_definition_keys : (names others : Names) (uid uid' : PlainUid) → uid ≡ uid' → (it it' : Requests)
@@ -47,8 +42,7 @@ action_definition_keys : (names others : Names) (uid uid' : PlainUid) → uid �
     ≡ map (λ (each : PlainUid × Requests). each.0) (action_definition_in uid' it')
 action_definition_keys names others uid uid' same (requests ps rs context) (requests ps' rs' context') like = ap (λ each. each ∷ []) same
 action_definition_keys names others uid uid' same elsewhere elsewhere like = refl
-action_definition_keys names others uid uid' same (requests ps rs context) elsewhere like = absurd like
-action_definition_keys names others uid uid' same elsewhere (requests ps rs context) like = absurd like
+action_definition_keys names others uid uid' same _ _ like = absurd like
 
 -- a list with nothing after it
 nothing_after : {A : Type 0} (xs : List A) → xs ++ [] ≡ xs
@@ -85,12 +79,7 @@ module _ (names others : Names) where
         (alike_name names others it other like) body body' alike
         ∙ sym (ap (map (λ (each : PlainName × EntityBody). each.0)) (nothing_after (entity_definition_in (declared_name other) body'))))
     by (action body) (action body') alike = refl
-    by (common_type definition) (entity_type body') alike = absurd alike
-    by (common_type definition) (action body') alike = absurd alike
-    by (entity_type body) (common_type definition') alike = absurd alike
-    by (entity_type body) (action body') alike = absurd alike
-    by (action body) (common_type definition') alike = absurd alike
-    by (action body) (entity_type body') alike = absurd alike
+    by _ _ alike = absurd alike
 
   action_defined_keys : (it other : Declaration) → DeclarationsAlike names others it other
       → map (λ (each : PlainUid × Requests). each.0) (action_defined_by it) ≡ map (λ (each : PlainUid
@@ -109,12 +98,7 @@ module _ (names others : Names) where
         (alike_uid names others it other like) body.applies_to body'.applies_to alike.2
         ∙ sym (ap (map (λ (each : PlainUid
         × Requests). each.0)) (nothing_after (action_definition_in (declared_uid other) body'.applies_to))))
-    by (common_type definition) (entity_type body') alike = absurd alike
-    by (common_type definition) (action body') alike = absurd alike
-    by (entity_type body) (common_type definition') alike = absurd alike
-    by (entity_type body) (action body') alike = absurd alike
-    by (action body) (common_type definition') alike = absurd alike
-    by (action body) (entity_type body') alike = absurd alike
+    by _ _ alike = absurd alike
 
 module _ (names others : Names) (bag other : Bag) (turn : HoldsPairwise (DeclarationsAlike names others) bag other) where
   -- the same keys are declared, and defined

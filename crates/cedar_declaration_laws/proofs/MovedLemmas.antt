@@ -23,11 +23,10 @@ pub keys_pairwise : {A Y K : Type 0} (R : A → A → Type 0) (f : A → List Y)
     → ((x y : A) → R x y → map key (f x) ≡ map key (f y)) → (xs ys : List A) → HoldsPairwise R xs ys
     → map key (flat_map f xs) ≡ map key (flat_map f ys)
 keys_pairwise R f key same [] [] turn = refl
-keys_pairwise R f key same [] (y ∷ ys) turn = absurd turn
-keys_pairwise R f key same (x ∷ xs) [] turn = absurd turn
 keys_pairwise R f key same (x ∷ xs) (y ∷ ys) turn =
     map-append key (f x) (flat_map f xs)
     ∙ ((λ i. same x y turn.0 i ++ keys_pairwise R f key same xs ys turn.1 i) ∙ sym (map-append key (f y) (flat_map f ys)))
+keys_pairwise R f key same _ _ turn = absurd turn
 
 -- two references to actions mean the same, each over its actions: they have one id, name the same, and do name one
 abbrev pub NamesTheSame : List PlainUid → List PlainUid → ActionReference → ActionReference → Type 0
@@ -81,8 +80,7 @@ module _ (names others : Names) where
   tags-sym : (tags other : Option Expr) → TagsAlike names others tags other → TagsAlike others names other tags
   tags-sym None None like = tt
   tags-sym (Some expr) (Some other) like = AreAlike-sym names others like
-  tags-sym None (Some other) like = absurd like
-  tags-sym (Some expr) None like = absurd like
+  tags-sym _ _ like = absurd like
 
   entities-sym : (body other : EntityBody) → EntitiesAlike names others body other → EntitiesAlike others names other body
   entities-sym (standard ps shape tags) (standard ps' shape' tags') like = (
@@ -93,12 +91,7 @@ module _ (names others : Names) where
   entities-sym (enumerated choices) (enumerated choices') like = sym like
   entities-sym (external ps) (external ps') like =
       turn_back (MeansTheSame names others) (MeansTheSame others names) (MeansTheSame-sym names others) ps ps' like
-  entities-sym (standard ps shape tags) (enumerated choices) like = absurd like
-  entities-sym (standard ps shape tags) (external ps') like = absurd like
-  entities-sym (enumerated choices) (standard ps shape tags) like = absurd like
-  entities-sym (enumerated choices) (external ps) like = absurd like
-  entities-sym (external ps) (standard ps' shape tags) like = absurd like
-  entities-sym (external ps) (enumerated choices) like = absurd like
+  entities-sym _ _ like = absurd like
 
   requests-sym : (it other : Requests) → RequestsAlike names others it other → RequestsAlike others names other it
   requests-sym (requests ps rs context) (requests ps' rs' context') like = (
@@ -107,8 +100,7 @@ module _ (names others : Names) where
     AreAlike-sym names others like.2,
   )
   requests-sym elsewhere elsewhere like = tt
-  requests-sym (requests ps rs context) elsewhere like = absurd like
-  requests-sym elsewhere (requests ps rs context) like = absurd like
+  requests-sym _ _ like = absurd like
 
   bodies-sym : (body other : Body) → BodiesAlike names others body other → BodiesAlike others names other body
   bodies-sym (common_type definition) (common_type other) like = AreAlike-sym names others like
@@ -119,12 +111,7 @@ module _ (names others : Names) where
         body.parents other.parents like.1,
     requests-sym body.applies_to other.applies_to like.2,
   )
-  bodies-sym (common_type definition) (entity_type other) like = absurd like
-  bodies-sym (common_type definition) (action other) like = absurd like
-  bodies-sym (entity_type body) (common_type other) like = absurd like
-  bodies-sym (entity_type body) (action other) like = absurd like
-  bodies-sym (action body) (common_type other) like = absurd like
-  bodies-sym (action body) (entity_type other) like = absurd like
+  bodies-sym _ _ like = absurd like
 
   pub declarations-sym : (it other : Declaration) → DeclarationsAlike names others it other → DeclarationsAlike others names other it
   declarations-sym it other like = (sym like.0, sym like.1, bodies-sym it.body other.body like.2)
@@ -153,12 +140,7 @@ module _ (names others : Names) where
     by (common_type definition) (common_type definition') alike = ap (λ each. each ∷ []) same
     by (entity_type body) (entity_type body') alike = refl
     by (action body) (action body') alike = refl
-    by (common_type definition) (entity_type body') alike = absurd alike
-    by (common_type definition) (action body') alike = absurd alike
-    by (entity_type body) (common_type definition') alike = absurd alike
-    by (entity_type body) (action body') alike = absurd alike
-    by (action body) (common_type definition') alike = absurd alike
-    by (action body) (entity_type body') alike = absurd alike
+    by _ _ alike = absurd alike
 
   pub entity_keys : (it other : Declaration) → DeclarationsAlike names others it other
       → map (λ (each : PlainName × EntityBody). each.0) (entity_in (declared_name it) it.body)
@@ -173,12 +155,7 @@ module _ (names others : Names) where
     by (common_type definition) (common_type definition') alike = refl
     by (entity_type body) (entity_type body') alike = ap (λ each. each ∷ []) same
     by (action body) (action body') alike = refl
-    by (common_type definition) (entity_type body') alike = absurd alike
-    by (common_type definition) (action body') alike = absurd alike
-    by (entity_type body) (common_type definition') alike = absurd alike
-    by (entity_type body) (action body') alike = absurd alike
-    by (action body) (common_type definition') alike = absurd alike
-    by (action body) (entity_type body') alike = absurd alike
+    by _ _ alike = absurd alike
 
   pub action_keys : (it other : Declaration) → DeclarationsAlike names others it other
       → map (λ (each : PlainUid × ActionBody). each.0) (action_in (declared_uid it) it.body)
@@ -193,12 +170,7 @@ module _ (names others : Names) where
     by (common_type definition) (common_type definition') alike = refl
     by (entity_type body) (entity_type body') alike = refl
     by (action body) (action body') alike = ap (λ each. each ∷ []) same
-    by (common_type definition) (entity_type body') alike = absurd alike
-    by (common_type definition) (action body') alike = absurd alike
-    by (entity_type body) (common_type definition') alike = absurd alike
-    by (entity_type body) (action body') alike = absurd alike
-    by (action body) (common_type definition') alike = absurd alike
-    by (action body) (entity_type body') alike = absurd alike
+    by _ _ alike = absurd alike
 
 module _ (names : Names) where
   -- a parent means the same as it does resolved
@@ -237,8 +209,7 @@ module _ (names : Names) where
   resolved_tags : (tags resolved : Option Expr) → ResolvesTags names tags resolved → TagsAlike names names tags resolved
   resolved_tags None None it = tt
   resolved_tags (Some expr) (Some resolved) it = resolved_alike names names refl it
-  resolved_tags None (Some resolved) it = absurd it
-  resolved_tags (Some expr) None it = absurd it
+  resolved_tags _ _ it = absurd it
 
   resolved_references : (references resolved : List Reference) → HoldsPairwise (ResolvesReference names) references resolved
       → HoldsPairwise (MeansTheSame names names) references resolved
@@ -249,19 +220,13 @@ module _ (names : Names) where
       (resolved_references ps ps' it.0, resolved_alike names names refl it.1, resolved_tags tags tags' it.2)
   resolved_entity (enumerated choices) (enumerated choices') it = it
   resolved_entity (external ps) (external ps') it = resolved_references ps ps' it
-  resolved_entity (standard ps shape tags) (enumerated choices) it = absurd it
-  resolved_entity (standard ps shape tags) (external ps') it = absurd it
-  resolved_entity (enumerated choices) (standard ps shape tags) it = absurd it
-  resolved_entity (enumerated choices) (external ps) it = absurd it
-  resolved_entity (external ps) (standard ps' shape tags) it = absurd it
-  resolved_entity (external ps) (enumerated choices) it = absurd it
+  resolved_entity _ _ it = absurd it
 
   resolved_requests : (it resolved : Requests) → ResolvesRequests names it resolved → RequestsAlike names names it resolved
   resolved_requests (requests ps rs context) (requests ps' rs' context') it =
       (resolved_references ps ps' it.0, resolved_references rs rs' it.1, resolved_alike names names refl it.2)
   resolved_requests elsewhere elsewhere it = tt
-  resolved_requests (requests ps rs context) elsewhere it = absurd it
-  resolved_requests elsewhere (requests ps rs context) it = absurd it
+  resolved_requests _ _ it = absurd it
 
   resolved_body : (body resolved : Body) → ResolvesBody names body resolved → BodiesAlike names names body resolved
   resolved_body (common_type definition) (common_type resolved) it = resolved_alike names names refl it
@@ -271,12 +236,7 @@ module _ (names : Names) where
     turn_weaker (ResolvesParent names) (NamesTheSame names.actions names.actions) resolved_parent body.parents resolved.parents it.1,
     resolved_requests body.applies_to resolved.applies_to it.2,
   )
-  resolved_body (common_type definition) (entity_type resolved) it = absurd it
-  resolved_body (common_type definition) (action resolved) it = absurd it
-  resolved_body (entity_type body) (common_type resolved) it = absurd it
-  resolved_body (entity_type body) (action resolved) it = absurd it
-  resolved_body (action body) (common_type resolved) it = absurd it
-  resolved_body (action body) (entity_type resolved) it = absurd it
+  resolved_body _ _ it = absurd it
 
   -- a declaration is like itself resolved
   pub resolved_declaration : (it resolved : Declaration) → ResolvesDeclaration names it resolved → DeclarationsAlike names names it resolved

@@ -34,26 +34,18 @@ module _ (namespace : Option PlainName) (IsAbove : PlainName → Type 0) where
       → (reference : Reference) → Contains (entity_parents body) reference
       → (name : PlainName) × IsAbove name × (full_name namespace name ≡ reference)
   parent_above (standard_kind fields openness tags) (standard parents shape expr) is reference among = (is.0 reference).0 among
-  parent_above (standard_kind fields openness tags) (enumerated ids) is reference among = absurd is
-  parent_above (standard_kind fields openness tags) (external parents) is reference among = absurd is
-  parent_above (enumerated_kind choices) (standard parents shape expr) is reference among = absurd is
   parent_above (enumerated_kind choices) (enumerated ids) is reference among = absurd (omega (arith, among.1))
-  parent_above (enumerated_kind choices) (external parents) is reference among = absurd is
-  parent_above external_kind (standard parents shape expr) is reference among = absurd is
-  parent_above external_kind (enumerated ids) is reference among = absurd is
   parent_above external_kind (external parents) is reference among = (is reference).0 among
+  parent_above _ _ is reference among = absurd is
 
   -- one above is written as a parent, but of what is enumerated
   pub above_parent : (kind : EntityTypeKind) (body : EntityBody) → IsKindWritten namespace IsAbove kind body → ¬ IsEnumerated kind
       → (name : PlainName) → IsAbove name → Contains (entity_parents body) (full_name namespace name)
   above_parent (standard_kind fields openness tags) (standard parents shape expr) is other name above =
       (is.0 (full_name namespace name)).1 (name, above, refl)
-  above_parent (standard_kind fields openness tags) (enumerated ids) is other name above = absurd is
-  above_parent (standard_kind fields openness tags) (external parents) is other name above = absurd is
   above_parent (enumerated_kind choices) body is other name above = absurd (other tt)
-  above_parent external_kind (standard parents shape expr) is other name above = absurd is
-  above_parent external_kind (enumerated ids) is other name above = absurd is
   above_parent external_kind (external parents) is other name above = (is (full_name namespace name)).1 (name, above, refl)
+  above_parent _ _ is other name above = absurd is
 
 -- what lists another among its descendants is in the schema
 pub upper_there : (schema : PlainSchema) (lower upper : PlainName) → ListsDescendant schema lower upper → HasEntityType schema upper

@@ -88,10 +88,7 @@ module _ (bag other : Bag) (extensions : Extensions)
       (MeansTheSame ours theirs) ps ps' like.0 reference among
   parents_moved (external ps) (external ps') like reference among = turn_forth (MeansTheSame ours theirs) ps ps' like reference among
   parents_moved (enumerated choices) found like reference among = absurd (omega (arith, among.1))
-  parents_moved (standard ps shape tags) (enumerated choices) like reference among = absurd like
-  parents_moved (standard ps shape tags) (external ps') like reference among = absurd like
-  parents_moved (external ps) (standard ps' shape tags) like reference among = absurd like
-  parents_moved (external ps) (enumerated choices) like reference among = absurd like
+  parents_moved _ _ like reference among = absurd like
 
   parent_moved : (name : PlainName) (reference : Reference) → IsParent bag name reference
       → (moved : Reference) × IsParent other name moved
@@ -133,10 +130,7 @@ module _ (bag other : Bag) (extensions : Extensions)
       by (common_type definition) found like place = absurd place
       by (entity_type body) (entity_type found) like place = parents_moved body found like reference place
       by (action body) (action found) like place = request_moved body.applies_to found.applies_to like.2 reference place
-      by (entity_type body) (common_type definition) like place = absurd like
-      by (entity_type body) (action found) like place = absurd like
-      by (action body) (common_type definition) like place = absurd like
-      by (action body) (entity_type found) like place = absurd like
+      by _ _ like place = absurd like
 
   -- what counts in an entity type moves
   entity_count_moved : (body found : EntityBody) → EntitiesAlike ours theirs body found → (expr : Expr) → CountsInEntity body expr
@@ -176,12 +170,7 @@ module _ (bag other : Bag) (extensions : Extensions)
           let P : Expr → Type 0 = λ each. AreAlike ours theirs each found in (found, refl, subst P counts like)
       by (entity_type body) (entity_type found) like counts = entity_count_moved body found like expr counts
       by (action body) (action found) like counts = of_requests body.applies_to found.applies_to like.2 counts
-      by (common_type definition) (entity_type found) like counts = absurd like
-      by (common_type definition) (action found) like counts = absurd like
-      by (entity_type body) (common_type definition) like counts = absurd like
-      by (entity_type body) (action found) like counts = absurd like
-      by (action body) (common_type definition) like counts = absurd like
-      by (action body) (entity_type found) like counts = absurd like
+      by _ _ like counts = absurd like
 
   -- what has to resolve does
   has_to_resolves : (reference : Reference) → HasToResolve bag reference → (name : PlainName) × ResolvesTo ours reference name
@@ -422,8 +411,6 @@ module _ (bag other : Bag) (extensions : Extensions)
       → IsDeclaredKind (definitions bag extensions) body kind → (found : EntityBody) × EntitySays other name found
       × IsDeclaredKind (definitions other extensions) found kind
   says_moved name (external ps) external_kind says fits = (external ps, external_type_moved name says, tt)
-  says_moved name (external ps) (standard_kind fields openness ty) says fits = absurd fits
-  says_moved name (external ps) (enumerated_kind choices) says fits = absurd fits
   says_moved name (enumerated choices) kind says fits =
       let there = enumerated_moved name choices (definition_declared bag name (enumerated choices) says).0 in
       (enumerated choices, declared_definition other name (enumerated choices) tt there, by kind fits)
@@ -455,6 +442,7 @@ module _ (bag other : Bag) (extensions : Extensions)
       by (standard ps' shape' tags') there like external_kind fits = absurd fits
       by (enumerated choices) there like kind fits = absurd like
       by (external ps') there like kind fits = absurd like
+  says_moved name (external ps) _ says fits = absurd fits
 
   -- what the declarations of an action say moves, with its kind
   action_says_moved : (uid : PlainUid) (it : Requests) (kind : ActionKind) → ActionSays bag uid it

@@ -56,8 +56,7 @@ request_there elsewhere other reference same place = absurd place
 -- what is the same as a definition is one
 same_enumerated : (choices : List Text) (body : EntityBody) → SameEntityBody (enumerated choices) body → body ≡ enumerated choices
 same_enumerated choices (enumerated others) same = ap enumerated (sym same)
-same_enumerated choices (standard ps shape tags) same = absurd same
-same_enumerated choices (external ps) same = absurd same
+same_enumerated choices _ same = absurd same
 
 module _ (bag other : Bag) (said : SaysAll bag other) where
   -- a definition of an entity type in the one is declared in the other

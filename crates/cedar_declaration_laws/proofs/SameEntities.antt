@@ -24,9 +24,8 @@ kind_back (defined_action principals resources context) (defined_action others o
   λ name. ((same.1 name).1, (same.1 name).0),
   sym same.2,
 )
-kind_back (defined_action principals resources context) external_action same = absurd same
-kind_back external_action (defined_action others other_resources other_context) same = absurd same
 kind_back external_action external_action same = tt
+kind_back _ _ same = absurd same
 
 -- the same actions the other way round
 action_back : (it other : PlainUid × SchemaAction) → SameAction it other → SameAction other it

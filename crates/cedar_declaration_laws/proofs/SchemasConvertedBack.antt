@@ -30,9 +30,8 @@ module _ (namespace : Option PlainName) where
   -- what is written as external is
   pub external_written : (IsAbove : PlainName → Type 0) (kind : EntityTypeKind) (parents : List _)
       → IsKindWritten namespace IsAbove kind (external parents) → IsExternal kind
-  external_written IsAbove (standard_kind fields openness tags) parents is = absurd is
-  external_written IsAbove (enumerated_kind choices) parents is = absurd is
   external_written IsAbove external_kind parents is = tt
+  external_written IsAbove _ parents is = absurd is
 
   -- what is written as defined isn't external
   defined_written : (IsAbove : PlainName → Type 0) (kind : EntityTypeKind) (body : EntityBody) → IsKindWritten namespace IsAbove kind body
@@ -166,9 +165,8 @@ module _ (schema : PlainSchema) (bag : Bag) (extensions : Extensions) (order : I
 same_keys : {K V W : Type 0} (R : K × V → K × W → Type 0) → ((it : K × V) (other : K × W) → R it other → it.0 ≡ other.0)
     → (xs : List (K × V)) (ys : List (K × W)) → HoldsPairwise R xs ys → map (λ it. it.0) xs ≡ map (λ it. it.0) ys
 same_keys R key [] [] turn = refl
-same_keys R key [] (y ∷ ys) turn = absurd turn
-same_keys R key (x ∷ xs) [] turn = absurd turn
 same_keys R key (x ∷ xs) (y ∷ ys) turn = λ i. key x y turn.0 i ∷ same_keys R key xs ys turn.1 i
+same_keys R key _ _ turn = absurd turn
 
 -- so the bag declares the schema closed
 pub converted_schemas_are_declared : ConvertedSchemasAreDeclared
