@@ -55,11 +55,11 @@ impl HasParents<EntityUID> for ActionFragment<InternalName, EntityType> {
         self.parents.as_slice()
     }
 
-    fn upper(parent: &ActionParent<EntityType>) -> Result<EntityUID, SchemaError> {
+    fn parent_key(parent: &ActionParent<EntityType>) -> Result<EntityUID, SchemaError> {
         Ok(EntityUID::new(parent.ty.clone()?, Eid(parent.id.clone()?), parent.loc))
     }
 
-    fn lower(key: &EntityUID) -> M<EntityUID> {
+    fn copy_key(key: &EntityUID) -> M<EntityUID> {
         key.clone()
     }
 }

@@ -49,11 +49,11 @@ impl HasParents<EntityType> for EntityTypeFragment<InternalName> {
         self.parents()
     }
 
-    fn upper(parent: &InternalName) -> Result<EntityType, SchemaError> {
+    fn parent_key(parent: &InternalName) -> Result<EntityType, SchemaError> {
         named_type(parent)
     }
 
-    fn lower(key: &EntityType) -> M<EntityType> {
+    fn copy_key(key: &EntityType) -> M<EntityType> {
         key.clone()
     }
 }

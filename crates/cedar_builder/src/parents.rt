@@ -34,14 +34,14 @@ pub(crate) trait HasParents<K> {
     fn parents(&self) -> &[Self::Parent]
         ensures { map reference_of result.now ≡ parents_of self.now };
 
-    /// The key of a parent.
-    fn upper(parent: &Self::Parent) -> Result<K, SchemaError>
+    /// The key of a parent. It errs where a parent of that name is refused, or memory runs out.
+    fn parent_key(parent: &Self::Parent) -> Result<K, SchemaError>
         ensures key { IfOk result (λ key. reference_to (key_name key) ≡ reference_of parent.now) }
         ensures fault { IfErr result (λ error. (fault_of error ≡ out_of_memory)
             ⊎ Refuses (reference_of parent.now) (fault_of error)) };
 
     /// An equal key. Out of memory is the only refusal.
-    fn lower(key: &K) -> M<K>
+    fn copy_key(key: &K) -> M<K>
         ensures { IfOk result (λ copy. key_name copy ≡ key_name key.now) };
 }
 
@@ -58,8 +58,8 @@ fn add_parents<K: Drop, D: HasParents<K>>(
         IsParentFault D.Refuses (map (λ reference. (D.key_name lower.now, reference)) (D.parents_of declaration.now)) (fault_of error)) }
 {
     for parent in declaration.parents() {
-        let upper = D::upper(parent)?;
-        edges.push((upper, D::lower(lower)?))?;
+        let upper = D::parent_key(parent)?;
+        edges.push((upper, D::copy_key(lower)?))?;
     }
     Ok(())
 }

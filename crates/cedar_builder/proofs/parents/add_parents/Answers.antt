@@ -21,8 +21,8 @@ loop-parent-preserved g c =
     subst (λ done. map plain c.push.new.self.items ≡ map plain c.args.edges.now.items ++ map (λ each. (name, each)) done)
     (map_item is.reference_of parents index parent c.loop-parent-test.true c.parent-item.is)
     (pushed_parent plain (map plain c.args.edges.now.items) c.loop-parent.edges.items c.push.new.self.items name
-    (map is.reference_of (take index parents)) (is.reference_of parent) (c.in_ok-upper.upper, c.in_ok-lower.field-0) c.in_ok-push.ensures.items
-    (λ i. (c.in_ok-lower.ensures i, c.in_ok-upper.ensures.key i)) c.loop-parent.invariant)
+    (map is.reference_of (take index parents)) (is.reference_of parent) (c.in_ok-upper.upper, c.in_ok-copy_key.field-0) c.in_ok-push.ensures.items
+    (λ i. (c.in_ok-copy_key.ensures i, c.in_ok-upper.ensures.key i)) c.loop-parent.invariant)
 
 pub returns-in_err-upper-clause-fault : goal.returns-in_err-upper-clause-fault
 returns-in_err-upper-clause-fault g c =
