@@ -8,14 +8,14 @@ use Rattle.cedar_below.specs.PlainName.{PlainName}
 use Rattle.cedar_below.specs.PlainUid.{PlainUid}
 use Rattle.cedar_below.specs.declared.extension.Extensions.{Extensions}
 use Rattle.cedar_declarations.proofs.OccurrenceLemmas.{Contains-image}
-use Rattle.cedar_declarations.proofs.TurnLemmas.{turn_weaker}
+use Rattle.cedar_declarations.proofs.TurnLemmas.{turn_forth, turn_weaker}
 use Rattle.cedar_declarations.specs.ClosedSchema.{ClosesAction, ClosesType}
 use Rattle.cedar_declarations.specs.EntityTypeKind.{EntityTypeKind}
 use Rattle.cedar_declarations.specs.Fault.{Fault, undeclared_entity_types, unknown_extension_type, action_entity_type, invalid_action_type, action_cycle, external_below_enumerated, enumerated_below, undeclared_action_descendant, type_shadowing, action_shadowing}
 use Rattle.cedar_declarations.specs.PlainSchema.{ActionKind, PlainSchema, SchemaAction, SchemaEntityType}
-use Rattle.cedar_declarations.specs.ValidSchema.{HasAction, HasEntityType, IsContextOf, IsEnumerated, IsExternal, IsKnownType, IsOfKind, IsPrincipalOrResourceOf, IsSchemaFault, IsTypeIn, IsTypeOfKind, IsUnknownType, ListsDescendant, ListsDescendantAction}
+use Rattle.cedar_declarations.specs.ValidSchema.{IsContextOf, IsEnumerated, IsExternal, IsPrincipalOrResourceOf, IsSchemaFault, IsTypeIn, IsTypeOfKind, IsUnknownType, ListsDescendant, ListsDescendantAction}
 use Rattle.cedar_type_rules.specs.Ty.{Ty}
-use Rattle.cedar_validation.proofs.Pairwise.{pairwise_back, pairwise_forth}
+use Rattle.cedar_validation.proofs.Pairwise.{pairwise_back}
 
 -- what items list, and of what kinds they are
 pub record Shape (P Q T : Type 0) : Type 0 where
@@ -35,82 +35,67 @@ abbrev pub action_shape : Shape PlainUid SchemaAction ActionKind
 action_shape = record { listed = λ it. it.descendants; kind = λ it. it.kind }
 
 -- each of the items stands among the others with the same name and kind
-abbrev Found : {P Q T : Type 0} → Shape P Q T → List (P × Q) → List (P × Q) → Type 0
-Found {P = P} {Q = Q} shape items others = (it : P × Q) → Contains items it → (other : P × Q) × Contains others other
-    × (it.0 ≡ other.0) × (shape.kind it.1 ≡ shape.kind other.1)
+record Found {P Q T : Type 0} (shape : Shape P Q T) (items others : List (P × Q)) : Type 0 where
+  pub at : (it : P × Q) → Contains items it → (other : P × Q) × Contains others other × (it.0 ≡ other.0)
+      × (shape.kind it.1 ≡ shape.kind other.1)
 
 -- each of the items stands among the others and the other way round, and chains of the others lead as far
-pub record Agrees {P Q T : Type 0} (shape : Shape P Q T) (items others : List (P × Q)) : Type 0 where
+record Agrees {P Q T : Type 0} (shape : Shape P Q T) (items others : List (P × Q)) : Type 0 where
   pub forth : Found shape items others
   pub back : Found shape others items
   pub chain : (lower upper : P) → Chain (Lists shape items) lower upper → Chain (Lists shape others) lower upper
 
-module _ {P Q T : Type 0} (shape : Shape P Q T) (items others : List (P × Q)) (found : Found shape items others) where
+module _ {P Q T : Type 0} {shape : Shape P Q T} {items others : List (P × Q)} (found : Found shape items others) where
   -- a name of the items is one of the others
   has : (name : P) → Contains (map (λ (it : P × Q). it.0) items) name → Contains (map (λ (it : P × Q). it.0) others) name
   has name there =
       let it = Contains-preimage (λ (each : P × Q). each.0) items name there in
-      let other = found it.0 it.1 in
+      let other = found.at it.0 it.1 in
       let S : P → Type 0 = Contains (map (λ (each : P × Q). each.0) others) in
       subst S (sym other.2 ∙ it.2) (Contains-image (λ (each : P × Q). each.0) others other.0 other.1)
 
-  -- what is of a kind under a name is so among the others
+  -- what is of a kind is so among the others
+  with_kind : (S : T → Type 0) (it : P × Q) → Contains items it → S (shape.kind it.1)
+      → (other : P × Q) × Contains others other × S (shape.kind other.1)
+  with_kind S it among is = let other = found.at it among in (other.0, other.1, subst S other.3 is)
+
+  -- and under the same name
   of_kind : (S : T → Type 0) (name : P) → (it : Q) × Contains items (name, it) × S (shape.kind it)
       → (it : Q) × Contains others (name, it) × S (shape.kind it)
   of_kind S name of =
-      let other = found (name, of.0) of.1 in
+      let other = found.at (name, of.0) of.1 in
       let C : P → Type 0 = λ each. Contains others (each, other.0.1) in
       (other.0.1, subst C (sym other.2) other.1, subst S other.3 of.2)
 
-  -- the same under any name
-  with_kind : (S : T → Type 0) → (it : P × Q) × Contains items it × S (shape.kind it.1)
-      → (it : P × Q) × Contains others it × S (shape.kind it.1)
-  with_kind S of = let other = found of.0 of.1 in (other.0, other.1, subst S other.3 of.2)
-
-module _ (extensions : Extensions) (schema other : PlainSchema) (of_types : Agrees type_shape schema.entity_types other.entity_types)
-    (of_actions : Agrees action_shape schema.actions other.actions) where
-  has_type : (name : PlainName) → HasEntityType schema name → HasEntityType other name
-  has_type = has type_shape schema.entity_types other.entity_types of_types.forth
-
-  has_action : (uid : PlainUid) → HasAction schema uid → HasAction other uid
-  has_action = has action_shape schema.actions other.actions of_actions.forth
-
-  type_back : (name : PlainName) → HasEntityType other name → HasEntityType schema name
-  type_back = has type_shape other.entity_types schema.entity_types of_types.back
-
-  action_back : (uid : PlainUid) → HasAction other uid → HasAction schema uid
-  action_back = has action_shape other.actions schema.actions of_actions.back
-
-  type_of_kind : (S : EntityTypeKind → Type 0) (name : PlainName) → IsOfKind schema name S → IsOfKind other name S
-  type_of_kind = of_kind type_shape schema.entity_types other.entity_types of_types.forth
-
-  action_with : (S : ActionKind → Type 0) → (it : PlainUid × SchemaAction) × Contains schema.actions it × S it.1.kind
-      → (it : PlainUid × SchemaAction) × Contains other.actions it × S it.1.kind
-  action_with = with_kind action_shape schema.actions other.actions of_actions.forth
-
+module _ (extensions : Extensions) (schema other : PlainSchema) (types : Agrees type_shape schema.entity_types other.entity_types)
+    (actions : Agrees action_shape schema.actions other.actions) where
   -- a type that stands in the one stands in the other
   type_in : (ty : Ty) → IsTypeIn schema ty → IsTypeIn other ty
   type_in ty either =
       ⊎_elim
-      (λ of. inl (with_kind type_shape schema.entity_types other.entity_types of_types.forth (λ kind. IsTypeOfKind kind ty) of))
-      (λ of. inr (action_with (λ kind. IsContextOf kind ty) of))
+      (λ of. inl (with_kind types.forth (λ kind. IsTypeOfKind kind ty) of.0 of.1 of.2))
+      (λ of. inr (with_kind actions.forth (λ kind. IsContextOf kind ty) of.0 of.1 of.2))
       either
-
-  -- a known entity type is one in both
-  known_back : (name : PlainName) → IsKnownType other name → IsKnownType schema name
-  known_back name known = ⊎_elim (λ is. inl (type_back name is)) (λ of. inr (of.0, action_back of.0 of.1, of.2)) known
 
   unknown_carried : (name : PlainName) → IsUnknownType schema name → IsUnknownType other name
   unknown_carried name unknown =
       ⊎_elim
-      (λ of. inl (of.0, type_in of.0 of.1, of.2, λ known. of.3 (known_back name known)))
+      (λ of. inl (
+        of.0,
+        type_in of.0 of.1,
+        of.2,
+        λ known. of.3 (⊎_elim
+            (λ is. inl (has types.back name is))
+            (λ it. inr (it.0, has actions.back it.0 it.1, it.2))
+            known),
+      ))
       (λ either. inr (⊎_elim
       (λ of.
-      let begins = first_step (ListsDescendant other) name of.0 (of_types.chain name of.0 (one of.1)) in
-      inl (begins.0, begins.1, λ is. of.2 (type_back name is)))
+      let begins = first_step (ListsDescendant other) name of.0 (types.chain name of.0 (one of.1)) in
+      inl (begins.0, begins.1, λ is. of.2 (has types.back name is)))
       (λ of.
-      let it = action_with (λ kind. IsPrincipalOrResourceOf kind name) (of.0, of.1, of.2) in
-      inr (it.0, it.1, it.2, λ is. of.3 (type_back name is)))
+      let it = with_kind actions.forth (λ kind. IsPrincipalOrResourceOf kind name) of.0 of.1 of.2 in
+      inr (it.0, it.1, it.2, λ is. of.3 (has types.back name is)))
       either))
       unknown
 
@@ -118,17 +103,17 @@ module _ (extensions : Extensions) (schema other : PlainSchema) (of_types : Agre
   fault_carried : (fault : Fault) → IsSchemaFault extensions schema fault → IsSchemaFault extensions other fault
   fault_carried (undeclared_entity_types names) h = (h.0, λ name among. unknown_carried name (h.1 name among))
   fault_carried (unknown_extension_type name) h = (h.0, type_in h.0 h.1, h.2, h.3)
-  fault_carried (action_entity_type name) h = (has_type name h.0, h.1)
-  fault_carried (invalid_action_type uid) h = (has_action uid h.0, h.1)
-  fault_carried (action_cycle uid) h = of_actions.chain uid uid h
+  fault_carried (action_entity_type name) h = (has types.forth name h.0, h.1)
+  fault_carried (invalid_action_type uid) h = (has actions.forth uid h.0, h.1)
+  fault_carried (action_cycle uid) h = actions.chain uid uid h
   fault_carried (external_below_enumerated lower upper) h =
-      (type_of_kind IsExternal lower h.0, type_of_kind IsEnumerated upper h.1, of_types.chain lower upper h.2)
-  fault_carried (enumerated_below lower upper) h = (type_of_kind IsEnumerated lower h.0, of_types.chain lower upper h.1)
+      (of_kind types.forth IsExternal lower h.0, of_kind types.forth IsEnumerated upper h.1, types.chain lower upper h.2)
+  fault_carried (enumerated_below lower upper) h = (of_kind types.forth IsEnumerated lower h.0, types.chain lower upper h.1)
   fault_carried (undeclared_action_descendant uid) h =
-      let begins = first_step (ListsDescendantAction other) uid h.0 (of_actions.chain uid h.0 (one h.1)) in
-      (begins.0, begins.1, λ is. h.2 (action_back uid is))
-  fault_carried (type_shadowing plain qualified) h = (has_type plain h.0, has_type qualified h.1, h.2)
-  fault_carried (action_shadowing plain qualified) h = (has_action plain h.0, has_action qualified h.1, h.2)
+      let begins = first_step (ListsDescendantAction other) uid h.0 (actions.chain uid h.0 (one h.1)) in
+      (begins.0, begins.1, λ is. h.2 (has actions.back uid is))
+  fault_carried (type_shadowing plain qualified) h = (has types.forth plain h.0, has types.forth qualified h.1, h.2)
+  fault_carried (action_shadowing plain qualified) h = (has actions.forth plain h.0, has actions.forth qualified h.1, h.2)
   fault_carried _ h = absurd h
 
 -- the items have one name and are of one kind, and the second lists just what chains lead to from that name
@@ -160,7 +145,7 @@ module _ {P Q T : Type 0} (shape : Shape P Q T) (items closed : List (P × Q)) (
   pub chain_listed : (lower upper : P) → Chain (Lists shape items) lower upper → Lists shape closed lower upper
   chain_listed lower upper chain =
       let last = last_step (Lists shape items) lower upper chain in
-      let it = pairwise_forth (Closes shape items) items closed are (upper, last.1.0) last.1.1 in
+      let it = turn_forth (Closes shape items) items closed are (upper, last.1.0) last.1.1 in
       let S : P → Type 0 = λ name. Contains closed (name, it.0.1) in
       (it.0.1, subst S (sym it.2.key) it.1, (it.2.descendants lower).1 chain)
 
@@ -172,15 +157,19 @@ module _ {P Q T : Type 0} (shape : Shape P Q T) (items closed : List (P × Q)) (
 
   -- each item is found among the closed ones
   found : Found shape items closed
-  found it among =
-      let other = pairwise_forth (Closes shape items) items closed are it among in
-      (other.0, other.1, other.2.key, other.2.kind)
+  found = record {
+    at = λ it among.
+        let other = turn_forth (Closes shape items) items closed are it among in
+        (other.0, other.1, other.2.key, other.2.kind);
+  }
 
   -- and the other way round
   found_back : Found shape closed items
-  found_back other among =
-      let it = pairwise_back (Closes shape items) items closed are other among in
-      (it.0, it.1, sym it.2.key, sym it.2.kind)
+  found_back = record {
+    at = λ other among.
+        let it = pairwise_back (Closes shape items) items closed are other among in
+        (it.0, it.1, sym it.2.key, sym it.2.kind);
+  }
 
   -- the one agrees with the other
   agrees_forth : Agrees shape items closed

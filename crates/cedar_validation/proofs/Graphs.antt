@@ -192,40 +192,33 @@ module _ {K V P S : Type 0} (graph : Graph K V P) (entries : List (K × V)) (sor
         Included-same graph.plain_cmp graph.plain_total (map graph.under (keys_of entries)) (map graph.under (keys_of closed.entries))
         (IsStrictlySortedBy-map graph.cmp graph.plain_cmp graph.under graph.ties (keys_of entries) sorted)
         (IsStrictlySortedBy-map graph.cmp graph.plain_cmp graph.under graph.ties (keys_of closed.entries) remade.1)
-        forth back
+        (within entries closed.entries
+        (λ it among. let node = stays _ _ it.1 (alike it.0) (found_before it among) in entry_after it.0 node.0 node.1))
+        (within closed.entries entries
+        (λ it among. let node = stood _ _ it.1 (alike it.0) (found_after it among) in
+        let entry = entry_before it.0 node.0 node.1 in
+        (entry.0, entry.1, entry.2)))
       where
-        alike_some : (o p : Option V) (node : V) → AreAlike graph.is_alike o p → o ≡ Some node → (it : V) × (p ≡ Some it)
-        alike_some None p node are is = cc
-        alike_some (Some it) None node are is = absurd are
-        alike_some (Some it) (Some other) node are is = (other, refl)
+        stays : (o p : Option V) (node : V) → AreAlike graph.is_alike o p → o ≡ Some node → (it : V) × (p ≡ Some it)
+        stays None p node are is = cc
+        stays (Some it) None node are is = absurd are
+        stays (Some it) (Some other) node are is = (other, refl)
 
-        alike_back : (o p : Option V) (node : V) → AreAlike graph.is_alike o p → p ≡ Some node → (it : V) × (o ≡ Some it)
-        alike_back o None node are is = cc
-        alike_back None (Some other) node are is = absurd are
-        alike_back (Some it) (Some other) node are is = (it, refl)
+        stood : (o p : Option V) (node : V) → AreAlike graph.is_alike o p → p ≡ Some node → (it : V) × (o ≡ Some it)
+        stood o None node are is = cc
+        stood None (Some other) node are is = absurd are
+        stood (Some it) (Some other) node are is = (it, refl)
 
-        named : (items : List (K × V)) (entry : K × V) → Contains items entry
-            → Contains (map graph.under (keys_of items)) (graph.under entry.0)
-        named items entry among =
-            Contains-image graph.under (keys_of items) entry.0 (Contains-image (λ (each : K × V). each.0) items entry among)
-
-        forth : Included (map graph.under (keys_of entries)) (map graph.under (keys_of closed.entries))
-        forth name among =
-            let key = Contains-preimage graph.under (keys_of entries) name among in
-            let entry = Contains-preimage (λ (each : K × V). each.0) entries key.0 key.1 in
-            let other = alike_some _ _ entry.0.1 (alike entry.0.0) (found_before entry.0 entry.1) in
-            let it = entry_after entry.0.0 other.0 other.1 in
-            let T : P → Type 0 = Contains (map graph.under (keys_of closed.entries)) in
-            subst T (it.2 ∙ (ap graph.under entry.2 ∙ key.2)) (named closed.entries it.0 it.1)
-
-        back : Included (map graph.under (keys_of closed.entries)) (map graph.under (keys_of entries))
-        back name among =
-            let key = Contains-preimage graph.under (keys_of closed.entries) name among in
-            let entry = Contains-preimage (λ (each : K × V). each.0) closed.entries key.0 key.1 in
-            let other = alike_back _ _ entry.0.1 (alike entry.0.0) (found_after entry.0 entry.1) in
-            let it = entry_before entry.0.0 other.0 other.1 in
-            let T : P → Type 0 = Contains (map graph.under (keys_of entries)) in
-            subst T (it.2 ∙ (ap graph.under entry.2 ∙ key.2)) (named entries it.0 it.1)
+        within : (items others : List (K × V)) → ((it : K × V) → Contains items it
+            → (other : K × V) × Contains others other × (graph.under other.0 ≡ graph.under it.0))
+            → Included (map graph.under (keys_of items)) (map graph.under (keys_of others))
+        within items others each name among =
+            let key = Contains-preimage graph.under (keys_of items) name among in
+            let it = Contains-preimage (λ (e : K × V). e.0) items key.0 key.1 in
+            let other = each it.0 it.1 in
+            let T : P → Type 0 = Contains (map graph.under (keys_of others)) in
+            subst T (other.2 ∙ (ap graph.under it.2 ∙ key.2))
+            (Contains-image graph.under (keys_of others) other.0.0 (Contains-image (λ (e : K × V). e.0) others other.0 other.1))
 
     -- each entry has its closed one in turn
     pub closed_in_turn : HoldsPairwise (IsClosedOf graph.under graph.below graph.is_alike entries) entries closed.entries

@@ -7,7 +7,7 @@ use Rattle.std.specs.Option.{option_or}
 use Rattle.std.specs.Ordering.{is_eq, ordering_reverse}
 use Rattle.std.specs.declared.cmp.Ordering.{Ordering}
 use Rattle.std.specs.declared.cmp.Ordering.TheVariants.{Less, Equal, Greater}
-use Rattle.cedar_graph.proofs.MovingLemmas.{replaced_in_order}
+use Rattle.cedar_graph.proofs.MovingLemmas.{put_again, replaced_in_order}
 use Rattle.cedar_validation.specs.LastNamed.{last_that}
 
 -- an item that is put behind the others is the last, if it passes
@@ -27,28 +27,31 @@ tie_reversed Less = refl
 tie_reversed Equal = refl
 tie_reversed Greater = refl
 
--- where a node is put under its name, the last of each name stands under it
-pub last_put : {K V N : Type 0} (cmp : K → K → Ordering) (order : N → N → Ordering) → IsTotalOrder order → (key_name : K → N)
-    → (node_name : V → N) → ((a b : K) → cmp a b ≡ order (key_name a) (key_name b)) → (old new : BTreeMap K V) (key : K) (it : V)
-    → (items : List V) → key_name key ≡ node_name it
-    → ((name : K) → get cmp new name ≡ cond (is_at (cmp key) name) (Some it) (get cmp old name))
-    → ((name : K) → get cmp old name ≡ last_that (λ each. is_eq (order (key_name name) (node_name each))) items)
-    → (name : K) → get cmp new name ≡ last_that (λ each. is_eq (order (key_name name) (node_name each))) (items ++ it ∷ [])
-last_put cmp order total key_name node_name ties old new key it items own puts so_far name =
-    let test : is_at (cmp key) name ≡ is_eq (order (key_name name) (node_name it)) =
-    ap is_eq (ties key name ∙ total.antisymm (key_name key) (key_name name)) ∙ tie_reversed (order (key_name name) (key_name key))
-    ∙ ap (λ each. is_eq (order (key_name name) each)) own in
-    puts name
-    ∙ ((λ i. cond (test i) (Some it) (so_far name i))
-    ∙ sym (last_more (λ each. is_eq (order (key_name name) (node_name each))) items it))
+-- of the nodes the last of each name stands under it, and something holds of each entry
+pub record AreNamed {K V N : Type 0} (cmp : K → K → Ordering) (order : N → N → Ordering) (key_name : K → N) (node_name : V → N)
+    (P : K × V → Type 0) (named : BTreeMap K V) (nodes : List V) : Type 0 where
+  pub last : (name : K) → get cmp named name ≡ last_that (λ it. is_eq (order (key_name name) (node_name it))) nodes
+  pub each : (it : K × V) → Contains named.entries it → P it
 
--- where an entry is put in place of one of its key, what holds of it and held of each before holds of each
-pub each_put : {K V : Type 0} (cmp : K → K → Ordering) (P : K × V → Type 0) (old without new : BTreeMap K V) (key : K) (it : V)
-    → (test : K → Bool) → without.entries ≡ remove_entry test old.entries → get cmp without key ≡ None
-    → new.entries ≡ insert_entry cmp without.entries key it → P (key, it) → ((entry : K × V) → Contains old.entries entry → P entry)
-    → (entry : K × V) → Contains new.entries entry → P entry
-each_put cmp P old without new key it test taken absent put here each entry among =
-    ⊎_elim
-    (λ same. subst P same here)
-    (λ there. each entry there)
-    (replaced_in_order cmp test old without new key it taken absent put entry among)
+-- so it is once one more was put under its name, in place of an earlier one
+pub named_more : {K V N : Type 0} (cmp : K → K → Ordering) (order : N → N → Ordering) (key_name : K → N) (node_name : V → N)
+    (P : K × V → Type 0) → IsTotalOrder order → ((a b : K) → cmp a b ≡ order (key_name a) (key_name b))
+    → (old without new : BTreeMap K V) (nodes : List V) (key : K) (node : V) → key_name key ≡ node_name node → P (key, node)
+    → without.entries ≡ remove_entry (is_at (cmp key)) old.entries
+    → ((name : K) → get cmp without name ≡ cond (is_at (cmp key) name) None (get cmp old name)) → get cmp without key ≡ None
+    → new.entries ≡ insert_entry cmp without.entries key node
+    → ((name : K) → get cmp new name ≡ cond (is_at (cmp key) name) (Some node) (get cmp without name))
+    → AreNamed cmp order key_name node_name P old nodes → AreNamed cmp order key_name node_name P new (nodes ++ node ∷ [])
+named_more cmp order key_name node_name P total ties old without new nodes key node own here taken takes absent put puts so_far = record {
+  last = λ name.
+      let test : is_at (cmp key) name ≡ is_eq (order (key_name name) (node_name node)) =
+      ap is_eq (ties key name ∙ total.antisymm (key_name key) (key_name name)) ∙ tie_reversed (order (key_name name) (key_name key))
+      ∙ ap (λ each. is_eq (order (key_name name) each)) own in
+      put_again (is_at (cmp key) name) (Some node) (get cmp old name) (get cmp without name) (takes name) (get cmp new name) (puts name)
+      ∙ ((λ i. cond (test i) (Some node) (so_far.last name i))
+      ∙ sym (last_more (λ it. is_eq (order (key_name name) (node_name it))) nodes node));
+  each = λ it among. ⊎_elim
+      (λ same. subst P same here)
+      (λ there. so_far.each it there)
+      (replaced_in_order cmp (is_at (cmp key)) old without new key node taken absent put it among);
+}

@@ -4,7 +4,7 @@ use Rattle.cedar_below.proofs.Chains.{refined}
 use Rattle.cedar_below.proofs.Lists.{Contains-preimage}
 use Rattle.cedar_below.specs.Chain.{Chain, one}
 use Rattle.cedar_declarations.proofs.OccurrenceLemmas.{Contains-image}
-use Rattle.cedar_validation.specs.Listed.{LeadsTo, ListsIn}
+use Rattle.cedar_validation.specs.Listed.{IsClosedOf, LeadsTo, ListsIn}
 
 module _ {K V P Q : Type 0} (under : K → P) (below : V → List P) (plain : K × V → P × Q) (listed : Q → List P)
     (keyed : (e : K × V) → (plain e).0 ≡ under e.0) (lists : (e : K × V) → listed (plain e).1 ≡ below e.1) (entries : List (K × V)) where
@@ -38,3 +38,10 @@ module _ {K V P Q : Type 0} (under : K → P) (below : V → List P) (plain : K 
     λ chain. refined (λ k l step. one (there k l step)) chain,
     λ chain. refined (λ k l step. one (here k l step)) chain,
   )
+
+  -- and what a closed entry lists chains of plain data lead to
+  pub closed_leads : {is_alike : V → V → Type 0} (it other : K × V) → IsClosedOf under below is_alike entries it other → (lower : P)
+      → Contains (below other.1) lower ↔ Chain Lists lower (under it.0)
+  closed_leads it other is lower =
+      let leads = leads_alike lower (under it.0) in
+      (λ listed. leads.0 ((is.below_it lower).0 listed), λ chain. (is.below_it lower).1 (leads.1 chain))

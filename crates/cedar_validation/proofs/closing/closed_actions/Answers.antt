@@ -17,7 +17,7 @@ use Rattle.cedar_schema_elements.specs.ActionKind.{plain_kind}
 use Rattle.cedar_schema_elements.specs.ValidatorActionId.{action_of, plain_action_entry}
 use Rattle.cedar_schema_elements.specs.declared.action_id.ValidatorActionId.{ValidatorActionId}
 use Rattle.cedar_schema_elements.specs.declared.entity_type.ValidatorEntityType.{ValidatorEntityType}
-use Rattle.cedar_validation.proofs.ListedEntries.{leads_alike}
+use Rattle.cedar_validation.proofs.ListedEntries.{closed_leads, leads_alike}
 use Rattle.cedar_validation.proofs.Pairwise.{pairwise_map}
 use Rattle.cedar_validation.specs.Listed.{LeadsTo}
 use Rattle.cedar_validation.specs.Parts.{graph_fault, plain_schema}
@@ -48,9 +48,8 @@ returns-in-Ok-clause-closed c = λ types entities.
       key = is.key;
       uid = ap uid_of is.alike.0;
       kind = ap plain_kind is.alike.1;
-      descendants = λ lower.
-          let chains = leads types actions entities lower (uid_of it.0) in
-          (λ listed. chains.0 ((is.below_it lower).0 listed), λ chain. (is.below_it lower).1 (chains.1 chain));
+      descendants = closed_leads uid_of (λ node. (action_of node).descendants) plain_action_entry (λ each. each.descendants) (λ e. refl)
+          (λ e. refl) actions it other is;
     })
     actions closed c.in-Ok.ensures.closed)
 

@@ -4,7 +4,7 @@ use Rattle.cedar_schema_elements.specs.EntityTypeKind.{plain_kind}
 use Rattle.cedar_schema_elements.specs.ValidatorEntityType.{descendant_names, plain_entry}
 use Rattle.cedar_declarations.proofs.TurnLemmas.{turn_weaker}
 use Rattle.cedar_declarations.specs.ClosedSchema.{ClosesType}
-use Rattle.cedar_validation.proofs.ListedEntries.{leads_alike}
+use Rattle.cedar_validation.proofs.ListedEntries.{closed_leads}
 use Rattle.cedar_validation.proofs.Pairwise.{pairwise_map}
 use Rattle.cedar_validation.specs.Parts.{plain_schema}
 use Rattle.cedar_validation.proofs.closing.closed_types.Goals as goal
@@ -20,9 +20,6 @@ returns-in-Ok-clause-closed c = λ actions entities.
       key = is.key;
       name = ap type_name is.alike.0;
       kind = ap plain_kind is.alike.1;
-      descendants = λ lower.
-          let leads = leads_alike type_name descendant_names plain_entry (λ each. each.descendants) (λ e. refl) (λ e. refl) types lower
-          (type_name it.0) in
-          (λ listed. leads.0 ((is.below_it lower).0 listed), λ chain. (is.below_it lower).1 (leads.1 chain));
+      descendants = closed_leads type_name descendant_names plain_entry (λ each. each.descendants) (λ e. refl) (λ e. refl) types it other is;
     })
     types closed c.in-Ok.ensures.closed)

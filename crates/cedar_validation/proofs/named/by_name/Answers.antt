@@ -1,18 +1,13 @@
-use Rattle.std.proofs.Common.{◌≡◌, Some, ap, sym, ◌∙◌}
+use Rattle.std.proofs.Common.{◌≡◌, ap, sym, ◌∙◌}
 use Rattle.std.proofs.IntoIterSteps.{All-taken}
-use Rattle.std.specs.BTreeMap.{get, get_by, is_at}
+use Rattle.std.specs.BTreeMap.{get_by, is_at}
 use Rattle.std.specs.Map.{lookup}
-use Rattle.std.specs.Ordering.{eq_by_cmp, is_eq}
+use Rattle.std.specs.Ordering.{is_eq}
 use Rattle.cedar_graph.proofs.MovedMaps.{empty_lacks}
-use Rattle.cedar_graph.proofs.MovingLemmas.{put_again}
-use Rattle.cedar_validation.proofs.LastLemmas.{each_put, last_put}
+use Rattle.cedar_validation.proofs.LastLemmas.{named_more}
 use Rattle.cedar_validation.specs.LastNamed.{last_that}
-use Rattle.cedar_validation.proofs.named.by_name.Given.{Over}
 use Rattle.cedar_validation.proofs.named.by_name.Goals as goal
-
--- a node stands under its name, which is located as the node is
-abbrev IsPlaced : (g : Over) → g.row.K.Denot × g.row.V.Denot → Type 0
-IsPlaced g entry = (g.V.SchemaNode.node_name entry.1 ≡ g.V.SchemaNode.key_name entry.0) × g.V.SchemaNode.IsLocatedAs entry.0 entry.1
+use Rattle.cedar_validation.proofs.named.by_name.Invariants.{IsPlaced}
 
 pub loop-node-init : goal.loop-node-init
 loop-node-init g c = record {
@@ -22,39 +17,23 @@ loop-node-init g c = record {
 
 pub loop-node-preserved-in_ok-insert : goal.loop-node-preserved-in_ok-insert
 loop-node-preserved-in_ok-insert g c =
-    let cmp = g.K.Ord.cmp in
-    let node = g.V.SchemaNode in
-    let key = c.in_ok-name.name in
-    let it = c.in-Some.node in
-    let named = c.in_ok-name.ensures.name ∙ c.name.ensures.name in
-    let here : IsPlaced g (key, it) = (sym named, c.in_ok-name.ensures.located it c.name.ensures.located) in
-    record {
-      last = last_put cmp node.name_order g.met.V.SchemaNode.order_total node.key_name node.node_name g.met.V.SchemaNode.key_order
-          c.loop-node.named c.insert.new.self key it c.loop-node.yielded named
-          (λ other. put_again (eq_by_cmp cmp key other) (Some it) (get cmp c.loop-node.named other) (get cmp c.remove-earlier.new.self other)
-          (c.remove-earlier.ensures.updates.0 other) (get cmp c.insert.new.self other) (c.in_ok-insert.ensures.updates.0 other))
-          c.loop-node.invariant.last;
-      each = each_put cmp (IsPlaced g) c.loop-node.named c.remove-earlier.new.self c.insert.new.self key it (is_at (cmp key)) c.remove-earlier.ensures.entries c.remove-earlier.ensures.updates.1
-          c.in_ok-insert.ensures.entries here c.loop-node.invariant.each;
-    }
+    let own = c.in_ok-name.ensures.name ∙ c.name.ensures.name in
+    named_more g.K.Ord.cmp g.V.SchemaNode.name_order g.V.SchemaNode.key_name g.V.SchemaNode.node_name (IsPlaced g)
+    g.met.V.SchemaNode.order_total g.met.V.SchemaNode.key_order c.loop-node.named c.remove-earlier.new.self c.insert.new.self
+    c.loop-node.yielded c.in_ok-name.name c.in-Some.node own
+    (sym own, c.in_ok-name.ensures.located c.in-Some.node c.name.ensures.located) c.remove-earlier.ensures.entries
+    c.remove-earlier.ensures.updates.0 c.remove-earlier.ensures.updates.1 c.in_ok-insert.ensures.entries
+    c.in_ok-insert.ensures.updates.0 c.loop-node.invariant
 
 pub loop-node-preserved : goal.loop-node-preserved
 loop-node-preserved g c =
-    let cmp = g.K.Ord.cmp in
-    let node = g.V.SchemaNode in
-    let key = c.in_ok-name.name in
-    let it = c.in-Some.node in
-    let named = c.in_ok-name.ensures.name ∙ c.name.ensures.name in
-    let here : IsPlaced g (key, it) = (sym named, c.in_ok-name.ensures.located it c.name.ensures.located) in
-    record {
-      last = last_put cmp node.name_order g.met.V.SchemaNode.order_total node.key_name node.node_name g.met.V.SchemaNode.key_order
-          c.loop-node.named c.insert.new.self key it c.loop-node.yielded named
-          (λ other. put_again (eq_by_cmp cmp key other) (Some it) (get cmp c.loop-node.named other) (get cmp c.remove-earlier.new.self other)
-          (c.remove-earlier.ensures.updates.0 other) (get cmp c.insert.new.self other) (c.in_ok-insert.ensures.updates.0 other))
-          c.loop-node.invariant.last;
-      each = each_put cmp (IsPlaced g) c.loop-node.named c.remove-earlier.new.self c.insert.new.self key it (is_at (cmp key)) c.remove-earlier.ensures.entries c.remove-earlier.ensures.updates.1
-          c.in_ok-insert.ensures.entries here c.loop-node.invariant.each;
-    }
+    let own = c.in_ok-name.ensures.name ∙ c.name.ensures.name in
+    named_more g.K.Ord.cmp g.V.SchemaNode.name_order g.V.SchemaNode.key_name g.V.SchemaNode.node_name (IsPlaced g)
+    g.met.V.SchemaNode.order_total g.met.V.SchemaNode.key_order c.loop-node.named c.remove-earlier.new.self c.insert.new.self
+    c.loop-node.yielded c.in_ok-name.name c.in-Some.node own
+    (sym own, c.in_ok-name.ensures.located c.in-Some.node c.name.ensures.located) c.remove-earlier.ensures.entries
+    c.remove-earlier.ensures.updates.0 c.remove-earlier.ensures.updates.1 c.in_ok-insert.ensures.entries
+    c.in_ok-insert.ensures.updates.0 c.loop-node.invariant
 
 pub returns-clause-last : goal.returns-clause-last
 returns-clause-last g c = λ name.
