@@ -3,7 +3,10 @@ use Rattle.std.proofs.Common.{◌≡◌, ◌↔◌, List, map, ap, sym, subst, �
 use Rattle.cedar_below.proofs.Chains.{refined}
 use Rattle.cedar_below.proofs.Lists.{Contains-preimage}
 use Rattle.cedar_below.specs.Chain.{Chain, one}
+use Rattle.cedar_below.specs.Lists.{HoldsPairwise}
 use Rattle.cedar_declarations.proofs.OccurrenceLemmas.{Contains-image}
+use Rattle.cedar_declarations.proofs.TurnLemmas.{turn_weaker}
+use Rattle.cedar_validation.proofs.Pairwise.{pairwise_map}
 use Rattle.cedar_validation.specs.Listed.{IsClosedOf, LeadsTo, ListsIn}
 
 module _ {K V P Q : Type 0} (under : K → P) (below : V → List P) (plain : K × V → P × Q) (listed : Q → List P)
@@ -39,9 +42,16 @@ module _ {K V P Q : Type 0} (under : K → P) (below : V → List P) (plain : K 
     λ chain. refined (λ k l step. one (here k l step)) chain,
   )
 
-  -- and what a closed entry lists chains of plain data lead to
-  pub closed_leads : {is_alike : V → V → Type 0} (it other : K × V) → IsClosedOf under below is_alike entries it other → (lower : P)
-      → Contains (below other.1) lower ↔ Chain Lists lower (under it.0)
-  closed_leads it other is lower =
+  -- so what follows from this of the plain data of each entry and its closed one holds in turn
+  pub closed_plain : (is_alike : V → V → Type 0) (closed : List (K × V))
+      → HoldsPairwise (IsClosedOf under below is_alike entries) entries closed → (R : P × Q → P × Q → Type 0)
+      → ((it other : K × V) → under it.0 ≡ under other.0 → is_alike it.1 other.1
+      → ((lower : P) → Contains (below other.1) lower ↔ Chain Lists lower (under it.0)) → R (plain it) (plain other))
+      → HoldsPairwise R (map plain entries) (map plain closed)
+  closed_plain is_alike closed turn R to =
+      pairwise_map R plain plain entries closed
+      (turn_weaker (IsClosedOf under below is_alike entries) (λ it other. R (plain it) (plain other))
+      (λ it other is. to it other is.key is.alike (λ lower.
       let leads = leads_alike lower (under it.0) in
-      (λ listed. leads.0 ((is.below_it lower).0 listed), λ chain. (is.below_it lower).1 (leads.1 chain))
+      (λ listed. leads.0 ((is.below_it lower).0 listed), λ chain. (is.below_it lower).1 (leads.1 chain))))
+      entries closed turn)

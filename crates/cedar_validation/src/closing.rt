@@ -33,8 +33,8 @@ use std::hash::Hash;
 /// The nodes with their descendants closed: each with just those that one or more steps of the
 /// listed ones reach. A step to what isn't one of the nodes leads no further.
 ///
-/// With `enforce_dag` a node that is on a cycle is refused. The only other refusal is that memory
-/// ran out.
+/// With `enforce_dag` it is refused with `HasCycle` where some node is on a cycle, whose key it
+/// holds. The only other refusal is that memory ran out.
 fn closed_nodes<K: Ord + Hash + Drop, V: SchemaNode<K> + Drop>(
     alloc: Global,
     nodes: BTreeMap<K, V>,
@@ -54,7 +54,8 @@ fn closed_nodes<K: Ord + Hash + Drop, V: SchemaNode<K> + Drop>(
     Ok(into_btree_map(alloc, hashed)?)
 }
 
-/// The entity types with their descendants closed.
+/// The entity types with their descendants closed: each with just those that one or more steps of the
+/// listed ones reach. Out of memory is the only refusal.
 pub(crate) fn closed_types(alloc: Global, types: Types) -> M<Types>
     ensures located { IfOk result (λ closed. type_specs.AreLocatedAsKeys types.entries → type_specs.AreLocatedAsKeys closed.entries) }
     ensures closed { IfOk result (λ closed. (actions : List (Uid × Action)) (entities : List Entity)
@@ -77,7 +78,8 @@ fn refusal(refused: TcError<EntityUID>) -> SchemaError
     }
 }
 
-/// The actions with their descendants closed. An action that is on a cycle is refused.
+/// The actions with their descendants closed in the same way. An action that is on a cycle is
+/// refused.
 pub(crate) fn closed_actions(alloc: Global, actions: Actions) -> Result<Actions, SchemaError>
     ensures located { IfOk result (λ closed. action_specs.AreLocatedAsKeys actions.entries
         → action_specs.AreLocatedAsKeys closed.entries) }

@@ -47,7 +47,7 @@ fn check_attributes(known: &Known, attrs: &Attributes) -> Result<(), SchemaError
     Ok(())
 }
 
-/// What of a schema types stand in.
+/// A part of a schema in which types stand: an entity type or an action.
 trait Typed {
     ghost HasType: { Self → Ty → Type 0 };
 
@@ -58,7 +58,7 @@ trait Typed {
             ⊎ ((of : Ty) × HasType self.now of × IsUnknownIn known.now of (fault_of error))) };
 }
 
-/// In an entity type its attributes and its tags have types.
+/// The types of an entity type are those of its attributes and tags.
 impl Typed for ValidatorEntityType {
     ghost HasType = { λ ty. IsTypeOfKind (entity_type_of ty).kind };
 
@@ -71,7 +71,7 @@ impl Typed for ValidatorEntityType {
     }
 }
 
-/// In an action its context has a type.
+/// The type of an action is that of its context.
 impl Typed for ValidatorActionId {
     ghost HasType = { λ action. IsContextOf (action_of action).kind };
 

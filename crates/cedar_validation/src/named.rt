@@ -24,7 +24,8 @@ use std::alloc::Global;
 use std::collections::BTreeMap;
 use std::hash::Hash;
 
-/// The nodes, each under its name, which is located as the node is; of those of one name the last.
+/// The nodes, each under its name, located as in the node; of those of one name the last. Out of
+/// memory is the only refusal.
 fn by_name<K: Ord + Hash + Drop, V: SchemaNode<K> + Drop>(
     alloc: Global,
     nodes: Vec<V>,

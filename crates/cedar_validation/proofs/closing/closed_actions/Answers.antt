@@ -5,7 +5,6 @@ use Rattle.cedar_below.specs.PlainUid.{PlainUid}
 use Rattle.cedar_below.specs.declared.entity.Entity.{Entity}
 use Rattle.cedar_below.specs.declared.entity_type.EntityType.{EntityType}
 use Rattle.cedar_below.specs.declared.entity_uid.EntityUID.{EntityUID}
-use Rattle.cedar_declarations.proofs.TurnLemmas.{turn_weaker}
 use Rattle.cedar_declarations.specs.ClosedSchema.{ClosesAction}
 use Rattle.cedar_declarations.specs.Fault.{Fault, action_cycle, out_of_memory}
 use Rattle.cedar_declarations.specs.SchemaError.{fault_of}
@@ -17,8 +16,7 @@ use Rattle.cedar_schema_elements.specs.ActionKind.{plain_kind}
 use Rattle.cedar_schema_elements.specs.ValidatorActionId.{action_of, plain_action_entry}
 use Rattle.cedar_schema_elements.specs.declared.action_id.ValidatorActionId.{ValidatorActionId}
 use Rattle.cedar_schema_elements.specs.declared.entity_type.ValidatorEntityType.{ValidatorEntityType}
-use Rattle.cedar_validation.proofs.ListedEntries.{closed_leads, leads_alike}
-use Rattle.cedar_validation.proofs.Pairwise.{pairwise_map}
+use Rattle.cedar_validation.proofs.ListedEntries.{closed_plain, leads_alike}
 use Rattle.cedar_validation.specs.Listed.{LeadsTo}
 use Rattle.cedar_validation.specs.Parts.{graph_fault, plain_schema}
 use Rattle.cedar_validation.proofs.closing.closed_actions.Goals as goal
@@ -39,19 +37,10 @@ module _ (types : List (EntityType × ValidatorEntityType)) (actions : List (Ent
 
 pub returns-in-Ok-clause-closed : goal.returns-in-Ok-clause-closed
 returns-in-Ok-clause-closed c = λ types entities.
-    let actions = c.args.actions.entries in
-    let closed = c.in-Ok.closed.entries in
-    let schema = plain_schema types actions entities in
-    pairwise_map (ClosesAction schema) plain_action_entry plain_action_entry actions closed
-    (turn_weaker _ (λ it other. ClosesAction schema (plain_action_entry it) (plain_action_entry other))
-    (λ it other is. record {
-      key = is.key;
-      uid = ap uid_of is.alike.0;
-      kind = ap plain_kind is.alike.1;
-      descendants = closed_leads uid_of (λ node. (action_of node).descendants) plain_action_entry (λ each. each.descendants) (λ e. refl)
-          (λ e. refl) actions it other is;
-    })
-    actions closed c.in-Ok.ensures.closed)
+    closed_plain uid_of (λ node. (action_of node).descendants) plain_action_entry (λ it. it.descendants) (λ e. refl) (λ e. refl)
+    c.args.actions.entries _ c.in-Ok.closed.entries c.in-Ok.ensures.closed
+    (ClosesAction (plain_schema types c.args.actions.entries entities))
+    (λ it other key alike leads. record { key = key; uid = ap uid_of alike.0; kind = ap plain_kind alike.1; descendants = leads })
 
 pub returns-in-Ok-clause-acyclic : goal.returns-in-Ok-clause-acyclic
 returns-in-Ok-clause-acyclic c = λ types entities uid chain.
