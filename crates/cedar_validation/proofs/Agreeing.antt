@@ -77,6 +77,7 @@ module _ (extensions : Extensions) (schema other : PlainSchema) (types : Agrees 
       (λ of. inr (with_kind actions.forth (λ kind. IsContextOf kind ty) of.0 of.1 of.2))
       either
 
+  -- an entity type that isn't known in the one isn't in the other
   unknown_carried : (name : PlainName) → IsUnknownType schema name → IsUnknownType other name
   unknown_carried name unknown =
       ⊎_elim

@@ -21,10 +21,9 @@ use cedar_declarations::SchemaError;
 use cedar_schema_elements::ValidatorActionId;
 use std::alloc::Global;
 use std::collections::{BTreeMap, hash_set};
-use std::hash::Hash;
 
 /// The first of some keys under which nothing stands in a map.
-fn missing<'a, K: Ord + Hash, V>(map: &BTreeMap<K, V>, keys: hash_set::Iter<'a, K>) -> Option<&'a K>
+fn missing<'a, K: Ord, V>(map: &BTreeMap<K, V>, keys: hash_set::Iter<'a, K>) -> Option<&'a K>
     ensures { MatchOption result ((key : K) → Contains keys.entry key → ContainsKey K.cmp map.now key)
         (λ key. Contains keys.entry key.now × ¬ ContainsKey K.cmp map.now key.now) }
 {
