@@ -3,10 +3,11 @@
 ghost use Rattle.std.specs.Prelude.{◌≡◌};
 ghost use Rattle.std.specs.HashSet.{contains};
 ghost use Rattle.std.proofs.Common.{refl, ◌∙◌, ap, sym};
-ghost use Rattle.cedar_below.proofs.Lists.{list_any-Contains};
-ghost use Rattle.cedar_below.proofs.Uids.{entity_uid_eq-same, entity_uid_ord-Equal, entity_uid_searches-respect_eq};
+ghost use Rattle.cedar_below.proofs.Lists.{Contains-preimage, list_any-Contains};
+ghost use Rattle.cedar_below.proofs.PlainNames.{uid_cmp-total};
+ghost use Rattle.cedar_below.proofs.Uids.{entity_uid_eq-same, entity_uid_ord-Equal, entity_uid_ord-uid_cmp, entity_uid_searches-respect_eq};
 ghost use Rattle.cedar_below.specs.EntityUID.{uid_loc, uid_of, uid_type_loc};
-ghost use Rattle.cedar_below.specs.PlainUid.{PlainUid};
+ghost use Rattle.cedar_below.specs.PlainUid.{PlainUid, uid_cmp};
 ghost use Rattle.cedar_declarations.specs.Fault.{duplicate_action};
 ghost use Rattle.cedar_declarations.specs.PlainSchema.{external_action};
 ghost use Rattle.cedar_schema_elements.specs.ActionKind.{plain_kind};
@@ -61,6 +62,8 @@ impl SchemaNode<EntityUID> for ValidatorActionId {
 
     ghost key_name = { uid_of };
 
+    ghost name_order = { uid_cmp };
+
     ghost node_name = { λ node. (action_of node).uid };
 
     ghost IsExternal = { λ node. (action_of node).kind ≡ external_action };
@@ -95,8 +98,15 @@ impl SchemaNode<EntityUID> for ValidatorActionId {
 
     ghost tied_key = { entity_uid_ord-Equal };
 
-    ghost edge_below = { λ node key. list_any-Contains uid_of (uid_of key) (⟦<EntityUID as PartialEq>⟧.eq key)
-        (λ uid. (λ is. sym ((entity_uid_eq-same key uid).0 is), λ same. (entity_uid_eq-same key uid).1 (sym same))) node.descendants.keys };
+    ghost order_total = { uid_cmp-total };
+
+    ghost key_order = { entity_uid_ord-uid_cmp };
+
+    ghost below_key = { λ node name among. let key = Contains-preimage uid_of node.descendants.keys name among in (key.0, key.2) };
+
+    ghost edge_below = { λ node key. list_any-Contains uid_of (uid_of key) _
+        (λ each. (λ equal. sym ((entity_uid_eq-same key each).0 equal), λ same. (entity_uid_eq-same key each).1 (sym same)))
+        node.descendants.keys };
 
     ghost alike_named = { λ a b alike. ap uid_of alike.0 };
 

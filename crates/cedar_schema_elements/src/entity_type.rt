@@ -43,6 +43,7 @@ impl ValidatorEntityType {
     ghost use Rattle.cedar_below.specs.declared.entity_type.EntityType.{EntityType};
     ghost use Rattle.cedar_schema_elements.specs.EntityTypeKind.{plain_kind};
     ghost use Rattle.cedar_declarations.specs.EntityTypeKind.{standard_kind, enumerated_kind, external_kind, kind_fields, kind_openness, kind_tags};
+    ghost use Rattle.cedar_declarations.specs.ValidSchema.{IsEnumerated};
     ghost use Rattle.cedar_types.specs.Located.{located, located_at};
     ghost use Rattle.cedar_types.specs.Meaning.{ty_of, attribute_of, fields_of};
     ghost use Rattle.cedar_type_rules.specs.Ty.{field_at};
@@ -187,6 +188,13 @@ impl ValidatorEntityType {
         ensures { IsTrue result ↔ ((entity_type_of self.now).kind ≡ external_kind) }
     {
         matches!(self.kind, ValidatorEntityTypeKind::External)
+    }
+
+    /// Whether the entity type is enumerated.
+    pub fn is_enumerated(&self) -> bool
+        ensures { IsTrue result ↔ IsEnumerated (entity_type_of self.now).kind }
+    {
+        matches!(self.kind, ValidatorEntityTypeKind::Enum(_))
     }
 
     /// Whether entities of this type may have attributes that aren't declared. Enumerated and

@@ -3,14 +3,15 @@
 ghost use Rattle.std.specs.Prelude.{◌≡◌};
 ghost use Rattle.std.specs.HashSet.{contains};
 ghost use Rattle.std.proofs.Common.{refl, ◌∙◌, ap, sym};
-ghost use Rattle.cedar_below.proofs.Names.{entity_type_eq-same, entity_type_ord-Equal, entity_type_searches-respect_eq};
+ghost use Rattle.cedar_below.proofs.Names.{entity_type_eq-same, entity_type_ord-Equal, entity_type_ord-name_cmp, entity_type_searches-respect_eq};
+ghost use Rattle.cedar_below.proofs.PlainNames.{name_cmp-total};
 ghost use Rattle.cedar_below.specs.EntityType.{type_loc, type_name};
-ghost use Rattle.cedar_below.specs.PlainName.{PlainName};
+ghost use Rattle.cedar_below.specs.PlainName.{PlainName, name_cmp};
 ghost use Rattle.cedar_declarations.specs.EntityTypeKind.{external_kind};
 ghost use Rattle.cedar_declarations.specs.Fault.{duplicate_entity_type};
 ghost use Rattle.cedar_schema_elements.specs.EntityTypeKind.{plain_kind};
 ghost use Rattle.cedar_schema_elements.specs.ValidatorEntityType.{IsLocatedAsKey, descendant_names, entity_type_of};
-ghost use Rattle.cedar_types.proofs.MemberLemmas.{list_any-names};
+ghost use Rattle.cedar_types.proofs.MemberLemmas.{Contains-named, list_any-names};
 
 use crate::entity_type::ValidatorEntityType;
 use crate::schema_node::SchemaNode;
@@ -61,6 +62,8 @@ impl SchemaNode<EntityType> for ValidatorEntityType {
 
     ghost key_name = { type_name };
 
+    ghost name_order = { name_cmp };
+
     ghost node_name = { λ node. (entity_type_of node).name };
 
     ghost IsExternal = { λ node. (entity_type_of node).kind ≡ external_kind };
@@ -94,6 +97,12 @@ impl SchemaNode<EntityType> for ValidatorEntityType {
     ghost same_key = { entity_type_eq-same };
 
     ghost tied_key = { entity_type_ord-Equal };
+
+    ghost order_total = { name_cmp-total };
+
+    ghost key_order = { entity_type_ord-name_cmp };
+
+    ghost below_key = { λ node name among. let key = Contains-named node.descendants.keys name among in (key.0, key.2) };
 
     ghost edge_below = { λ node key. list_any-names key node.descendants.keys };
 

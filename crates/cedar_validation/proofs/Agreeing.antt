@@ -1,5 +1,5 @@
 -- A schema, and the same with its descendants closed: the faults of the one are those of the other.
-use Rattle.std.proofs.Common.{◌↔◌, inl, inr, ⊎_elim, subst, sym, Contains}
+use Rattle.std.proofs.Common.{◌≡◌, ◌↔◌, ◌∙◌, List, map, inl, inr, ⊎_elim, subst, sym, Contains}
 use Rattle.cedar_below.proofs.Chains.{first_step, last_step, refined}
 use Rattle.cedar_below.proofs.Lists.{Contains-preimage}
 use Rattle.cedar_below.specs.Chain.{Chain, one}
@@ -8,178 +8,200 @@ use Rattle.cedar_below.specs.PlainName.{PlainName}
 use Rattle.cedar_below.specs.PlainUid.{PlainUid}
 use Rattle.cedar_below.specs.declared.extension.Extensions.{Extensions}
 use Rattle.cedar_declarations.proofs.OccurrenceLemmas.{Contains-image}
+use Rattle.cedar_declarations.proofs.TurnLemmas.{turn_forth, turn_weaker}
 use Rattle.cedar_declarations.specs.ClosedSchema.{ClosesAction, ClosesType}
 use Rattle.cedar_declarations.specs.EntityTypeKind.{EntityTypeKind}
 use Rattle.cedar_declarations.specs.Fault.{Fault, undeclared_entity_types, unknown_extension_type, action_entity_type, invalid_action_type, action_cycle, external_below_enumerated, enumerated_below, undeclared_action_descendant, type_shadowing, action_shadowing}
 use Rattle.cedar_declarations.specs.PlainSchema.{ActionKind, PlainSchema, SchemaAction, SchemaEntityType}
-use Rattle.cedar_declarations.specs.ValidSchema.{HasAction, HasEntityType, IsContextOf, IsEnumerated, IsExternal, IsKnownType, IsOfKind, IsPrincipalOrResourceOf, IsSchemaFault, IsTypeIn, IsTypeOfKind, IsUnknownType, ListsDescendant, ListsDescendantAction}
+use Rattle.cedar_declarations.specs.ValidSchema.{IsContextOf, IsEnumerated, IsExternal, IsPrincipalOrResourceOf, IsSchemaFault, IsTypeIn, IsTypeOfKind, IsUnknownType, ListsDescendant, ListsDescendantAction}
 use Rattle.cedar_type_rules.specs.Ty.{Ty}
-use Rattle.cedar_validation.proofs.Pairwise.{pairwise_back, pairwise_forth}
+use Rattle.cedar_validation.proofs.Pairwise.{pairwise_back}
 
--- what faults are about stands in the other schema where it stands in the one
-pub record Agrees (schema other : PlainSchema) : Type 1 where
-  pub has_type : (name : PlainName) → HasEntityType schema name ↔ HasEntityType other name
-  pub has_action : (uid : PlainUid) → HasAction schema uid ↔ HasAction other uid
-  pub of_kind : (name : PlainName) (P : EntityTypeKind → Type 0) → IsOfKind schema name P → IsOfKind other name P
-  pub type_in : (ty : Ty) → IsTypeIn schema ty → IsTypeIn other ty
-  pub action_with : (P : ActionKind → Type 0) → (it : PlainUid × SchemaAction) × Contains schema.actions it × P it.1.kind
-      → (it : PlainUid × SchemaAction) × Contains other.actions it × P it.1.kind
-  pub chain : (lower upper : PlainName) → Chain (ListsDescendant schema) lower upper → Chain (ListsDescendant other) lower upper
-  pub action_chain : (lower upper : PlainUid) → Chain (ListsDescendantAction schema) lower upper
-      → Chain (ListsDescendantAction other) lower upper
+-- what items list, and of what kinds they are
+pub record Shape (P Q T : Type 0) : Type 0 where
+  pub listed : Q → List P
+  pub kind : Q → T
 
-module _ (extensions : Extensions) (schema other : PlainSchema) (agrees : Agrees schema other) where
-  -- a known entity type is one in both
-  known_back : (name : PlainName) → IsKnownType other name → IsKnownType schema name
-  known_back name known =
-      ⊎_elim (λ has. inl ((agrees.has_type name).1 has)) (λ of. inr (of.0, (agrees.has_action of.0).1 of.1, of.2)) known
+-- an item under the second name lists the first
+abbrev Lists : {P Q T : Type 0} → Shape P Q T → List (P × Q) → P → P → Type 0
+Lists {Q = Q} shape items lower upper = (it : Q) × Contains items (upper, it) × Contains (shape.listed it) lower
 
+-- entity types by name
+abbrev pub type_shape : Shape PlainName SchemaEntityType EntityTypeKind
+type_shape = record { listed = λ it. it.descendants; kind = λ it. it.kind }
+
+-- actions by uid
+abbrev pub action_shape : Shape PlainUid SchemaAction ActionKind
+action_shape = record { listed = λ it. it.descendants; kind = λ it. it.kind }
+
+-- each of the items stands among the others with the same name and kind
+record Found {P Q T : Type 0} (shape : Shape P Q T) (items others : List (P × Q)) : Type 0 where
+  pub at : (it : P × Q) → Contains items it → (other : P × Q) × Contains others other × (it.0 ≡ other.0)
+      × (shape.kind it.1 ≡ shape.kind other.1)
+
+-- each of the items stands among the others and the other way round, and chains of the others lead as far
+record Agrees {P Q T : Type 0} (shape : Shape P Q T) (items others : List (P × Q)) : Type 0 where
+  pub forth : Found shape items others
+  pub back : Found shape others items
+  pub chain : (lower upper : P) → Chain (Lists shape items) lower upper → Chain (Lists shape others) lower upper
+
+module _ {P Q T : Type 0} {shape : Shape P Q T} {items others : List (P × Q)} (found : Found shape items others) where
+  -- a name of the items is one of the others
+  has : (name : P) → Contains (map (λ (it : P × Q). it.0) items) name → Contains (map (λ (it : P × Q). it.0) others) name
+  has name there =
+      let it = Contains-preimage (λ (each : P × Q). each.0) items name there in
+      let other = found.at it.0 it.1 in
+      let S : P → Type 0 = Contains (map (λ (each : P × Q). each.0) others) in
+      subst S (sym other.2 ∙ it.2) (Contains-image (λ (each : P × Q). each.0) others other.0 other.1)
+
+  -- what is of a kind is so among the others
+  with_kind : (S : T → Type 0) (it : P × Q) → Contains items it → S (shape.kind it.1)
+      → (other : P × Q) × Contains others other × S (shape.kind other.1)
+  with_kind S it among is = let other = found.at it among in (other.0, other.1, subst S other.3 is)
+
+  -- and under the same name
+  of_kind : (S : T → Type 0) (name : P) → (it : Q) × Contains items (name, it) × S (shape.kind it)
+      → (it : Q) × Contains others (name, it) × S (shape.kind it)
+  of_kind S name of =
+      let other = found.at (name, of.0) of.1 in
+      let C : P → Type 0 = λ each. Contains others (each, other.0.1) in
+      (other.0.1, subst C (sym other.2) other.1, subst S other.3 of.2)
+
+module _ (extensions : Extensions) (schema other : PlainSchema) (types : Agrees type_shape schema.entity_types other.entity_types)
+    (actions : Agrees action_shape schema.actions other.actions) where
+  -- a type that stands in the one stands in the other
+  type_in : (ty : Ty) → IsTypeIn schema ty → IsTypeIn other ty
+  type_in ty either =
+      ⊎_elim
+      (λ of. inl (with_kind types.forth (λ kind. IsTypeOfKind kind ty) of.0 of.1 of.2))
+      (λ of. inr (with_kind actions.forth (λ kind. IsContextOf kind ty) of.0 of.1 of.2))
+      either
+
+  -- an entity type that isn't known in the one isn't in the other
   unknown_carried : (name : PlainName) → IsUnknownType schema name → IsUnknownType other name
   unknown_carried name unknown =
       ⊎_elim
-      (λ of. inl (of.0, agrees.type_in of.0 of.1, of.2, λ known. of.3 (known_back name known)))
+      (λ of. inl (
+        of.0,
+        type_in of.0 of.1,
+        of.2,
+        λ known. of.3 (⊎_elim
+            (λ is. inl (has types.back name is))
+            (λ it. inr (it.0, has actions.back it.0 it.1, it.2))
+            known),
+      ))
       (λ either. inr (⊎_elim
       (λ of.
-      let begins = first_step (ListsDescendant other) name of.0 (agrees.chain name of.0 (one of.1)) in
-      inl (begins.0, begins.1, λ has. of.2 ((agrees.has_type name).1 has)))
+      let begins = first_step (ListsDescendant other) name of.0 (types.chain name of.0 (one of.1)) in
+      inl (begins.0, begins.1, λ is. of.2 (has types.back name is)))
       (λ of.
-      let it = agrees.action_with (λ kind. IsPrincipalOrResourceOf kind name) (of.0, of.1, of.2) in
-      inr (it.0, it.1, it.2, λ has. of.3 ((agrees.has_type name).1 has)))
+      let it = with_kind actions.forth (λ kind. IsPrincipalOrResourceOf kind name) of.0 of.1 of.2 in
+      inr (it.0, it.1, it.2, λ is. of.3 (has types.back name is)))
       either))
       unknown
 
   -- a fault of the one is one of the other
-  pub fault_carried : (fault : Fault) → IsSchemaFault extensions schema fault → IsSchemaFault extensions other fault
+  fault_carried : (fault : Fault) → IsSchemaFault extensions schema fault → IsSchemaFault extensions other fault
   fault_carried (undeclared_entity_types names) h = (h.0, λ name among. unknown_carried name (h.1 name among))
-  fault_carried (unknown_extension_type name) h = (h.0, agrees.type_in h.0 h.1, h.2, h.3)
-  fault_carried (action_entity_type name) h = ((agrees.has_type name).0 h.0, h.1)
-  fault_carried (invalid_action_type uid) h = ((agrees.has_action uid).0 h.0, h.1)
-  fault_carried (action_cycle uid) h = agrees.action_chain uid uid h
+  fault_carried (unknown_extension_type name) h = (h.0, type_in h.0 h.1, h.2, h.3)
+  fault_carried (action_entity_type name) h = (has types.forth name h.0, h.1)
+  fault_carried (invalid_action_type uid) h = (has actions.forth uid h.0, h.1)
+  fault_carried (action_cycle uid) h = actions.chain uid uid h
   fault_carried (external_below_enumerated lower upper) h =
-      (agrees.of_kind lower IsExternal h.0, agrees.of_kind upper IsEnumerated h.1, agrees.chain lower upper h.2)
-  fault_carried (enumerated_below lower upper) h = (agrees.of_kind lower IsEnumerated h.0, agrees.chain lower upper h.1)
+      (of_kind types.forth IsExternal lower h.0, of_kind types.forth IsEnumerated upper h.1, types.chain lower upper h.2)
+  fault_carried (enumerated_below lower upper) h = (of_kind types.forth IsEnumerated lower h.0, types.chain lower upper h.1)
   fault_carried (undeclared_action_descendant uid) h =
-      let begins = first_step (ListsDescendantAction other) uid h.0 (agrees.action_chain uid h.0 (one h.1)) in
-      (begins.0, begins.1, λ has. h.2 ((agrees.has_action uid).1 has))
-  fault_carried (type_shadowing plain qualified) h = ((agrees.has_type plain).0 h.0, (agrees.has_type qualified).0 h.1, h.2)
-  fault_carried (action_shadowing plain qualified) h = ((agrees.has_action plain).0 h.0, (agrees.has_action qualified).0 h.1, h.2)
+      let begins = first_step (ListsDescendantAction other) uid h.0 (actions.chain uid h.0 (one h.1)) in
+      (begins.0, begins.1, λ is. h.2 (has actions.back uid is))
+  fault_carried (type_shadowing plain qualified) h = (has types.forth plain h.0, has types.forth qualified h.1, h.2)
+  fault_carried (action_shadowing plain qualified) h = (has actions.forth plain h.0, has actions.forth qualified h.1, h.2)
   fault_carried _ h = absurd h
 
-module _ (schema closed : PlainSchema) (types : HoldsPairwise (ClosesType schema) schema.entity_types closed.entity_types)
-    (actions : HoldsPairwise (ClosesAction schema) schema.actions closed.actions) where
-  type_forth : (it : PlainName × SchemaEntityType) → Contains schema.entity_types it
-      → (other : PlainName × SchemaEntityType) × Contains closed.entity_types other × ClosesType schema it other
-  type_forth = pairwise_forth (ClosesType schema) schema.entity_types closed.entity_types types
+-- the items have one name and are of one kind, and the second lists just what chains lead to from that name
+pub record Closes {P Q T : Type 0} (shape : Shape P Q T) (items : List (P × Q)) (it other : P × Q) : Type 0 where
+  pub key : it.0 ≡ other.0
+  pub kind : shape.kind it.1 ≡ shape.kind other.1
+  pub descendants : (lower : P) → Contains (shape.listed other.1) lower ↔ Chain (Lists shape items) lower it.0
 
-  type_back : (other : PlainName × SchemaEntityType) → Contains closed.entity_types other
-      → (it : PlainName × SchemaEntityType) × Contains schema.entity_types it × ClosesType schema it other
-  type_back = pairwise_back (ClosesType schema) schema.entity_types closed.entity_types types
+-- the items, closed in turn
+abbrev pub AreClosed : {P Q T : Type 0} → Shape P Q T → List (P × Q) → List (P × Q) → Type 0
+AreClosed shape items closed = HoldsPairwise (Closes shape items) items closed
 
-  action_forth : (it : PlainUid × SchemaAction) → Contains schema.actions it
-      → (other : PlainUid × SchemaAction) × Contains closed.actions other × ClosesAction schema it other
-  action_forth = pairwise_forth (ClosesAction schema) schema.actions closed.actions actions
+-- entity types that are closed
+pub types_closed : (schema : PlainSchema) (closed : List (PlainName × SchemaEntityType))
+    → HoldsPairwise (ClosesType schema) schema.entity_types closed → AreClosed type_shape schema.entity_types closed
+types_closed schema =
+    turn_weaker (ClosesType schema) (Closes type_shape schema.entity_types)
+    (λ it other is. record { key = is.key; kind = is.kind; descendants = is.descendants }) schema.entity_types
 
-  action_back : (other : PlainUid × SchemaAction) → Contains closed.actions other
-      → (it : PlainUid × SchemaAction) × Contains schema.actions it × ClosesAction schema it other
-  action_back = pairwise_back (ClosesAction schema) schema.actions closed.actions actions
+-- actions that are closed
+pub actions_closed : (schema : PlainSchema) (closed : List (PlainUid × SchemaAction))
+    → HoldsPairwise (ClosesAction schema) schema.actions closed → AreClosed action_shape schema.actions closed
+actions_closed schema =
+    turn_weaker (ClosesAction schema) (Closes action_shape schema.actions)
+    (λ it other is. record { key = is.key; kind = is.kind; descendants = is.descendants }) schema.actions
 
-  -- what chains lead to is listed in the closed schema, and nothing else is
-  pub chain_listed : (lower upper : PlainName) → Chain (ListsDescendant schema) lower upper → ListsDescendant closed lower upper
+module _ {P Q T : Type 0} (shape : Shape P Q T) (items closed : List (P × Q)) (are : AreClosed shape items closed) where
+  -- what chains lead to is listed by the closed items, and nothing else is
+  pub chain_listed : (lower upper : P) → Chain (Lists shape items) lower upper → Lists shape closed lower upper
   chain_listed lower upper chain =
-      let last = last_step (ListsDescendant schema) lower upper chain in
-      let it = type_forth (upper, last.1.0) last.1.1 in
-      let P : PlainName → Type 0 = λ name. Contains closed.entity_types (name, it.0.1) in
-      (it.0.1, subst P (sym it.2.key) it.1, (it.2.descendants lower).1 chain)
+      let last = last_step (Lists shape items) lower upper chain in
+      let it = turn_forth (Closes shape items) items closed are (upper, last.1.0) last.1.1 in
+      let S : P → Type 0 = λ name. Contains closed (name, it.0.1) in
+      (it.0.1, subst S (sym it.2.key) it.1, (it.2.descendants lower).1 chain)
 
-  pub listed_chain : (lower upper : PlainName) → ListsDescendant closed lower upper → Chain (ListsDescendant schema) lower upper
+  pub listed_chain : (lower upper : P) → Lists shape closed lower upper → Chain (Lists shape items) lower upper
   listed_chain lower upper lists =
-      let it = type_back (upper, lists.0) lists.1 in
-      let P : PlainName → Type 0 = Chain (ListsDescendant schema) lower in
-      subst P it.2.key ((it.2.descendants lower).0 lists.2)
+      let it = pairwise_back (Closes shape items) items closed are (upper, lists.0) lists.1 in
+      let S : P → Type 0 = Chain (Lists shape items) lower in
+      subst S it.2.key ((it.2.descendants lower).0 lists.2)
 
-  pub action_chain_listed : (lower upper : PlainUid) → Chain (ListsDescendantAction schema) lower upper
-      → ListsDescendantAction closed lower upper
-  action_chain_listed lower upper chain =
-      let last = last_step (ListsDescendantAction schema) lower upper chain in
-      let it = action_forth (upper, last.1.0) last.1.1 in
-      let P : PlainUid → Type 0 = λ uid. Contains closed.actions (uid, it.0.1) in
-      (it.0.1, subst P (sym it.2.key) it.1, (it.2.descendants lower).1 chain)
+  -- each item is found among the closed ones
+  found : Found shape items closed
+  found = record {
+    at = λ it among.
+        let other = turn_forth (Closes shape items) items closed are it among in
+        (other.0, other.1, other.2.key, other.2.kind);
+  }
 
-  pub action_listed_chain : (lower upper : PlainUid) → ListsDescendantAction closed lower upper
-      → Chain (ListsDescendantAction schema) lower upper
-  action_listed_chain lower upper lists =
-      let it = action_back (upper, lists.0) lists.1 in
-      let P : PlainUid → Type 0 = Chain (ListsDescendantAction schema) lower in
-      subst P it.2.key ((it.2.descendants lower).0 lists.2)
-
-  -- the two have the same names and uids
-  same_types : (name : PlainName) → HasEntityType schema name ↔ HasEntityType closed name
-  same_types name = (
-    λ has.
-        let it = Contains-preimage (λ (each : PlainName × SchemaEntityType). each.0) schema.entity_types name has in
-        let other = type_forth it.0 it.1 in
-        let P : PlainName → Type 0 = HasEntityType closed in
-        subst P (it.2)
-        (subst P (sym other.2.key) (Contains-image (λ (each : PlainName × SchemaEntityType). each.0) closed.entity_types other.0 other.1)),
-    λ has.
-        let it = Contains-preimage (λ (each : PlainName × SchemaEntityType). each.0) closed.entity_types name has in
-        let other = type_back it.0 it.1 in
-        let P : PlainName → Type 0 = HasEntityType schema in
-        subst P (it.2)
-        (subst P other.2.key (Contains-image (λ (each : PlainName × SchemaEntityType). each.0) schema.entity_types other.0 other.1)),
-  )
-
-  same_actions : (uid : PlainUid) → HasAction schema uid ↔ HasAction closed uid
-  same_actions uid = (
-    λ has.
-        let it = Contains-preimage (λ (each : PlainUid × SchemaAction). each.0) schema.actions uid has in
-        let other = action_forth it.0 it.1 in
-        let P : PlainUid → Type 0 = HasAction closed in
-        subst P (it.2)
-        (subst P (sym other.2.key) (Contains-image (λ (each : PlainUid × SchemaAction). each.0) closed.actions other.0 other.1)),
-    λ has.
-        let it = Contains-preimage (λ (each : PlainUid × SchemaAction). each.0) closed.actions uid has in
-        let other = action_back it.0 it.1 in
-        let P : PlainUid → Type 0 = HasAction schema in
-        subst P (it.2)
-        (subst P other.2.key (Contains-image (λ (each : PlainUid × SchemaAction). each.0) schema.actions other.0 other.1)),
-  )
+  -- and the other way round
+  found_back : Found shape closed items
+  found_back = record {
+    at = λ other among.
+        let it = pairwise_back (Closes shape items) items closed are other among in
+        (it.0, it.1, sym it.2.key, sym it.2.kind);
+  }
 
   -- the one agrees with the other
-  pub agrees_forth : Agrees schema closed
-  agrees_forth = record {
-    has_type = same_types;
-    has_action = same_actions;
-    of_kind = λ name P of.
-        let it = type_forth (name, of.0) of.1 in
-        let Q : PlainName → Type 0 = λ each. Contains closed.entity_types (each, it.0.1) in
-        (it.0.1, subst Q (sym it.2.key) it.1, subst P it.2.kind of.2);
-    type_in = λ ty either. ⊎_elim
-        (λ of. let it = type_forth of.0 of.1 in let P : EntityTypeKind → Type 0 = λ kind. IsTypeOfKind kind ty in
-        inl (it.0, it.1, subst P it.2.kind of.2))
-        (λ of. let it = action_forth of.0 of.1 in let P : ActionKind → Type 0 = λ kind. IsContextOf kind ty in
-        inr (it.0, it.1, subst P it.2.kind of.2))
-        either;
-    action_with = λ P of. let it = action_forth of.0 of.1 in (it.0, it.1, subst P it.2.kind of.2);
-    chain = λ lower upper chain. one (chain_listed lower upper chain);
-    action_chain = λ lower upper chain. one (action_chain_listed lower upper chain);
-  }
+  agrees_forth : Agrees shape items closed
+  agrees_forth = record { forth = found; back = found_back; chain = λ lower upper chain. one (chain_listed lower upper chain) }
 
-  pub agrees_back : Agrees closed schema
-  agrees_back = record {
-    has_type = λ name. ((same_types name).1, (same_types name).0);
-    has_action = λ uid. ((same_actions uid).1, (same_actions uid).0);
-    of_kind = λ name P of.
-        let it = type_back (name, of.0) of.1 in
-        let Q : PlainName → Type 0 = λ each. Contains schema.entity_types (each, it.0.1) in
-        (it.0.1, subst Q it.2.key it.1, subst P (sym it.2.kind) of.2);
-    type_in = λ ty either. ⊎_elim
-        (λ of. let it = type_back of.0 of.1 in let P : EntityTypeKind → Type 0 = λ kind. IsTypeOfKind kind ty in
-        inl (it.0, it.1, subst P (sym it.2.kind) of.2))
-        (λ of. let it = action_back of.0 of.1 in let P : ActionKind → Type 0 = λ kind. IsContextOf kind ty in
-        inr (it.0, it.1, subst P (sym it.2.kind) of.2))
-        either;
-    action_with = λ P of. let it = action_back of.0 of.1 in (it.0, it.1, subst P (sym it.2.kind) of.2);
-    chain = λ lower upper chain. refined listed_chain chain;
-    action_chain = λ lower upper chain. refined action_listed_chain chain;
-  }
+  agrees_back : Agrees shape closed items
+  agrees_back = record { forth = found_back; back = found; chain = λ lower upper chain. refined listed_chain chain }
+
+  -- what the closed items lead to the items lead to
+  pub leads_back : (key other : P) (names : List P) → key ≡ other
+      → ((lower : P) → Contains names lower ↔ Chain (Lists shape closed) lower other)
+      → (lower : P) → Contains names lower ↔ Chain (Lists shape items) lower key
+  leads_back key other names same leads lower =
+      let S : P → Type 0 = Chain (Lists shape items) lower in (
+        λ among. subst S (sym same) (refined listed_chain ((leads lower).0 among)),
+        λ chain. (leads lower).1 (one (chain_listed lower other (subst S same chain))),
+      )
+
+module _ (extensions : Extensions) (schema closed : PlainSchema)
+    (types : HoldsPairwise (ClosesType schema) schema.entity_types closed.entity_types)
+    (actions : HoldsPairwise (ClosesAction schema) schema.actions closed.actions) (fault : Fault) where
+  -- a fault of the schema is one of the closed one
+  pub fault_forth : IsSchemaFault extensions schema fault → IsSchemaFault extensions closed fault
+  fault_forth =
+      fault_carried extensions schema closed
+      (agrees_forth type_shape schema.entity_types closed.entity_types (types_closed schema closed.entity_types types))
+      (agrees_forth action_shape schema.actions closed.actions (actions_closed schema closed.actions actions)) fault
+
+  -- and the other way round
+  pub fault_back : IsSchemaFault extensions closed fault → IsSchemaFault extensions schema fault
+  fault_back =
+      fault_carried extensions closed schema
+      (agrees_back type_shape schema.entity_types closed.entity_types (types_closed schema closed.entity_types types))
+      (agrees_back action_shape schema.actions closed.actions (actions_closed schema closed.actions actions)) fault

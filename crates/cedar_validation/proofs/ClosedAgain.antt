@@ -1,6 +1,5 @@
 -- A schema that closes a closed one: what is at fault in it, and what it closes.
-use Rattle.std.proofs.Common.{List, [], ◌∷◌, sym, subst, ◌∙◌}
-use Rattle.cedar_below.specs.Chain.{Chain, one}
+use Rattle.std.proofs.Common.{List, [], ◌∷◌, ◌∙◌}
 use Rattle.cedar_below.specs.Lists.{HoldsPairwise}
 use Rattle.cedar_below.specs.PlainName.{PlainName}
 use Rattle.cedar_below.specs.PlainUid.{PlainUid}
@@ -8,8 +7,8 @@ use Rattle.cedar_below.specs.declared.extension.Extensions.{Extensions}
 use Rattle.cedar_declarations.specs.ClosedSchema.{ClosesAction, ClosesSchema, ClosesType}
 use Rattle.cedar_declarations.specs.Fault.{Fault}
 use Rattle.cedar_declarations.specs.PlainSchema.{PlainSchema, SchemaAction, SchemaEntityType}
-use Rattle.cedar_declarations.specs.ValidSchema.{IsSchemaFault, ListsDescendant, ListsDescendantAction}
-use Rattle.cedar_validation.proofs.Agreeing.{Agrees, action_chain_listed, agrees_back, chain_listed, fault_carried}
+use Rattle.cedar_declarations.specs.ValidSchema.{IsSchemaFault}
+use Rattle.cedar_validation.proofs.Agreeing.{action_shape, actions_closed, fault_back as closed_fault, leads_back, type_shape, types_closed}
 
 -- what holds pairwise, one after the other, holds pairwise
 pairwise_joined : {A B C : Type 0} (R : A → B → Type 0) (S : B → C → Type 0) (T : A → C → Type 0)
@@ -24,12 +23,9 @@ pairwise_joined R S T step (x ∷ xs) (y ∷ ys) (z ∷ zs) first second =
     (step x y z first.0 second.0, pairwise_joined R S T step xs ys zs first.1 second.1)
 
 module _ (schema closed : PlainSchema) (closes : ClosesSchema schema closed) where
-  back : Agrees closed schema
-  back = agrees_back schema closed closes.entity_types closes.actions
-
   -- what is at fault in the closed one is at fault
   pub fault_back : (extensions : Extensions) (fault : Fault) → IsSchemaFault extensions closed fault → IsSchemaFault extensions schema fault
-  fault_back extensions = fault_carried extensions closed schema back
+  fault_back extensions = closed_fault extensions schema closed closes.entity_types closes.actions
 
   module _ (again : PlainSchema) (onwards : ClosesSchema closed again) where
     -- what closes the closed one has what a chain reaches in the first
@@ -39,12 +35,8 @@ module _ (schema closed : PlainSchema) (closes : ClosesSchema schema closed) whe
       key = first.key ∙ second.key;
       name = first.name ∙ second.name;
       kind = first.kind ∙ second.kind;
-      descendants = λ lower.
-          let P : PlainName → Type 0 = Chain (ListsDescendant schema) lower in (
-            λ among. subst P (sym first.key) (back.chain lower other.0 ((second.descendants lower).0 among)),
-            λ chain. (second.descendants lower).1
-                (one (chain_listed schema closed closes.entity_types closes.actions lower other.0 (subst P first.key chain))),
-          );
+      descendants = leads_back type_shape schema.entity_types closed.entity_types
+          (types_closed schema closed.entity_types closes.entity_types) it.0 other.0 last.1.descendants first.key second.descendants;
     }
 
     action_again : (it other last : PlainUid × SchemaAction) → ClosesAction schema it other → ClosesAction closed other last
@@ -53,12 +45,8 @@ module _ (schema closed : PlainSchema) (closes : ClosesSchema schema closed) whe
       key = first.key ∙ second.key;
       uid = first.uid ∙ second.uid;
       kind = first.kind ∙ second.kind;
-      descendants = λ lower.
-          let P : PlainUid → Type 0 = Chain (ListsDescendantAction schema) lower in (
-            λ among. subst P (sym first.key) (back.action_chain lower other.0 ((second.descendants lower).0 among)),
-            λ chain. (second.descendants lower).1
-                (one (action_chain_listed schema closed closes.entity_types closes.actions lower other.0 (subst P first.key chain))),
-          );
+      descendants = leads_back action_shape schema.actions closed.actions (actions_closed schema closed.actions closes.actions)
+          it.0 other.0 last.1.descendants first.key second.descendants;
     }
 
     -- so it closes the first

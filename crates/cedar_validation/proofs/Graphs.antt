@@ -1,5 +1,6 @@
 -- Entries of a map whose graph is closed, against the entries before, whatever the keys and the nodes are.
 use Rattle.std.proofs.Common.{◌≡◌, ◌↔◌, Bool, IsTrue, List, Option, None, Some, IsSomeAnd, HashMap, map, ap, sym, subst, ◌∙◌, refl, Contains}
+use Rattle.std.proofs.lemmas.Simd.{map-map}
 use Rattle.std.proofs.lemmas.Map.Entries.{lookup_from_place, place_from_lookup}
 use Rattle.std.proofs.lemmas.Map.Keys.{IsDistinct-from_sorted}
 use Rattle.std.proofs.lemmas.Map.Made.{update_all_none}
@@ -13,17 +14,22 @@ use Rattle.std.specs.List.Sorted.{IsStrictlySortedBy}
 use Rattle.std.specs.Map.{keys_of, lookup}
 use Rattle.std.specs.Ordering.{eq_by_cmp}
 use Rattle.std.specs.declared.cmp.Ordering.{Ordering}
-use Rattle.cedar_below.proofs.Chains.{first_step, joined}
+use Rattle.cedar_below.proofs.Chains.{first_step, joined, last_step}
 use Rattle.cedar_below.proofs.Lists.{Contains-preimage}
 use Rattle.cedar_below.proofs.Ordered.{IsStrictlySortedBy-map}
 use Rattle.cedar_below.specs.Chain.{Chain, one, more}
-use Rattle.cedar_below.specs.Lists.{Included}
+use Rattle.cedar_below.specs.Lists.{HoldsPairwise, Included}
 use Rattle.cedar_graph.proofs.KeyedEdges.{some_with}
 use Rattle.cedar_graph.proofs.MovedMaps.{moved_entry, moved_found}
 use Rattle.cedar_graph.proofs.Numbers.{get_alike}
 use Rattle.cedar_graph.specs.Edges.{AreAlike, HasEdge, Reaches}
+use Rattle.cedar_graph.specs.TcError.{IsRefusal}
+use Rattle.cedar_graph.specs.declared.tc_error.TcError.{TcError}
+use Rattle.cedar_graph.specs.declared.tc_error.TcError.TheVariants.{HasCycle, Memory as NoMemory}
 use Rattle.cedar_declarations.proofs.OccurrenceLemmas.{Contains-image}
 use Rattle.cedar_type_rules.proofs.AntisymmetryLaws.{Included-same}
+use Rattle.cedar_validation.proofs.Pairwise.{pairwise}
+use Rattle.cedar_validation.specs.Listed.{IsClosedOf, ListsIn}
 
 -- keys and nodes, with what the keys stand for, and what the nodes list
 pub record Graph (K V P : Type 0) : Type 1 where
@@ -42,13 +48,12 @@ pub record Graph (K V P : Type 0) : Type 1 where
   pub edge : (node : V) (key : K) → IsTrue (has_edge node key) ↔ Contains (below node) (under key)
   pub key_below : (node : V) (name : P) → Contains (below node) name → (key : K) × (under key ≡ name)
 
--- the entry that stands for the one name lists the other
-abbrev pub ListsIn : {K V P : Type 0} → Graph K V P → List (K × V) → P → P → Type 0
-ListsIn {K = K} {V = V} graph entries lower upper =
-    (entry : K × V) × Contains entries entry × (graph.under entry.0 ≡ upper) × Contains (graph.below entry.1) lower
-
 module _ {K V P S : Type 0} (graph : Graph K V P) (entries : List (K × V)) (sorted : IsStrictlySortedBy graph.cmp (keys_of entries))
     (before : HashMap K V S) (made : hash.IsFromIterResult graph.eq entries before) where
+  -- what the entries list by name
+  abbrev Lists : P → P → Type 0
+  Lists = ListsIn graph.under graph.below entries
+
   distinct : IsDistinct graph.eq (keys_of entries)
   distinct =
       let T : (K → K → Bool) → Type 0 = λ test. IsDistinct test (keys_of entries) in
@@ -84,7 +89,7 @@ module _ {K V P S : Type 0} (graph : Graph K V P) (entries : List (K × V)) (sor
 
   -- an edge between keys lists what these stand for
   lists_of : (upper lower : K) → HasEdge graph.eq graph.has_edge before upper lower
-      → ListsIn graph entries (graph.under lower) (graph.under upper)
+      → Lists (graph.under lower) (graph.under upper)
   lists_of upper lower has =
       let node = some_with (hash.get graph.eq before upper) (λ it. IsTrue (graph.has_edge it lower)) has in
       let entry = entry_before upper node.0 node.1 in
@@ -92,7 +97,7 @@ module _ {K V P S : Type 0} (graph : Graph K V P) (entries : List (K × V)) (sor
       (entry.0, entry.1, entry.2, subst T (sym entry.3) ((graph.edge node.0 lower).0 node.2))
 
   -- and the other way round
-  edge_of : (upper lower : K) → ListsIn graph entries (graph.under lower) (graph.under upper)
+  edge_of : (upper lower : K) → Lists (graph.under lower) (graph.under upper)
       → HasEdge graph.eq graph.has_edge before upper lower
   edge_of upper lower lists =
       let found : hash.get graph.eq before upper ≡ Some lists.0.1 =
@@ -103,22 +108,35 @@ module _ {K V P S : Type 0} (graph : Graph K V P) (entries : List (K × V)) (sor
 
   -- a chain of edges, inverted, is one of names
   pub names_chain : {upper lower : K} → Reaches graph.eq graph.has_edge before upper lower
-      → Chain (ListsIn graph entries) (graph.under lower) (graph.under upper)
+      → Chain Lists (graph.under lower) (graph.under upper)
   names_chain {upper = upper} {lower = lower} (one step) = one (lists_of upper lower step)
   names_chain {upper = upper} (more {b = middle} step rest) = joined (names_chain rest) (one (lists_of upper middle step))
 
   -- and the other way round
-  pub keys_chain : {p q : P} → Chain (ListsIn graph entries) p q → (lower upper : K) → graph.under lower ≡ p → graph.under upper ≡ q
+  pub keys_chain : {p q : P} → Chain Lists p q → (lower upper : K) → graph.under lower ≡ p → graph.under upper ≡ q
       → Reaches graph.eq graph.has_edge before upper lower
   keys_chain {p = p} {q = q} (one step) lower upper is_lower is_upper =
-      let T : P → P → Type 0 = ListsIn graph entries in
+      let T : P → P → Type 0 = Lists in
       let U : P → Type 0 = λ it. T it (graph.under upper) in
       one (edge_of upper lower (subst U (sym is_lower) (subst (T p) (sym is_upper) step)))
   keys_chain {p = p} (more {b = middle} step rest) lower upper is_lower is_upper =
-      let T : P → P → Type 0 = ListsIn graph entries in
+      let T : P → P → Type 0 = Lists in
       let U : P → Type 0 = λ it. T it (graph.under step.0.0) in
       joined (keys_chain rest step.0.0 upper step.2 is_upper)
       (one (edge_of step.0.0 lower (subst U (sym is_lower) (subst (T p) (sym step.2) step))))
+
+  -- where no key is on a cycle, no name is
+  pub none_on_cycle : ((key : K) → ¬ Reaches graph.eq graph.has_edge before key key) → (name : P) → ¬ Chain Lists name name
+  none_on_cycle none name chain =
+      let last = last_step Lists name name chain in
+      let key = last.1.0.0 in
+      none key (keys_chain chain key key last.1.2 last.1.2)
+
+  -- why the closure of the keys is refused is why that of the names is
+  pub refused_by_name : (enforce_dag : Bool) (refused : TcError K) → IsRefusal (Reaches graph.eq graph.has_edge before) enforce_dag refused
+      → IsRefusal (λ key other. Chain Lists (graph.under key) (graph.under other)) enforce_dag refused
+  refused_by_name enforce_dag (HasCycle key) why = (why.0, names_chain why.1)
+  refused_by_name enforce_dag NoMemory why = why
 
   module _ (after : HashMap K V S)
       (alike : (key : K) → AreAlike graph.is_alike (hash.get graph.eq before key) (hash.get graph.eq after key))
@@ -138,73 +156,75 @@ module _ {K V P S : Type 0} (graph : Graph K V P) (entries : List (K × V)) (sor
         (it.0, it.1, sym ((graph.same key it.0.0).0 it.2))
 
     -- an entry and the closed one of its name: alike, and listing what chains lead to
-    pub closed_entry : (entry other : K × V) → Contains entries entry → Contains closed.entries other
-        → graph.under entry.0 ≡ graph.under other.0
-        → graph.is_alike entry.1 other.1
-        × ((lower : P) → Contains (graph.below other.1) lower ↔ Chain (ListsIn graph entries) lower (graph.under entry.0))
+    closed_entry : (entry other : K × V) → Contains entries entry → Contains closed.entries other
+        → graph.under entry.0 ≡ graph.under other.0 → IsClosedOf graph.under graph.below graph.is_alike entries entry other
     closed_entry entry other among also is =
         let first = found_before entry among in
         let second : hash.get graph.eq after entry.0 ≡ Some other.1 =
         get_alike graph.laws after entry.0 other.0 ((graph.same entry.0 other.0).1 is) ∙ found_after other also in
         let T : Option V → Type 0 = λ o. AreAlike graph.is_alike o (hash.get graph.eq after entry.0) in
         let U : Option V → Type 0 = λ o. AreAlike graph.is_alike (Some entry.1) o in
-        let W : Option V → K → Type 0 = λ o key. IsSomeAnd o (λ it. IsTrue (graph.has_edge it key)) in (
-          subst U second (subst T first (alike entry.0)),
-          λ lower. (
+        let W : Option V → K → Type 0 = λ o key. IsSomeAnd o (λ it. IsTrue (graph.has_edge it key)) in
+        record {
+          key = is;
+          alike = subst U second (subst T first (alike entry.0));
+          below_it = λ lower. (
             λ listed.
                 let key = graph.key_below other.1 lower listed in
                 let X : P → Type 0 = Contains (graph.below other.1) in
-                let Y : P → Type 0 = λ it. Chain (ListsIn graph entries) it (graph.under entry.0) in
+                let Y : P → Type 0 = λ it. Chain Lists it (graph.under entry.0) in
                 let Z : Option V → Type 0 = λ o. W o key.0 in
                 subst Y key.1
                 (names_chain (sound entry.0 key.0 (subst Z (sym second) ((graph.edge other.1 key.0).1 (subst X (sym key.1) listed))))),
             λ chain.
-                let first_one = first_step (ListsIn graph entries) lower (graph.under entry.0) chain in
+                let first_one = first_step Lists lower (graph.under entry.0) chain in
                 let key = graph.key_below first_one.1.0.1 lower first_one.1.3 in
                 let X : P → Type 0 = Contains (graph.below other.1) in
                 let Z : Option V → Type 0 = λ o. W o key.0 in
                 let has = complete entry.0 key.0 (keys_chain chain key.0 entry.0 key.1 refl) in
                 subst X key.1 ((graph.edge other.1 key.0).0 (subst Z second has)),
-          ),
-        )
+          );
+        }
 
     -- the same names stand in both, in the same order
-    pub same_names : map graph.under (keys_of entries) ≡ map graph.under (keys_of closed.entries)
+    same_names : map graph.under (keys_of entries) ≡ map graph.under (keys_of closed.entries)
     same_names =
         Included-same graph.plain_cmp graph.plain_total (map graph.under (keys_of entries)) (map graph.under (keys_of closed.entries))
         (IsStrictlySortedBy-map graph.cmp graph.plain_cmp graph.under graph.ties (keys_of entries) sorted)
         (IsStrictlySortedBy-map graph.cmp graph.plain_cmp graph.under graph.ties (keys_of closed.entries) remade.1)
-        forth back
+        (within entries closed.entries
+        (λ it among. let node = stays _ _ it.1 (alike it.0) (found_before it among) in entry_after it.0 node.0 node.1))
+        (within closed.entries entries
+        (λ it among. let node = stood _ _ it.1 (alike it.0) (found_after it among) in
+        let entry = entry_before it.0 node.0 node.1 in
+        (entry.0, entry.1, entry.2)))
       where
-        alike_some : (o p : Option V) (node : V) → AreAlike graph.is_alike o p → o ≡ Some node → (it : V) × (p ≡ Some it)
-        alike_some None p node are is = cc
-        alike_some (Some it) None node are is = absurd are
-        alike_some (Some it) (Some other) node are is = (other, refl)
+        stays : (o p : Option V) (node : V) → AreAlike graph.is_alike o p → o ≡ Some node → (it : V) × (p ≡ Some it)
+        stays None p node are is = cc
+        stays (Some it) None node are is = absurd are
+        stays (Some it) (Some other) node are is = (other, refl)
 
-        alike_back : (o p : Option V) (node : V) → AreAlike graph.is_alike o p → p ≡ Some node → (it : V) × (o ≡ Some it)
-        alike_back o None node are is = cc
-        alike_back None (Some other) node are is = absurd are
-        alike_back (Some it) (Some other) node are is = (it, refl)
+        stood : (o p : Option V) (node : V) → AreAlike graph.is_alike o p → p ≡ Some node → (it : V) × (o ≡ Some it)
+        stood o None node are is = cc
+        stood None (Some other) node are is = absurd are
+        stood (Some it) (Some other) node are is = (it, refl)
 
-        named : (items : List (K × V)) (entry : K × V) → Contains items entry
-            → Contains (map graph.under (keys_of items)) (graph.under entry.0)
-        named items entry among =
-            Contains-image graph.under (keys_of items) entry.0 (Contains-image (λ (each : K × V). each.0) items entry among)
+        within : (items others : List (K × V)) → ((it : K × V) → Contains items it
+            → (other : K × V) × Contains others other × (graph.under other.0 ≡ graph.under it.0))
+            → Included (map graph.under (keys_of items)) (map graph.under (keys_of others))
+        within items others each name among =
+            let key = Contains-preimage graph.under (keys_of items) name among in
+            let it = Contains-preimage (λ (e : K × V). e.0) items key.0 key.1 in
+            let other = each it.0 it.1 in
+            let T : P → Type 0 = Contains (map graph.under (keys_of others)) in
+            subst T (other.2 ∙ (ap graph.under it.2 ∙ key.2))
+            (Contains-image graph.under (keys_of others) other.0.0 (Contains-image (λ (e : K × V). e.0) others other.0 other.1))
 
-        forth : Included (map graph.under (keys_of entries)) (map graph.under (keys_of closed.entries))
-        forth name among =
-            let key = Contains-preimage graph.under (keys_of entries) name among in
-            let entry = Contains-preimage (λ (each : K × V). each.0) entries key.0 key.1 in
-            let other = alike_some _ _ entry.0.1 (alike entry.0.0) (found_before entry.0 entry.1) in
-            let it = entry_after entry.0.0 other.0 other.1 in
-            let T : P → Type 0 = Contains (map graph.under (keys_of closed.entries)) in
-            subst T (it.2 ∙ (ap graph.under entry.2 ∙ key.2)) (named closed.entries it.0 it.1)
-
-        back : Included (map graph.under (keys_of closed.entries)) (map graph.under (keys_of entries))
-        back name among =
-            let key = Contains-preimage graph.under (keys_of closed.entries) name among in
-            let entry = Contains-preimage (λ (each : K × V). each.0) closed.entries key.0 key.1 in
-            let other = alike_back _ _ entry.0.1 (alike entry.0.0) (found_after entry.0 entry.1) in
-            let it = entry_before entry.0.0 other.0 other.1 in
-            let T : P → Type 0 = Contains (map graph.under (keys_of entries)) in
-            subst T (it.2 ∙ (ap graph.under entry.2 ∙ key.2)) (named entries it.0 it.1)
+    -- each entry has its closed one in turn
+    pub closed_in_turn : HoldsPairwise (IsClosedOf graph.under graph.below graph.is_alike entries) entries closed.entries
+    closed_in_turn =
+        let named : K × V → P = λ entry. graph.under entry.0 in
+        pairwise (IsClosedOf graph.under graph.below graph.is_alike entries) named named entries closed.entries
+        (sym (map-map graph.under (λ (entry : K × V). entry.0) entries)
+        ∙ (same_names ∙ map-map graph.under (λ (entry : K × V). entry.0) closed.entries))
+        closed_entry

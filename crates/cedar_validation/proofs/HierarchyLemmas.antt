@@ -1,16 +1,18 @@
 -- Entity types one below the other, as they stand in a map that is in order.
-use Rattle.std.proofs.Common.{◌≡◌, ◌⊎◌, Bool, List, [], ◌∷◌, Some, ap, inl, inr, map, subst, sym, ◌∙◌, ⊎_elim, Contains}
-use Rattle.std.proofs.lemmas.Map.Entries.{lookup_from_place}
+use Rattle.std.proofs.Common.{◌≡◌, ◌⊎◌, List, [], ◌∷◌, ap, inl, inr, map, subst, sym, ◌∙◌, ⊎_elim, Contains}
+use Rattle.std.proofs.lemmas.Cmp.{eq_by_cmp_equiv}
 use Rattle.std.proofs.lemmas.Map.Keys.{IsDistinct-from_sorted}
-use Rattle.std.proofs.lemmas.Option.{slice_get-get_or}
+use Rattle.std.proofs.lemmas.Map.Views.{lookup-from_Contains}
 use Rattle.std.specs.BTreeMap.{is_at}
-use Rattle.std.specs.List.{IsDistinct}
 use Rattle.std.specs.List.Sorted.{IsStrictlySortedBy}
 use Rattle.std.specs.Map.{keys_of}
+use Rattle.std.specs.Ordering.{is_eq}
 use Rattle.cedar_below.proofs.Lists.{Contains-preimage}
+use Rattle.cedar_below.proofs.Names.{entity_type_ord-Equal}
 use Rattle.cedar_below.specs.Chain.{one}
 use Rattle.cedar_below.specs.EntityType.{type_name}
 use Rattle.cedar_below.specs.PlainName.{PlainName}
+use Rattle.cedar_below.specs.contracts.entity_type.EntityTypeOrd.TheImpl as entity_type_ord
 use Rattle.cedar_below.specs.declared.entity_type.EntityType.{EntityType}
 use Rattle.cedar_declarations.proofs.OccurrenceLemmas.{Contains-image}
 use Rattle.cedar_declarations.specs.EntityTypeKind.{EntityTypeKind}
@@ -23,7 +25,6 @@ use Rattle.cedar_types.proofs.MemberLemmas.{Contains-named}
 use Rattle.cedar_graph.proofs.Numbers.{lookup_agree}
 use Rattle.cedar_validation.proofs.Keyed.{type_found}
 use Rattle.cedar_validation.proofs.RequestTypeLemmas.{one_unknown}
-use Rattle.cedar_validation.proofs.TypeGraph.{graph}
 use Rattle.cedar_validation.specs.Hierarchy.{IsBelowFault, IsBelowSound, IsPairSound, StandsAt}
 use Rattle.cedar_validation.specs.Parts.{IsRefusal, plain_parts}
 use Rattle.cedar_validation.specs.declared.parts.Parts.{Parts}
@@ -64,18 +65,17 @@ module _ (parts : Parts) where
   lists_its entry lower among below =
       ((plain_entry entry).1, Contains-image plain_entry parts.entity_types.entries entry among, below)
 
-  module _ (sorted : IsStrictlySortedBy graph.cmp (keys_of parts.entity_types.entries)) where
+  module _ (sorted : IsStrictlySortedBy ((entity_type_ord.ghosts).cmp) (keys_of parts.entity_types.entries)) where
     -- an entry stands at each key of its name
     stands_at : (entry : Item) (key : EntityType) → Contains parts.entity_types.entries entry → type_name entry.0 ≡ type_name key
         → StandsAt parts key entry.1
     stands_at entry key among same =
         let types = parts.entity_types.entries in
-        let P : (EntityType → EntityType → Bool) → Type 0 = λ test. IsDistinct test (keys_of types) in
-        lookup_agree (is_at (graph.cmp key)) (graph.eq entry.0)
-        (λ k. graph.tied key k ∙ graph.laws.congr key entry.0 k ((graph.same key entry.0).1 (sym same))) types
-        ∙ lookup_from_place graph.laws types among.0 entry.0 entry.1
-        (subst P (λ i a b. graph.tied a b i) (IsDistinct-from_sorted graph.cmp (keys_of types) sorted))
-        (slice_get-get_or types among.0 entry among.1 ∙ ap Some among.2)
+        let cmp = (entity_type_ord.ghosts).cmp in
+        let total = entity_type_ord.Laws.total-law in
+        lookup_agree (is_at (cmp key)) (is_at (cmp entry.0))
+        (λ k. ap is_eq (total.congr key entry.0 k ((entity_type_ord-Equal key entry.0).1 (sym same)))) types
+        ∙ lookup-from_Contains (eq_by_cmp_equiv total) entry.0 entry.1 types (IsDistinct-from_sorted cmp (keys_of types) sorted) among
 
     -- where each entry is checked, each two of which the one lists the other are sound
     pub pair_sound : ((entry : Item) → Contains parts.entity_types.entries entry → IsCheckedBelow parts entry)

@@ -1,16 +1,18 @@
 -- Entries of maps in order, against what their keys stand for.
-use Rattle.std.proofs.Common.{◌≡◌, ◌↔◌, IsTrue, Bool, List, [], ◌∷◌, Some, is_some, map, ap, sym, subst, ◌∙◌, refl, Contains}
+use Rattle.std.proofs.Common.{◌≡◌, ◌↔◌, IsTrue, List, [], ◌∷◌, Some, is_some, map, sym, subst, ◌∙◌, refl, Contains}
 use Rattle.std.proofs.lemmas.Map.Entries.{place_from_lookup}
 use Rattle.std.proofs.lemmas.Map.Made.{is_some-lookup}
 use Rattle.std.proofs.lemmas.Option.{get_or_from_slice_get, slice_get_within}
 use Rattle.std.specs.BTreeMap.{is_at}
 use Rattle.std.specs.Map.{keys_of, lookup}
-use Rattle.std.specs.Ordering.{is_eq}
+use Rattle.std.specs.Cmp.{Equal-is}
+use Rattle.std.specs.declared.cmp.Ordering.{Ordering}
+use Rattle.std.specs.declared.cmp.Ordering.TheVariants.{Equal}
 use Rattle.cedar_schema_elements.specs.ValidatorActionId.{plain_action_entry}
 use Rattle.cedar_schema_elements.specs.declared.action_id.ValidatorActionId.{ValidatorActionId}
 use Rattle.cedar_below.proofs.Lists.{Contains-preimage, list_any-Contains}
-use Rattle.cedar_below.proofs.Names.{entity_type_ord-name_cmp}
-use Rattle.cedar_below.proofs.Uids.{entity_uid_ord-uid_cmp}
+use Rattle.cedar_below.proofs.Names.{entity_type_ord-Equal}
+use Rattle.cedar_below.proofs.Uids.{entity_uid_ord-Equal}
 use Rattle.cedar_below.specs.EntityType.{type_name}
 use Rattle.cedar_below.specs.EntityUID.{uid_of}
 use Rattle.cedar_below.specs.PlainName.{PlainName}
@@ -19,7 +21,7 @@ use Rattle.cedar_below.specs.contracts.entity_type.EntityTypeOrd.TheImpl as enti
 use Rattle.cedar_below.specs.contracts.entity_uid.EntityUIDOrd.TheImpl as entity_uid_ord
 use Rattle.cedar_below.specs.declared.entity_type.EntityType.{EntityType}
 use Rattle.cedar_below.specs.declared.entity_uid.EntityUID.{EntityUID}
-use Rattle.cedar_declarations.proofs.OccurrenceLemmas.{Contains-image, name_test, uid_test}
+use Rattle.cedar_declarations.proofs.OccurrenceLemmas.{Contains-image}
 use Rattle.cedar_schema_elements.specs.ValidatorEntityType.{plain_entry}
 use Rattle.cedar_schema_elements.specs.declared.entity_type.ValidatorEntityType.{ValidatorEntityType}
 
@@ -42,20 +44,28 @@ module _ {K V P Q : Type 0} (f : K → P) (plain : K × V → P × Q) (keyed : (
       let R : List P → Type 0 = λ names. Contains names name in
       Contains-preimage f (keys_of es) name (subst R (names_of_keys es) among)
 
-  module _ (test : K → Bool) (name : P) (decides : (key : K) → IsTrue (test key) ↔ (f key ≡ name)) where
+  module _ (cmp : K → K → Ordering) (ties : (a b : K) → (cmp a b ≡ Equal) ↔ (f a ≡ f b)) (key : K) where
+    -- keys tie where they have one name
+    decides : (other : K) → IsTrue (is_at (cmp key) other) ↔ (f other ≡ f key)
+    decides other = (
+      λ tie. sym ((ties key other).0 ((Equal-is (cmp key other)).0 tie)),
+      λ same. (Equal-is (cmp key other)).1 ((ties key other).1 (sym same)),
+    )
+
     -- something is found exactly where the name is one of them
-    pub stands : (es : List (K × V)) → IsTrue (is_some (lookup test es)) ↔ Contains (map (λ (it : P × Q). it.0) (map plain es)) name
+    pub stands : (es : List (K × V)) → IsTrue (is_some (lookup (is_at (cmp key)) es)) ↔ Contains (map (λ (it : P × Q). it.0) (map plain es)) (f key)
     stands es =
-        let any = list_any-Contains f name test decides (keys_of es) in
-        let R : List P → Type 0 = λ names. Contains names name in (
-          λ there. subst R (sym (names_of_keys es)) (any.0 (sym (is_some-lookup test es) ∙ there)),
-          λ among. is_some-lookup test es ∙ any.1 (subst R (names_of_keys es) among),
+        let any = list_any-Contains f (f key) (is_at (cmp key)) decides (keys_of es) in
+        let R : List P → Type 0 = λ names. Contains names (f key) in (
+          λ there. subst R (sym (names_of_keys es)) (any.0 (sym (is_some-lookup (is_at (cmp key)) es) ∙ there)),
+          λ among. is_some-lookup (is_at (cmp key)) es ∙ any.1 (subst R (names_of_keys es) among),
         )
 
     -- what is found is an entry of the name
-    pub found_entry : (es : List (K × V)) (value : V) → lookup test es ≡ Some value → (key : K) × Contains es (key, value) × (f key ≡ name)
+    pub found_entry : (es : List (K × V)) (value : V) → lookup (is_at (cmp key)) es ≡ Some value
+        → (other : K) × Contains es (other, value) × (f other ≡ f key)
     found_entry es value found =
-        let place = place_from_lookup test es value found in
+        let place = place_from_lookup (is_at (cmp key)) es value found in
         let entry : K × V = (place.1, value) in (
           place.1,
           (
@@ -65,20 +75,6 @@ module _ {K V P Q : Type 0} (f : K → P) (plain : K × V → P × Q) (keyed : (
           ),
           (decides place.1).0 place.3,
         )
-
--- entity types tie where they have one name
-pub type_tie : (key other : EntityType) → IsTrue (is_at ((entity_type_ord.ghosts).cmp key) other) ↔ (type_name other ≡ type_name key)
-type_tie key other = (
-  λ tie. sym ((name_test (type_name key) (type_name other)).0 (sym (ap is_eq (entity_type_ord-name_cmp key other)) ∙ tie)),
-  λ same. ap is_eq (entity_type_ord-name_cmp key other) ∙ (name_test (type_name key) (type_name other)).1 (sym same),
-)
-
--- uids tie where they stand for one uid
-pub uid_tie : (key other : EntityUID) → IsTrue (is_at ((entity_uid_ord.ghosts).cmp key) other) ↔ (uid_of other ≡ uid_of key)
-uid_tie key other = (
-  λ tie. sym ((uid_test (uid_of key) (uid_of other)).0 (sym (ap is_eq (entity_uid_ord-uid_cmp key other)) ∙ tie)),
-  λ same. ap is_eq (entity_uid_ord-uid_cmp key other) ∙ (uid_test (uid_of key) (uid_of other)).1 (sym same),
-)
 
 abbrev Types : Type 0
 Types = List (EntityType × ValidatorEntityType)
@@ -114,16 +110,16 @@ key_of_uid = has_key uid_of plain_action_entry (λ e. refl)
 pub type_stands : (types : Types) (key : EntityType) → IsTrue (is_some (lookup (is_at ((entity_type_ord.ghosts).cmp key)) types))
     ↔ Contains (names_in types) (type_name key)
 type_stands types key =
-    stands type_name plain_entry (λ e. refl) (is_at ((entity_type_ord.ghosts).cmp key)) (type_name key) (type_tie key) types
+    stands type_name plain_entry (λ e. refl) (entity_type_ord.ghosts).cmp entity_type_ord-Equal key types
 
 pub action_stands : (actions : Actions) (key : EntityUID) → IsTrue (is_some (lookup (is_at ((entity_uid_ord.ghosts).cmp key)) actions))
     ↔ Contains (uids_in actions) (uid_of key)
 action_stands actions key =
-    stands uid_of plain_action_entry (λ e. refl) (is_at ((entity_uid_ord.ghosts).cmp key)) (uid_of key) (uid_tie key) actions
+    stands uid_of plain_action_entry (λ e. refl) (entity_uid_ord.ghosts).cmp entity_uid_ord-Equal key actions
 
 -- what is found is an entry of the name
 pub type_found : (types : Types) (key : EntityType) (it : ValidatorEntityType)
     → lookup (is_at ((entity_type_ord.ghosts).cmp key)) types ≡ Some it
     → (other : EntityType) × Contains types (other, it) × (type_name other ≡ type_name key)
 type_found types key =
-    found_entry type_name plain_entry (λ e. refl) (is_at ((entity_type_ord.ghosts).cmp key)) (type_name key) (type_tie key) types
+    found_entry type_name plain_entry (λ e. refl) (entity_type_ord.ghosts).cmp entity_type_ord-Equal key types

@@ -1,4 +1,3 @@
-mod ActionGraph
 mod Agreeing
 mod Checking
 pub mod ClosedAgain
@@ -8,13 +7,12 @@ mod HierarchyLemmas
 pub mod Keyed
 mod KnownLemmas
 mod LastLemmas
+mod ListedEntries
 mod MentionLemmas
-mod OwnNames
 pub mod Pairwise
 mod RequestTypeLemmas
 mod Results
 mod Shadowed
-mod TypeGraph
 mod TypeSets
 mod Valid
 mod Validation

@@ -1,7 +1,8 @@
 -- Lists that agree pairwise.
-use Rattle.std.proofs.Common.{◌≡◌, List, [], ◌∷◌, map, arith, inl, inr, ⊎_elim, refl, subst, Contains}
-use Rattle.cedar_below.proofs.Lists.{Contains-cons, Contains-cons_cases}
+use Rattle.std.proofs.Common.{◌≡◌, List, [], ◌∷◌, map, inl, inr, refl, Contains}
+use Rattle.cedar_below.proofs.Lists.{Contains-cons}
 use Rattle.cedar_below.specs.Lists.{HoldsPairwise}
+use Rattle.cedar_declarations.proofs.TurnLemmas.{turn_back, turn_forth}
 
 -- where two lists have the same keys in turn, what holds of each two items of one key holds pairwise
 pub pairwise : {A B P : Type 0} (R : A → B → Type 0) (f : A → P) (g : B → P) (xs : List A) (ys : List B) → map f xs ≡ map g ys
@@ -24,28 +25,7 @@ pairwise_map R f g [] (y ∷ ys) holds = absurd holds
 pairwise_map R f g (x ∷ xs) [] holds = absurd holds
 pairwise_map R f g (x ∷ xs) (y ∷ ys) holds = (holds.0, pairwise_map R f g xs ys holds.1)
 
--- where two lists agree pairwise, each item of the one has one of the other
-pub pairwise_forth : {A B : Type 0} (R : A → B → Type 0) (xs : List A) (ys : List B) → HoldsPairwise R xs ys → (x : A)
-    → Contains xs x → (y : B) × Contains ys y × R x y
-pairwise_forth R [] [] holds x among = absurd (omega (arith, among.1))
-pairwise_forth R [] (other ∷ others) holds x among = absurd holds
-pairwise_forth R (first ∷ rest) [] holds x among = absurd holds
-pairwise_forth {A = A} R (first ∷ rest) (other ∷ others) holds x among =
-    ⊎_elim
-    (λ same. let P : A → Type 0 = λ it. R it other in
-    (other, Contains-cons other others other (inl refl), subst P same holds.0))
-    (λ later. let it = pairwise_forth R rest others holds.1 x later in
-    (it.0, Contains-cons other others it.0 (inr it.1), it.2))
-    (Contains-cons_cases first rest x among)
-
+-- where two lists agree pairwise, each item of the second has one of the first
 pub pairwise_back : {A B : Type 0} (R : A → B → Type 0) (xs : List A) (ys : List B) → HoldsPairwise R xs ys → (y : B)
     → Contains ys y → (x : A) × Contains xs x × R x y
-pairwise_back R [] [] holds y among = absurd (omega (arith, among.1))
-pairwise_back R [] (other ∷ others) holds y among = absurd holds
-pairwise_back R (first ∷ rest) [] holds y among = absurd holds
-pairwise_back R (first ∷ rest) (other ∷ others) holds y among =
-    ⊎_elim
-    (λ same. (first, Contains-cons first rest first (inl refl), subst (R first) same holds.0))
-    (λ later. let it = pairwise_back R rest others holds.1 y later in
-    (it.0, Contains-cons first rest it.0 (inr it.1), it.2))
-    (Contains-cons_cases other others y among)
+pairwise_back R xs ys holds = turn_forth (λ y x. R x y) ys xs (turn_back R (λ y x. R x y) (λ x y is. is) xs ys holds)

@@ -16,7 +16,7 @@ use Rattle.cedar_declarations.specs.Fault.{Fault, out_of_memory}
 use Rattle.cedar_declarations.specs.ValidSchema.{IsSchemaFault, IsValidSchema, ListsDescendantAction}
 use Rattle.cedar_schema_elements.specs.ValidatorEntityType.{plain_entry}
 use Rattle.cedar_schema_elements.specs.declared.entity_type.ValidatorEntityType.{ValidatorEntityType}
-use Rattle.cedar_validation.proofs.Agreeing.{action_listed_chain, agrees_back, agrees_forth, chain_listed, fault_carried, listed_chain}
+use Rattle.cedar_validation.proofs.Agreeing.{action_shape, actions_closed, chain_listed, fault_back, fault_forth, listed_chain, type_shape, types_closed}
 use Rattle.cedar_validation.specs.Parts.{IsClosed, plain_schema}
 
 abbrev Types : Type 0
@@ -38,7 +38,7 @@ module _ (types closed_types : Types) (actions closed_actions : Actions) (entiti
       let closed = plain_schema closed_types closed_actions [] in
       ⊎_elim
       (λ wanting. inl wanting)
-      (λ here. inr (fault_carried extensions closed schema (agrees_back schema closed each_type each_action) fault here))
+      (λ here. inr (fault_back extensions schema closed each_type each_action fault here))
       why
 
   -- the closed schema is closed, and the schema is valid where it is
@@ -49,13 +49,16 @@ module _ (types closed_types : Types) (actions closed_actions : Actions) (entiti
   valid_before extensions acyclic valid fault here =
       let schema = plain_schema types actions entities in
       let closed = plain_schema closed_types closed_actions [] in
+      let of_types = types_closed schema closed.entity_types each_type in
+      let of_actions = actions_closed schema closed.actions each_action in
       valid
       (record {
         types = λ lower upper chain.
-            chain_listed schema closed each_type each_action lower upper (refined (listed_chain schema closed each_type each_action) chain);
-        acyclic = λ uid chain. acyclic uid (refined (action_listed_chain schema closed each_type each_action) chain);
+            chain_listed type_shape schema.entity_types closed.entity_types of_types lower upper
+            (refined (listed_chain type_shape schema.entity_types closed.entity_types of_types) chain);
+        acyclic = λ uid chain. acyclic uid (refined (listed_chain action_shape schema.actions closed.actions of_actions) chain);
       })
-      fault (fault_carried extensions schema closed (agrees_forth schema closed each_type each_action) fault here)
+      fault (fault_forth extensions schema closed each_type each_action fault here)
 
   -- with the entities of its actions it closes the schema
   pub closes_before : (made : List Entity) → AreActionEntities (plain_schema closed_types closed_actions made)

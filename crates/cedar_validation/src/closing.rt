@@ -1,6 +1,6 @@
 //! Descendants, closed.
 
-ghost use Rattle.std.specs.Prelude.{◌≡◌, ◌⊎◌, IfErr, IfOk, List, OnOk, map};
+ghost use Rattle.std.specs.Prelude.{◌≡◌, ◌⊎◌, Contains, IfErr, IfOk, IsTrue, List, OnOk, map};
 ghost use Rattle.cedar_schema_elements.specs.ValidatorActionId as action_specs;
 ghost use Rattle.cedar_schema_elements.specs.ValidatorActionId.{plain_action_entry};
 ghost use Rattle.cedar_schema_elements.specs.declared.action_id.ValidatorActionId.{ValidatorActionId as Action};
@@ -14,29 +14,56 @@ ghost use Rattle.cedar_declarations.specs.ClosedSchema.{ClosesAction, ClosesType
 ghost use Rattle.cedar_declarations.specs.Fault.{action_cycle, out_of_memory};
 ghost use Rattle.cedar_declarations.specs.SchemaError.{fault_of};
 ghost use Rattle.cedar_declarations.specs.ValidSchema.{ListsDescendantAction};
+ghost use Rattle.cedar_graph.specs.TcError.{IsRefusal};
 ghost use Rattle.cedar_schema_elements.specs.ValidatorEntityType as type_specs;
 ghost use Rattle.cedar_schema_elements.specs.ValidatorEntityType.{plain_entry};
 ghost use Rattle.cedar_schema_elements.specs.declared.entity_type.ValidatorEntityType.{ValidatorEntityType as Node};
+ghost use Rattle.cedar_validation.specs.Listed.{IsClosedOf, LeadsTo};
 ghost use Rattle.cedar_validation.specs.Parts.{graph_fault, plain_schema};
 
 use crate::parts::{Actions, Types};
 use cedar_below::{EntityType, EntityUID, M, Memory};
 use cedar_declarations::SchemaError;
 use cedar_graph::{TcError, compute_tc, into_btree_map, into_hash_map};
-use cedar_schema_elements::{ValidatorActionId, ValidatorEntityType};
+use cedar_schema_elements::{SchemaNode, ValidatorActionId, ValidatorEntityType};
 use std::alloc::Global;
+use std::collections::BTreeMap;
+use std::hash::Hash;
+
+/// The nodes with their descendants closed: each with just those that one or more steps of the
+/// listed ones reach. A step to what isn't one of the nodes leads no further.
+///
+/// With `enforce_dag` it is refused with `HasCycle` where some node is on a cycle, whose key it
+/// holds. The only other refusal is that memory ran out.
+fn closed_nodes<K: Ord + Hash + Drop, V: SchemaNode<K> + Drop>(
+    alloc: Global,
+    nodes: BTreeMap<K, V>,
+    enforce_dag: bool,
+) -> Result<BTreeMap<K, V>, TcError<K>>
+    ensures located { IfOk result (λ closed. ((it : K × V) → Contains nodes.entries it → V.IsLocatedAs it.0 it.1)
+        → (it : K × V) → Contains closed.entries it → V.IsLocatedAs it.0 it.1) }
+    ensures closed { IfOk result (λ closed. HoldsPairwise (IsClosedOf V.key_name V.below V.is_alike nodes.entries)
+        nodes.entries closed.entries) }
+    ensures acyclic { OnOk result (IsTrue enforce_dag → (name : V.Name)
+        → ¬ LeadsTo V.key_name V.below nodes.entries name name) }
+    ensures fault { IfErr result (IsRefusal (λ key other. LeadsTo V.key_name V.below nodes.entries (V.key_name key)
+        (V.key_name other)) enforce_dag) }
+{
+    let mut hashed = into_hash_map(alloc, nodes)?;
+    compute_tc::<K, V>(alloc, &mut hashed, enforce_dag)?;
+    Ok(into_btree_map(alloc, hashed)?)
+}
 
 /// The entity types with their descendants closed: each with just those that one or more steps of the
-/// listed ones reach. A step to what isn't an entity type of them leads no further.
+/// listed ones reach. Out of memory is the only refusal.
 pub(crate) fn closed_types(alloc: Global, types: Types) -> M<Types>
     ensures located { IfOk result (λ closed. type_specs.AreLocatedAsKeys types.entries → type_specs.AreLocatedAsKeys closed.entries) }
     ensures closed { IfOk result (λ closed. (actions : List (Uid × Action)) (entities : List Entity)
         → HoldsPairwise (ClosesType (plain_schema types.entries actions entities))
         (map plain_entry types.entries) (map plain_entry closed.entries)) }
 {
-    let mut nodes = into_hash_map(alloc, types)?;
-    match compute_tc::<EntityType, ValidatorEntityType>(alloc, &mut nodes, false) {
-        Ok(()) => Ok(into_btree_map(alloc, nodes)?),
+    match closed_nodes::<EntityType, ValidatorEntityType>(alloc, types, false) {
+        Ok(closed) => Ok(closed),
         Err(_refused) => Err(Memory),
     }
 }
@@ -65,9 +92,8 @@ pub(crate) fn closed_actions(alloc: Global, actions: Actions) -> Result<Actions,
         ⊎ ((uid : PlainUid) × (fault_of error ≡ action_cycle uid)
         × Chain (ListsDescendantAction (plain_schema types actions.entries entities)) uid uid)) }
 {
-    let mut nodes = into_hash_map(alloc, actions)?;
-    match compute_tc::<EntityUID, ValidatorActionId>(alloc, &mut nodes, true) {
-        Ok(()) => Ok(into_btree_map(alloc, nodes)?),
+    match closed_nodes::<EntityUID, ValidatorActionId>(alloc, actions, true) {
+        Ok(closed) => Ok(closed),
         Err(refused) => Err(refusal(refused)),
     }
 }

@@ -1,11 +1,11 @@
 //! What is refused of the hierarchy of entity types, whose descendants are closed.
 
-ghost use Rattle.std.specs.Prelude.{◌≡◌, ◌⊎◌, ◌↔◌, IfErr, IsTrue, OnOk};
+ghost use Rattle.std.specs.Prelude.{◌≡◌, ◌⊎◌, IfErr, OnOk};
 ghost use Rattle.cedar_below.specs.EntityType.{type_name};
 ghost use Rattle.cedar_below.specs.PlainName.{PlainName};
 ghost use Rattle.cedar_declarations.specs.Fault.{out_of_memory};
 ghost use Rattle.cedar_declarations.specs.SchemaError.{fault_of};
-ghost use Rattle.cedar_declarations.specs.ValidSchema.{IsEnumerated, ListsDescendant};
+ghost use Rattle.cedar_declarations.specs.ValidSchema.{ListsDescendant};
 ghost use Rattle.cedar_schema_elements.specs.ValidatorEntityType.{entity_type_of};
 ghost use Rattle.cedar_validation.specs.Hierarchy.{IsBelowFault, IsBelowSound, IsKindFault, IsKindSound, IsPairSound};
 ghost use Rattle.cedar_validation.specs.Parts.{IsRefusal, plain_parts};
@@ -14,15 +14,8 @@ use crate::parts::Parts;
 use crate::request_types::check_declared;
 use cedar_below::EntityType;
 use cedar_declarations::SchemaError;
-use cedar_schema_elements::{ValidatorEntityType, ValidatorEntityTypeKind};
+use cedar_schema_elements::ValidatorEntityType;
 use std::alloc::Global;
-
-/// Whether an entity type is enumerated.
-fn is_enumerated(ty: &ValidatorEntityType) -> bool
-    ensures { IsTrue result ↔ IsEnumerated (entity_type_of ty.now).kind }
-{
-    matches!(ty.kind, ValidatorEntityTypeKind::Enum(_))
-}
 
 /// Refuses an enumerated entity type below another, and an external one below an enumerated one.
 fn check_kinds(
@@ -36,10 +29,10 @@ fn check_kinds(
         ⊎ IsKindFault (type_name lower.now) (entity_type_of below.now).kind (type_name upper.now) (entity_type_of above.now).kind
         (fault_of error)) }
 {
-    if is_enumerated(below) {
+    if below.is_enumerated() {
         return Err(SchemaError::EnumEntityInHierarchy(lower.clone()?, upper.clone()?));
     }
-    if is_enumerated(above) && below.is_external() {
+    if above.is_enumerated() && below.is_external() {
         return Err(SchemaError::ExternalWithEnumAncestor(lower.clone()?, upper.clone()?));
     }
     Ok(())

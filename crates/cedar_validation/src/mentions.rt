@@ -2,10 +2,7 @@
 
 ghost use Rattle.std.specs.Prelude.{◌≡◌, ◌⊎◌, Contains, IfErr, OnOk};
 ghost use Rattle.cedar_schema_elements.specs.ValidatorActionId.{action_of};
-ghost use Rattle.cedar_below.specs.PlainName.{PlainName};
-ghost use Rattle.cedar_below.specs.PlainUid.{PlainUid};
 ghost use Rattle.cedar_declarations.specs.Fault.{out_of_memory};
-ghost use Rattle.cedar_declarations.specs.PlainSchema.{SchemaAction, SchemaEntityType};
 ghost use Rattle.cedar_declarations.specs.SchemaError.{fault_of};
 ghost use Rattle.cedar_declarations.specs.ValidSchema.{IsContextOf, IsTypeIn, IsTypeOfKind};
 ghost use Rattle.cedar_schema_elements.specs.ValidatorEntityType.{entity_type_of};
@@ -19,6 +16,7 @@ use crate::known::Known;
 use cedar_declarations::SchemaError;
 use cedar_schema_elements::{ValidatorActionId, ValidatorEntityType};
 use cedar_types::{Attributes, Type};
+use std::collections::BTreeMap;
 
 /// Refuses a type in which an entity type or an extension type stands that isn't known.
 #[cycle(mentions)]
@@ -49,55 +47,52 @@ fn check_attributes(known: &Known, attrs: &Attributes) -> Result<(), SchemaError
     Ok(())
 }
 
-/// Checks what the types of an entity type's attributes and tags mention.
-fn check_entity_type(known: &Known, ty: &ValidatorEntityType) -> Result<(), SchemaError>
-    ensures sound { OnOk result ((of : Ty) → IsTypeOfKind (entity_type_of ty.now).kind of → IsKnownThroughout known.now of) }
-    ensures fault { IfErr result (λ error. (fault_of error ≡ out_of_memory)
-        ⊎ ((of : Ty) × IsTypeOfKind (entity_type_of ty.now).kind of × IsUnknownIn known.now of (fault_of error))) }
-{
-    check_attributes(known, ty.attributes())?;
-    match ty.tag_type() {
-        Some(tags) => check_type(known, tags),
-        None => Ok(()),
+/// A part of a schema in which types stand: an entity type or an action.
+trait Typed {
+    ghost HasType: { Self → Ty → Type 0 };
+
+    /// Checks what its types mention.
+    fn check_types(&self, known: &Known) -> Result<(), SchemaError>
+        ensures sound { OnOk result ((of : Ty) → HasType self.now of → IsKnownThroughout known.now of) }
+        ensures fault { IfErr result (λ error. (fault_of error ≡ out_of_memory)
+            ⊎ ((of : Ty) × HasType self.now of × IsUnknownIn known.now of (fault_of error))) };
+}
+
+/// The types of an entity type are those of its attributes and tags.
+impl Typed for ValidatorEntityType {
+    ghost HasType = { λ ty. IsTypeOfKind (entity_type_of ty).kind };
+
+    fn check_types(&self, known: &Known) -> Result<(), SchemaError> {
+        check_attributes(known, self.attributes())?;
+        match self.tag_type() {
+            Some(tags) => check_type(known, tags),
+            None => Ok(()),
+        }
     }
 }
 
-/// Checks what the type of an action's context mentions.
-fn check_context(known: &Known, action: &ValidatorActionId) -> Result<(), SchemaError>
-    ensures sound { OnOk result ((of : Ty) → IsContextOf (action_of action.now).kind of → IsKnownThroughout known.now of) }
-    ensures fault { IfErr result (λ error. (fault_of error ≡ out_of_memory)
-        ⊎ ((of : Ty) × IsContextOf (action_of action.now).kind of × IsUnknownIn known.now of (fault_of error))) }
-{
-    match action.context() {
-        Some(context) => check_type(known, context),
-        None => Ok(()),
+/// The type of an action is that of its context.
+impl Typed for ValidatorActionId {
+    ghost HasType = { λ action. IsContextOf (action_of action).kind };
+
+    fn check_types(&self, known: &Known) -> Result<(), SchemaError> {
+        match self.context() {
+            Some(context) => check_type(known, context),
+            None => Ok(()),
+        }
     }
 }
 
-/// Checks what the types of each entity type mention.
-fn check_entity_types(known: &Known) -> Result<(), SchemaError>
-    ensures sound { OnOk result ((entry : PlainName × SchemaEntityType)
-        → Contains (plain_parts known.now.parts.now).entity_types entry → (of : Ty) → IsTypeOfKind entry.1.kind of
+/// Checks what the types in each value of a map mention.
+fn check_each<K: Ord, V: Typed>(known: &Known, typed: &BTreeMap<K, V>) -> Result<(), SchemaError>
+    ensures sound { OnOk result ((entry : K × V) → Contains typed.now.entries entry → (of : Ty) → V.HasType entry.1 of
         → IsKnownThroughout known.now of) }
     ensures fault { IfErr result (λ error. (fault_of error ≡ out_of_memory)
-        ⊎ ((of : Ty) × IsTypeIn (plain_parts known.now.parts.now) of × IsUnknownIn known.now of (fault_of error))) }
+        ⊎ ((entry : K × V) × Contains typed.now.entries entry
+        × ((of : Ty) × V.HasType entry.1 of × IsUnknownIn known.now of (fault_of error)))) }
 {
-    for (_name, ty) in &known.parts.entity_types {
-        check_entity_type(known, ty)?;
-    }
-    Ok(())
-}
-
-/// Checks what the context of each action mentions.
-fn check_contexts(known: &Known) -> Result<(), SchemaError>
-    ensures sound { OnOk result ((entry : PlainUid × SchemaAction)
-        → Contains (plain_parts known.now.parts.now).actions entry → (of : Ty) → IsContextOf entry.1.kind of
-        → IsKnownThroughout known.now of) }
-    ensures fault { IfErr result (λ error. (fault_of error ≡ out_of_memory)
-        ⊎ ((of : Ty) × IsTypeIn (plain_parts known.now.parts.now) of × IsUnknownIn known.now of (fault_of error))) }
-{
-    for (_uid, action) in &known.parts.actions {
-        check_context(known, action)?;
+    for (_name, value) in typed {
+        value.check_types(known)?;
     }
     Ok(())
 }
@@ -108,6 +103,6 @@ pub(crate) fn check_mentions(known: &Known) -> Result<(), SchemaError>
     ensures fault { IfErr result (λ error. (fault_of error ≡ out_of_memory)
         ⊎ ((of : Ty) × IsTypeIn (plain_parts known.now.parts.now) of × IsUnknownIn known.now of (fault_of error))) }
 {
-    check_entity_types(known)?;
-    check_contexts(known)
+    check_each(known, &known.parts.entity_types)?;
+    check_each(known, &known.parts.actions)
 }

@@ -2,6 +2,7 @@
 
 ghost use Rattle.std.specs.Prelude.{◌≡◌, Contains, IfOk};
 ghost use Rattle.std.specs.BTreeMap.{get_by};
+ghost use Rattle.std.specs.Ordering.{is_eq};
 ghost use Rattle.cedar_schema_elements.specs.ValidatorActionId.{action_of};
 ghost use Rattle.cedar_schema_elements.specs.declared.action_id.ValidatorActionId.{ValidatorActionId as ActionOfSchema};
 ghost use Rattle.cedar_below.specs.EntityType.{type_name};
@@ -14,13 +15,37 @@ ghost use Rattle.cedar_schema_elements.specs.ValidatorActionId as action_specs;
 ghost use Rattle.cedar_schema_elements.specs.ValidatorEntityType as type_specs;
 ghost use Rattle.cedar_schema_elements.specs.ValidatorEntityType.{entity_type_of};
 ghost use Rattle.cedar_schema_elements.specs.declared.entity_type.ValidatorEntityType.{ValidatorEntityType as EntityTypeOfSchema};
-ghost use Rattle.cedar_validation.specs.LastNamed.{last_named, last_of_uid};
+ghost use Rattle.cedar_validation.specs.LastNamed.{last_named, last_of_uid, last_that};
 
 use crate::parts::{Actions, Types};
-use cedar_below::M;
-use cedar_schema_elements::{ValidatorActionId, ValidatorEntityType};
+use cedar_below::{EntityType, EntityUID, M};
+use cedar_schema_elements::{SchemaNode, ValidatorActionId, ValidatorEntityType};
 use std::alloc::Global;
 use std::collections::BTreeMap;
+use std::hash::Hash;
+
+/// The nodes, each under its name, located as in the node; of those of one name the last. Out of
+/// memory is the only refusal.
+fn by_name<K: Ord + Hash + Drop, V: SchemaNode<K> + Drop>(
+    alloc: Global,
+    nodes: Vec<V>,
+) -> M<BTreeMap<K, V>>
+    ensures last { IfOk result (λ named. (name : K)
+        → get_by (λ key. V.name_order (V.key_name name) (V.key_name key)) named
+        ≡ last_that (λ it. is_eq (V.name_order (V.key_name name) (V.node_name it))) nodes.items) }
+    ensures under_names { IfOk result (λ named. (it : K × V) → Contains named.entries it
+        → V.node_name it.1 ≡ V.key_name it.0) }
+    ensures located { IfOk result (λ named. (it : K × V) → Contains named.entries it → V.IsLocatedAs it.0 it.1) }
+{
+    let mut named = BTreeMap::new(alloc);
+    for node in nodes {
+        let name = V::copy_name(node.name())?;
+        // A map keeps the key that it has, so that of an earlier one goes first.
+        let _earlier = named.remove(&name);
+        named.insert(name, node)?;
+    }
+    Ok(named)
+}
 
 /// The entity types, each under its name; of those of one name the last. Out of memory is the
 /// only refusal.
@@ -31,16 +56,7 @@ pub fn types_by_name(alloc: Global, types: Vec<ValidatorEntityType>) -> M<Types>
         → (entity_type_of it.1).name ≡ type_name it.0) }
     ensures located { IfOk result (λ named. type_specs.AreLocatedAsKeys named.entries) }
 {
-    let mut named = BTreeMap::new(alloc);
-    for ty in types {
-        let name = ty.name().clone()?;
-        // A map keeps the key that it has, so that of an earlier one goes first.
-        let _earlier = named.remove(&name);
-        named.insert(name, ty)?;
-    }
-    // That the names are in order, so that each stands once, is known from their iterator.
-    let _names = named.keys();
-    Ok(named)
+    by_name::<EntityType, ValidatorEntityType>(alloc, types)
 }
 
 /// The actions, each under its uid; of those of one uid the last. Out of memory is the only
@@ -52,14 +68,5 @@ pub fn actions_by_uid(alloc: Global, actions: Vec<ValidatorActionId>) -> M<Actio
         → (action_of it.1).uid ≡ uid_of it.0) }
     ensures located { IfOk result (λ named. action_specs.AreLocatedAsKeys named.entries) }
 {
-    let mut named = BTreeMap::new(alloc);
-    for action in actions {
-        let uid = action.name().clone()?;
-        // A map keeps the key that it has, so that of an earlier one goes first.
-        let _earlier = named.remove(&uid);
-        named.insert(uid, action)?;
-    }
-    // That the uids are in order, so that each stands once, is known from their iterator.
-    let _uids = named.keys();
-    Ok(named)
+    by_name::<EntityUID, ValidatorActionId>(alloc, actions)
 }

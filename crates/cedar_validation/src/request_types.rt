@@ -1,6 +1,8 @@
 //! What is refused of principals, resources and descendants that are named.
 
 ghost use Rattle.std.specs.Prelude.{◌≡◌, ◌⊎◌, [], ◌∷◌, Contains, IfErr, OnOk, map};
+ghost use Rattle.std.specs.BTreeMap.{ContainsKey};
+ghost use Rattle.std.specs.Option.{MatchOption};
 ghost use Rattle.cedar_schema_elements.specs.ValidatorActionId.{action_of};
 ghost use Rattle.cedar_below.specs.EntityType.{type_name};
 ghost use Rattle.cedar_below.specs.PlainName.{PlainName};
@@ -18,7 +20,20 @@ use cedar_below::EntityType;
 use cedar_declarations::SchemaError;
 use cedar_schema_elements::ValidatorActionId;
 use std::alloc::Global;
-use std::collections::hash_set;
+use std::collections::{BTreeMap, hash_set};
+
+/// The first of some keys under which nothing stands in a map.
+fn missing<'a, K: Ord, V>(map: &BTreeMap<K, V>, keys: hash_set::Iter<'a, K>) -> Option<&'a K>
+    ensures { MatchOption result ((key : K) → Contains keys.entry key → ContainsKey K.cmp map.now key)
+        (λ key. Contains keys.entry key.now × ¬ ContainsKey K.cmp map.now key.now) }
+{
+    for key in keys {
+        if !map.contains_key(key) {
+            return Some(key);
+        }
+    }
+    None
+}
 
 /// Refuses an entity type that isn't one of the schema.
 pub(crate) fn check_declared(
@@ -32,12 +47,10 @@ pub(crate) fn check_declared(
         ⊎ ((name : PlainName) × (fault_of error ≡ undeclared_entity_types (name ∷ [])) × Contains (map type_name names.entry) name
         × ¬ HasEntityType (plain_parts parts.now) name)) }
 {
-    for name in names {
-        if !parts.entity_types.contains_key(name) {
-            return Err(undeclared(alloc, name)?);
-        }
+    match missing(&parts.entity_types, names) {
+        Some(name) => Err(undeclared(alloc, name)?),
+        None => Ok(()),
     }
-    Ok(())
 }
 
 /// Refuses a descendant of an action that is no action of the schema.
@@ -48,12 +61,10 @@ fn check_descendants(parts: &Parts, action: &ValidatorActionId) -> Result<(), Sc
         ⊎ ((uid : PlainUid) × (fault_of error ≡ undeclared_action_descendant uid) × Contains (action_of action.now).descendants uid
         × ¬ HasAction (plain_parts parts.now) uid)) }
 {
-    for lower in action.descendants() {
-        if !parts.actions.contains_key(lower) {
-            return Err(SchemaError::UndeclaredActionsDescendant(lower.clone()?));
-        }
+    match missing(&parts.actions, action.descendants()) {
+        Some(lower) => Err(SchemaError::UndeclaredActionsDescendant(lower.clone()?)),
+        None => Ok(()),
     }
-    Ok(())
 }
 
 /// Refuses an action with such a descendant, or with a principal or a resource that isn't an entity type of

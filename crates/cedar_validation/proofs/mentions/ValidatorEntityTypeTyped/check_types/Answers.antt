@@ -10,12 +10,12 @@ use Rattle.cedar_types.specs.Meaning.{ty_of}
 use Rattle.cedar_validation.proofs.MentionLemmas.{attributes_fault, kind_known, tags_of_kind}
 use Rattle.cedar_validation.proofs.Results.{on_err, on_ok}
 use Rattle.cedar_validation.specs.Mentions.{IsKnownThroughout, IsUnknownIn}
-use Rattle.cedar_validation.proofs.mentions.check_entity_type.Goals as goal
+use Rattle.cedar_validation.proofs.mentions.ValidatorEntityTypeTyped.check_types.Goals as goal
 
 pub returns-in_err-check_attributes-clause-fault : goal.returns-in_err-check_attributes-clause-fault
 returns-in_err-check_attributes-clause-fault c =
     let known = c.args.known.now in
-    let kind = (entity_type_of c.args.ty.now).kind in
+    let kind = (entity_type_of c.args.self.now).kind in
     let fault = fault_of c.in_err-check_attributes.field-0.0 in
     let P : Fields → Type 0 = λ fields. IsUnknownIn known (record_of fields ClosedAttributes) fault in
     let at_fault : (fault ≡ out_of_memory) ⊎ ((of : Ty) × IsTypeOfKind kind of × IsUnknownIn known of fault) =
@@ -26,7 +26,7 @@ returns-in_err-check_attributes-clause-fault c =
 pub returns-in-Some-clause-sound : goal.returns-in-Some-clause-sound
 returns-in-Some-clause-sound c =
     let known = c.args.known.now in
-    let kind = (entity_type_of c.args.ty.now).kind in
+    let kind = (entity_type_of c.args.self.now).kind in
     let P : Fields → Type 0 = λ fields. IsKnownThroughout known (record_of fields ClosedAttributes) in
     let Q : Ty → Type 0 = IsKnownThroughout known in
     on_ok c.check_type.result c.check_type.ensures.sound
@@ -36,7 +36,7 @@ returns-in-Some-clause-sound c =
 
 pub returns-in-Some-clause-fault : goal.returns-in-Some-clause-fault
 returns-in-Some-clause-fault c =
-    let kind = (entity_type_of c.args.ty.now).kind in
+    let kind = (entity_type_of c.args.self.now).kind in
     let tags = ty_of c.in-Some.tags.now in
     on_err c.check_type.result c.check_type.ensures.fault
     (λ error why. inr (tags, tags_of_kind kind tags (sym c.in-Some.ensures.ty), why))
