@@ -2,11 +2,20 @@
 
 ghost use Rattle.std.specs.Prelude.{◌≡◌};
 ghost use Rattle.std.specs.HashSet.{contains};
-ghost use Rattle.std.proofs.Common.{refl, ◌∙◌};
-ghost use Rattle.cedar_below.proofs.Uids.{entity_uid_searches-respect_eq};
+ghost use Rattle.std.proofs.Common.{refl, ◌∙◌, ap, sym};
+ghost use Rattle.cedar_below.proofs.Lists.{list_any-Contains};
+ghost use Rattle.cedar_below.proofs.Uids.{entity_uid_eq-same, entity_uid_ord-Equal, entity_uid_searches-respect_eq};
+ghost use Rattle.cedar_below.specs.EntityUID.{uid_loc, uid_of, uid_type_loc};
+ghost use Rattle.cedar_below.specs.PlainUid.{PlainUid};
+ghost use Rattle.cedar_declarations.specs.Fault.{duplicate_action};
+ghost use Rattle.cedar_declarations.specs.PlainSchema.{external_action};
+ghost use Rattle.cedar_schema_elements.specs.ActionKind.{plain_kind};
+ghost use Rattle.cedar_schema_elements.specs.ValidatorActionId.{IsLocatedAsKey, action_of};
 
 use crate::action_id::ValidatorActionId;
+use crate::schema_node::SchemaNode;
 use cedar_below::{EntityUID, M};
+use cedar_declarations::SchemaError;
 use cedar_graph::TCNode;
 use std::collections::hash_set;
 
@@ -45,4 +54,52 @@ impl TCNode<EntityUID> for ValidatorActionId {
     ghost alike_itself = { λ node. (refl, refl, refl) };
 
     ghost alike_onwards = { λ a b c first second. (first.0 ∙ second.0, first.1 ∙ second.1, first.2 ∙ second.2) };
+}
+
+impl SchemaNode<EntityUID> for ValidatorActionId {
+    ghost Name = { PlainUid };
+
+    ghost key_name = { uid_of };
+
+    ghost node_name = { λ node. (action_of node).uid };
+
+    ghost IsExternal = { λ node. (action_of node).kind ≡ external_action };
+
+    ghost IsLocatedAs = { λ key node. IsLocatedAsKey (key, node) };
+
+    ghost below = { λ node. (action_of node).descendants };
+
+    ghost duplicate_fault = { duplicate_action };
+
+    fn name(&self) -> &EntityUID {
+        self.name()
+    }
+
+    fn copy_name(name: &EntityUID) -> M<EntityUID> {
+        name.clone()
+    }
+
+    fn is_external(&self) -> bool {
+        self.is_external()
+    }
+
+    fn descendants(&self) -> hash_set::Iter<'_, EntityUID> {
+        self.descendants()
+    }
+
+    fn duplicate(name: EntityUID) -> SchemaError {
+        SchemaError::DuplicateAction(name)
+    }
+
+    ghost same_key = { entity_uid_eq-same };
+
+    ghost tied_key = { entity_uid_ord-Equal };
+
+    ghost edge_below = { λ node key. list_any-Contains uid_of (uid_of key) (⟦<EntityUID as PartialEq>⟧.eq key) (λ other. (λ same. sym ((entity_uid_eq-same key other).0 same), λ same. (entity_uid_eq-same key other).1 (sym same))) node.descendants.keys };
+
+    ghost alike_named = { λ a b alike. ap uid_of alike.0 };
+
+    ghost alike_external = { λ a b alike is. ap plain_kind (sym alike.1) ∙ is };
+
+    ghost alike_located = { λ key a b alike located. record { uid = located.uid ∙ ap uid_loc alike.0; ty = located.ty ∙ ap uid_type_loc alike.0 } };
 }

@@ -2,11 +2,20 @@
 
 ghost use Rattle.std.specs.Prelude.{◌≡◌};
 ghost use Rattle.std.specs.HashSet.{contains};
-ghost use Rattle.std.proofs.Common.{refl, ◌∙◌};
-ghost use Rattle.cedar_below.proofs.Names.{entity_type_searches-respect_eq};
+ghost use Rattle.std.proofs.Common.{refl, ◌∙◌, ap, sym};
+ghost use Rattle.cedar_below.proofs.Names.{entity_type_eq-same, entity_type_ord-Equal, entity_type_searches-respect_eq};
+ghost use Rattle.cedar_below.specs.EntityType.{type_loc, type_name};
+ghost use Rattle.cedar_below.specs.PlainName.{PlainName};
+ghost use Rattle.cedar_declarations.specs.EntityTypeKind.{external_kind};
+ghost use Rattle.cedar_declarations.specs.Fault.{duplicate_entity_type};
+ghost use Rattle.cedar_schema_elements.specs.EntityTypeKind.{plain_kind};
+ghost use Rattle.cedar_schema_elements.specs.ValidatorEntityType.{IsLocatedAsKey, descendant_names, entity_type_of};
+ghost use Rattle.cedar_types.proofs.MemberLemmas.{list_any-names};
 
 use crate::entity_type::ValidatorEntityType;
+use crate::schema_node::SchemaNode;
 use cedar_below::{EntityType, M};
+use cedar_declarations::SchemaError;
 use cedar_graph::TCNode;
 use std::collections::hash_set;
 
@@ -45,4 +54,52 @@ impl TCNode<EntityType> for ValidatorEntityType {
     ghost alike_itself = { λ node. (refl, refl, refl) };
 
     ghost alike_onwards = { λ a b c first second. (first.0 ∙ second.0, first.1 ∙ second.1, first.2 ∙ second.2) };
+}
+
+impl SchemaNode<EntityType> for ValidatorEntityType {
+    ghost Name = { PlainName };
+
+    ghost key_name = { type_name };
+
+    ghost node_name = { λ node. (entity_type_of node).name };
+
+    ghost IsExternal = { λ node. (entity_type_of node).kind ≡ external_kind };
+
+    ghost IsLocatedAs = { λ key node. IsLocatedAsKey (key, node) };
+
+    ghost below = { descendant_names };
+
+    ghost duplicate_fault = { duplicate_entity_type };
+
+    fn name(&self) -> &EntityType {
+        self.name()
+    }
+
+    fn copy_name(name: &EntityType) -> M<EntityType> {
+        name.clone()
+    }
+
+    fn is_external(&self) -> bool {
+        self.is_external()
+    }
+
+    fn descendants(&self) -> hash_set::Iter<'_, EntityType> {
+        self.descendants.iter()
+    }
+
+    fn duplicate(name: EntityType) -> SchemaError {
+        SchemaError::DuplicateEntityType(name)
+    }
+
+    ghost same_key = { entity_type_eq-same };
+
+    ghost tied_key = { entity_type_ord-Equal };
+
+    ghost edge_below = { λ node key. list_any-names key node.descendants.keys };
+
+    ghost alike_named = { λ a b alike. ap type_name alike.0 };
+
+    ghost alike_external = { λ a b alike is. ap plain_kind (sym alike.1) ∙ is };
+
+    ghost alike_located = { λ key a b alike located. located ∙ ap type_loc alike.0 };
 }

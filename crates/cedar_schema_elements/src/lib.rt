@@ -9,6 +9,7 @@ pub use entity_type::ValidatorEntityType;
 pub use entity_type_kind::{StandardValidatorEntityType, ValidatorEntityTypeKind};
 pub use request_env::{RequestEnv, UnlinkedRequestEnv};
 pub use request_environments::environments;
+pub use schema_node::SchemaNode;
 
 mod action_id;
 mod action_kind;
@@ -21,5 +22,6 @@ mod entity_type_node;
 mod qualified;
 mod request_env;
 mod request_environments;
+mod schema_node;
 mod sets;
 pub mod theorems;
