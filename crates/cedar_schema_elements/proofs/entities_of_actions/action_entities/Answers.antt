@@ -2,7 +2,7 @@ use Rattle.std.proofs.Common.{refl, sym, ◌∙◌}
 use Rattle.std.proofs.lemmas.Bool.{false≢true}
 use Rattle.cedar_below.specs.EntityUID.{uid_of}
 use Rattle.cedar_schema_elements.proofs.EntityLemmas.{entities_all, entities_none, entities_passed, entities_put, left_all, left_here, left_rest, same_entity}
-use Rattle.cedar_schema_elements.proofs.UidLemmas.{uids_once}
+use Rattle.cedar_schema_elements.proofs.UidLemmas.{cmp, uids_once}
 use Rattle.cedar_schema_elements.specs.ActionEntities.{Lists, plain_action_entity}
 use Rattle.cedar_schema_elements.specs.Uppers.{IsUpper}
 use Rattle.cedar_schema_elements.proofs.entities_of_actions.action_entities.Goals as goal
@@ -32,7 +32,7 @@ loop-uid-preserved-in_ok-insert c =
     let here = left_here actions _ _ c.loop-uid.uppers uid c.in-Some.action.now c.in-Some.ensures.steps c.loop-uid.invariant.1 in (
       entities_put actions _ _ c.loop-uid.entities uid c.in-Some.action.now c.in-Some.ensures.steps c.loop-uid.invariant.0
           (λ is. false≢true (sym c.if-not-is_external.true ∙ c.is_external.ensures.1 is)) c.insert.new.self entity
-          (same_entity (IsUpper c.loop-uid.uppers uid) (Lists actions (uid_of uid)) (uid_of uid) (plain_action_entity entity) here
+          (same_entity (IsUpper cmp uid_of c.loop-uid.uppers uid) (Lists actions (uid_of uid)) (uid_of uid) (plain_action_entity entity) here
           c.in_ok-action_entity.ensures.entity)
           c.in_ok-insert.ensures.inserted c.in_ok-insert.ensures.others,
       left_rest actions _ _ c.loop-uid.uppers uid c.in-Some.action.now c.in-Some.ensures.steps c.loop-uid.invariant.1
@@ -47,7 +47,7 @@ loop-uid-preserved-in_ok-insert-2 c =
     let here = left_here actions _ _ c.loop-uid.uppers uid c.in-Some.action.now c.in-Some.ensures.steps c.loop-uid.invariant.1 in (
       entities_put actions _ _ c.loop-uid.entities uid c.in-Some.action.now c.in-Some.ensures.steps c.loop-uid.invariant.0
           (λ is. false≢true (sym c.if-not-is_external.true ∙ c.is_external.ensures.1 is)) c.insert.new.self entity
-          (same_entity (IsUpper c.loop-uid.uppers uid) (Lists actions (uid_of uid)) (uid_of uid) (plain_action_entity entity) here
+          (same_entity (IsUpper cmp uid_of c.loop-uid.uppers uid) (Lists actions (uid_of uid)) (uid_of uid) (plain_action_entity entity) here
           c.in_ok-action_entity.ensures.entity)
           c.in_ok-insert.ensures.inserted c.in_ok-insert.ensures.others,
       left_rest actions _ _ c.loop-uid.uppers uid c.in-Some.action.now c.in-Some.ensures.steps c.loop-uid.invariant.1
