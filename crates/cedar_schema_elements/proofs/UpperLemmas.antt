@@ -16,6 +16,25 @@ use Rattle.cedar_declarations.proofs.OccurrenceLemmas.{Contains-image, Contains-
 use Rattle.cedar_schema_elements.proofs.SetLemmas.{alike}
 use Rattle.cedar_schema_elements.specs.Uppers.{IsUpper, ListsBelow, upper_set}
 
+-- what sets have, by what their keys stand for
+module _ {K P : Type 0} (name : K → P) where
+  -- a set that was there has what it had
+  pub some_above : (before : Option (BTreeSet K)) (set : BTreeSet K) → before ≡ Some set
+      → (it : P) → IsSomeAnd before (λ each. Contains (map name each.keys) it) ↔ Contains (map name set.keys) it
+  some_above before set is it =
+      let S : Option (BTreeSet K) → Type 0 =
+      λ o. IsSomeAnd o (λ each. Contains (map name each.keys) it) ↔ Contains (map name set.keys) it in
+      subst S (sym is) (λ among. among, λ among. among)
+
+  -- where there was none, an empty one has as much
+  pub none_above : (before : Option (BTreeSet K)) (keys : List K) → before ≡ None → keys ≡ []
+      → (it : P) → IsSomeAnd before (λ each. Contains (map name each.keys) it) ↔ Contains (map name keys) it
+  none_above before keys is nothing it =
+      let S : Option (BTreeSet K) → Type 0 =
+      λ o. IsSomeAnd o (λ each. Contains (map name each.keys) it) ↔ Contains (map name keys) it in
+      let T : List K → Type 0 = λ items. Contains (map name items) it in
+      subst S (sym is) (λ none. absurd none, λ among. absurd (omega (arith, (subst T nothing among).1)))
+
 -- keys that tie exactly where they stand for the same
 module _ {K P : Type 0} (cmp : K → K → Ordering) (name : K → P) (tied : (a b : K) → (cmp a b ≡ Equal) ↔ (name a ≡ name b)) where
   -- a key is found at another exactly where they stand for the same
@@ -90,23 +109,6 @@ module _ {K P : Type 0} (cmp : K → K → Ordering) (name : K → P) (tied : (a
             (λ there. also.1 (inl ((were it).0 there)))
             (λ one. also.1 (inr (Contains-cons (name copy) [] it (inl (same ∙ one))))),
       )
-
-  -- a set that was there has what it had
-  pub some_above : (before : Option (BTreeSet K)) (set : BTreeSet K) → before ≡ Some set
-      → (it : P) → IsSomeAnd before (λ each. Contains (map name each.keys) it) ↔ Contains (map name set.keys) it
-  some_above before set is it =
-      let S : Option (BTreeSet K) → Type 0 =
-      λ o. IsSomeAnd o (λ each. Contains (map name each.keys) it) ↔ Contains (map name set.keys) it in
-      subst S (sym is) (λ among. among, λ among. among)
-
-  -- where there was none, an empty one has as much
-  pub none_above : (before : Option (BTreeSet K)) (keys : List K) → before ≡ None → keys ≡ []
-      → (it : P) → IsSomeAnd before (λ each. Contains (map name each.keys) it) ↔ Contains (map name keys) it
-  none_above before keys is nothing it =
-      let S : Option (BTreeSet K) → Type 0 =
-      λ o. IsSomeAnd o (λ each. Contains (map name each.keys) it) ↔ Contains (map name keys) it in
-      let T : List K → Type 0 = λ items. Contains (map name items) it in
-      subst S (sym is) (λ none. absurd none, λ among. absurd (omega (arith, (subst T nothing among).1)))
 
   -- a set is put under a key
   module _ (before after : BTreeMap K (BTreeSet K)) (lower : K) (set : BTreeSet K)

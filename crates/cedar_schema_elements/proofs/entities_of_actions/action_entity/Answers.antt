@@ -20,10 +20,10 @@ returns-clause-entity c =
     let Q : BTreeSet EntityUID → Type 0 = λ set. (above : PlainUid) → IsUpper cmp uid_of before uid above ↔ Contains (map uid_of set.keys) above in
     let stands : Q c.match-remove.ancestors =
     elim c.match-remove.branch [
-      | in-Some w ↦ subst Q (sym w.ancestors-is) (some_above cmp uid_of entity_uid_ord-Equal (upper_set cmp before uid) _ (sym c.remove.ensures.value ∙ w.in-Some.is))
+      | in-Some w ↦ subst Q (sym w.ancestors-is) (some_above uid_of (upper_set cmp before uid) _ (sym c.remove.ensures.value ∙ w.in-Some.is))
       | in-None w ↦
           subst Q (sym w.ancestors-is)
-          (none_above cmp uid_of entity_uid_ord-Equal (upper_set cmp before uid) w.new-ancestors.result.keys (sym c.remove.ensures.value ∙ w.in-None.is)
+          (none_above uid_of (upper_set cmp before uid) w.new-ancestors.result.keys (sym c.remove.ensures.value ∙ w.in-None.is)
           w.new-ancestors.ensures.empty)
     ] in
     record {

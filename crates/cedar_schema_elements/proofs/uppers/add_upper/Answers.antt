@@ -17,7 +17,7 @@ returns-in_ok-insert-in-Some g c =
     put_above cmp name tied before (c.get_mut.follows.lender new) lower new ((c.get_mut.follows.holds new).3 (ap is_some found)).0
     (name c.args.upper.now)
     (one_more_above cmp name tied (upper_set cmp before lower) old.keys new.keys c.in_ok-upper.upper (name c.args.upper.now)
-    (some_above cmp name tied (upper_set cmp before lower) old found)
+    (some_above name (upper_set cmp before lower) old found)
     c.in_ok-upper.ensures.name c.in_ok-insert-in-Some.ensures.updates.0)
 
 pub returns-in_ok-insert-in-None-2 : goal.returns-in_ok-insert-in-None-2
@@ -41,6 +41,6 @@ returns-in_ok-insert-in-None-2 g c =
     ∙ ap (λ uppers. cond (is_at (cmp copy_of_lower) q) (Some new) (upper_set cmp uppers q)) c.get_mut.follows.holds-at-none)
     upper
     (one_more_above cmp name tied (upper_set cmp before copy_of_lower) old.keys new.keys c.in_ok-upper.upper upper
-    (none_above cmp name tied (upper_set cmp before copy_of_lower) old.keys
+    (none_above name (upper_set cmp before copy_of_lower) old.keys
     (same_set cmp name tied before copy_of_lower lower same ∙ sym c.in-None.ensures.value) c.new-set.ensures.empty)
     c.in_ok-upper.ensures.name c.in_ok-insert-in-None.ensures.updates.0))
