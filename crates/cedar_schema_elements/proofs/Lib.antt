@@ -6,4 +6,4 @@ mod GivenLemmas
 pub mod NamedTypes
 pub mod SetLemmas
 mod UidLemmas
-mod UpperLemmas
+pub mod UpperLemmas

@@ -4,9 +4,9 @@ ghost use Rattle.std.specs.Prelude.{◌≡◌};
 ghost use Rattle.std.specs.HashSet.{contains};
 ghost use Rattle.std.proofs.Common.{refl, ◌∙◌, ap, sym};
 ghost use Rattle.cedar_below.proofs.Lists.{list_any-Contains};
-ghost use Rattle.cedar_below.proofs.Uids.{entity_uid_eq-same, entity_uid_ord-Equal, entity_uid_searches-respect_eq};
+ghost use Rattle.cedar_below.proofs.Uids.{entity_uid_eq-same, entity_uid_ord-Equal, entity_uid_ord-uid_cmp, entity_uid_searches-respect_eq};
 ghost use Rattle.cedar_below.specs.EntityUID.{uid_loc, uid_of, uid_type_loc};
-ghost use Rattle.cedar_below.specs.PlainUid.{PlainUid};
+ghost use Rattle.cedar_below.specs.PlainUid.{PlainUid, uid_cmp};
 ghost use Rattle.cedar_declarations.specs.Fault.{duplicate_action};
 ghost use Rattle.cedar_declarations.specs.PlainSchema.{external_action};
 ghost use Rattle.cedar_schema_elements.specs.ActionKind.{plain_kind};
@@ -61,6 +61,8 @@ impl SchemaNode<EntityUID> for ValidatorActionId {
 
     ghost key_name = { uid_of };
 
+    ghost name_cmp = { uid_cmp };
+
     ghost node_name = { λ node. (action_of node).uid };
 
     ghost IsExternal = { λ node. (action_of node).kind ≡ external_action };
@@ -94,6 +96,8 @@ impl SchemaNode<EntityUID> for ValidatorActionId {
     ghost same_key = { entity_uid_eq-same };
 
     ghost tied_key = { entity_uid_ord-Equal };
+
+    ghost ordered_key = { entity_uid_ord-uid_cmp };
 
     ghost edge_below = { λ node key. list_any-Contains uid_of (uid_of key) (⟦<EntityUID as PartialEq>⟧.eq key) (λ other. (λ same. sym ((entity_uid_eq-same key other).0 same), λ same. (entity_uid_eq-same key other).1 (sym same))) node.descendants.keys };
 

@@ -3,9 +3,9 @@
 ghost use Rattle.std.specs.Prelude.{◌≡◌};
 ghost use Rattle.std.specs.HashSet.{contains};
 ghost use Rattle.std.proofs.Common.{refl, ◌∙◌, ap, sym};
-ghost use Rattle.cedar_below.proofs.Names.{entity_type_eq-same, entity_type_ord-Equal, entity_type_searches-respect_eq};
+ghost use Rattle.cedar_below.proofs.Names.{entity_type_eq-same, entity_type_ord-Equal, entity_type_ord-name_cmp, entity_type_searches-respect_eq};
 ghost use Rattle.cedar_below.specs.EntityType.{type_loc, type_name};
-ghost use Rattle.cedar_below.specs.PlainName.{PlainName};
+ghost use Rattle.cedar_below.specs.PlainName.{PlainName, name_cmp};
 ghost use Rattle.cedar_declarations.specs.EntityTypeKind.{external_kind};
 ghost use Rattle.cedar_declarations.specs.Fault.{duplicate_entity_type};
 ghost use Rattle.cedar_schema_elements.specs.EntityTypeKind.{plain_kind};
@@ -61,6 +61,8 @@ impl SchemaNode<EntityType> for ValidatorEntityType {
 
     ghost key_name = { type_name };
 
+    ghost name_cmp = { name_cmp };
+
     ghost node_name = { λ node. (entity_type_of node).name };
 
     ghost IsExternal = { λ node. (entity_type_of node).kind ≡ external_kind };
@@ -94,6 +96,8 @@ impl SchemaNode<EntityType> for ValidatorEntityType {
     ghost same_key = { entity_type_eq-same };
 
     ghost tied_key = { entity_type_ord-Equal };
+
+    ghost ordered_key = { entity_type_ord-name_cmp };
 
     ghost edge_below = { λ node key. list_any-names key node.descendants.keys };
 

@@ -1,6 +1,7 @@
 //! What entity types and actions of a schema have in common.
 
 ghost use Rattle.std.specs.Prelude.{◌≡◌, ◌↔◌, Contains, IfOk, IsTrue, List, map};
+ghost use Rattle.std.specs.declared.cmp.Ordering.{Ordering};
 ghost use Rattle.std.specs.declared.cmp.Ordering.TheVariants.{Equal};
 ghost use Rattle.cedar_declarations.specs.Fault.{Fault};
 ghost use Rattle.cedar_declarations.specs.SchemaError.{fault_of};
@@ -14,12 +15,15 @@ use std::hash::Hash;
 /// An entity type or an action of a schema: a node of a hierarchy that has a name, by which others
 /// refer to it, and that is declared here or elsewhere.
 ///
-/// The ghost members are what contracts speak of: what a key stands for, the name of a node, whether
-/// the node is external, whether a key was written where its name was, and its descendants.
+/// The ghost members are what contracts speak of: what a key stands for, the order of names, the
+/// name of a node, whether the node is external, whether a key was written where its name was, and
+/// its descendants.
 pub trait SchemaNode<K: Ord + Hash>: TCNode<K> {
     ghost Name: { Type 0 };
 
     ghost key_name: { K → Name };
+
+    ghost name_cmp: { Name → Name → Ordering };
 
     ghost node_name: { Self → Name };
 
@@ -56,6 +60,8 @@ pub trait SchemaNode<K: Ord + Hash>: TCNode<K> {
     ghost same_key: { (a b : K) → IsTrue (K.eq a b) ↔ (key_name a ≡ key_name b) };
 
     ghost tied_key: { (a b : K) → (K.cmp a b ≡ Equal) ↔ (key_name a ≡ key_name b) };
+
+    ghost ordered_key: { (a b : K) → K.cmp a b ≡ name_cmp (key_name a) (key_name b) };
 
     ghost edge_below: { (node : Self) (key : K) → IsTrue (Self.has_edge node key) ↔ Contains (below node) (key_name key) };
 
