@@ -65,7 +65,7 @@ module _ {K V P D : Type 0} (cmp : K → K → Ordering) (plain_cmp : P → P �
 
   -- there is something exactly where the key stands for what one of them does
   key_known : Decides (is_some (get_by (cmp key) values))
-      (Contains (map (λ it. it.0) (map (λ entry. (name entry.0, shown entry.1)) values.entries)) (name key))
+      (Contains (map (λ (it : P × D). it.0) (map (λ entry. (name entry.0, shown entry.1)) values.entries)) (name key))
   key_known =
       let plain : List (P × D) = map (λ entry. (name entry.0, shown entry.1)) values.entries in
       let S : Bool → Type 0 = λ b. Decides b (Contains (map (λ (it : P × D). it.0) plain) (name key)) in

@@ -12,7 +12,7 @@ ghost use Rattle.cedar_queries.specs.Selected.{values_where};
 ghost use Rattle.cedar_queries.specs.Unresolved.{loc_of_first, unresolved};
 
 use crate::descent::{Actions, EntityTypes};
-use crate::selected::{SelectedValues, Test};
+use crate::selected::Test;
 use crate::tests_of_values::IsExternal;
 use crate::unresolved::{UnresolvedDeclaration, is_complete, unresolved_declarations};
 use cedar_below::{EntityType, EntityUID, Loc, M, Memory};
@@ -112,8 +112,10 @@ fn selected_names<K: Ord + Hash, V: SchemaNode<K>, T: Test<V>>(
         ≡ map V.node_name (values_where (T.holds test) nodes.now.entries)) }
 {
     let mut names = Vec::new(alloc);
-    for node in SelectedValues::new(nodes, test) {
-        names.push(node.name())?;
+    for node in nodes.values() {
+        if test.passes(node) {
+            names.push(node.name())?;
+        }
     }
     Ok(names)
 }

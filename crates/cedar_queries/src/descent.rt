@@ -182,9 +182,12 @@ fn may_be_in_any(
     ensures { IsTrue result ↔ Any (λ upper. MayBeIn (map plain_entry types.now.entries)
         (map plain_action_entry actions.now.entries) (type_name lower.now) (type_name upper)) uppers.now }
 {
-    uppers
-        .iter()
-        .any(|upper| may_be_in(types, actions, lower, upper))
+    for upper in uppers {
+        if may_be_in(types, actions, lower, upper) {
+            return true;
+        }
+    }
+    false
 }
 
 /// Whether entities of some of the one types may be among or below those of some of the others: one of
@@ -198,7 +201,10 @@ pub fn any_descendent_of(
     ensures { IsTrue result ↔ Any (λ lower. Any (λ upper. MayBeIn (map plain_entry types.now.entries)
         (map plain_action_entry actions.now.entries) (type_name lower) (type_name upper)) uppers.now) lowers.now }
 {
-    lowers
-        .iter()
-        .any(|lower| may_be_in_any(types, actions, lower, uppers))
+    for lower in lowers {
+        if may_be_in_any(types, actions, lower, uppers) {
+            return true;
+        }
+    }
+    false
 }
