@@ -33,66 +33,34 @@ use Rattle.cedar_below.specs.Lists.{Twice}
 use Rattle.cedar_declarations.specs.PlainSchema.{ActionKind, defined_action, external_action, ActionEntity, SchemaAction, SchemaEntityType}
 use Rattle.cedar_schema_elements.proofs.UidLemmas.{cmp, under}
 use Rattle.cedar_schema_elements.specs.ActionEntities.{IsEntityOf, Lists, named_values, plain_action_entity, schema_with}
-use Rattle.cedar_schema_elements.specs.Uppers.{IsUpper, ListsBelow, upper_set}
-use Rattle.cedar_schema_elements.proofs.UpperLemmas.{listed_plain}
+use Rattle.cedar_schema_elements.specs.Uppers.{HasNode, IsUpper, ListsBelow, upper_set}
+use Rattle.cedar_schema_elements.proofs.UpperLemmas.{node_more, node_plain}
 
 abbrev Item : Type 0
 Item = EntityUID × ValidatorActionId
 
-abbrev Plain : Type 0
-Plain = PlainUid × SchemaAction
-
 -- the uid is that of an action that is defined
 abbrev pub Defines : List Item → PlainUid → Type 0
-Defines actions uid = (it : SchemaAction) × Contains (map plain_action_entry actions) (uid, it) × IsDefinedKind it.kind
-
--- an entry among one more is among the others, or it is the new one
-entry_cases : (done : List Item) (key : EntityUID) (it : ValidatorActionId) (uid : PlainUid) (plain : SchemaAction)
-    → Contains (map plain_action_entry (done ++ (key, it) ∷ [])) (uid, plain)
-    → Contains (map plain_action_entry done) (uid, plain) ⊎ (plain_action_entry (key, it) ≡ (uid, plain))
-entry_cases done key it uid plain among =
-    let P : List Plain → Type 0 = λ entries. Contains entries (uid, plain) in
-    ⊎_elim (λ before. inl before) (λ last. inr (Contains-single (uid_of key, action_of it) (uid, plain) last))
-    (Contains-append_cases (map plain_action_entry done) ((uid_of key, action_of it) ∷ []) (uid, plain)
-    (subst P (map-append plain_action_entry done ((key, it) ∷ [])) among))
-
--- an entry stays
-entry_kept : (done : List Item) (key : EntityUID) (it : ValidatorActionId) (entry : Plain)
-    → Contains (map plain_action_entry done) entry → Contains (map plain_action_entry (done ++ (key, it) ∷ [])) entry
-entry_kept done key it entry among =
-    let P : List Plain → Type 0 = λ entries. Contains entries entry in
-    subst P (sym (map-append plain_action_entry done ((key, it) ∷ [])))
-    (Contains-append_left (map plain_action_entry done) ((uid_of key, action_of it) ∷ []) entry among)
-
--- the new entry is among them
-entry_new : (done : List Item) (key : EntityUID) (it : ValidatorActionId)
-    → Contains (map plain_action_entry (done ++ (key, it) ∷ [])) (uid_of key, action_of it)
-entry_new done key it =
-    Contains-image plain_action_entry (done ++ (key, it) ∷ []) (key, it)
-    (Contains-append_right done ((key, it) ∷ []) (key, it) (0, omega arith, refl))
+Defines = HasNode uid_of (λ (it : ValidatorActionId). IsDefinedKind (action_of it).kind)
 
 -- a uid is defined among one more where it was, or is that of the new one, which is
 defines_more : (done : List Item) (key : EntityUID) (it : ValidatorActionId) (uid : PlainUid)
     → Defines (done ++ (key, it) ∷ []) uid ↔ (Defines done uid ⊎ ((uid_of key ≡ uid) × IsDefinedKind (action_of it).kind))
-defines_more done key it uid = (
-  λ defined. ⊎_elim
-      (λ before. inl (defined.0, before, defined.2))
-      (λ last. let P : SchemaAction → Type 0 = λ each. IsDefinedKind each.kind in
-      inr (ap (λ (each : Plain). each.0) last, subst P (sym (ap (λ (each : Plain). each.1) last)) defined.2))
-      (entry_cases done key it uid defined.0 defined.1),
-  λ either. ⊎_elim
-      (λ before. (before.0, entry_kept done key it (uid, before.0) before.1, before.2))
-      (λ last. let P : PlainUid → Type 0 = λ each. Contains (map plain_action_entry (done ++ (key, it) ∷ [])) (each, action_of it) in
-      (action_of it, subst P last.0 (entry_new done key it), last.1))
-      either,
-)
+defines_more = node_more uid_of (λ (it : ValidatorActionId). IsDefinedKind (action_of it).kind)
+
+-- actions define what they do as plain data
+plain_defines : (actions : List Item) (uid : PlainUid)
+    → Defines actions uid ↔ ((it : SchemaAction) × Contains (map plain_action_entry actions) (uid, it) × IsDefinedKind it.kind)
+plain_defines =
+    node_plain uid_of (λ (it : ValidatorActionId). IsDefinedKind (action_of it).kind) plain_action_entry
+    (λ (it : SchemaAction). IsDefinedKind it.kind) (λ entry. refl) (λ entry. (λ is. is, λ is. is))
 
 -- actions list what they do as plain data
-pub plain_lists : (actions : List Item) (lower upper : PlainUid)
+plain_lists : (actions : List Item) (lower upper : PlainUid)
     → ListsBelow uid_of (λ (it : ValidatorActionId). (action_of it).descendants) actions lower upper ↔ Lists actions lower upper
-plain_lists =
-    listed_plain uid_of (λ (it : ValidatorActionId). (action_of it).descendants) plain_action_entry
-    (λ (it : SchemaAction). it.descendants) (λ entry. refl) (λ entry. refl)
+plain_lists actions lower upper =
+    node_plain uid_of (λ (it : ValidatorActionId). Contains (action_of it).descendants lower) plain_action_entry
+    (λ (it : SchemaAction). Contains it.descendants lower) (λ entry. refl) (λ entry. (λ is. is, λ is. is)) actions upper
 
 -- those above actions that are left are still there
 pub record UppersLeft (all : List Item) (uppers : BTreeMap EntityUID (BTreeSet EntityUID)) (left : List Item) : Type 0 where
@@ -320,7 +288,7 @@ module _ (all : List Item) where
         let P : ActionEntity → Type 0 = IsEntityOfAction (schema_with types all (entities_of entities)) in
         let Q : List Item → Type 0 = λ items. Defines items (entity_uid entity.0) in
         let made : P (plain_action_entity entity.0) = record {
-          defined = subst Q whole both.1;
+          defined = (plain_defines all (entity_uid entity.0)).0 (subst Q whole both.1);
           attributes = both.0.attributes;
           tags = both.0.tags;
           ancestors = both.0.ancestors;
@@ -328,7 +296,7 @@ module _ (all : List Item) where
         subst P entity.2 made;
     each = λ uid defined.
         let Q : List Item → Type 0 = λ items. Defines items uid in
-        let found = found_among (entities_of entities) uid (so_far.complete uid (subst Q (sym whole) defined)) in
+        let found = found_among (entities_of entities) uid (so_far.complete uid (subst Q (sym whole) ((plain_defines all uid).1 defined))) in
         let P : PlainUid → Type 0 = Contains (map (λ it. it.uid) (map plain_action_entity (entities_of entities))) in
         subst P found.2
         (Contains-image (λ (it : ActionEntity). it.uid) (map plain_action_entity (entities_of entities)) (plain_action_entity found.0)

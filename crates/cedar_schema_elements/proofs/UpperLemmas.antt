@@ -14,7 +14,7 @@ use Rattle.std.specs.declared.cmp.Ordering.TheVariants.{Equal}
 use Rattle.cedar_below.proofs.Lists.{Contains-cons, Contains-preimage, list_any-Contains}
 use Rattle.cedar_declarations.proofs.OccurrenceLemmas.{Contains-image, Contains-single}
 use Rattle.cedar_schema_elements.proofs.SetLemmas.{alike}
-use Rattle.cedar_schema_elements.specs.Uppers.{IsUpper, ListsBelow, upper_set}
+use Rattle.cedar_schema_elements.specs.Uppers.{HasNode, IsUpper, ListsBelow, upper_set}
 
 -- what sets have, by what their keys stand for
 module _ {K P : Type 0} (name : K → P) where
@@ -203,19 +203,17 @@ module _ {K P : Type 0} (cmp : K → K → Ordering) (name : K → P) (initial :
       → IsUpper cmp name uppers key above ↔ (IsUpper cmp name initial key above ⊎ ((upper ≡ above) × Contains uids (name key))) in
       subst S (sym (so_far.split ∙ (ap (λ others. so_far.done ++ others) nothing ∙ append-nil so_far.done))) so_far.same
 
-module _ {K V P : Type 0} (name : K → P) (below : V → List P) where
-  -- a node lists a name among one more where another did, or it is the new one and does
-  pub lists_more : (done : List (K × V)) (key : K) (it : V) (lower upper : P)
-      → ListsBelow name below (done ++ (key, it) ∷ []) lower upper
-      ↔ (ListsBelow name below done lower upper ⊎ ((name key ≡ upper) × Contains (below it) lower))
-  lists_more done key it lower upper = (
-    λ lists. ⊎_elim
-        (λ before. inl (lists.0, before, lists.2, lists.3))
+module _ {K V P : Type 0} (name : K → P) (Holds : V → Type 0) where
+  -- among one more is a node of a name where another was, or it is the new one
+  pub node_more : (done : List (K × V)) (key : K) (it : V) (named : P) → HasNode name Holds (done ++ (key, it) ∷ []) named
+      ↔ (HasNode name Holds done named ⊎ ((name key ≡ named) × Holds it))
+  node_more done key it named = (
+    λ of. ⊎_elim
+        (λ before. inl (of.0, before, of.2, of.3))
         (λ last.
-        let same = Contains-single (key, it) lists.0 last in
-        let S : V → Type 0 = λ each. Contains (below each) lower in
-        inr (ap (λ (entry : K × V). name entry.0) same ∙ lists.2, subst S (sym (ap (λ (entry : K × V). entry.1) same)) lists.3))
-        (Contains-append_cases done ((key, it) ∷ []) lists.0 lists.1),
+        let same = Contains-single (key, it) of.0 last in
+        inr (ap (λ (entry : K × V). name entry.0) same ∙ of.2, subst Holds (sym (ap (λ (entry : K × V). entry.1) same)) of.3))
+        (Contains-append_cases done ((key, it) ∷ []) of.0 of.1),
     ⊎_elim
         (λ before. (before.0, Contains-append_left done ((key, it) ∷ []) before.0 before.1, before.2, before.3))
         (λ last. (
@@ -226,28 +224,21 @@ module _ {K V P : Type 0} (name : K → P) (below : V → List P) where
       )),
   )
 
-  -- nodes that are shown as plain data list the same
-  pub listed_plain : {D : Type 0} (plain : K × V → P × D) (listed : D → List P)
-      → ((entry : K × V) → (plain entry).0 ≡ name entry.0) → ((entry : K × V) → listed (plain entry).1 ≡ below entry.1)
-      → (nodes : List (K × V)) (lower upper : P)
-      → ListsBelow name below nodes lower upper ↔ ((it : D) × Contains (map plain nodes) (upper, it) × Contains (listed it) lower)
-  listed_plain {D = D} plain listed keyed same nodes lower upper = (
-    λ lists.
-        let shown = plain lists.0 in
-        let S : P → Type 0 = λ each. Contains (map plain nodes) (each, shown.1) in
-        let T : List P → Type 0 = λ items. Contains items lower in (
-          shown.1,
-          subst S (keyed lists.0 ∙ lists.2) (Contains-image plain nodes lists.0 lists.1),
-          subst T (sym (same lists.0)) lists.3,
-        ),
+  -- so it is where the nodes are shown as plain data
+  pub node_plain : {D : Type 0} (plain : K × V → P × D) (R : D → Type 0) → ((entry : K × V) → (plain entry).0 ≡ name entry.0)
+      → ((entry : K × V) → Holds entry.1 ↔ R (plain entry).1) → (nodes : List (K × V)) (named : P)
+      → HasNode name Holds nodes named ↔ ((it : D) × Contains (map plain nodes) (named, it) × R it)
+  node_plain {D = D} plain R keyed same nodes named = (
     λ of.
-        let found = Contains-preimage plain nodes (upper, of.0) of.1 in
-        let S : D → Type 0 = λ each. Contains (listed each) lower in
-        let T : List P → Type 0 = λ items. Contains items lower in (
+        let shown = plain of.0 in
+        let S : P → Type 0 = λ each. Contains (map plain nodes) (each, shown.1) in
+        (shown.1, subst S (keyed of.0 ∙ of.2) (Contains-image plain nodes of.0 of.1), (same of.0).0 of.3),
+    λ of.
+        let found = Contains-preimage plain nodes (named, of.0) of.1 in (
           found.0,
           found.1,
           sym (keyed found.0) ∙ ap (λ (it : P × D). it.0) found.2,
-          subst T (same found.0) (subst S (sym (ap (λ (it : P × D). it.1) found.2)) of.2),
+          (same found.0).1 (subst R (sym (ap (λ (it : P × D). it.1) found.2)) of.2),
         ),
   )
 
@@ -282,11 +273,11 @@ module _ {K V P : Type 0} (cmp : K → K → Ordering) (name : K → P) (below :
     done = so_far.done ++ (upper, it) ∷ [];
     split = so_far.split ∙ (ap (λ others. so_far.done ++ others) is ∙ sym (append_assoc so_far.done ((upper, it) ∷ []) rest));
     same = λ key above. (
-      λ stands. (lists_more name below so_far.done upper it (name key) above).1
+      λ stands. (node_more name (λ node. Contains (below node) (name key)) so_far.done upper it above).1
           (⊎_elim (λ before. inl ((so_far.same key above).0 before)) (λ last. inr last) ((also key above).0 stands)),
       λ lists. (also key above).1
           (⊎_elim (λ before. inl ((so_far.same key above).1 before)) (λ last. inr last)
-          ((lists_more name below so_far.done upper it (name key) above).0 lists)),
+          ((node_more name (λ node. Contains (below node) (name key)) so_far.done upper it above).0 lists)),
     );
   }
 

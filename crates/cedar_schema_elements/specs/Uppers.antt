@@ -12,7 +12,11 @@ upper_set cmp uppers lower = get cmp uppers lower
 abbrev pub IsUpper : {K P : Type 0} → (K → K → Ordering) → (K → P) → BTreeMap K (BTreeSet K) → K → P → Type 0
 IsUpper cmp name uppers lower upper = IsSomeAnd (upper_set cmp uppers lower) (λ set. Contains (map name set.keys) upper)
 
+-- some node of the name is one of which the fact holds
+abbrev pub HasNode : {K V P : Type 0} → (K → P) → (V → Type 0) → List (K × V) → P → Type 0
+HasNode {K = K} {V = V} name Holds nodes key =
+    (entry : K × V) × Contains nodes entry × (name entry.0 ≡ key) × Holds entry.1
+
 -- some node of the one name lists the other name among those below it
 abbrev pub ListsBelow : {K V P : Type 0} → (K → P) → (V → List P) → List (K × V) → P → P → Type 0
-ListsBelow {K = K} {V = V} name below nodes lower upper =
-    (entry : K × V) × Contains nodes entry × (name entry.0 ≡ upper) × Contains (below entry.1) lower
+ListsBelow name below nodes lower upper = HasNode name (λ node. Contains (below node) lower) nodes upper

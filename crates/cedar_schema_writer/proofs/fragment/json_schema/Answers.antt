@@ -1,12 +1,13 @@
-use Rattle.std.proofs.Common.{ap, refl, sym, subst}
+use Rattle.std.proofs.Common.{Contains, ap, refl, sym, subst}
 use Rattle.std.proofs.lemmas.List.Elements.{All-nil}
 use Rattle.cedar_below.specs.EntityType.{type_name}
 use Rattle.cedar_below.specs.EntityUID.{uid_of}
 use Rattle.cedar_declarations.specs.PlainSchema.{SchemaAction, SchemaEntityType}
-use Rattle.cedar_schema_elements.proofs.UpperLemmas.{listed_plain}
+use Rattle.cedar_schema_elements.proofs.UpperLemmas.{node_plain}
 use Rattle.cedar_schema_elements.specs.ValidatorActionId.{action_of, plain_action_entry}
 use Rattle.cedar_schema_elements.specs.ValidatorEntityType.{descendant_names, plain_entry}
 use Rattle.cedar_schema_elements.specs.declared.action_id.ValidatorActionId.{ValidatorActionId}
+use Rattle.cedar_schema_elements.specs.declared.entity_type.ValidatorEntityType.{ValidatorEntityType}
 use Rattle.cedar_schema_writer.proofs.Refusals.{refusal_passed}
 use Rattle.cedar_schema_writer.proofs.Whole.{action_writable, no_action, parts_writable, parts_written, type_writable}
 use Rattle.cedar_schema_writer.specs.Definitions.{AreProper, Definitions, IsProper, definitions_bag}
@@ -26,14 +27,16 @@ known c = record {
 
 pub write_entity_types-requires-clause-uppers : goal.write_entity_types-requires-clause-uppers
 write_entity_types-requires-clause-uppers c = λ key above.
-    let lists = listed_plain type_name descendant_names plain_entry (λ (it : SchemaEntityType). it.descendants) (λ e. refl) (λ e. refl)
-    c.args.entity_types.now.entries (type_name key) above in
+    let lists = node_plain type_name (λ (it : ValidatorEntityType). Contains (descendant_names it) (type_name key)) plain_entry
+    (λ (it : SchemaEntityType). Contains it.descendants (type_name key)) (λ e. refl) (λ e. (λ is. is, λ is. is))
+    c.args.entity_types.now.entries above in
     let stands = c.in_ok-type_uppers.ensures key above in (λ upper. lists.0 (stands.0 upper), λ of. stands.1 (lists.1 of))
 
 pub write_actions-requires-clause-uppers : goal.write_actions-requires-clause-uppers
 write_actions-requires-clause-uppers c = λ key above.
-    let lists = listed_plain uid_of (λ (it : ValidatorActionId). (action_of it).descendants) plain_action_entry
-    (λ (it : SchemaAction). it.descendants) (λ e. refl) (λ e. refl) c.args.actions.now.entries (uid_of key) above in
+    let lists = node_plain uid_of (λ (it : ValidatorActionId). Contains (action_of it).descendants (uid_of key)) plain_action_entry
+    (λ (it : SchemaAction). Contains it.descendants (uid_of key)) (λ e. refl) (λ e. (λ is. is, λ is. is))
+    c.args.actions.now.entries above in
     let stands = c.in_ok-action_uppers.ensures key above in (λ upper. lists.0 (stands.0 upper), λ of. stands.1 (lists.1 of))
 
 pub returns-in_err-write_entity_types-clause-refusal : goal.returns-in_err-write_entity_types-clause-refusal
