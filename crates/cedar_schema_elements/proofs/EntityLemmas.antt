@@ -1,8 +1,7 @@
 -- The entities of actions, as they are collected one after another.
 use Rattle.std.proofs.Common.{◌≡◌, ◌≢◌, ◌⊎◌, ◌↔◌, ◌++◌, Bool, true, false, List, [], ◌∷◌, Option, Some, IsSome, is_some, find, string_bytes, map, ap, sym, subst, ◌∙◌, refl, inl, inr, ⊎_elim, arith, append_assoc, Contains, IsSomeAnd}
 use Rattle.std.proofs.lemmas.Bool.{false≢true, cond-true, cond-false}
-use Rattle.std.proofs.lemmas.List.{append-nil, map-append}
-use Rattle.std.proofs.lemmas.List.Elements.{Contains-append_cases, Contains-append_left, Contains-append_right}
+use Rattle.std.proofs.lemmas.List.{append-nil}
 use Rattle.std.proofs.lemmas.Option.{same_Some}
 use Rattle.std.proofs.lemmas.Simd.{map-map}
 use Rattle.std.specs.BTreeMap.{BTreeMap}
@@ -27,11 +26,11 @@ use Rattle.cedar_below.specs.declared.entities.Entities.{Entities}
 use Rattle.cedar_below.specs.declared.entity.Entity.{Entity}
 use Rattle.cedar_below.specs.declared.entity_uid.EntityUID.{EntityUID}
 use Rattle.cedar_below.specs.declared.value.Value.{Value}
-use Rattle.cedar_declarations.proofs.OccurrenceLemmas.{Contains-image, Contains-single, Twice-sorted_by_name, uid_test}
+use Rattle.cedar_declarations.proofs.OccurrenceLemmas.{Contains-image, Twice-sorted_by_name, uid_test}
 use Rattle.cedar_declarations.specs.ActionEntities.{AreActionEntities, IsDefinedKind, IsEntityOfAction}
 use Rattle.cedar_below.specs.Lists.{Twice}
 use Rattle.cedar_declarations.specs.PlainSchema.{ActionKind, defined_action, external_action, ActionEntity, SchemaAction, SchemaEntityType}
-use Rattle.cedar_schema_elements.proofs.UidLemmas.{cmp, under}
+use Rattle.cedar_schema_elements.proofs.KeyLemmas.{cmp, under}
 use Rattle.cedar_schema_elements.specs.ActionEntities.{IsEntityOf, Lists, named_values, plain_action_entity, schema_with}
 use Rattle.cedar_schema_elements.specs.Uppers.{HasNode, IsUpper, ListsBelow, upper_set}
 use Rattle.cedar_schema_elements.proofs.UpperLemmas.{node_more, node_plain}

@@ -3,7 +3,7 @@ mod EntityLemmas
 pub mod EntityTypeEquality
 mod EnvironmentLemmas
 mod GivenLemmas
+pub mod KeyLemmas
 pub mod NamedTypes
 pub mod SetLemmas
-mod UidLemmas
 pub mod UpperLemmas

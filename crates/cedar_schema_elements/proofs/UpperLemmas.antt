@@ -49,8 +49,8 @@ module _ {K P : Type 0} (cmp : K → K → Ordering) (name : K → P) (tied : (a
       → upper_set cmp uppers key ≡ upper_set cmp uppers other
   same_set uppers key other same =
       let tests : is_at (cmp key) ≡ is_at (cmp other) = λ i each.
-          alike (is_at (cmp key) each) (is_at (cmp other) each) (key_tie key each) (key_tie other each)
-          (λ is. is ∙ same) (λ is. is ∙ sym same) i in
+      alike (is_at (cmp key) each) (is_at (cmp other) each) (key_tie key each) (key_tie other each)
+      (λ is. is ∙ same) (λ is. is ∙ sym same) i in
       ap (λ test. lookup test uppers.entries) tests
 
   -- a set has a key exactly where one of its keys stands for the same
@@ -217,11 +217,11 @@ module _ {K V P : Type 0} (name : K → P) (Holds : V → Type 0) where
     ⊎_elim
         (λ before. (before.0, Contains-append_left done ((key, it) ∷ []) before.0 before.1, before.2, before.3))
         (λ last. (
-        (key, it),
-        Contains-append_right done ((key, it) ∷ []) (key, it) (Contains-cons (key, it) [] (key, it) (inl refl)),
-        last.0,
-        last.1,
-      )),
+          (key, it),
+          Contains-append_right done ((key, it) ∷ []) (key, it) (Contains-cons (key, it) [] (key, it) (inl refl)),
+          last.0,
+          last.1,
+        )),
   )
 
   -- so it is where the nodes are shown as plain data

@@ -1,5 +1,5 @@
 -- What can be written in a namespace.
-use Rattle.std.specs.Prelude.{Option, IsSome, List, Contains}
+use Rattle.std.specs.Prelude.{Option, IsSome, Contains}
 use Rattle.cedar_below.specs.PlainName.{IsActionType, PlainName}
 use Rattle.cedar_below.specs.PlainUid.{PlainUid}
 use Rattle.cedar_declarations.specs.EntityTypeKind.{EntityTypeKind}

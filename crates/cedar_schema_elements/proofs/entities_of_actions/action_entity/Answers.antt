@@ -5,7 +5,7 @@ use Rattle.cedar_below.specs.EntityUID.{uid_of}
 use Rattle.cedar_below.specs.PlainUid.{PlainUid}
 use Rattle.cedar_below.specs.declared.entity_uid.EntityUID.{EntityUID}
 use Rattle.cedar_schema_elements.proofs.EntityLemmas.{no_values}
-use Rattle.cedar_schema_elements.proofs.UidLemmas.{cmp}
+use Rattle.cedar_schema_elements.proofs.KeyLemmas.{cmp}
 use Rattle.cedar_schema_elements.proofs.UpperLemmas.{none_above, others_stay, some_above}
 use Rattle.cedar_schema_elements.specs.ActionEntities.{named_values}
 use Rattle.cedar_schema_elements.specs.Uppers.{IsUpper, upper_set}

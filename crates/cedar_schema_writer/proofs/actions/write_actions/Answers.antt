@@ -13,7 +13,7 @@ use Rattle.cedar_names.specs.Declaration.{action}
 use Rattle.cedar_names.specs.RawExpr.{raw_reference}
 use Rattle.cedar_names.specs.Reference.{ActionReference, name_within}
 use Rattle.cedar_names.specs.declared.json_schema.raw_name.RawName.{RawName}
-use Rattle.cedar_schema_writer.proofs.Keyed.{names_of_keys, uids_once}
+use Rattle.cedar_schema_elements.proofs.KeyLemmas.{names_of_keys, uids_once}
 use Rattle.cedar_schema_writer.proofs.KindLemmas.{images, images-same}
 use Rattle.cedar_schema_writer.proofs.NameLemmas.{in_each_namespace}
 use Rattle.cedar_schema_writer.proofs.Put.{put_here, put_more, put_none, put_other, put_sound}

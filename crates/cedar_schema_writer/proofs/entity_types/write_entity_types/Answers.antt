@@ -10,7 +10,7 @@ use Rattle.cedar_schema_elements.specs.ValidatorEntityType.{plain_entry}
 use Rattle.cedar_names.specs.EntityBody.{raw_entity_body}
 use Rattle.cedar_names.specs.RawName.{raw_name}
 use Rattle.cedar_names.specs.Reference.{name_within}
-use Rattle.cedar_schema_writer.proofs.Keyed.{names_of_keys, names_once}
+use Rattle.cedar_schema_elements.proofs.KeyLemmas.{names_of_keys, names_once}
 use Rattle.cedar_schema_writer.proofs.KindLemmas.{kind-same, sound_kind-same}
 use Rattle.cedar_schema_writer.proofs.NameLemmas.{in_each_namespace}
 use Rattle.cedar_schema_writer.proofs.Put.{put_here, put_more, put_none, put_other}

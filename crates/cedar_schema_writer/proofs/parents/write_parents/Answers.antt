@@ -10,10 +10,10 @@ pub returns-in-Some-clause-names : goal.returns-in-Some-clause-names
 returns-in-Some-clause-names g c =
     let above = some_above g.K.WrittenKey.named _ c.in-Some.above.now (sym c.in-Some.ensures.value) in
     ok_to _ _ (λ parents names upper.
-        let S : List g.K.WrittenKey.Named → Type 0 = λ items. Contains items upper in (
-          λ among. (above upper).1 (subst S names among),
-          λ stands. subst S (sym names) ((above upper).0 stands),
-        ))
+    let S : List g.K.WrittenKey.Named → Type 0 = λ items. Contains items upper in (
+      λ among. (above upper).1 (subst S names among),
+      λ stands. subst S (sym names) ((above upper).0 stands),
+    ))
     c.write_keys.result c.write_keys.ensures.names
 
 pub returns-in-Some-clause-no_other : goal.returns-in-Some-clause-no_other
