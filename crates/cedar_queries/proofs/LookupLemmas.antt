@@ -1,5 +1,5 @@
 -- What is found by name or by uid, as plain data.
-use Rattle.std.proofs.Common.{◌≡◌, ◌||◌, Bool, true, false, cond, List, [], ◌∷◌, Option, Some, None, is_some, map, ap, refl, sym, subst, ◌∙◌, Contains}
+use Rattle.std.proofs.Common.{◌≡◌, Bool, true, false, cond, List, [], ◌∷◌, Option, Some, None, is_some, map, ap, refl, sym, subst, ◌∙◌, Contains}
 use Rattle.std.proofs.lemmas.Map.Made.{is_some-lookup}
 use Rattle.std.specs.BTreeMap.{BTreeMap, get_by}
 use Rattle.std.specs.Bool.{Decides}

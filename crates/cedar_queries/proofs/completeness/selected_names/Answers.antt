@@ -1,4 +1,4 @@
-use Rattle.std.proofs.Common.{◌≡◌, ◌++◌, Bool, List, ◌∷◌, cond, ap, map, sym, ◌∙◌}
+use Rattle.std.proofs.Common.{◌++◌, ◌∷◌, cond, ap, map, sym, ◌∙◌}
 use Rattle.std.specs.List.{filter}
 use Rattle.cedar_queries.proofs.BorrowedLemmas.{borrowed, borrowed_all, borrowed_push}
 use Rattle.cedar_queries.specs.Selected.{values_where}
