@@ -1,11 +1,12 @@
 -- What is found by name or by uid, as plain data.
-use Rattle.std.proofs.Common.{◌≡◌, ◌||◌, Bool, true, false, cond, List, [], ◌∷◌, Option, Some, None, is_some, map, ap, refl, sym, subst, ◌∙◌, Contains}
+use Rattle.std.proofs.Common.{◌≡◌, Bool, true, false, cond, List, [], ◌∷◌, Option, Some, None, is_some, map, ap, refl, sym, subst, ◌∙◌, Contains}
+use Rattle.std.proofs.lemmas.Map.Made.{is_some-lookup}
 use Rattle.std.specs.BTreeMap.{BTreeMap, get_by}
 use Rattle.std.specs.Bool.{Decides}
-use Rattle.std.specs.List.{list_any}
 use Rattle.std.specs.Map.{lookup}
 use Rattle.std.specs.Option.{option_map, unwrap_or}
 use Rattle.std.specs.Ordering.{is_eq}
+use Rattle.std.specs.declared.cmp.Ordering.{Ordering}
 use Rattle.cedar_schema_elements.specs.ValidatorActionId.{action_of, plain_action_entry}
 use Rattle.cedar_schema_elements.specs.declared.action_id.ValidatorActionId.{ValidatorActionId}
 use Rattle.cedar_below.proofs.Names.{entity_type_ord-name_cmp}
@@ -40,16 +41,6 @@ lookup-map {K} {V} {L} {W} f g test (entry ∷ rest) =
     elim (test (f entry.0)) as (λ b. cond b (Some (g entry.1)) last ≡ option_map g (cond b (Some entry.1) first))
     [ true ↦ refl | false ↦ others ]
 
--- something is found exactly where some key passes
-is_some-lookup : {K V : Type 0} (test : K → Bool) (entries : List (K × V))
-    → is_some (lookup test entries) ≡ list_any test (map (λ entry. entry.0) entries)
-is_some-lookup test [] = refl
-is_some-lookup test (entry ∷ rest) =
-    let others = is_some-lookup test rest in
-    elim (test entry.0) as
-    (λ b. is_some (cond b (Some entry.1) (lookup test rest)) ≡ (b || list_any test (map (λ it. it.0) rest)))
-    [ true ↦ refl | false ↦ others ]
-
 -- something is found of a key exactly where it is one of the keys
 found-Decides : {K V : Type 0} (key : K) (test : K → Bool) → ((other : K) → Decides (test other) (key ≡ other))
     → (entries : List (K × V)) → Decides (is_some (lookup test entries)) (Contains (map (λ entry. entry.0) entries) key)
@@ -61,26 +52,40 @@ found-Decides {K} key test tests entries = (
   λ among. is_some-lookup test entries ∙ any_of test (map (λ entry. entry.0) entries) key among ((tests key).1 refl),
 )
 
+-- a map whose keys are ordered as what they stand for, and its entries as plain data
+module _ {K V P D : Type 0} (cmp : K → K → Ordering) (plain_cmp : P → P → Ordering) (name : K → P) (shown : V → D)
+    (same : (a b : K) → cmp a b ≡ plain_cmp (name a) (name b))
+    (test : (p q : P) → Decides (is_eq (plain_cmp p q)) (p ≡ q)) (values : BTreeMap K V) (key : K) where
+  -- what is found at a key, as plain data
+  value_found : lookup (λ other. is_eq (plain_cmp (name key) other)) (map (λ entry. (name entry.0, shown entry.1)) values.entries)
+      ≡ option_map shown (get_by (cmp key) values)
+  value_found =
+      lookup-map name shown (λ other. is_eq (plain_cmp (name key) other)) values.entries
+      ∙ sym (ap (λ compare. option_map shown (get_by compare values)) (λ i other. same key other i))
+
+  -- there is something exactly where the key stands for what one of them does
+  key_known : Decides (is_some (get_by (cmp key) values))
+      (Contains (map (λ (it : P × D). it.0) (map (λ entry. (name entry.0, shown entry.1)) values.entries)) (name key))
+  key_known =
+      let plain : List (P × D) = map (λ entry. (name entry.0, shown entry.1)) values.entries in
+      let S : Bool → Type 0 = λ b. Decides b (Contains (map (λ (it : P × D). it.0) plain) (name key)) in
+      subst S (ap is_some value_found ∙ mapped (get_by (cmp key) values))
+      (found-Decides (name key) (λ other. is_eq (plain_cmp (name key) other)) (test (name key)) plain)
+    where
+      mapped : (o : Option V) → is_some (option_map shown o) ≡ is_some o
+      mapped None = refl
+      mapped (Some it) = refl
+
 module _ (types : BTreeMap EntityType ValidatorEntityType) (name : EntityType) where
   -- the entity type of a name, as plain data
   pub type_found : lookup (λ other. is_eq (name_cmp (type_name name) other)) (map plain_entry types.entries)
       ≡ option_map plain_type (get_by ((type_ord.ghosts).cmp name) types)
-  type_found =
-      lookup-map type_name plain_type (λ other. is_eq (name_cmp (type_name name) other)) types.entries
-      ∙ sym (ap (λ compare. option_map plain_type (get_by compare types)) (λ i key. entity_type_ord-name_cmp name key i))
+  type_found = value_found ((type_ord.ghosts).cmp) name_cmp type_name plain_type entity_type_ord-name_cmp name_test types name
 
   -- there is one exactly where the name is one of theirs
   pub type_known : Decides (is_some (get_by ((type_ord.ghosts).cmp name) types))
       (Contains (map (λ it. it.0) (map plain_entry types.entries)) (type_name name))
-  type_known =
-      let P : Bool → Type 0 = λ b. Decides b (Contains (map (λ it. it.0) (map plain_entry types.entries)) (type_name name)) in
-      subst P (ap is_some type_found ∙ mapped (get_by ((type_ord.ghosts).cmp name) types))
-      (found-Decides (type_name name) (λ other. is_eq (name_cmp (type_name name) other)) (name_test (type_name name))
-      (map plain_entry types.entries))
-    where
-      mapped : (o : Option ValidatorEntityType) → is_some (option_map plain_type o) ≡ is_some o
-      mapped None = refl
-      mapped (Some it) = refl
+  type_known = key_known ((type_ord.ghosts).cmp) name_cmp type_name plain_type entity_type_ord-name_cmp name_test types name
 
   -- the descendants of a name are those of the entity type that is found
   pub descendants_found : (it : ValidatorEntityType) → get_by ((type_ord.ghosts).cmp name) types ≡ Some it
@@ -98,9 +103,7 @@ module _ (actions : BTreeMap EntityUID ValidatorActionId) (uid : EntityUID) wher
   -- the action of a uid, as plain data
   pub action_found : lookup (λ other. is_eq (uid_cmp (uid_of uid) other)) (map plain_action_entry actions.entries)
       ≡ option_map action_of (get_by ((uid_ord.ghosts).cmp uid) actions)
-  action_found =
-      lookup-map uid_of action_of (λ other. is_eq (uid_cmp (uid_of uid) other)) actions.entries
-      ∙ sym (ap (λ compare. option_map action_of (get_by compare actions)) (λ i key. entity_uid_ord-uid_cmp uid key i))
+  action_found = value_found ((uid_ord.ghosts).cmp) uid_cmp uid_of action_of entity_uid_ord-uid_cmp uid_test actions uid
 
   -- what is found at a uid, as plain data
   pub action_shown : (o : Option ValidatorActionId) → get_by ((uid_ord.ghosts).cmp uid) actions ≡ o
@@ -110,15 +113,7 @@ module _ (actions : BTreeMap EntityUID ValidatorActionId) (uid : EntityUID) wher
   -- there is one exactly where the uid is one of theirs
   pub action_known : Decides (is_some (get_by ((uid_ord.ghosts).cmp uid) actions))
       (Contains (map (λ it. it.0) (map plain_action_entry actions.entries)) (uid_of uid))
-  action_known =
-      let P : Bool → Type 0 = λ b. Decides b (Contains (map (λ it. it.0) (map plain_action_entry actions.entries)) (uid_of uid)) in
-      subst P (ap is_some action_found ∙ mapped (get_by ((uid_ord.ghosts).cmp uid) actions))
-      (found-Decides (uid_of uid) (λ other. is_eq (uid_cmp (uid_of uid) other)) (uid_test (uid_of uid))
-      (map plain_action_entry actions.entries))
-    where
-      mapped : (o : Option ValidatorActionId) → is_some (option_map action_of o) ≡ is_some o
-      mapped None = refl
-      mapped (Some it) = refl
+  action_known = key_known ((uid_ord.ghosts).cmp) uid_cmp uid_of action_of entity_uid_ord-uid_cmp uid_test actions uid
 
   -- the descendants of a uid are those of the action that is found
   pub action_descendants_found : (it : ValidatorActionId) → get_by ((uid_ord.ghosts).cmp uid) actions ≡ Some it

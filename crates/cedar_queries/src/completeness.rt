@@ -4,25 +4,25 @@ ghost use Rattle.std.specs.Fmt.{WritesOnOk};
 ghost use Rattle.std.specs.Prelude.{◌≡◌, ◌≢◌, [], IfErr, IfOk, OnOk, Some, map};
 ghost use Rattle.std.specs.List.{flat_map};
 ghost use Rattle.std.specs.List.Sorted.{IsPermutation, IsSorted};
-ghost use Rattle.cedar_schema_elements.specs.ValidatorActionId.{action_of};
 ghost use Rattle.cedar_below.specs.EntityType.{type_name};
 ghost use Rattle.cedar_below.specs.EntityUID.{uid_of};
-ghost use Rattle.cedar_below.specs.PlainName.{name_cmp};
-ghost use Rattle.cedar_below.specs.PlainUid.{uid_cmp};
-ghost use Rattle.cedar_schema_elements.specs.ValidatorEntityType.{entity_type_of};
 ghost use Rattle.cedar_queries.specs.Incomplete.{IsIncomplete};
 ghost use Rattle.cedar_queries.specs.IncompleteText.{complete_error_text, external_action_text, external_type_text, incomplete_text};
-ghost use Rattle.cedar_queries.specs.Unresolved.{external_actions, external_types, loc_of_first, unresolved};
+ghost use Rattle.cedar_queries.specs.Selected.{values_where};
+ghost use Rattle.cedar_queries.specs.Unresolved.{loc_of_first, unresolved};
 
 use crate::descent::{Actions, EntityTypes};
-use crate::selected::SelectedValues;
+use crate::selected::Test;
 use crate::tests_of_values::IsExternal;
 use crate::unresolved::{UnresolvedDeclaration, is_complete, unresolved_declarations};
 use cedar_below::{EntityType, EntityUID, Loc, M, Memory};
+use cedar_schema_elements::SchemaNode;
 use itertools::Itertools;
 use std::alloc::Global;
+use std::collections::BTreeMap;
 use std::error::Error;
 use std::fmt;
+use std::hash::Hash;
 
 /// A schema lacks the definitions of what it declares to be external.
 #[derive(Debug, Drop)]
@@ -102,28 +102,22 @@ impl From<Memory> for CompleteError {
     }
 }
 
-/// References to the names of the external entity types.
-fn external_names(alloc: Global, types: &EntityTypes) -> M<Vec<&EntityType>>
-    ensures { IfOk result (λ names. map (λ name. type_name name.now) names.items
-        ≡ map (λ it. (entity_type_of it).name) (external_types types.now.entries)) }
+/// References to the names of those nodes that pass a test.
+fn selected_names<K: Ord + Hash, V: SchemaNode<K>, T: Test<V>>(
+    alloc: Global,
+    nodes: &BTreeMap<K, V>,
+    test: T,
+) -> M<Vec<&K>>
+    ensures { IfOk result (λ names. map (λ name. V.key_name name.now) names.items
+        ≡ map V.node_name (values_where (T.holds test) nodes.now.entries)) }
 {
     let mut names = Vec::new(alloc);
-    for ty in SelectedValues::new(types, IsExternal) {
-        names.push(ty.name())?;
+    for node in nodes.values() {
+        if test.passes(node) {
+            names.push(node.name())?;
+        }
     }
     Ok(names)
-}
-
-/// References to the uids of the external actions.
-fn external_uids(alloc: Global, actions: &Actions) -> M<Vec<&EntityUID>>
-    ensures { IfOk result (λ uids. map (λ uid. uid_of uid.now) uids.items
-        ≡ map (λ it. (action_of it).uid) (external_actions actions.now.entries)) }
-{
-    let mut uids = Vec::new(alloc);
-    for action in SelectedValues::new(actions, IsExternal) {
-        uids.push(action.name())?;
-    }
-    Ok(uids)
 }
 
 /// The same references in the order of what they refer to.
@@ -135,30 +129,21 @@ fn in_order<'a, T: Ord>(references: Vec<&'a T>) -> M<Vec<&'a T>>
     Ok(references.into_iter().sorted(alloc)?.collect_vec(alloc)?)
 }
 
-/// The names of the external entity types, in order.
-fn external_types(alloc: Global, types: &EntityTypes) -> M<Vec<EntityType>>
+/// The names of those nodes that pass a test, in order.
+fn names_in_order<K: Ord + Hash + Drop, V: SchemaNode<K>, T: Test<V>>(
+    alloc: Global,
+    nodes: &BTreeMap<K, V>,
+    test: T,
+) -> M<Vec<K>>
     ensures names { IfOk result (λ names. IsPermutation
-        (map (λ it. (entity_type_of it).name) (external_types types.now.entries)) (map type_name names.items)) }
-    ensures sorted { IfOk result (λ names. IsSorted name_cmp (map type_name names.items)) }
+        (map V.node_name (values_where (T.holds test) nodes.now.entries)) (map V.key_name names.items)) }
+    ensures sorted { IfOk result (λ names. IsSorted V.name_order (map V.key_name names.items)) }
 {
     let mut names = Vec::new(alloc);
-    for name in &in_order(external_names(alloc, types)?)? {
-        names.push((**name).clone()?)?;
+    for name in &in_order(selected_names(alloc, nodes, test)?)? {
+        names.push(V::copy_name(*name)?)?;
     }
     Ok(names)
-}
-
-/// The uids of the external actions, in order.
-fn external_actions(alloc: Global, actions: &Actions) -> M<Vec<EntityUID>>
-    ensures uids { IfOk result (λ uids. IsPermutation
-        (map (λ it. (action_of it).uid) (external_actions actions.now.entries)) (map uid_of uids.items)) }
-    ensures sorted { IfOk result (λ uids. IsSorted uid_cmp (map uid_of uids.items)) }
-{
-    let mut uids = Vec::new(alloc);
-    for uid in &in_order(external_uids(alloc, actions)?)? {
-        uids.push((**uid).clone()?)?;
-    }
-    Ok(uids)
 }
 
 /// Where the first external entity type was declared, or else the first external action.
@@ -185,8 +170,8 @@ pub fn check_complete(
         return Ok(());
     }
     Err(CompleteError::Incomplete(IncompleteSchemaError {
-        entity_types: external_types(alloc, types)?,
-        actions: external_actions(alloc, actions)?,
+        entity_types: names_in_order(alloc, types, IsExternal)?,
+        actions: names_in_order(alloc, actions, IsExternal)?,
         loc: first_loc(types, actions),
     }))
 }

@@ -1,13 +1,11 @@
--- Actions above their descendants, and the entities of actions, as they are collected one after another.
+-- The entities of actions, as they are collected one after another.
 use Rattle.std.proofs.Common.{◌≡◌, ◌≢◌, ◌⊎◌, ◌↔◌, ◌++◌, Bool, true, false, List, [], ◌∷◌, Option, Some, IsSome, is_some, find, string_bytes, map, ap, sym, subst, ◌∙◌, refl, inl, inr, ⊎_elim, arith, append_assoc, Contains, IsSomeAnd}
 use Rattle.std.proofs.lemmas.Bool.{false≢true, cond-true, cond-false}
-use Rattle.std.proofs.lemmas.List.{append-nil, map-append}
-use Rattle.std.proofs.lemmas.List.Elements.{Contains-append_cases, Contains-append_left, Contains-append_right}
+use Rattle.std.proofs.lemmas.List.{append-nil}
 use Rattle.std.proofs.lemmas.Option.{same_Some}
 use Rattle.std.proofs.lemmas.Simd.{map-map}
-use Rattle.std.specs.BTreeMap.{BTreeMap, is_at}
+use Rattle.std.specs.BTreeMap.{BTreeMap}
 use Rattle.std.specs.BTreeSet.{BTreeSet}
-use Rattle.std.specs.Map.{lookup}
 use Rattle.std.specs.List.Sorted.{IsStrictlySortedBy}
 use Rattle.std.specs.Ordering.{is_eq}
 use Rattle.std.specs.declared.alloc.Global.{Global}
@@ -28,151 +26,69 @@ use Rattle.cedar_below.specs.declared.entities.Entities.{Entities}
 use Rattle.cedar_below.specs.declared.entity.Entity.{Entity}
 use Rattle.cedar_below.specs.declared.entity_uid.EntityUID.{EntityUID}
 use Rattle.cedar_below.specs.declared.value.Value.{Value}
-use Rattle.cedar_declarations.proofs.OccurrenceLemmas.{Contains-image, Contains-single, Twice-sorted_by_name, uid_test}
+use Rattle.cedar_declarations.proofs.OccurrenceLemmas.{Contains-image, Twice-sorted_by_name, uid_test}
 use Rattle.cedar_declarations.specs.ActionEntities.{AreActionEntities, IsDefinedKind, IsEntityOfAction}
 use Rattle.cedar_below.specs.Lists.{Twice}
 use Rattle.cedar_declarations.specs.PlainSchema.{ActionKind, defined_action, external_action, ActionEntity, SchemaAction, SchemaEntityType}
-use Rattle.cedar_schema_elements.proofs.UidLemmas.{cmp, under}
+use Rattle.cedar_schema_elements.proofs.KeyLemmas.{cmp, under}
 use Rattle.cedar_schema_elements.specs.ActionEntities.{IsEntityOf, Lists, named_values, plain_action_entity, schema_with}
-use Rattle.cedar_schema_elements.specs.Uppers.{IsUpper, upper_set}
+use Rattle.cedar_schema_elements.specs.Uppers.{HasNode, IsUpper, ListsBelow, upper_set}
+use Rattle.cedar_schema_elements.proofs.UpperLemmas.{node_more, node_plain}
 
 abbrev Item : Type 0
 Item = EntityUID × ValidatorActionId
 
-abbrev Plain : Type 0
-Plain = PlainUid × SchemaAction
-
 -- the uid is that of an action that is defined
 abbrev pub Defines : List Item → PlainUid → Type 0
-Defines actions uid = (it : SchemaAction) × Contains (map plain_action_entry actions) (uid, it) × IsDefinedKind it.kind
-
--- an entry among one more is among the others, or it is the new one
-entry_cases : (done : List Item) (key : EntityUID) (it : ValidatorActionId) (uid : PlainUid) (plain : SchemaAction)
-    → Contains (map plain_action_entry (done ++ (key, it) ∷ [])) (uid, plain)
-    → Contains (map plain_action_entry done) (uid, plain) ⊎ (plain_action_entry (key, it) ≡ (uid, plain))
-entry_cases done key it uid plain among =
-    let P : List Plain → Type 0 = λ entries. Contains entries (uid, plain) in
-    ⊎_elim (λ before. inl before) (λ last. inr (Contains-single (uid_of key, action_of it) (uid, plain) last))
-    (Contains-append_cases (map plain_action_entry done) ((uid_of key, action_of it) ∷ []) (uid, plain)
-    (subst P (map-append plain_action_entry done ((key, it) ∷ [])) among))
-
--- an entry stays
-entry_kept : (done : List Item) (key : EntityUID) (it : ValidatorActionId) (entry : Plain)
-    → Contains (map plain_action_entry done) entry → Contains (map plain_action_entry (done ++ (key, it) ∷ [])) entry
-entry_kept done key it entry among =
-    let P : List Plain → Type 0 = λ entries. Contains entries entry in
-    subst P (sym (map-append plain_action_entry done ((key, it) ∷ [])))
-    (Contains-append_left (map plain_action_entry done) ((uid_of key, action_of it) ∷ []) entry among)
-
--- the new entry is among them
-entry_new : (done : List Item) (key : EntityUID) (it : ValidatorActionId)
-    → Contains (map plain_action_entry (done ++ (key, it) ∷ [])) (uid_of key, action_of it)
-entry_new done key it =
-    Contains-image plain_action_entry (done ++ (key, it) ∷ []) (key, it)
-    (Contains-append_right done ((key, it) ∷ []) (key, it) (0, omega arith, refl))
-
--- an action lists another among one more where it did, or is the new one and does
-lists_more : (done : List Item) (key : EntityUID) (it : ValidatorActionId) (lower upper : PlainUid)
-    → Lists (done ++ (key, it) ∷ []) lower upper
-    ↔ (Lists done lower upper ⊎ ((uid_of key ≡ upper) × Contains (action_of it).descendants lower))
-lists_more done key it lower upper = (
-  λ lists. ⊎_elim
-      (λ before. inl (lists.0, before, lists.2))
-      (λ last. let P : SchemaAction → Type 0 = λ each. Contains each.descendants lower in
-      inr (ap (λ (each : Plain). each.0) last, subst P (sym (ap (λ (each : Plain). each.1) last)) lists.2))
-      (entry_cases done key it upper lists.0 lists.1),
-  λ either. ⊎_elim
-      (λ before. (before.0, entry_kept done key it (upper, before.0) before.1, before.2))
-      (λ last. let P : PlainUid → Type 0 = λ each. Contains (map plain_action_entry (done ++ (key, it) ∷ [])) (each, action_of it) in
-      (action_of it, subst P last.0 (entry_new done key it), last.1))
-      either,
-)
+Defines = HasNode uid_of (λ (it : ValidatorActionId). IsDefinedKind (action_of it).kind)
 
 -- a uid is defined among one more where it was, or is that of the new one, which is
 defines_more : (done : List Item) (key : EntityUID) (it : ValidatorActionId) (uid : PlainUid)
     → Defines (done ++ (key, it) ∷ []) uid ↔ (Defines done uid ⊎ ((uid_of key ≡ uid) × IsDefinedKind (action_of it).kind))
-defines_more done key it uid = (
-  λ defined. ⊎_elim
-      (λ before. inl (defined.0, before, defined.2))
-      (λ last. let P : SchemaAction → Type 0 = λ each. IsDefinedKind each.kind in
-      inr (ap (λ (each : Plain). each.0) last, subst P (sym (ap (λ (each : Plain). each.1) last)) defined.2))
-      (entry_cases done key it uid defined.0 defined.1),
-  λ either. ⊎_elim
-      (λ before. (before.0, entry_kept done key it (uid, before.0) before.1, before.2))
-      (λ last. let P : PlainUid → Type 0 = λ each. Contains (map plain_action_entry (done ++ (key, it) ∷ [])) (each, action_of it) in
-      (action_of it, subst P last.0 (entry_new done key it), last.1))
-      either,
-)
+defines_more = node_more uid_of (λ (it : ValidatorActionId). IsDefinedKind (action_of it).kind)
 
--- of some actions each stands above its descendants, and others are left
-pub record UppersSoFar (all : List Item) (uppers : BTreeMap EntityUID (BTreeSet EntityUID)) (left : List Item) : Type 0 where
-  pub done : List Item
-  pub split : all ≡ done ++ left
-  pub same : (key : EntityUID) (above : PlainUid) → IsUpper uppers key above ↔ Lists done (uid_of key) above
+-- actions define what they do as plain data
+plain_defines : (actions : List Item) (uid : PlainUid)
+    → Defines actions uid ↔ ((it : SchemaAction) × Contains (map plain_action_entry actions) (uid, it) × IsDefinedKind it.kind)
+plain_defines =
+    node_plain uid_of (λ (it : ValidatorActionId). IsDefinedKind (action_of it).kind) plain_action_entry
+    (λ (it : SchemaAction). IsDefinedKind it.kind) (λ entry. refl) (λ entry. (λ is. is, λ is. is))
 
-module _ (all : List Item) where
-  -- at first none does
-  pub uppers_none : (left : List Item) (uppers : BTreeMap EntityUID (BTreeSet EntityUID)) → left ≡ all → uppers.entries ≡ []
-      → UppersSoFar all uppers left
-  uppers_none left uppers same nothing = record {
-    done = [];
-    split = sym same;
-    same = λ key above.
-        let P : Option (BTreeSet EntityUID) → Type 0 = λ o. IsSomeAnd o (λ set. Contains (map uid_of set.keys) above) in (
-          λ upper. absurd (subst P (ap (lookup (is_at (cmp key))) nothing) upper),
-          λ lists. absurd (omega (arith, lists.1.1)),
-        );
-  }
-
-  -- one more does
-  pub uppers_more : (left rest : List Item) (middle after : BTreeMap EntityUID (BTreeSet EntityUID)) (upper : EntityUID)
-      (it : ValidatorActionId) → left ≡ (upper, it) ∷ rest
-      → ((key : EntityUID) (above : PlainUid) → IsUpper after key above
-      ↔ (IsUpper middle key above ⊎ ((uid_of upper ≡ above) × Contains (action_of it).descendants (uid_of key))))
-      → UppersSoFar all middle left → UppersSoFar all after rest
-  uppers_more left rest middle after upper it is also so_far = record {
-    done = so_far.done ++ (upper, it) ∷ [];
-    split = so_far.split ∙ (ap (λ others. so_far.done ++ others) is ∙ sym (append_assoc so_far.done ((upper, it) ∷ []) rest));
-    same = λ key above. (
-      λ stands. (lists_more so_far.done upper it (uid_of key) above).1
-          (⊎_elim (λ before. inl ((so_far.same key above).0 before)) (λ last. inr last) ((also key above).0 stands)),
-      λ lists. (also key above).1
-          (⊎_elim (λ before. inl ((so_far.same key above).1 before)) (λ last. inr last)
-          ((lists_more so_far.done upper it (uid_of key) above).0 lists)),
-    );
-  }
-
-  -- where none is left, all do
-  pub uppers_all : (left : List Item) (uppers : BTreeMap EntityUID (BTreeSet EntityUID)) → left ≡ [] → UppersSoFar all uppers left
-      → (key : EntityUID) (above : PlainUid) → IsUpper uppers key above ↔ Lists all (uid_of key) above
-  uppers_all left uppers nothing so_far =
-      let P : List Item → Type 0 = λ items. (key : EntityUID) (above : PlainUid) → IsUpper uppers key above
-      ↔ Lists items (uid_of key) above in
-      subst P (sym (so_far.split ∙ (ap (λ others. so_far.done ++ others) nothing ∙ append-nil so_far.done))) so_far.same
+-- actions list what they do as plain data
+plain_lists : (actions : List Item) (lower upper : PlainUid)
+    → ListsBelow uid_of (λ (it : ValidatorActionId). (action_of it).descendants) actions lower upper ↔ Lists actions lower upper
+plain_lists actions lower upper =
+    node_plain uid_of (λ (it : ValidatorActionId). Contains (action_of it).descendants lower) plain_action_entry
+    (λ (it : SchemaAction). Contains it.descendants lower) (λ entry. refl) (λ entry. (λ is. is, λ is. is)) actions upper
 
 -- those above actions that are left are still there
 pub record UppersLeft (all : List Item) (uppers : BTreeMap EntityUID (BTreeSet EntityUID)) (left : List Item) : Type 0 where
   pub distinct : (uid : PlainUid) → ¬ Twice (map under (map plain_action_entry left)) uid
   pub still : (key : EntityUID) → Contains (map under (map plain_action_entry left)) (uid_of key) → (above : PlainUid)
-      → IsUpper uppers key above ↔ Lists all (uid_of key) above
+      → IsUpper cmp uid_of uppers key above ↔ Lists all (uid_of key) above
 
 module _ (all : List Item) where
   -- at first all are
   pub left_all : (left : List Item) (uppers : BTreeMap EntityUID (BTreeSet EntityUID)) → left ≡ all
       → ((uid : PlainUid) → ¬ Twice (map under (map plain_action_entry all)) uid)
-      → ((key : EntityUID) (above : PlainUid) → IsUpper uppers key above ↔ Lists all (uid_of key) above)
+      → ((key : EntityUID) (above : PlainUid) → IsUpper cmp uid_of uppers key above
+      ↔ ListsBelow uid_of (λ (it : ValidatorActionId). (action_of it).descendants) all (uid_of key) above)
       → UppersLeft all uppers left
   left_all left uppers same distinct stands = record {
     distinct =
         let P : List Item → Type 0 = λ items. (uid : PlainUid) → ¬ Twice (map under (map plain_action_entry items)) uid in
         subst P (sym same) distinct;
-    still = λ key among. stands key;
+    still = λ key among above.
+        let lists = plain_lists all (uid_of key) above in (
+          λ upper. lists.0 ((stands key above).0 upper),
+          λ listed. (stands key above).1 (lists.1 listed),
+        );
   }
 
   module _ (left rest : List Item) (uppers : BTreeMap EntityUID (BTreeSet EntityUID)) (key : EntityUID) (it : ValidatorActionId)
       (is : left ≡ (key, it) ∷ rest) (so_far : UppersLeft all uppers left) where
     -- those above the next one are
-    pub left_here : (above : PlainUid) → IsUpper uppers key above ↔ Lists all (uid_of key) above
+    pub left_here : (above : PlainUid) → IsUpper cmp uid_of uppers key above ↔ Lists all (uid_of key) above
     left_here =
         let P : List Item → Type 0 = λ items. Contains (map under (map plain_action_entry items)) (uid_of key) in
         so_far.still key
@@ -180,7 +96,7 @@ module _ (all : List Item) where
 
     -- where only these are taken out, the others are
     pub left_rest : (new : BTreeMap EntityUID (BTreeSet EntityUID))
-        → ((other : EntityUID) → uid_of other ≢ uid_of key → upper_set new other ≡ upper_set uppers other)
+        → ((other : EntityUID) → uid_of other ≢ uid_of key → upper_set cmp new other ≡ upper_set cmp uppers other)
         → UppersLeft all new rest
     left_rest new others = record {
       distinct = λ uid twice. distinct_here uid (inr twice);
@@ -371,7 +287,7 @@ module _ (all : List Item) where
         let P : ActionEntity → Type 0 = IsEntityOfAction (schema_with types all (entities_of entities)) in
         let Q : List Item → Type 0 = λ items. Defines items (entity_uid entity.0) in
         let made : P (plain_action_entity entity.0) = record {
-          defined = subst Q whole both.1;
+          defined = (plain_defines all (entity_uid entity.0)).0 (subst Q whole both.1);
           attributes = both.0.attributes;
           tags = both.0.tags;
           ancestors = both.0.ancestors;
@@ -379,7 +295,7 @@ module _ (all : List Item) where
         subst P entity.2 made;
     each = λ uid defined.
         let Q : List Item → Type 0 = λ items. Defines items uid in
-        let found = found_among (entities_of entities) uid (so_far.complete uid (subst Q (sym whole) defined)) in
+        let found = found_among (entities_of entities) uid (so_far.complete uid (subst Q (sym whole) ((plain_defines all uid).1 defined))) in
         let P : PlainUid → Type 0 = Contains (map (λ it. it.uid) (map plain_action_entity (entities_of entities))) in
         subst P found.2
         (Contains-image (λ (it : ActionEntity). it.uid) (map plain_action_entity (entities_of entities)) (plain_action_entity found.0)

@@ -1,11 +1,8 @@
 -- Entity types of schemas are equal exactly where they are the same, ignoring locations.
-use Rattle.std.proofs.Common.{◌≡◌, Bool, true, false, Option, Some, None, List, [], ◌∷◌, map, refl, ap, nat_eq}
-use Rattle.std.proofs.lemmas.Bool.{false≢true}
+use Rattle.std.proofs.Common.{◌≡◌, Option, Some, None, List, [], ◌∷◌, map, refl, ap, nat_eq}
 use Rattle.std.proofs.lemmas.Bool.Decides.{Decides-and, Decides-like}
-use Rattle.std.proofs.lemmas.Map.Lookups.{hash_set_eq_decides}
 use Rattle.std.specs.Bool.{Decides}
 use Rattle.std.specs.Cmp.Lexicographic.{pointwise}
-use Rattle.std.specs.HashSet.{hash_set_eq}
 use Rattle.std.specs.Option.{option_eq, option_map}
 use Rattle.cedar_below.proofs.Names.{entity_type_eq-same}
 use Rattle.cedar_below.proofs.Texts.{text_eq-Decides}
@@ -15,8 +12,7 @@ use Rattle.cedar_below.specs.contracts.entity_type.EntityTypeEq.TheImpl as entit
 use Rattle.cedar_below.specs.contracts.entity_type.EntityTypePartialEq.TheImpl as name_eq
 use Rattle.cedar_below.specs.declared.eid.Eid.{Eid}
 use Rattle.cedar_types.proofs.EqualityLaws.{none, types-Decides, attributes-Decides, open_tag-Decides}
-use Rattle.cedar_types.proofs.MemberLemmas.{list_any-names}
-use Rattle.cedar_schema_elements.proofs.MemberLemmas.{SameItems-searches}
+use Rattle.cedar_schema_elements.proofs.SetLemmas.{sets-Decides}
 use Rattle.cedar_declarations.specs.EntityTypeKind.{standard_kind, enumerated_kind, kind_fields, kind_openness, kind_tags}
 use Rattle.cedar_schema_elements.specs.EntityTypeKind.{plain_kind, plain_standard}
 use Rattle.cedar_types.specs.Meaning.{ty_of}
@@ -66,23 +62,6 @@ kinds-Decides (variant.Enum a) (variant.Enum b) = Decides-like _ (ap enumerated_
 kinds-Decides variant.External variant.External = (λ _. refl, λ _. refl)
 kinds-Decides a b = none (λ e. cc)
 
--- tests of facts that hold together answer alike
-alike : {P Q : Type 0} (a b : Bool) → Decides a P → Decides b Q → (P → Q) → (Q → P) → a ≡ b
-alike true true first second forth back = refl
-alike true false first second forth back = absurd (false≢true (second.1 (forth (first.0 refl))))
-alike false true first second forth back = absurd (false≢true (first.1 (back (second.0 refl))))
-alike false false first second forth back = refl
-
--- sets of descendants are equal exactly where they have the same names
-descendants-Decides : (a b : ValidatorEntityType)
-    → Decides (hash_set_eq (name_eq.ghosts).eq a.descendants b.descendants) (SameItems (descendant_names a) (descendant_names b))
-descendants-Decides a b =
-    Decides-like _
-    (λ same. SameItems-searches a.descendants.keys b.descendants.keys same)
-    (λ same ty. alike _ _ (list_any-names ty a.descendants.keys) (list_any-names ty b.descendants.keys)
-    (same (type_name ty)).0 (same (type_name ty)).1)
-    (hash_set_eq_decides entity_type_equal.Laws.laws-law a.descendants b.descendants)
-
 -- entity types are equal exactly where their names, their kinds and their descendants are
 pub entity_types-Same : (a b : ValidatorEntityType) → Decides ((entity_type_eq.ghosts).eq a b)
     ((entity_type_of a ≡ entity_type_of b) × SameItems (descendant_names a) (descendant_names b))
@@ -90,4 +69,4 @@ entity_types-Same a b =
     Decides-like _
     (λ all. ((λ i. record { name = all.0 i; kind = all.1.1 i }), all.1.0))
     (λ same. (ap (λ (it : PlainEntityType). it.name) same.0, (same.1, ap (λ (it : PlainEntityType). it.kind) same.0)))
-    (Decides-and _ _ (entity_type_eq-same a.name b.name) (Decides-and _ _ (descendants-Decides a b) (kinds-Decides a.kind b.kind)))
+    (Decides-and _ _ (entity_type_eq-same a.name b.name) (Decides-and _ _ (sets-Decides (name_eq.ghosts).eq type_name entity_type_equal.Laws.laws-law entity_type_eq-same a.descendants b.descendants) (kinds-Decides a.kind b.kind)))

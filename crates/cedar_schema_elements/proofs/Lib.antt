@@ -1,11 +1,9 @@
 pub mod ActionEquality
-pub mod DescendantLemmas
 mod EntityLemmas
 pub mod EntityTypeEquality
 mod EnvironmentLemmas
 mod GivenLemmas
-pub mod MemberLemmas
+pub mod KeyLemmas
 pub mod NamedTypes
 pub mod SetLemmas
-mod UidLemmas
-mod UpperLemmas
+pub mod UpperLemmas

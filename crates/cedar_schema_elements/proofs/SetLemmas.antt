@@ -44,7 +44,7 @@ cond-last false true = refl
 cond-last false false = refl
 
 -- tests of facts that hold together answer alike
-alike : {P Q : Type 0} (a b : Bool) → Decides a P → Decides b Q → (P → Q) → (Q → P) → a ≡ b
+pub alike : {P Q : Type 0} (a b : Bool) → Decides a P → Decides b Q → (P → Q) → (Q → P) → a ≡ b
 alike true true first second forth back = refl
 alike true false first second forth back = absurd (false≢true (second.1 (forth (first.0 refl))))
 alike false true first second forth back = absurd (false≢true (first.1 (back (second.0 refl))))

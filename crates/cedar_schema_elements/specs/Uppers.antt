@@ -1,16 +1,22 @@
--- What stands above actions, each set under the uid of the lower one.
-use Rattle.std.specs.Prelude.{Option, Contains, IsSomeAnd, map}
+-- What stands above the nodes of a hierarchy, each set under the key of the lower node.
+use Rattle.std.specs.Prelude.{◌≡◌, List, Option, Contains, IsSomeAnd, map}
 use Rattle.std.specs.BTreeMap.{BTreeMap, get}
 use Rattle.std.specs.BTreeSet.{BTreeSet}
-use Rattle.cedar_below.specs.EntityUID.{uid_of}
-use Rattle.cedar_below.specs.PlainUid.{PlainUid}
-use Rattle.cedar_below.specs.contracts.entity_uid.EntityUIDOrd.TheImpl as uid_ord
-use Rattle.cedar_below.specs.declared.entity_uid.EntityUID.{EntityUID}
+use Rattle.std.specs.declared.cmp.Ordering.{Ordering}
 
--- the set under a uid
-abbrev pub upper_set : BTreeMap EntityUID (BTreeSet EntityUID) → EntityUID → Option (BTreeSet EntityUID)
-upper_set uppers lower = get ((uid_ord.ghosts).cmp) uppers lower
+-- the set under a key
+abbrev pub upper_set : {K : Type 0} → (K → K → Ordering) → BTreeMap K (BTreeSet K) → K → Option (BTreeSet K)
+upper_set cmp uppers lower = get cmp uppers lower
 
--- the one uid stands above the other
-abbrev pub IsUpper : BTreeMap EntityUID (BTreeSet EntityUID) → EntityUID → PlainUid → Type 0
-IsUpper uppers lower upper = IsSomeAnd (upper_set uppers lower) (λ set. Contains (map uid_of set.keys) upper)
+-- what the name stands for is above the key
+abbrev pub IsUpper : {K P : Type 0} → (K → K → Ordering) → (K → P) → BTreeMap K (BTreeSet K) → K → P → Type 0
+IsUpper cmp name uppers lower upper = IsSomeAnd (upper_set cmp uppers lower) (λ set. Contains (map name set.keys) upper)
+
+-- some node of the name is one of which the fact holds
+abbrev pub HasNode : {K V P : Type 0} → (K → P) → (V → Type 0) → List (K × V) → P → Type 0
+HasNode {K = K} {V = V} name Holds nodes key =
+    (entry : K × V) × Contains nodes entry × (name entry.0 ≡ key) × Holds entry.1
+
+-- some node of the one name lists the other name among those below it
+abbrev pub ListsBelow : {K V P : Type 0} → (K → P) → (V → List P) → List (K × V) → P → P → Type 0
+ListsBelow name below nodes lower upper = HasNode name (λ node. Contains (below node) lower) nodes upper

@@ -5,6 +5,7 @@ ghost use Rattle.cedar_type_rules.specs.Fields.{field_names};
 ghost use Rattle.cedar_types.specs.Meaning.{fields_of};
 
 use crate::entity_type_kind::{StandardValidatorEntityType, ValidatorEntityTypeKind};
+use crate::sets::copied;
 use cedar_below::{Eid, EntityType, Loc, M, NonEmpty};
 use cedar_types::{AttributeType, Attributes, OpenTag, Type};
 use std::alloc::Global;
@@ -221,17 +222,6 @@ impl ValidatorEntityType {
         }
     }
 
-    /// Equal entity types.
-    fn clone_types(alloc: Global, types: &HashSet<EntityType>) -> M<HashSet<EntityType>>
-        ensures { IfOk result (λ copy. SameItems (map type_name copy.keys) (map type_name types.now.keys)) }
-    {
-        let mut copy = HashSet::new(alloc);
-        for ty in types {
-            copy.insert(ty.clone()?)?;
-        }
-        Ok(copy)
-    }
-
     /// An equal entity type, located alike, its name and its attributes too. Out of memory is the
     /// only refusal.
     pub fn clone(&self) -> M<Self>
@@ -242,14 +232,13 @@ impl ValidatorEntityType {
         ensures descendants { IfOk result (λ copy. SameItems (descendant_names copy) (descendant_names self.now)) }
         ensures loc { IfOk result (λ copy. copy.loc ≡ self.now.loc) }
     {
-        let alloc = self.alloc;
         Ok(ValidatorEntityType {
             name: self.name.clone()?,
-            descendants: Self::clone_types(alloc, &self.descendants)?,
+            descendants: copied(&self.descendants, EntityType::clone)?,
             kind: self.kind.clone()?,
             loc: self.loc,
             no_attributes: self.no_attributes.clone()?,
-            alloc,
+            alloc: self.alloc,
         })
     }
 }

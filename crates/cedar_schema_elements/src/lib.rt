@@ -10,6 +10,7 @@ pub use entity_type_kind::{StandardValidatorEntityType, ValidatorEntityTypeKind}
 pub use request_env::{RequestEnv, UnlinkedRequestEnv};
 pub use request_environments::environments;
 pub use schema_node::SchemaNode;
+pub use uppers::{Uppers, upper_sets};
 
 mod action_id;
 mod action_kind;
@@ -25,3 +26,4 @@ mod request_environments;
 mod schema_node;
 mod sets;
 pub mod theorems;
+mod uppers;

@@ -1,58 +1,50 @@
 -- Entries of maps, against what their keys stand for.
-use Rattle.std.proofs.Common.{◌≡◌, ◌↔◌, IsTrue, Bool, List, [], ◌∷◌, is_some, map, ap, sym, subst, ◌∙◌, Contains}
+use Rattle.std.proofs.Common.{◌≡◌, ◌↔◌, IsTrue, Bool, List, is_some, map, sym, subst, ◌∙◌, Contains}
 use Rattle.std.proofs.lemmas.Map.Made.{is_some-lookup}
 use Rattle.std.specs.BTreeMap.{is_at}
 use Rattle.std.specs.Map.{keys_of, lookup}
-use Rattle.std.specs.Ordering.{is_eq}
 use Rattle.cedar_schema_elements.specs.ValidatorActionId.{plain_action_entry}
 use Rattle.cedar_below.proofs.Lists.{list_any-Contains}
-use Rattle.cedar_below.proofs.Names.{entity_type_ord-name_cmp}
-use Rattle.cedar_below.proofs.PlainNames.{name_cmp-total, uid_cmp-total}
-use Rattle.cedar_below.proofs.Uids.{entity_uid_ord-uid_cmp}
+use Rattle.cedar_below.proofs.Names.{entity_type_ord-Equal}
+use Rattle.cedar_below.proofs.Uids.{entity_uid_ord-Equal}
 use Rattle.cedar_below.specs.EntityType.{type_name}
 use Rattle.cedar_below.specs.EntityUID.{uid_of}
-use Rattle.cedar_below.proofs.Ordered.{IsStrictlySortedBy-map}
-use Rattle.cedar_below.specs.PlainName.{PlainName, name_cmp}
-use Rattle.cedar_below.specs.PlainUid.{PlainUid, uid_cmp}
-use Rattle.std.specs.List.Sorted.{IsStrictlySortedBy}
 use Rattle.cedar_below.specs.contracts.entity_type.EntityTypeOrd.TheImpl as entity_type_ord
 use Rattle.cedar_below.specs.contracts.entity_uid.EntityUIDOrd.TheImpl as entity_uid_ord
 use Rattle.cedar_below.specs.declared.entity_type.EntityType.{EntityType}
 use Rattle.cedar_below.specs.declared.entity_uid.EntityUID.{EntityUID}
-use Rattle.cedar_declarations.proofs.OccurrenceLemmas.{Twice-sorted_by_name, name_test, uid_test}
-use Rattle.cedar_below.specs.Lists.{Twice}
 use Rattle.cedar_schema_elements.specs.ValidatorEntityType.{plain_entry}
+use Rattle.cedar_schema_elements.proofs.KeyLemmas.{names_of_keys}
+use Rattle.cedar_schema_elements.proofs.UpperLemmas.{key_tie}
 use Rattle.cedar_schema_writer.specs.Parts.{Actions, Types}
 
-module _ {K V P Q : Type 0} (f : K → P) (plain : K × V → P × Q) (keyed : (e : K × V) → (plain e).0 ≡ f e.0) where
-  -- the names of plain entries are those that the keys stand for
-  pub names_of_keys : (es : List (K × V)) → map (λ (it : P × Q). it.0) (map plain es) ≡ map f (keys_of es)
-  names_of_keys [] = λ i. []
-  names_of_keys (e ∷ es) = λ i. keyed e i ∷ names_of_keys es i
+-- something is found exactly where some key stands for the name
+pub found-key : {K V P : Type 0} (f : K → P) (test : K → Bool) (name : P) → ((key : K) → IsTrue (test key) ↔ (f key ≡ name))
+    → (es : List (K × V)) → IsTrue (is_some (lookup test es)) ↔ Contains (map f (keys_of es)) name
+found-key f test name decides es =
+    let any = list_any-Contains f name test decides (keys_of es) in (
+      λ there. any.0 (sym (is_some-lookup test es) ∙ there),
+      λ among. is_some-lookup test es ∙ any.1 among,
+    )
 
+module _ {K V P Q : Type 0} (f : K → P) (plain : K × V → P × Q) (keyed : (e : K × V) → (plain e).0 ≡ f e.0) where
   -- something is found exactly where the name is one of them
   pub found-named : (test : K → Bool) (name : P) → ((key : K) → IsTrue (test key) ↔ (f key ≡ name)) → (es : List (K × V))
       → IsTrue (is_some (lookup test es)) ↔ Contains (map (λ (it : P × Q). it.0) (map plain es)) name
   found-named test name decides es =
-      let any = list_any-Contains f name test decides (keys_of es) in
+      let found = found-key f test name decides es in
       let R : List P → Type 0 = λ names. Contains names name in (
-        λ there. subst R (sym (names_of_keys es)) (any.0 (sym (is_some-lookup test es) ∙ there)),
-        λ among. is_some-lookup test es ∙ any.1 (subst R (names_of_keys es) among),
+        λ there. subst R (sym (names_of_keys f plain keyed es)) (found.0 there),
+        λ among. found.1 (subst R (names_of_keys f plain keyed es) among),
       )
 
 -- entity types tie where they have one name
 pub type_tie : (key other : EntityType) → IsTrue (is_at ((entity_type_ord.ghosts).cmp key) other) ↔ (type_name other ≡ type_name key)
-type_tie key other = (
-  λ tie. sym ((name_test (type_name key) (type_name other)).0 (sym (ap is_eq (entity_type_ord-name_cmp key other)) ∙ tie)),
-  λ same. ap is_eq (entity_type_ord-name_cmp key other) ∙ (name_test (type_name key) (type_name other)).1 (sym same),
-)
+type_tie = key_tie ((entity_type_ord.ghosts).cmp) type_name entity_type_ord-Equal
 
 -- uids tie where they stand for one uid
 pub uid_tie : (key other : EntityUID) → IsTrue (is_at ((entity_uid_ord.ghosts).cmp key) other) ↔ (uid_of other ≡ uid_of key)
-uid_tie key other = (
-  λ tie. sym ((uid_test (uid_of key) (uid_of other)).0 (sym (ap is_eq (entity_uid_ord-uid_cmp key other)) ∙ tie)),
-  λ same. ap is_eq (entity_uid_ord-uid_cmp key other) ∙ (uid_test (uid_of key) (uid_of other)).1 (sym same),
-)
+uid_tie = key_tie ((entity_uid_ord.ghosts).cmp) uid_of entity_uid_ord-Equal
 
 -- an entity type is found exactly where its name is one of them
 pub type_found : (types : Types) (key : EntityType) → IsTrue (is_some (lookup (is_at ((entity_type_ord.ghosts).cmp key)) types))
@@ -65,21 +57,3 @@ pub action_found : (actions : Actions) (key : EntityUID) → IsTrue (is_some (lo
     ↔ Contains (map (λ it. it.0) (map plain_action_entry actions)) (uid_of key)
 action_found actions key =
     found-named uid_of plain_action_entry (λ e i. uid_of e.0) (is_at ((entity_uid_ord.ghosts).cmp key)) (uid_of key) (uid_tie key) actions
-
--- the names of entity types in order stand once
-pub names_once : (types : Types) → IsStrictlySortedBy ((entity_type_ord.ghosts).cmp) (keys_of types) → (name : PlainName)
-    → ¬ Twice (map (λ it. it.0) (map plain_entry types)) name
-names_once types ordered name =
-    let P : List PlainName → Type 0 = λ names. ¬ Twice names name in
-    subst P (sym (names_of_keys type_name plain_entry (λ e i. type_name e.0) types))
-    (Twice-sorted_by_name name_cmp name_cmp-total (map type_name (keys_of types)) name
-    (IsStrictlySortedBy-map ((entity_type_ord.ghosts).cmp) name_cmp type_name entity_type_ord-name_cmp (keys_of types) ordered))
-
--- the uids of actions in order stand once
-pub uids_once : (actions : Actions) → IsStrictlySortedBy ((entity_uid_ord.ghosts).cmp) (keys_of actions) → (uid : PlainUid)
-    → ¬ Twice (map (λ it. it.0) (map plain_action_entry actions)) uid
-uids_once actions ordered uid =
-    let P : List PlainUid → Type 0 = λ uids. ¬ Twice uids uid in
-    subst P (sym (names_of_keys uid_of plain_action_entry (λ e i. uid_of e.0) actions))
-    (Twice-sorted_by_name uid_cmp uid_cmp-total (map uid_of (keys_of actions)) uid
-    (IsStrictlySortedBy-map ((entity_uid_ord.ghosts).cmp) uid_cmp uid_of entity_uid_ord-uid_cmp (keys_of actions) ordered))

@@ -3,13 +3,12 @@ use Rattle.std.proofs.Common.{◌≡◌, ◌↔◌, List, [], ◌∷◌, Option,
 use Rattle.std.proofs.lemmas.Simd.{map-map}
 use Rattle.cedar_below.proofs.Lists.{Contains-cons, Contains-preimage}
 use Rattle.cedar_below.specs.PlainName.{PlainName}
-use Rattle.cedar_below.specs.PlainUid.{PlainUid}
-use Rattle.cedar_declarations.proofs.OccurrenceLemmas.{Contains-flat_map, Contains-given, Contains-image}
+use Rattle.cedar_declarations.proofs.OccurrenceLemmas.{Contains-image}
 use Rattle.cedar_declarations.specs.EntityTypeKind.{EntityTypeKind, standard_kind, enumerated_kind, external_kind, kind_fields, kind_openness, kind_tags}
 use Rattle.cedar_declarations.specs.Names.{Names}
-use Rattle.cedar_declarations.specs.PlainSchema.{ActionKind, defined_action, external_action, PlainSchema, SchemaAction, SchemaEntityType}
-use Rattle.cedar_declarations.specs.ValidSchema.{IsPrincipalOrResourceOf, ListsDescendant, ListsDescendantAction}
-use Rattle.cedar_declarations.specs.ConvertedBack.{AreFullNames, AreFullUids, AreRequestsWritten, IsKindWritten, NamesNoOther, full_name, full_uid, type_written}
+use Rattle.cedar_declarations.specs.PlainSchema.{ActionKind, defined_action, external_action}
+use Rattle.cedar_declarations.specs.ValidSchema.{IsPrincipalOrResourceOf}
+use Rattle.cedar_declarations.specs.ConvertedBack.{AreFullNames, AreRequestsWritten, IsKindWritten, NamesNoOther, full_name, full_uid, type_written}
 use Rattle.cedar_schema_elements.specs.ActionKind.{kind_context, kind_principals, kind_resources}
 use Rattle.cedar_below.specs.Text.{Text}
 use Rattle.cedar_names.specs.ActionBody.{elsewhere, parent_action, parent_type, requests}
@@ -21,43 +20,31 @@ use Rattle.cedar_names.specs.declared.json_schema.raw_name.RawName.{RawName}
 use Rattle.cedar_names.specs.declared.json_schema.reference_type.ReferenceType.TheVariants.{Entity}
 use Rattle.cedar_schema_writer.specs.Parts.{written_action_type, written_uid}
 use Rattle.cedar_names.specs.EntityBody.{EntityBody, standard, enumerated, external}
-use Rattle.cedar_names.specs.Reference.{ActionReference, Reference}
+use Rattle.cedar_names.specs.Reference.{Reference}
 use Rattle.cedar_type_rules.specs.Ty.{Fields, Ty, record_of}
 use Rattle.cedar_type_rules.specs.declared.open_tag.OpenTag.{OpenTag}
-use Rattle.cedar_schema_writer.specs.Parents.{action_edges, edges_to, type_edges}
 use Rattle.cedar_schema_writer.specs.Sound.{IsSoundAction, IsSoundKind, IsSoundType}
 
--- the full names of some names are just those
-pub full_names : (namespace : Option PlainName) (names : List PlainName)
-    → AreFullNames namespace (λ name. Contains names name) (map (full_name namespace) names)
-full_names namespace names reference = (
-  Contains-preimage (full_name namespace) names reference,
-  λ of.
-      let P : Reference → Type 0 = Contains (map (full_name namespace) names) in
-      subst P of.2 (Contains-image (full_name namespace) names of.0 of.1),
-)
-
--- the same of uids
-pub full_uids : (namespace : Option PlainName) (uids : List PlainUid)
-    → AreFullUids namespace (λ uid. Contains uids uid) (map (full_uid namespace) uids)
-full_uids namespace uids reference = (
-  Contains-preimage (full_uid namespace) uids reference,
-  λ of.
-      let P : ActionReference → Type 0 = Contains (map (full_uid namespace) uids) in
-      subst P of.2 (Contains-image (full_uid namespace) uids of.0 of.1),
-)
-
-module _ (namespace : Option PlainName) (P Q : PlainName → Type 0) (same : (name : PlainName) → P name ↔ Q name) where
-  -- references to the names of which one fact holds are those of which another holds that is the same
-  pub full_names-same : (references : List Reference) → AreFullNames namespace P references → AreFullNames namespace Q references
-  full_names-same references are reference = (
-    λ among. let of = (are reference).0 among in (of.0, (same of.0).0 of.1, of.2),
-    λ of. (are reference).1 (of.0, (same of.0).1 of.1, of.2),
+module _ {A B : Type 0} (f : A → B) where
+  -- images are just those of the items
+  pub images : (items : List A) (b : B) → Contains (map f items) b ↔ ((a : A) × Contains items a × (f a ≡ b))
+  images items b = (
+    Contains-preimage f items b,
+    λ of. let S : B → Type 0 = Contains (map f items) in subst S of.2 (Contains-image f items of.0 of.1),
   )
 
-  -- so a kind is written with the same parents
+  -- images of the items of which one fact holds are those of the items of which another holds that is the same
+  pub images-same : (P Q : A → Type 0) → ((a : A) → P a ↔ Q a) → (shown : List B)
+      → ((b : B) → Contains shown b ↔ ((a : A) × P a × (f a ≡ b))) → (b : B) → Contains shown b ↔ ((a : A) × Q a × (f a ≡ b))
+  images-same P Q same shown are b = (
+    λ among. let of = (are b).0 among in (of.0, (same of.0).0 of.1, of.2),
+    λ of. (are b).1 (of.0, (same of.0).1 of.1, of.2),
+  )
+
+module _ (namespace : Option PlainName) (P Q : PlainName → Type 0) (same : (name : PlainName) → P name ↔ Q name) where
+  -- a kind is written with the same parents
   pub kind-same : (kind : EntityTypeKind) (body : EntityBody) → IsKindWritten namespace P kind body → IsKindWritten namespace Q kind body
-  kind-same (standard_kind fields openness tags) (standard parents shape written) is = (full_names-same parents is.0, is.1, is.2)
+  kind-same (standard_kind fields openness tags) (standard parents shape written) is = (images-same (full_name namespace) P Q same parents is.0, is.1, is.2)
   kind-same (standard_kind fields openness tags) (enumerated ids) is = absurd is
   kind-same (standard_kind fields openness tags) (external parents) is = absurd is
   kind-same (enumerated_kind choices) (standard parents shape written) is = absurd is
@@ -65,7 +52,7 @@ module _ (namespace : Option PlainName) (P Q : PlainName → Type 0) (same : (na
   kind-same (enumerated_kind choices) (external parents) is = absurd is
   kind-same external_kind (standard parents shape written) is = absurd is
   kind-same external_kind (enumerated ids) is = absurd is
-  kind-same external_kind (external parents) is = full_names-same parents is
+  kind-same external_kind (external parents) is = images-same (full_name namespace) P Q same parents is
 
   -- and can be
   pub sound_kind-same : (names : Names) (kind : EntityTypeKind) → IsSoundKind names namespace P kind → IsSoundKind names namespace Q kind
@@ -95,51 +82,12 @@ module _ (names : Names) (namespace : Option PlainName) (IsAbove : PlainName →
   pub sound_external : IsSoundKind names namespace IsAbove external_kind
   sound_external = record { types = λ ty no. absurd no; without_parents = λ no. absurd no }
 
--- the edges of entity types are what they list
-pub type_edges-listed : (schema : PlainSchema) (lower upper : PlainName)
-    → Contains (type_edges schema.entity_types) (lower, upper) ↔ ListsDescendant schema lower upper
-type_edges-listed schema lower upper = (
-  λ among.
-      let found = Contains-flat_map (λ (it : PlainName × SchemaEntityType). edges_to it.0 it.1.descendants) schema.entity_types
-      (lower, upper) among in
-      let one = Contains-preimage (λ (low : PlainName). (low, found.0.0)) found.0.1.descendants (lower, upper) found.2 in
-      let P : PlainName → Type 0 = λ key. Contains schema.entity_types (key, found.0.1) in
-      let Q : PlainName → Type 0 = Contains found.0.1.descendants in (
-        found.0.1,
-        subst P (ap (λ (edge : PlainName × PlainName). edge.1) one.2) found.1,
-        subst Q (ap (λ (edge : PlainName × PlainName). edge.0) one.2) one.1,
-      ),
-  λ of.
-      Contains-given (λ (it : PlainName × SchemaEntityType). edges_to it.0 it.1.descendants) schema.entity_types (upper, of.0)
-      (lower, upper) of.1
-      (Contains-image (λ (low : PlainName). (low, upper)) of.0.descendants lower of.2),
-)
-
--- the same of actions
-pub action_edges-listed : (schema : PlainSchema) (lower upper : PlainUid)
-    → Contains (action_edges schema.actions) (lower, upper) ↔ ListsDescendantAction schema lower upper
-action_edges-listed schema lower upper = (
-  λ among.
-      let found = Contains-flat_map (λ (it : PlainUid × SchemaAction). edges_to it.0 it.1.descendants) schema.actions
-      (lower, upper) among in
-      let one = Contains-preimage (λ (low : PlainUid). (low, found.0.0)) found.0.1.descendants (lower, upper) found.2 in
-      let P : PlainUid → Type 0 = λ key. Contains schema.actions (key, found.0.1) in
-      let Q : PlainUid → Type 0 = Contains found.0.1.descendants in (
-        found.0.1,
-        subst P (ap (λ (edge : PlainUid × PlainUid). edge.1) one.2) found.1,
-        subst Q (ap (λ (edge : PlainUid × PlainUid). edge.0) one.2) one.1,
-      ),
-  λ of.
-      Contains-given (λ (it : PlainUid × SchemaAction). edges_to it.0 it.1.descendants) schema.actions (upper, of.0) (lower, upper) of.1
-      (Contains-image (λ (low : PlainUid). (low, upper)) of.0.descendants lower of.2),
-)
-
 -- the full names of parents are those of the names that are written
 pub written_names : (namespace : Option PlainName) (parents : List RawName)
     → AreFullNames namespace (λ upper. Contains (map raw_name parents) upper) (map (raw_reference namespace Entity) parents)
 written_names namespace parents =
     let P : List Reference → Type 0 = AreFullNames namespace (λ upper. Contains (map raw_name parents) upper) in
-    subst P (map-map (full_name namespace) raw_name parents) (full_names namespace (map raw_name parents))
+    subst P (map-map (full_name namespace) raw_name parents) (images (full_name namespace) (map raw_name parents))
 
 -- a parent of an action is the full uid that is written
 parent-same : (namespace : Option PlainName) (it : ActionEntityUID RawName)
@@ -223,11 +171,3 @@ principal_of external_action name among = absurd (omega (arith, among.1))
 pub resource_of : (kind : ActionKind) (name : PlainName) → Contains (kind_resources kind) name → IsPrincipalOrResourceOf kind name
 resource_of (defined_action principals resources context) name among = inr among
 resource_of external_action name among = absurd (omega (arith, among.1))
-
--- references to the uids of which one fact holds are those of which another holds that is the same
-pub full_uids-same : (namespace : Option PlainName) (P Q : PlainUid → Type 0) → ((uid : PlainUid) → P uid ↔ Q uid)
-    → (references : List ActionReference) → AreFullUids namespace P references → AreFullUids namespace Q references
-full_uids-same namespace P Q same references are reference = (
-  λ among. let of = (are reference).0 among in (of.0, (same of.0).0 of.1, of.2),
-  λ of. (are reference).1 (of.0, (same of.0).1 of.1, of.2),
-)

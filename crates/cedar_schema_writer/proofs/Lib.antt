@@ -1,6 +1,5 @@
 pub mod Answered
 pub mod DefinitionLemmas
-pub mod Inverted
 pub mod Keyed
 pub mod KindLemmas
 pub mod NameLemmas

@@ -44,67 +44,69 @@ module _ {A K : Type 0} (key : A → K) (R : A → Declaration → Type 0) (P : 
     sound = λ x none. absurd (omega (arith, none.1));
   }
 
-  module _ (left rest : List A) (x : A) (current : Bag) (is : left ≡ x ∷ rest) (so_far : PutSoFar key R P before all left current) where
-    whole : all ≡ so_far.done ++ x ∷ rest
-    whole = so_far.split ∙ ap (λ others. so_far.done ++ others) is
+module _ {A K : Type 0} {key : A → K} {R : A → Declaration → Type 0} {P : A → Type 0} {before : Bag} {all left rest : List A} {x : A}
+    {current : Bag} (is : left ≡ x ∷ rest) (so_far : PutSoFar key R P before all left current) where
+  whole : all ≡ so_far.done ++ x ∷ rest
+  whole = so_far.split ∙ ap (λ others. so_far.done ++ others) is
 
-    -- the next is one of all
-    pub put_here : Contains all x
-    put_here =
-        let Q : List A → Type 0 = λ items. Contains items x in
-        subst Q (sym whole) (Contains-append_right so_far.done (x ∷ rest) x (Contains-cons x rest x (inl refl)))
+  -- the next is one of all
+  pub put_here : Contains all x
+  put_here =
+      let Q : List A → Type 0 = λ items. Contains items x in
+      subst Q (sym whole) (Contains-append_right so_far.done (x ∷ rest) x (Contains-cons x rest x (inl refl)))
 
-    -- what was put in is a declaration of another item, with another key
-    pub put_other : (it : Declaration) → Contains current it → ¬ Contains before it → (y : A) × R y it × ¬ (key y ≡ key x)
-    put_other it among not_before =
-        let back = Contains-permutation current (before ++ so_far.put) it (IsPermutation-sym _ _ so_far.in_some_order) among in
-        let put : Contains so_far.put it =
-        ⊎_elim (λ there. absurd (not_before there)) (λ there. there) (Contains-append_cases before so_far.put it back) in
-        let found = turn_forth (λ (d : Declaration) (y : A). R y d) so_far.put so_far.done
-        (turn_back R (λ (d : Declaration) (y : A). R y d) (λ y d holds. holds) so_far.done so_far.put so_far.turn) it put in (
-          found.0,
-          found.2,
-          λ same.
-              let Q : List K → Type 0 = λ keys. Twice keys (key x) in
-              let S : K → Type 0 = Contains (map key so_far.done) in
-              so_far.once (key x) (subst Q (sym (ap (map key) whole ∙ map-append key so_far.done (x ∷ rest)))
-              (Twice-both (map key so_far.done) (key x ∷ map key rest) (key x)
-              (subst S same (Contains-image key so_far.done found.0 found.1))
-              (Contains-cons (key x) (map key rest) (key x) (inl refl)))),
-        )
+  -- what was put in is a declaration of another item, with another key
+  pub put_other : (it : Declaration) → Contains current it → ¬ Contains before it → (y : A) × R y it × ¬ (key y ≡ key x)
+  put_other it among not_before =
+      let back = Contains-permutation current (before ++ so_far.put) it (IsPermutation-sym _ _ so_far.in_some_order) among in
+      let put : Contains so_far.put it =
+      ⊎_elim (λ there. absurd (not_before there)) (λ there. there) (Contains-append_cases before so_far.put it back) in
+      let found = turn_forth (λ (d : Declaration) (y : A). R y d) so_far.put so_far.done
+      (turn_back R (λ (d : Declaration) (y : A). R y d) (λ y d holds. holds) so_far.done so_far.put so_far.turn) it put in (
+        found.0,
+        found.2,
+        λ same.
+            let Q : List K → Type 0 = λ keys. Twice keys (key x) in
+            let S : K → Type 0 = Contains (map key so_far.done) in
+            so_far.once (key x) (subst Q (sym (ap (map key) whole ∙ map-append key so_far.done (x ∷ rest)))
+            (Twice-both (map key so_far.done) (key x ∷ map key rest) (key x)
+            (subst S same (Contains-image key so_far.done found.0 found.1))
+            (Contains-cons (key x) (map key rest) (key x) (inl refl)))),
+      )
 
-    -- one more is put in
-    pub put_more : (it : Declaration) (after : Bag) → R x it → P x → IsPermutation (current ++ it ∷ []) after
-        → PutSoFar key R P before all rest after
-    put_more it after holds sound grown = record {
-      done = so_far.done ++ x ∷ [];
-      split = whole ∙ sym (append_assoc so_far.done (x ∷ []) rest);
-      once = so_far.once;
-      put = so_far.put ++ it ∷ [];
-      turn = pairwise_append R so_far.done (x ∷ []) so_far.put (it ∷ []) so_far.turn (holds, tt);
-      in_some_order =
-          let Q : Bag → Type 0 = λ items. IsPermutation items after in
-          subst Q (append_assoc before so_far.put (it ∷ []))
-          (IsPermutation-trans _ _ _ (IsPermutation-append_left (it ∷ []) (before ++ so_far.put) current so_far.in_some_order) grown);
-      sound = λ y among. ⊎_elim
-          (λ there. so_far.sound y there)
-          (λ last. subst P (Contains-single x y last) sound)
-          (Contains-append_cases so_far.done (x ∷ []) y among);
-    }
+  -- one more is put in
+  pub put_more : (it : Declaration) (after : Bag) → R x it → P x → IsPermutation (current ++ it ∷ []) after
+      → PutSoFar key R P before all rest after
+  put_more it after holds sound grown = record {
+    done = so_far.done ++ x ∷ [];
+    split = whole ∙ sym (append_assoc so_far.done (x ∷ []) rest);
+    once = so_far.once;
+    put = so_far.put ++ it ∷ [];
+    turn = pairwise_append R so_far.done (x ∷ []) so_far.put (it ∷ []) so_far.turn (holds, tt);
+    in_some_order =
+        let Q : Bag → Type 0 = λ items. IsPermutation items after in
+        subst Q (append_assoc before so_far.put (it ∷ []))
+        (IsPermutation-trans _ _ _ (IsPermutation-append_left (it ∷ []) (before ++ so_far.put) current so_far.in_some_order) grown);
+    sound = λ y among. ⊎_elim
+        (λ there. so_far.sound y there)
+        (λ last. subst P (Contains-single x y last) sound)
+        (Contains-append_cases so_far.done (x ∷ []) y among);
+  }
 
-  module _ (left : List A) (current : Bag) (nothing : left ≡ []) (so_far : PutSoFar key R P before all left current) where
-    same_items : so_far.done ≡ all
-    same_items = sym (so_far.split ∙ (ap (λ others. so_far.done ++ others) nothing ∙ append-nil so_far.done))
+module _ {A K : Type 0} {key : A → K} {R : A → Declaration → Type 0} {P : A → Type 0} {before : Bag} {all left : List A} {current : Bag}
+    (nothing : left ≡ []) (so_far : PutSoFar key R P before all left current) where
+  same_items : so_far.done ≡ all
+  same_items = sym (so_far.split ∙ (ap (λ others. so_far.done ++ others) nothing ∙ append-nil so_far.done))
 
-    -- where none is left, a declaration of each is put in
-    pub put_all : ArePut R all before current
-    put_all = record {
-      put = so_far.put;
-      turn = subst (λ items. HoldsPairwise R items so_far.put) same_items so_far.turn;
-      in_some_order = so_far.in_some_order;
-    }
+  -- where none is left, a declaration of each is put in
+  pub put_all : ArePut R all before current
+  put_all = record {
+    put = so_far.put;
+    turn = subst (λ items. HoldsPairwise R items so_far.put) same_items so_far.turn;
+    in_some_order = so_far.in_some_order;
+  }
 
-    -- and the fact holds of each
-    pub put_sound : (x : A) → Contains all x → P x
-    put_sound x among =
-        let Q : List A → Type 0 = λ items. Contains items x in so_far.sound x (subst Q (sym same_items) among)
+  -- and the fact holds of each
+  pub put_sound : (x : A) → Contains all x → P x
+  put_sound x among =
+      let Q : List A → Type 0 = λ items. Contains items x in so_far.sound x (subst Q (sym same_items) among)

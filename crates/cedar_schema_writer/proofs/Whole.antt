@@ -14,14 +14,13 @@ use Rattle.cedar_declarations.proofs.TurnLemmas.{turn_back, turn_forth, turn_wea
 use Rattle.cedar_declarations.specs.Bag.{Bag}
 use Rattle.cedar_declarations.specs.Names.{IsDefined, Names}
 use Rattle.cedar_declarations.specs.PlainSchema.{ActionEntity, PlainSchema, SchemaAction, SchemaEntityType}
-use Rattle.cedar_declarations.specs.ConvertedBack.{IsActionDeclaration, IsPathOf, IsTypeDeclaration, IsWritable, IsConvertedBack, NamesNoOther, full_name, schema_names}
+use Rattle.cedar_declarations.specs.ConvertedBack.{IsActionDeclaration, IsPathOf, IsTypeDeclaration, IsWritable, IsConvertedBack, NamesNoOther, NamesNoOtherAction, full_name, schema_names}
+use Rattle.cedar_declarations.specs.ValidSchema.{ListsDescendant, ListsDescendantAction}
 use Rattle.cedar_names.specs.ActionBody.{ActionBody}
 use Rattle.cedar_names.specs.Declaration.{Declaration}
 use Rattle.cedar_names.specs.declared.json_schema.reference_type.ReferenceType.TheVariants.{Entity}
-use Rattle.cedar_schema_writer.proofs.KindLemmas.{action_edges-listed, type_edges-listed}
 use Rattle.cedar_schema_writer.proofs.Written.{none_there}
 use Rattle.cedar_schema_writer.specs.Definitions.{ArePut, action_declared}
-use Rattle.cedar_schema_writer.specs.Parents.{IsKnownActionEdge, IsKnownEdge, action_edges, type_edges}
 use Rattle.cedar_schema_writer.specs.Parts.{known_names, known_schema, parts_schema}
 use Rattle.cedar_schema_writer.specs.Sound.{IsSoundActionEntry, IsSoundEntityType}
 use Rattle.cedar_schema_writer.specs.declared.known.Known.{Known}
@@ -42,6 +41,12 @@ namespace_of_path (first ∷ rest) = by (namespace_of_path rest) where
   by : ((namespace : Option PlainName) × IsPathOf namespace rest) → (namespace : Option PlainName) × IsPathOf namespace (first ∷ rest)
   by (None, is) = (Some (record { base = first; path = [] }), ap (λ others. first ∷ others) is)
   by (Some outer, is) = (Some (record { base = outer.base; path = first ∷ outer.path }), ap (λ others. first ∷ others) is)
+
+-- what holds of the key of each item holds of each key
+of_key : {A K : Type 0} (key : A → K) (items : List A) (P : K → Type 0) → ((it : A) → Contains items it → P (key it))
+    → (k : K) → Contains (map key items) k → P k
+of_key key items P each k among =
+    let found = Contains-preimage key items k among in subst P found.2 (each found.0 found.1)
 
 -- what is known is the schema's, where the types of actions are collected
 module _ (known : Known) (exact : (name : PlainName) → Contains (map type_name known.action_types.now.keys) name
@@ -74,71 +79,66 @@ module _ (known : Known) (exact : (name : PlainName) → Contains (map type_name
       (known_names known)
       (λ name. ((same_names name).1, (same_names name).0))
 
-  -- where each part can be written, the schema can
-  pub parts_writable : ((edge : PlainName × PlainName) → Contains (type_edges (known_schema known).entity_types) edge
-      → IsKnownEdge known edge)
-      → ((edge : PlainUid × PlainUid) → Contains (action_edges (known_schema known).actions) edge → IsKnownActionEdge known edge)
-      → ((it : PlainName × SchemaEntityType) → Contains (known_schema known).entity_types it → IsSoundEntityType known it)
-      → ((it : PlainUid × SchemaAction) → Contains (known_schema known).actions it → IsSoundActionEntry known it)
-      → IsWritable (parts_schema known.entity_types.now.entries known.actions.now.entries entities)
-  parts_writable type_edge action_edge type_sound action_sound = record {
-    types = λ namespace ty. ⊎_elim
-        (λ of. ((type_sound of.0 of.1 namespace of.2).types ty of.3).written)
-        (λ of. (((action_sound of.0 of.1).kind namespace of.2).context ty of.3).written);
-    names = λ namespace name written. to_schema namespace name (⊎_elim
-        (λ in_type. ⊎_elim
-        (λ of. ((type_sound of.0 of.1 namespace of.2).types in_type.0 of.3).no_other name in_type.2)
-        (λ of. (((action_sound of.0 of.1).kind namespace of.2).context in_type.0 of.3).no_other name in_type.2)
-        in_type.1)
-        (λ others. ⊎_elim
-        (λ above. (type_edge (above.0, name) ((type_edges-listed (known_schema known) above.0 name).1 above.2)).no_other namespace above.1)
-        (λ of. ((action_sound of.0 of.1).kind namespace of.2).no_other name of.3)
-        others)
-        written);
-    uids = λ namespace uid above.
-        (action_edge (above.0, uid) ((action_edges-listed (known_schema known) above.0 uid).1 above.2)).no_other namespace above.1;
-    action_types = λ uid has.
-        let found = Contains-preimage (λ (it : PlainUid × SchemaAction). it.0) (known_schema known).actions uid has in
-        let P : PlainUid → Type 0 = λ it. IsActionType it.ty in
-        subst P found.2 (action_sound found.0 found.1).action_type;
-    entity_types_below = λ lower upper lists. (type_edge (lower, upper) ((type_edges-listed
-        (known_schema known) lower upper).1 lists)).there;
-    none_enumerated = λ lower upper lists of.
-        let namespace = namespace_of_path lower.path in
-        (type_sound (lower, of.0) of.1 namespace.0 namespace.1).without_parents of.2 upper lists;
-    actions_below = λ lower upper lists. (action_edge (lower, upper) ((action_edges-listed
-        (known_schema known) lower upper).1 lists)).there;
-  }
+  module _ (type_sound : (it : PlainName × SchemaEntityType) → Contains (known_schema known).entity_types it → IsSoundEntityType known it)
+      (action_sound : (it : PlainUid × SchemaAction) → Contains (known_schema known).actions it → IsSoundActionEntry known it) where
+    type_above : (namespace : Option PlainName) (lower upper : PlainName) → IsPathOf namespace lower.path
+        → ListsDescendant (known_schema known) lower upper → NamesNoOther (known_names known) namespace upper
+    type_above namespace lower upper is lists =
+        of_key (λ (it : PlainName × SchemaEntityType). it.0) (known_schema known).entity_types
+        (λ key. IsPathOf namespace key.path → ListsDescendant (known_schema known) key upper
+        → NamesNoOther (known_names known) namespace upper)
+        (λ it among path listed. (type_sound it among).above namespace path upper listed)
+        lower ((type_sound (upper, lists.0) lists.1).below lower lists.2) is lists
+
+    action_above : (namespace : Option PlainName) (lower upper : PlainUid) → IsPathOf namespace lower.ty.path
+        → ListsDescendantAction (known_schema known) lower upper → NamesNoOtherAction (known_names known) namespace upper
+    action_above namespace lower upper is lists =
+        of_key (λ (it : PlainUid × SchemaAction). it.0) (known_schema known).actions
+        (λ key. IsPathOf namespace key.ty.path → ListsDescendantAction (known_schema known) key upper
+        → NamesNoOtherAction (known_names known) namespace upper)
+        (λ it among path listed. (action_sound it among).above namespace path upper listed)
+        lower ((action_sound (upper, lists.0) lists.1).below lower lists.2) is lists
+
+    -- where each part can be written, the schema can
+    pub parts_writable : IsWritable (parts_schema known.entity_types.now.entries known.actions.now.entries entities)
+    parts_writable = record {
+      types = λ namespace ty. ⊎_elim
+          (λ of. (((type_sound of.0 of.1).kind namespace of.2).types ty of.3).written)
+          (λ of. (((action_sound of.0 of.1).kind namespace of.2).context ty of.3).written);
+      names = λ namespace name written. to_schema namespace name (⊎_elim
+          (λ in_type. ⊎_elim
+          (λ of. (((type_sound of.0 of.1).kind namespace of.2).types in_type.0 of.3).no_other name in_type.2)
+          (λ of. (((action_sound of.0 of.1).kind namespace of.2).context in_type.0 of.3).no_other name in_type.2)
+          in_type.1)
+          (λ others. ⊎_elim
+          (λ above. type_above namespace above.0 name above.1 above.2)
+          (λ of. ((action_sound of.0 of.1).kind namespace of.2).no_other name of.3)
+          others)
+          written);
+      uids = λ namespace uid above. action_above namespace above.0 uid above.1 above.2;
+      action_types = λ uid has.
+          of_key (λ (it : PlainUid × SchemaAction). it.0) (known_schema known).actions (λ key. IsActionType key.ty)
+          (λ it among. (action_sound it among).action_type) uid has;
+      entity_types_below = λ lower upper lists. (type_sound (upper, lists.0) lists.1).below lower lists.2;
+      none_enumerated = λ lower upper lists of.
+          let namespace = namespace_of_path lower.path in
+          ((type_sound (lower, of.0) of.1).kind namespace.0 namespace.1).without_parents of.2 upper lists;
+      actions_below = λ lower upper lists. (action_sound (upper, lists.0) lists.1).below lower lists.2;
+    }
 
   module _ (writable : IsWritable (parts_schema known.entity_types.now.entries known.actions.now.entries entities)) where
-    -- where the schema can be written, so can each edge of entity types
-    pub edge_writable : (edge : PlainName × PlainName) → Contains (type_edges (known_schema known).entity_types) edge
-        → IsKnownEdge known edge
-    edge_writable edge among =
-        let lists = (type_edges-listed (known_schema known) edge.0 edge.1).0 among in
-        record {
-          there = writable.entity_types_below edge.0 edge.1 lists;
-          no_other = λ namespace is. to_known namespace edge.1 (writable.names namespace edge.1 (inr (inl (edge.0, is, lists))));
-        }
-
-    -- each edge of actions
-    pub action_edge_writable : (edge : PlainUid × PlainUid) → Contains (action_edges (known_schema known).actions) edge
-        → IsKnownActionEdge known edge
-    action_edge_writable edge among =
-        let lists = (action_edges-listed (known_schema known) edge.0 edge.1).0 among in
-        record {
-          there = writable.actions_below edge.0 edge.1 lists;
-          no_other = λ namespace is. writable.uids namespace edge.1 (edge.0, is, lists);
-        }
-
-    -- each entity type
+    -- where the schema can be written, so can each entity type
     pub type_writable : (it : PlainName × SchemaEntityType) → Contains (known_schema known).entity_types it → IsSoundEntityType known it
-    type_writable it among namespace is = record {
-      types = λ ty of. record {
-        written = writable.types namespace ty (inl (it, among, is, of));
-        no_other = λ name mentions. to_known namespace name (writable.names namespace name (inl (ty, inl (it, among, is, of), mentions)));
+    type_writable it among = record {
+      kind = λ namespace is. record {
+        types = λ ty of. record {
+          written = writable.types namespace ty (inl (it, among, is, of));
+          no_other = λ name mentions. to_known namespace name (writable.names namespace name (inl (ty, inl (it, among, is, of), mentions)));
+        };
+        without_parents = λ enumerated upper lists. writable.none_enumerated it.0 upper lists (it.1, among, enumerated);
       };
-      without_parents = λ enumerated upper lists. writable.none_enumerated it.0 upper lists (it.1, among, enumerated);
+      above = λ namespace is upper lists. to_known namespace upper (writable.names namespace upper (inr (inl (it.0, is, lists))));
+      below = λ lower listed. writable.entity_types_below lower it.0 (it.1, among, listed);
     }
 
     -- and each action
@@ -153,6 +153,8 @@ module _ (known : Known) (exact : (name : PlainName) → Contains (map type_name
         };
         no_other = λ name role. to_known namespace name (writable.names namespace name (inr (inr (it, among, is, role))));
       };
+      above = λ namespace is upper lists. writable.uids namespace upper (it.0, is, lists);
+      below = λ lower listed. writable.actions_below lower it.0 (it.1, among, listed);
     }
 
 -- the declarations of entity types hold none of an action

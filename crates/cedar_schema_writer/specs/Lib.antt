@@ -1,5 +1,4 @@
 pub mod Definitions
-pub mod Parents
 pub mod Parts
 pub mod Refusal
 pub mod Sound

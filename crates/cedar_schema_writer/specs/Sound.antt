@@ -1,12 +1,12 @@
 -- What can be written in a namespace.
-use Rattle.std.specs.Prelude.{Option, IsSome, List, Contains}
+use Rattle.std.specs.Prelude.{Option, IsSome, Contains}
 use Rattle.cedar_below.specs.PlainName.{IsActionType, PlainName}
 use Rattle.cedar_below.specs.PlainUid.{PlainUid}
 use Rattle.cedar_declarations.specs.EntityTypeKind.{EntityTypeKind}
 use Rattle.cedar_declarations.specs.Names.{Names}
-use Rattle.cedar_declarations.specs.PlainSchema.{ActionKind, SchemaAction, SchemaEntityType}
+use Rattle.cedar_declarations.specs.PlainSchema.{ActionKind, PlainSchema, SchemaAction, SchemaEntityType}
 use Rattle.cedar_declarations.specs.TypeMentions.{MentionsEntity}
-use Rattle.cedar_declarations.specs.ValidSchema.{IsContextOf, IsEnumerated, IsPrincipalOrResourceOf, IsTypeOfKind, ListsDescendant}
+use Rattle.cedar_declarations.specs.ValidSchema.{HasAction, HasEntityType, IsContextOf, IsEnumerated, IsPrincipalOrResourceOf, IsTypeOfKind, ListsDescendant, ListsDescendantAction}
 use Rattle.cedar_declarations.specs.ConvertedBack.{IsPathOf, NamesNoOther, NamesNoOtherAction, type_written}
 use Rattle.cedar_type_rules.specs.Ty.{Ty}
 use Rattle.cedar_schema_writer.specs.Parts.{known_names, known_schema}
@@ -27,26 +27,28 @@ pub record IsSoundAction (names : Names) (namespace : Option PlainName) (kind : 
   pub context : (ty : Ty) → IsContextOf kind ty → IsSoundType names namespace ty
   pub no_other : (name : PlainName) → IsPrincipalOrResourceOf kind name → NamesNoOther names namespace name
 
--- the second of two entity types can be written as a parent of the first: that is there, and the name names no other
-pub record IsSoundEdge (names : Names) (types : List PlainName) (edge : PlainName × PlainName) : Type 0 where
-  pub there : Contains types edge.0
-  pub no_other : (namespace : Option PlainName) → IsPathOf namespace edge.0.path → NamesNoOther names namespace edge.1
+-- an entity type of the schema can be written in its namespace, with those as parents that have it among their descendants,
+-- and its own descendants are there
+pub record IsSoundTypeOf (names : Names) (schema : PlainSchema) (it : PlainName × SchemaEntityType) : Type 0 where
+  pub kind : (namespace : Option PlainName) → IsPathOf namespace it.0.path
+      → IsSoundKind names namespace (λ upper. ListsDescendant schema it.0 upper) it.1.kind
+  pub above : (namespace : Option PlainName) → IsPathOf namespace it.0.path → (upper : PlainName)
+      → ListsDescendant schema it.0 upper → NamesNoOther names namespace upper
+  pub below : (lower : PlainName) → Contains it.1.descendants lower → HasEntityType schema lower
 
--- the second of two actions can be written as a parent of the first
-pub record IsSoundActionEdge (names : Names) (edge : PlainUid × PlainUid) : Type 0 where
-  pub there : Contains names.actions edge.0
-  pub no_other : (namespace : Option PlainName) → IsPathOf namespace edge.0.ty.path → NamesNoOtherAction names namespace edge.1
-
--- an entity type that is known can be written in its namespace, with those as parents that have it among their descendants
-abbrev pub IsSoundEntityType : Known → PlainName × SchemaEntityType → Type 0
-IsSoundEntityType known it = (namespace : Option PlainName) → IsPathOf namespace it.0.path
-    → IsSoundKind (known_names known) namespace (λ upper. ListsDescendant (known_schema known) it.0 upper) it.1.kind
-
--- an action can be written in its namespace, and its uid is that of an action
-pub record IsSoundDeclared (names : Names) (it : PlainUid × SchemaAction) : Type 0 where
+-- an action of the schema can be written in its namespace, with those as parents that have it among their descendants, its uid
+-- is that of an action, and its own descendants are there
+pub record IsSoundActionOf (names : Names) (schema : PlainSchema) (it : PlainUid × SchemaAction) : Type 0 where
   pub action_type : IsActionType it.0.ty
   pub kind : (namespace : Option PlainName) → IsPathOf namespace it.0.ty.path → IsSoundAction names namespace it.1.kind
+  pub above : (namespace : Option PlainName) → IsPathOf namespace it.0.ty.path → (upper : PlainUid)
+      → ListsDescendantAction schema it.0 upper → NamesNoOtherAction names namespace upper
+  pub below : (lower : PlainUid) → Contains it.1.descendants lower → HasAction schema lower
 
--- the same of an action that is known
+-- an entity type that is known can be written
+abbrev pub IsSoundEntityType : Known → PlainName × SchemaEntityType → Type 0
+IsSoundEntityType known it = IsSoundTypeOf (known_names known) (known_schema known) it
+
+-- an action that is known can be written
 abbrev pub IsSoundActionEntry : Known → PlainUid × SchemaAction → Type 0
-IsSoundActionEntry known it = IsSoundDeclared (known_names known) it
+IsSoundActionEntry known it = IsSoundActionOf (known_names known) (known_schema known) it

@@ -1,16 +1,19 @@
 //! Actions, written.
 
-ghost use Rattle.std.specs.Prelude.{◌≡◌, Contains, IfErr, IfOk, List, OnOk, Option, false, map};
+ghost use Rattle.std.specs.Prelude.{◌≡◌, ◌↔◌, Contains, IfErr, IfOk, List, OnOk, Option, false, map};
 ghost use Rattle.cedar_schema_elements.specs.ValidatorActionId.{action_of};
+ghost use Rattle.cedar_below.specs.EntityUID.{uid_of};
 ghost use Rattle.cedar_below.specs.PlainUid.{PlainUid};
+ghost use Rattle.cedar_below.specs.declared.entity_uid.EntityUID.{EntityUID as Key};
 ghost use Rattle.cedar_below.specs.PlainName.{PlainName};
 ghost use Rattle.cedar_below.specs.Text.{Text};
 ghost use Rattle.cedar_declarations.specs.PlainSchema.{SchemaAction};
+ghost use Rattle.cedar_declarations.specs.ValidSchema.{ListsDescendantAction};
+ghost use Rattle.cedar_schema_elements.specs.Uppers.{IsUpper};
 ghost use Rattle.cedar_declarations.specs.ConvertedBack.{AreRequestsWritten, IsActionDeclaration};
 ghost use Rattle.cedar_names.specs.ActionBody.{ActionBody, action_body, parent_action};
 ghost use Rattle.cedar_names.specs.RawExpr.{raw_reference};
 ghost use Rattle.cedar_schema_writer.specs.Definitions.{AppliesIfDefined, AreProper, ArePut, IsActionWritten, action_declared, definitions_bag, requests_written};
-ghost use Rattle.cedar_schema_writer.specs.Parents.{AreActionsInverted, action_edges};
 ghost use Rattle.cedar_schema_writer.specs.Parts.{known_names, known_schema, plain_namespace, written_uid};
 ghost use Rattle.cedar_schema_writer.specs.Refusal.{Refuses};
 ghost use Rattle.cedar_schema_writer.specs.Sound.{IsSoundAction, IsSoundActionEntry};
@@ -18,14 +21,14 @@ ghost use Rattle.cedar_schema_writer.specs.Sound.{IsSoundAction, IsSoundActionEn
 use crate::definitions::{Definitions, put_action};
 use crate::known::Known;
 use crate::names::namespace_of;
-use crate::parents::{ActionParents, parents_of_action};
+use crate::parents::{check_descendants, write_parents};
 use crate::types::{plain, to_json_type};
 use crate::write_back_fault::WriteBackFault;
-use cedar_below::Name;
+use cedar_below::{EntityUID, Name};
 use cedar_names::json_schema::{
     ActionEntityUID, ActionType, ApplySpec, AttributesOrContext, RawName,
 };
-use cedar_schema_elements::ValidatorActionId;
+use cedar_schema_elements::{Uppers, ValidatorActionId};
 
 /// The requests of an action, as they are declared in the namespace; none for an external one.
 fn write_requests(
@@ -97,10 +100,11 @@ fn write_action(
 /// Declares each action in its namespace.
 pub(crate) fn write_actions(
     known: &Known,
-    parents: &ActionParents,
+    uppers: &Uppers<EntityUID>,
     definitions: &mut Definitions,
 ) -> Result<(), WriteBackFault>
-    requires inverted { AreActionsInverted known.now parents.now (action_edges (known_schema known.now).actions) }
+    requires uppers { (key : Key) (above : PlainUid) → IsUpper ⟦<EntityUID as Ord>⟧.cmp uid_of uppers.now key above
+        ↔ ListsDescendantAction (known_schema known.now) (uid_of key) above }
     requires none { (namespace : Option PlainName) (id : Text) (body : ActionBody)
         → ¬ Contains (definitions_bag definitions.old.entries) (action_declared namespace id body) }
     ensures put { OnOk result (ArePut (IsActionDeclaration (known_schema known.now)) (known_schema known.now).actions
@@ -115,10 +119,11 @@ pub(crate) fn write_actions(
         if !uid.is_action() {
             return Err(WriteBackFault::Unwritable);
         }
+        check_descendants(known.actions, action)?;
         let namespace = namespace_of(known.alloc, uid.entity_type().name())?;
         let id = uid.eid().clone()?;
-        let above = parents_of_action(known.alloc, parents, uid)?;
-        let declared = write_action(known, &namespace, above, action)?;
+        let parents = write_parents(known, &namespace, uppers, uid)?;
+        let declared = write_action(known, &namespace, parents, action)?;
         put_action(known.alloc, definitions, namespace, id.0, declared)?;
     }
     Ok(())

@@ -1,13 +1,17 @@
 //! Entity types, written.
 
-ghost use Rattle.std.specs.Prelude.{◌≡◌, Contains, IfErr, IfOk, OnOk, Option, map};
+ghost use Rattle.std.specs.Prelude.{◌≡◌, ◌↔◌, Contains, IfErr, IfOk, OnOk, Option, map};
 ghost use Rattle.std.specs.Option.{option_copied, option_map};
 ghost use Rattle.cedar_below.specs.Eid.{eid_text};
 ghost use Rattle.cedar_below.specs.NonEmpty.{items_of};
 ghost use Rattle.cedar_types.specs.Meaning.{ty_of};
+ghost use Rattle.cedar_below.specs.EntityType.{type_name};
 ghost use Rattle.cedar_below.specs.PlainName.{PlainName};
+ghost use Rattle.cedar_below.specs.declared.entity_type.EntityType.{EntityType as TypeKey};
 ghost use Rattle.cedar_declarations.specs.EntityTypeKind.{kind_fields, kind_openness, kind_tags, standard_kind};
 ghost use Rattle.cedar_declarations.specs.PlainSchema.{SchemaEntityType};
+ghost use Rattle.cedar_declarations.specs.ValidSchema.{ListsDescendant};
+ghost use Rattle.cedar_schema_elements.specs.Uppers.{IsUpper};
 ghost use Rattle.cedar_declarations.specs.ConvertedBack.{AreTagsWritten, IsKindWritten, IsTypeDeclaration, type_written};
 ghost use Rattle.cedar_schema_elements.specs.ValidatorEntityType.{entity_type_of};
 ghost use Rattle.cedar_names.specs.EntityBody.{enumerated, external, kind_body, raw_entity_body};
@@ -17,7 +21,6 @@ ghost use Rattle.cedar_names.specs.declared.json_schema.entity_type.EntityTypeKi
 ghost use Rattle.cedar_names.specs.declared.json_schema.reference_type.ReferenceType.TheVariants as reference;
 ghost use Rattle.cedar_type_rules.specs.Ty.{Ty, record_of};
 ghost use Rattle.cedar_schema_writer.specs.Definitions.{AreProper, ArePut, definitions_bag};
-ghost use Rattle.cedar_schema_writer.specs.Parents.{AreTypesInverted, type_edges};
 ghost use Rattle.cedar_schema_writer.specs.Parts.{known_names, known_schema, plain_namespace};
 ghost use Rattle.cedar_schema_writer.specs.Refusal.{Refuses};
 ghost use Rattle.cedar_schema_writer.specs.Sound.{IsSoundEntityType, IsSoundKind, IsSoundType};
@@ -26,15 +29,15 @@ ghost use Rattle.std.specs.Prelude.{◌≢◌, List, [], Some, false};
 use crate::definitions::{Definitions, put_entity_type};
 use crate::known::Known;
 use crate::names::{base_id, namespace_of};
-use crate::parents::{TypeParents, parents_of_type};
+use crate::parents::{check_descendants, write_parents};
 use crate::types::{plain, to_json_type, write_record};
 use crate::write_back_fault::WriteBackFault;
-use cedar_below::{Eid, Name, NonEmpty};
+use cedar_below::{Eid, EntityType as Key, Name, NonEmpty};
 use cedar_names::json_schema::{
     self, AttributesOrContext, EntityType, EntityTypeKind, RawName, RecordType, StandardEntityType,
     TypeVariant,
 };
-use cedar_schema_elements::{ValidatorEntityType, ValidatorEntityTypeKind};
+use cedar_schema_elements::{Uppers, ValidatorEntityType, ValidatorEntityTypeKind};
 use cedar_types::{OpenTag, Type};
 use std::collections::BTreeMap;
 
@@ -181,10 +184,11 @@ fn write_entity_type(
 /// Declares each entity type in its namespace.
 pub(crate) fn write_entity_types(
     known: &Known,
-    parents: &TypeParents,
+    uppers: &Uppers<Key>,
     definitions: &mut Definitions,
 ) -> Result<(), WriteBackFault>
-    requires inverted { AreTypesInverted known.now parents.now (type_edges (known_schema known.now).entity_types) }
+    requires uppers { (key : TypeKey) (above : PlainName) → IsUpper ⟦<Key as Ord>⟧.cmp type_name uppers.now key above
+        ↔ ListsDescendant (known_schema known.now) (type_name key) above }
     requires empty { definitions_bag definitions.old.entries ≡ [] }
     ensures put { OnOk result (ArePut (IsTypeDeclaration (known_schema known.now)) (known_schema known.now).entity_types
         (definitions_bag definitions.old.entries) (definitions_bag definitions.new.entries)) }
@@ -195,10 +199,11 @@ pub(crate) fn write_entity_types(
         × ¬ IsSoundEntityType known.now it)) }
 {
     for (name, ty) in known.entity_types {
+        check_descendants(known.entity_types, ty)?;
         let namespace = namespace_of(known.alloc, name.name())?;
         let id = base_id(known.alloc, name.name())?;
-        let above = parents_of_type(known.alloc, parents, name)?;
-        let declared = write_entity_type(known, &namespace, above, ty)?;
+        let parents = write_parents(known, &namespace, uppers, name)?;
+        let declared = write_entity_type(known, &namespace, parents, ty)?;
         put_entity_type(known.alloc, definitions, namespace, id, declared)?;
     }
     Ok(())

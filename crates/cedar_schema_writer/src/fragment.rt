@@ -11,11 +11,10 @@ ghost use Rattle.cedar_schema_writer.specs.Refusal.{Refuses};
 use crate::actions::write_actions;
 use crate::entity_types::write_entity_types;
 use crate::known::{Known, action_types};
-use crate::parents::{action_parents, type_parents};
 use crate::write_back_fault::WriteBackFault;
 use cedar_below::{EntityType, EntityUID};
 use cedar_names::json_schema::{Fragment, RawName};
-use cedar_schema_elements::{ValidatorActionId, ValidatorEntityType};
+use cedar_schema_elements::{ValidatorActionId, ValidatorEntityType, upper_sets};
 use std::alloc::Global;
 use std::collections::BTreeMap;
 
@@ -50,10 +49,10 @@ pub fn json_schema(
         actions,
         action_types: &action_types,
     };
-    let type_parents = type_parents(&known)?;
-    let action_parents = action_parents(&known)?;
+    let type_uppers = upper_sets(alloc, entity_types)?;
+    let action_uppers = upper_sets(alloc, actions)?;
     let mut definitions = BTreeMap::new(alloc);
-    write_entity_types(&known, &type_parents, &mut definitions)?;
-    write_actions(&known, &action_parents, &mut definitions)?;
+    write_entity_types(&known, &type_uppers, &mut definitions)?;
+    write_actions(&known, &action_uppers, &mut definitions)?;
     Ok(Fragment(definitions))
 }

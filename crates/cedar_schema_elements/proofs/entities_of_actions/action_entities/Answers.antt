@@ -1,11 +1,12 @@
 use Rattle.std.proofs.Common.{refl, sym, ◌∙◌}
 use Rattle.std.proofs.lemmas.Bool.{false≢true}
 use Rattle.cedar_below.specs.EntityUID.{uid_of}
-use Rattle.cedar_schema_elements.proofs.EntityLemmas.{entities_all, entities_none, entities_passed, entities_put, left_all, left_here, left_rest, same_entity}
-use Rattle.cedar_schema_elements.proofs.UidLemmas.{uids_once}
+use Rattle.cedar_schema_elements.proofs.EntityLemmas.{EntitiesSoFar, UppersLeft, entities_all, entities_none, entities_passed, entities_put, left_all, left_here, left_rest, same_entity}
+use Rattle.cedar_schema_elements.proofs.KeyLemmas.{cmp, uids_once}
 use Rattle.cedar_schema_elements.specs.ActionEntities.{Lists, plain_action_entity}
 use Rattle.cedar_schema_elements.specs.Uppers.{IsUpper}
 use Rattle.cedar_schema_elements.proofs.entities_of_actions.action_entities.Goals as goal
+use Rattle.cedar_schema_elements.proofs.entities_of_actions.action_entities.Goals.{In_ok-insert}
 
 pub loop-uid-init : goal.loop-uid-init
 loop-uid-init c =
@@ -24,35 +25,28 @@ loop-uid-preserved c =
           c.loop-uid.invariant.1 c.loop-uid.uppers (λ other apart. refl),
     )
 
-pub loop-uid-preserved-in_ok-insert : goal.loop-uid-preserved-in_ok-insert
-loop-uid-preserved-in_ok-insert c =
+-- the entity of one more action is put in
+put : (c : In_ok-insert) → EntitiesSoFar c.args.actions.now.entries c.insert.new.self c.next.new.self
+    × UppersLeft c.args.actions.now.entries c.action_entity.new.uppers c.next.new.self
+put c =
     let actions = c.args.actions.now.entries in
     let uid = c.in-Some.uid.now in
     let entity = c.in_ok-action_entity.field-0 in
     let here = left_here actions _ _ c.loop-uid.uppers uid c.in-Some.action.now c.in-Some.ensures.steps c.loop-uid.invariant.1 in (
       entities_put actions _ _ c.loop-uid.entities uid c.in-Some.action.now c.in-Some.ensures.steps c.loop-uid.invariant.0
           (λ is. false≢true (sym c.if-not-is_external.true ∙ c.is_external.ensures.1 is)) c.insert.new.self entity
-          (same_entity (IsUpper c.loop-uid.uppers uid) (Lists actions (uid_of uid)) (uid_of uid) (plain_action_entity entity) here
+          (same_entity (IsUpper cmp uid_of c.loop-uid.uppers uid) (Lists actions (uid_of uid)) (uid_of uid) (plain_action_entity entity) here
           c.in_ok-action_entity.ensures.entity)
           c.in_ok-insert.ensures.inserted c.in_ok-insert.ensures.others,
       left_rest actions _ _ c.loop-uid.uppers uid c.in-Some.action.now c.in-Some.ensures.steps c.loop-uid.invariant.1
           c.action_entity.new.uppers c.in_ok-action_entity.ensures.others,
     )
 
+pub loop-uid-preserved-in_ok-insert : goal.loop-uid-preserved-in_ok-insert
+loop-uid-preserved-in_ok-insert c = put (goal.at.loop-uid-preserved-in_ok-insert c).In_ok-insert
+
 pub loop-uid-preserved-in_ok-insert-2 : goal.loop-uid-preserved-in_ok-insert-2
-loop-uid-preserved-in_ok-insert-2 c =
-    let actions = c.args.actions.now.entries in
-    let uid = c.in-Some.uid.now in
-    let entity = c.in_ok-action_entity.field-0 in
-    let here = left_here actions _ _ c.loop-uid.uppers uid c.in-Some.action.now c.in-Some.ensures.steps c.loop-uid.invariant.1 in (
-      entities_put actions _ _ c.loop-uid.entities uid c.in-Some.action.now c.in-Some.ensures.steps c.loop-uid.invariant.0
-          (λ is. false≢true (sym c.if-not-is_external.true ∙ c.is_external.ensures.1 is)) c.insert.new.self entity
-          (same_entity (IsUpper c.loop-uid.uppers uid) (Lists actions (uid_of uid)) (uid_of uid) (plain_action_entity entity) here
-          c.in_ok-action_entity.ensures.entity)
-          c.in_ok-insert.ensures.inserted c.in_ok-insert.ensures.others,
-      left_rest actions _ _ c.loop-uid.uppers uid c.in-Some.action.now c.in-Some.ensures.steps c.loop-uid.invariant.1
-          c.action_entity.new.uppers c.in_ok-action_entity.ensures.others,
-    )
+loop-uid-preserved-in_ok-insert-2 c = put (goal.at.loop-uid-preserved-in_ok-insert-2 c).In_ok-insert
 
 pub returns : goal.returns
 returns c = λ types.

@@ -1,9 +1,11 @@
 use Rattle.std.proofs.Common.{◌↔◌, List, map, ap, sym, subst, ◌∙◌, Contains}
 use Rattle.std.specs.BTreeSet.{BTreeSet}
+use Rattle.cedar_below.proofs.Uids.{entity_uid_ord-Equal}
 use Rattle.cedar_below.specs.EntityUID.{uid_of}
 use Rattle.cedar_below.specs.PlainUid.{PlainUid}
 use Rattle.cedar_below.specs.declared.entity_uid.EntityUID.{EntityUID}
 use Rattle.cedar_schema_elements.proofs.EntityLemmas.{no_values}
+use Rattle.cedar_schema_elements.proofs.KeyLemmas.{cmp}
 use Rattle.cedar_schema_elements.proofs.UpperLemmas.{none_above, others_stay, some_above}
 use Rattle.cedar_schema_elements.specs.ActionEntities.{named_values}
 use Rattle.cedar_schema_elements.specs.Uppers.{IsUpper, upper_set}
@@ -14,14 +16,14 @@ pub returns-clause-entity : goal.returns-clause-entity
 returns-clause-entity c =
     let before = c.args.uppers.now in
     let uid = c.args.uid.now in
-    let P : List PlainUid → Type 0 = λ uids. (above : PlainUid) → Contains uids above ↔ IsUpper before uid above in
-    let Q : BTreeSet EntityUID → Type 0 = λ set. (above : PlainUid) → IsUpper before uid above ↔ Contains (map uid_of set.keys) above in
+    let P : List PlainUid → Type 0 = λ uids. (above : PlainUid) → Contains uids above ↔ IsUpper cmp uid_of before uid above in
+    let Q : BTreeSet EntityUID → Type 0 = λ set. (above : PlainUid) → IsUpper cmp uid_of before uid above ↔ Contains (map uid_of set.keys) above in
     let stands : Q c.match-remove.ancestors =
     elim c.match-remove.branch [
-      | in-Some w ↦ subst Q (sym w.ancestors-is) (some_above (upper_set before uid) _ (sym c.remove.ensures.value ∙ w.in-Some.is))
+      | in-Some w ↦ subst Q (sym w.ancestors-is) (some_above uid_of (upper_set cmp before uid) _ (sym c.remove.ensures.value ∙ w.in-Some.is))
       | in-None w ↦
           subst Q (sym w.ancestors-is)
-          (none_above (upper_set before uid) w.new-ancestors.result.keys (sym c.remove.ensures.value ∙ w.in-None.is)
+          (none_above uid_of (upper_set cmp before uid) w.new-ancestors.result.keys (sym c.remove.ensures.value ∙ w.in-None.is)
           w.new-ancestors.ensures.empty)
     ] in
     record {
@@ -33,4 +35,4 @@ returns-clause-entity c =
 
 pub returns-clause-others : goal.returns-clause-others
 returns-clause-others c =
-    others_stay c.args.uppers.now c.remove.new.self c.args.uid.now c.remove.ensures.updates.2
+    others_stay cmp uid_of entity_uid_ord-Equal c.args.uppers.now c.remove.new.self c.args.uid.now c.remove.ensures.updates.2

@@ -5,7 +5,7 @@ use Rattle.cedar_declarations.specs.Environments.{Environment}
 use Rattle.cedar_below.specs.Lists.{Twice}
 use Rattle.cedar_schema_elements.proofs.EnvironmentLemmas.{are_environments, environments_under, of_action, with_context, without_context}
 use Rattle.cedar_schema_elements.proofs.GivenLemmas.{given_all, given_more, given_none, given_nothing, given_once}
-use Rattle.cedar_schema_elements.proofs.UidLemmas.{uids_once, under}
+use Rattle.cedar_schema_elements.proofs.KeyLemmas.{uids_once, under}
 use Rattle.cedar_schema_elements.specs.RequestEnv.{owned_environment}
 use Rattle.cedar_types.specs.Meaning.{ty_of}
 use Rattle.cedar_schema_elements.proofs.request_environments.environments.Goals as goal

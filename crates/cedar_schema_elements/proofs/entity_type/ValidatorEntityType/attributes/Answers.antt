@@ -1,8 +1,14 @@
-use Rattle.std.proofs.Common.{ap, ◌∙◌, sym}
+use Rattle.std.proofs.Common.{◌≡◌, [], refl, ap, ◌∙◌, sym}
 use Rattle.cedar_schema_elements.specs.EntityTypeKind.{plain_kind}
 use Rattle.cedar_declarations.specs.EntityTypeKind.{kind_fields}
-use Rattle.cedar_schema_elements.proofs.MemberLemmas.{end-nameless}
+use Rattle.cedar_type_rules.specs.Fields.{field_names}
+use Rattle.cedar_type_rules.specs.Ty.{Fields, end, field}
 use Rattle.cedar_schema_elements.proofs.entity_type.ValidatorEntityType.attributes.Goals as goal
+
+-- attributes without names are none
+end-nameless : (fields : Fields) → field_names fields ≡ [] → fields ≡ end
+end-nameless end nameless = refl
+end-nameless (field name required ty rest) nameless = cc
 
 pub returns-in-Enum-clause-fields : goal.returns-in-Enum-clause-fields
 returns-in-Enum-clause-fields c =

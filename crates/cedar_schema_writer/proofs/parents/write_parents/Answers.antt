@@ -1,0 +1,41 @@
+use Rattle.std.proofs.Common.{List, [], map, ap, refl, sym, subst, Contains}
+use Rattle.cedar_schema_elements.proofs.UpperLemmas.{none_above, some_above}
+use Rattle.cedar_schema_elements.specs.Uppers.{upper_set}
+use Rattle.cedar_schema_writer.proofs.Answered.{ok_to, on_to}
+use Rattle.cedar_schema_writer.proofs.Refusals.{refusal_weaker}
+use Rattle.cedar_schema_writer.proofs.Written.{none_there}
+use Rattle.cedar_schema_writer.proofs.parents.write_parents.Goals as goal
+
+pub returns-in-Some-clause-names : goal.returns-in-Some-clause-names
+returns-in-Some-clause-names g c =
+    let above = some_above g.K.WrittenKey.named _ c.in-Some.above.now (sym c.in-Some.ensures.value) in
+    ok_to _ _ (λ parents names upper.
+    let S : List g.K.WrittenKey.Named → Type 0 = λ items. Contains items upper in (
+      λ among. (above upper).1 (subst S names among),
+      λ stands. subst S (sym names) ((above upper).0 stands),
+    ))
+    c.write_keys.result c.write_keys.ensures.names
+
+pub returns-in-Some-clause-no_other : goal.returns-in-Some-clause-no_other
+returns-in-Some-clause-no_other g c =
+    let above = some_above g.K.WrittenKey.named _ c.in-Some.above.now (sym c.in-Some.ensures.value) in
+    on_to _ _ (λ clear upper stands. clear upper ((above upper).0 stands)) c.write_keys.result c.write_keys.ensures.no_other
+
+pub returns-in-Some-clause-refusal : goal.returns-in-Some-clause-refusal
+returns-in-Some-clause-refusal g c =
+    let above = some_above g.K.WrittenKey.named _ c.in-Some.above.now (sym c.in-Some.ensures.value) in
+    refusal_weaker _ _ (λ some. (some.0, (above some.0).1 some.1, some.2)) c.write_keys.result c.write_keys.ensures.refusal
+
+pub returns-in-None-clause-names : goal.returns-in-None-clause-names
+returns-in-None-clause-names g c = λ upper.
+    let above = none_above g.K.WrittenKey.named (upper_set g.K.Ord.cmp c.args.uppers.now c.args.lower.now) []
+    (sym c.in-None.ensures.value) refl upper in (
+      λ among. absurd (none_there _ upper (ap (map g.K.WrittenKey.written) c.new.ensures.items) among),
+      λ stands. absurd (none_there [] upper refl (above.0 stands)),
+    )
+
+pub returns-in-None-clause-no_other : goal.returns-in-None-clause-no_other
+returns-in-None-clause-no_other g c = λ upper stands.
+    let above = none_above g.K.WrittenKey.named (upper_set g.K.Ord.cmp c.args.uppers.now c.args.lower.now) []
+    (sym c.in-None.ensures.value) refl upper in
+    absurd (none_there [] upper refl (above.0 stands))
