@@ -17,17 +17,9 @@ use Rattle.cedar_type_rules.specs.WellFormed.{IsWellFormed}
 -- a type above an open record is an open record
 above_open : (fields : Fields) (bound : Ty) → Below Permissive (record_of fields OpenAttributes) bound
     → (above : Fields) × (bound ≡ record_of above OpenAttributes)
-above_open fields never below = absurd below
-above_open fields (truth known) below = absurd below
-above_open fields long below = absurd below
-above_open fields text below = absurd below
-above_open fields any_entity below = absurd below
-above_open fields (union_of names) below = absurd below
-above_open fields any_set below = absurd below
-above_open fields (set_of element) below = absurd below
 above_open fields (record_of above OpenAttributes) below = (above, refl)
 above_open fields (record_of above ClosedAttributes) below = absurd below.0
-above_open fields (extension_of name) below = absurd below
+above_open fields _ below = absurd below
 
 -- two open records have an own bound: the open record without attributes
 open_bound : (fields others : Fields) → HaveOwnBound Permissive (record_of fields OpenAttributes) (record_of others OpenAttributes)

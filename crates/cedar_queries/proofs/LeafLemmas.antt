@@ -75,8 +75,6 @@ parts-inside (extension_of name) parted = absurd (parted tt)
 
 -- the only leaf of a leaf is itself
 pub leaves-of_leaf : (ty : Ty) → IsLeaf ty → leaves ty ≡ ty ∷ []
-leaves-of_leaf (set_of ty) leaf = absurd leaf
-leaves-of_leaf (record_of fields openness) leaf = absurd leaf
 leaves-of_leaf never leaf = refl
 leaves-of_leaf (truth known) leaf = refl
 leaves-of_leaf long leaf = refl
@@ -85,6 +83,7 @@ leaves-of_leaf any_entity leaf = refl
 leaves-of_leaf (union_of names) leaf = refl
 leaves-of_leaf any_set leaf = refl
 leaves-of_leaf (extension_of name) leaf = refl
+leaves-of_leaf _ leaf = absurd leaf
 
 -- a type is made of at least itself
 pub parts-some : (ty : Ty) → 0 < parts ty

@@ -45,14 +45,9 @@ module _ (namespace : Option PlainName) (P Q : PlainName → Type 0) (same : (na
   -- a kind is written with the same parents
   pub kind-same : (kind : EntityTypeKind) (body : EntityBody) → IsKindWritten namespace P kind body → IsKindWritten namespace Q kind body
   kind-same (standard_kind fields openness tags) (standard parents shape written) is = (images-same (full_name namespace) P Q same parents is.0, is.1, is.2)
-  kind-same (standard_kind fields openness tags) (enumerated ids) is = absurd is
-  kind-same (standard_kind fields openness tags) (external parents) is = absurd is
-  kind-same (enumerated_kind choices) (standard parents shape written) is = absurd is
   kind-same (enumerated_kind choices) (enumerated ids) is = is
-  kind-same (enumerated_kind choices) (external parents) is = absurd is
-  kind-same external_kind (standard parents shape written) is = absurd is
-  kind-same external_kind (enumerated ids) is = absurd is
   kind-same external_kind (external parents) is = images-same (full_name namespace) P Q same parents is
+  kind-same _ _ is = absurd is
 
   -- and can be
   pub sound_kind-same : (names : Names) (kind : EntityTypeKind) → IsSoundKind names namespace P kind → IsSoundKind names namespace Q kind

@@ -16,9 +16,8 @@ use Rattle.cedar_schema_writer.specs.Definitions.{ArePut}
 pairwise_append : {A B : Type 0} (R : A → B → Type 0) (xs xs' : List A) (ys ys' : List B) → HoldsPairwise R xs ys → HoldsPairwise R xs' ys'
     → HoldsPairwise R (xs ++ xs') (ys ++ ys')
 pairwise_append R [] xs' [] ys' front back = back
-pairwise_append R [] xs' (y ∷ ys) ys' front back = absurd front
-pairwise_append R (x ∷ xs) xs' [] ys' front back = absurd front
 pairwise_append R (x ∷ xs) xs' (y ∷ ys) ys' front back = (front.0, pairwise_append R xs xs' ys ys' front.1 back)
+pairwise_append R _ xs' _ ys' front back = absurd front
 
 -- of some items, none of one key, a declaration of each is put in; others are left
 pub record PutSoFar {A K : Type 0} (key : A → K) (R : A → Declaration → Type 0) (P : A → Type 0) (before : Bag) (all left : List A)

@@ -31,8 +31,7 @@ pub kind_known : (known : Known) (kind : EntityTypeKind) → IsKnownThroughout k
 kind_known known (standard_kind fields openness tags) attributes each of either =
     let P : Ty → Type 0 = IsKnownThroughout known in
     ⊎_elim (λ is. subst P (sym is) attributes) (λ is. each of is) either
-kind_known known (enumerated_kind choices) attributes each of either = absurd either
-kind_known known external_kind attributes each of either = absurd either
+kind_known known _ attributes each of either = absurd either
 
 -- why the attributes of a kind are refused is why a type of it is
 pub attributes_fault : (known : Known) (kind : EntityTypeKind) (fault : Fault)

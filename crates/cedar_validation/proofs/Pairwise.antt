@@ -21,9 +21,8 @@ pairwise R f g (x ∷ xs) (y ∷ ys) same each =
 pub pairwise_map : {A B C D : Type 0} (R : C → D → Type 0) (f : A → C) (g : B → D) (xs : List A) (ys : List B)
     → HoldsPairwise (λ x y. R (f x) (g y)) xs ys → HoldsPairwise R (map f xs) (map g ys)
 pairwise_map R f g [] [] holds = tt
-pairwise_map R f g [] (y ∷ ys) holds = absurd holds
-pairwise_map R f g (x ∷ xs) [] holds = absurd holds
 pairwise_map R f g (x ∷ xs) (y ∷ ys) holds = (holds.0, pairwise_map R f g xs ys holds.1)
+pairwise_map R f g _ _ holds = absurd holds
 
 -- where two lists agree pairwise, each item of the second has one of the first
 pub pairwise_back : {A B : Type 0} (R : A → B → Type 0) (xs : List A) (ys : List B) → HoldsPairwise R xs ys → (y : B)
