@@ -16,7 +16,7 @@ use Rattle.cedar_names.specs.Declaration.{Declaration, Body, common_type, entity
 use Rattle.cedar_names.specs.EntityBody.{EntityBody, standard, enumerated, external}
 use Rattle.cedar_names.specs.Expr.{Expr, extension_expr}
 use Rattle.cedar_declarations.proofs.BuiltInLemmas.{alias_of}
-use Rattle.cedar_declarations.proofs.DeclarationLemmas.{entity_declaration, action_declaration, common_declaration, declares_entity, declares_action, declares_common}
+use Rattle.cedar_declarations.proofs.DeclarationLemmas.{Kind, actions, common_types, declaration, declared, declares, entity_types}
 use Rattle.cedar_declaration_laws.proofs.MeaningLemmas.{AreAlike, alike_text, alike_long, alike_truth, alike_extension}
 use Rattle.cedar_declarations.proofs.TurnLemmas.{turn_forth}
 use Rattle.cedar_declaration_laws.proofs.MovedLemmas.{keys_pairwise, DeclarationsAlike, BodiesAlike, EntitiesAlike, RequestsAlike, alike_name, alike_uid, common_keys, entity_keys, action_keys}
@@ -172,68 +172,46 @@ module _ (names others : Names) (bag other : Bag) (turn : HoldsPairwise (Declara
         actions = action_same i;
       }
 
-  -- an entity type that the one declares the other does, alike
+  -- what the one declares under a key the other does, alike
+  moved : {Key It : Type 0} (of : Kind Key It) (ItAlike : It → It → Type 0)
+      → ((it found : Declaration) → DeclarationsAlike names others it found → of.key_of it ≡ of.key_of found)
+      → ((it : It) (body : Body) → BodiesAlike names others (of.body_of it) body → (found : It) × (body ≡ of.body_of found) × ItAlike it found)
+      → (key : Key) (it : It) → Contains (declared of bag) (key, it)
+      → (found : It) × Contains (declared of other) (key, found) × ItAlike it found
+  moved of ItAlike same_key turned key it among =
+      let by = declaration of bag key it among in
+      let found = turn_forth (DeclarationsAlike names others) bag other turn by.0 by.1 in
+      let like = turned it found.0.body (subst (λ each. BodiesAlike names others each found.0.body) by.2 found.2.2) in (
+        like.0,
+        subst (λ each. Contains (declared of other) (each, like.0)) (sym (same_key by.0 found.0 found.2) ∙ by.3)
+            (declares of other found.0 like.0 found.1 like.1),
+        like.2,
+      )
+
+  -- so it is with entity types, actions and common types
   pub entity_moved : (name : PlainName) (body : EntityBody) → Contains (declared_entities bag) (name, body) → (found : EntityBody)
       × Contains (declared_entities other) (name, found) × EntitiesAlike names others body found
-  entity_moved name body among =
-      let it = entity_declaration bag name body among in
-      let found = turn_forth (DeclarationsAlike names others) bag other turn it.0 it.1 in
-      let P : Body → Type 0 = λ each. BodiesAlike names others each found.0.body in
-      let like = by found.0.body refl (subst P it.2 found.2.2) in
-      let Q : PlainName → Type 0 = λ each. Contains (declared_entities other) (each, like.0) in (
-        like.0,
-        subst Q (sym (alike_name names others it.0 found.0 found.2) ∙ it.3)
-            (declares_entity other found.0 like.0 found.1 like.1),
-        like.2,
-      )
-    where
-      by : (body' : Body) {of : Body} → of ≡ body' → BodiesAlike names others (entity_type body) body' → (found : EntityBody)
-          × (of ≡ entity_type found) × EntitiesAlike names others body found
-      by (entity_type found) is like = (found, is, like)
-      by (common_type definition) is like = absurd like
-      by (action found) is like = absurd like
+  entity_moved = moved entity_types (EntitiesAlike names others) (alike_name names others) by where
+    by : (it : EntityBody) (body : Body) → BodiesAlike names others (entity_type it) body
+        → (found : EntityBody) × (body ≡ entity_type found) × EntitiesAlike names others it found
+    by it (entity_type found) like = (found, refl, like)
+    by it _ like = absurd like
 
-  -- an action that the one declares the other does, alike
   pub action_moved : (uid : PlainUid) (body : ActionBody) → Contains (declared_actions bag) (uid, body) → (found : ActionBody)
       × Contains (declared_actions other) (uid, found) × BodiesAlike names others (action body) (action found)
-  action_moved uid body among =
-      let it = action_declaration bag uid body among in
-      let found = turn_forth (DeclarationsAlike names others) bag other turn it.0 it.1 in
-      let P : Body → Type 0 = λ each. BodiesAlike names others each found.0.body in
-      let like = by found.0.body refl (subst P it.2 found.2.2) in
-      let Q : PlainUid → Type 0 = λ each. Contains (declared_actions other) (each, like.0) in (
-        like.0,
-        subst Q (sym (alike_uid names others it.0 found.0 found.2) ∙ it.3)
-            (declares_action other found.0 like.0 found.1 like.1),
-        like.2,
-      )
-    where
-      by : (body' : Body) {of : Body} → of ≡ body' → BodiesAlike names others (action body) body' → (found : ActionBody)
-          × (of ≡ action found) × BodiesAlike names others (action body) (action found)
-      by (action found) is like = (found, is, like)
-      by (common_type definition) is like = absurd like
-      by (entity_type found) is like = absurd like
+  action_moved = moved actions (λ it found. BodiesAlike names others (action it) (action found)) (alike_uid names others) by where
+    by : (it : ActionBody) (body : Body) → BodiesAlike names others (action it) body
+        → (found : ActionBody) × (body ≡ action found) × BodiesAlike names others (action it) (action found)
+    by it (action found) like = (found, refl, like)
+    by it _ like = absurd like
 
-  -- a common type that the one declares the other does, alike
   pub common_moved : (name : PlainName) (definition : Expr) → Contains (declared_common bag) (name, definition) → (found : Expr)
       × Contains (declared_common other) (name, found) × AreAlike names others definition found
-  common_moved name definition among =
-      let it = common_declaration bag name definition among in
-      let found = turn_forth (DeclarationsAlike names others) bag other turn it.0 it.1 in
-      let P : Body → Type 0 = λ each. BodiesAlike names others each found.0.body in
-      let like = by found.0.body refl (subst P it.2 found.2.2) in
-      let Q : PlainName → Type 0 = λ each. Contains (declared_common other) (each, like.0) in (
-        like.0,
-        subst Q (sym (alike_name names others it.0 found.0 found.2) ∙ it.3)
-            (declares_common other found.0 like.0 found.1 like.1),
-        like.2,
-      )
-    where
-      by : (body' : Body) {of : Body} → of ≡ body' → BodiesAlike names others (common_type definition) body' → (found : Expr)
-          × (of ≡ common_type found) × AreAlike names others definition found
-      by (common_type found) is like = (found, is, like)
-      by (entity_type found) is like = absurd like
-      by (action found) is like = absurd like
+  common_moved = moved common_types (AreAlike names others) (alike_name names others) by where
+    by : (it : Expr) (body : Body) → BodiesAlike names others (common_type it) body
+        → (found : Expr) × (body ≡ common_type found) × AreAlike names others it found
+    by it (common_type found) like = (found, refl, like)
+    by it _ like = absurd like
 
 -- what a built-in base name stands for is alike itself
 built_in_alike : (names others : Names) (extensions : Extensions) (word : Text) (body : Expr)
