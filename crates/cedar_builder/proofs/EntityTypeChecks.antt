@@ -16,7 +16,8 @@ use Rattle.cedar_declarations.proofs.OccurrenceLemmas.{Contains-image, Contains-
 use Rattle.cedar_schema_elements.specs.ValidatorEntityType.{entity_type_of}
 use Rattle.cedar_schema_elements.specs.declared.entity_type.ValidatorEntityType.{ValidatorEntityType}
 use Rattle.cedar_types.proofs.MemberLemmas.{Contains-named, list_any-names}
-use Rattle.cedar_builder.specs.EntityTypeNodes.{IsEnumerated, IsEnumeratedAt, IsExternalAt, LeadsTo, has_descendant, node_at}
+use Rattle.cedar_declarations.specs.ValidSchema.{IsEnumerated}
+use Rattle.cedar_builder.specs.EntityTypeNodes.{IsEnumeratedAt, IsExternalAt, LeadsTo, has_descendant, node_at}
 
 -- what holds of each that was shown, and of one more
 pub shown_more : {A B : Type 0} (f : A → B) (P : B → Type 0) (xs : List A) (x : A) → ((y : B) → Contains (map f xs) y → P y) → P (f x)

@@ -8,7 +8,8 @@ use Rattle.cedar_declarations.specs.EntityTypeKind.{external_kind}
 use Rattle.cedar_declarations.specs.Fault.{Fault}
 use Rattle.cedar_schema_elements.specs.ValidatorEntityType.{PlainEntityType}
 use Rattle.cedar_schema_elements.specs.declared.entity_type.ValidatorEntityType.{ValidatorEntityType}
-use Rattle.cedar_builder.specs.EntityTypeNodes.{AreLinked, AreTheSame, IsAbove, IsEdgeSound, IsEnumerated, IsEnumeratedAt, IsExternalAt, IsLinkFault, IsLinkingFault, LeadsTo, node_at}
+use Rattle.cedar_declarations.specs.ValidSchema.{IsEnumerated}
+use Rattle.cedar_builder.specs.EntityTypeNodes.{AreLinked, AreTheSame, IsAbove, IsEdgeSound, IsEnumeratedAt, IsExternalAt, IsLinkFault, IsLinkingFault, LeadsTo, node_at}
 
 -- an enumerated entity type stands at a key before and after
 enumerated_same : (o p : Option ValidatorEntityType) → AreTheSame o p → IsEnumeratedAt o ↔ IsEnumeratedAt p

@@ -45,7 +45,8 @@ use Rattle.cedar_builder.proofs.NodesLinked.{alike_after, alike_before, collecte
 use Rattle.cedar_builder.proofs.ReadyLemmas.{action_type, expr_fault}
 use Rattle.cedar_builder.specs.DeclaredNodes.{IsCollected, IsCollectedAt, IsCollectingFault, IsParentFault, SaysTogether, defined_in, definition_in, parents_in}
 use Rattle.cedar_resolution.specs.Collected.{collected_entities}
-use Rattle.cedar_builder.specs.EntityTypeNodes.{AreLinked, AreTheSame, IsAbove, IsElaboratedEntity, IsEnumerated, IsEnumeratedAt, IsExternalAt, IsLinkingFault, LeadsTo, SameType, has_descendant, node_at}
+use Rattle.cedar_declarations.specs.ValidSchema.{IsEnumerated}
+use Rattle.cedar_builder.specs.EntityTypeNodes.{AreLinked, AreTheSame, IsAbove, IsElaboratedEntity, IsEnumeratedAt, IsExternalAt, IsLinkingFault, LeadsTo, SameType, has_descendant, node_at}
 use Rattle.cedar_builder.specs.EntityTypesReady.{IsReady}
 use Rattle.cedar_builder.specs.SoundEntityTypes.{EntityTypesAreSound}
 use Rattle.cedar_builder.specs.EntityTypeSteps.{AreElaboratedTags, HasNoRecord, IsBodyFault, IsElaboratedKind, IsSoundBody, entry_names, is_entity_definition}

@@ -8,18 +8,14 @@ use Rattle.cedar_below.specs.PlainName.{PlainName}
 use Rattle.cedar_below.specs.contracts.entity_type.EntityTypePartialEq.TheImpl as entity_type_eq
 use Rattle.cedar_below.specs.declared.entity_type.EntityType.{EntityType}
 use Rattle.cedar_graph.specs.Edges.{HasEdge, IsEdgeIn, AreAlike}
-use Rattle.cedar_declarations.specs.EntityTypeKind.{EntityTypeKind, enumerated_kind, external_kind}
+use Rattle.cedar_declarations.specs.EntityTypeKind.{external_kind}
 use Rattle.cedar_declarations.specs.Fault.{Fault, undeclared_entity_types, enumerated_below, external_below_enumerated, out_of_memory}
+use Rattle.cedar_declarations.specs.ValidSchema.{IsEnumerated}
 use Rattle.cedar_schema_elements.specs.ValidatorEntityType.{entity_type_of, descendant_names}
 use Rattle.cedar_schema_elements.specs.declared.entity_type.ValidatorEntityType.{ValidatorEntityType}
 use Rattle.cedar_names.specs.EntityBody.{EntityBody}
 use Rattle.cedar_builder.specs.EntityTypeSteps.{IsElaboratedKind}
 use Rattle.cedar_elaboration.specs.declared.type_scope.TypeScope.{TypeScope}
-
--- the kind is enumerated
-abbrev pub IsEnumerated : EntityTypeKind → Type 0
-IsEnumerated (enumerated_kind choices) = Unit {0}
-IsEnumerated _ = ⊥
 
 -- at a key stands an enumerated entity type
 abbrev pub IsEnumeratedAt : Option ValidatorEntityType → Type 0

@@ -4,29 +4,20 @@ ghost use Rattle.std.specs.Prelude.{◌≡◌, ◌⊎◌, ◌↔◌, Contains, I
 ghost use Rattle.cedar_below.specs.declared.entity_type.EntityType.{EntityType as Key};
 ghost use Rattle.cedar_declarations.specs.Fault.{out_of_memory};
 ghost use Rattle.cedar_declarations.specs.SchemaError.{fault_of};
-ghost use Rattle.cedar_schema_elements.specs.ValidatorEntityType.{entity_type_of};
-ghost use Rattle.cedar_builder.specs.EntityTypeNodes.{IsEdgeFault, IsEdgeSound, IsEnumerated, IsEnumeratedAt, IsExternalAt, IsLinkFault, LeadsTo, node_at};
+ghost use Rattle.cedar_builder.specs.EntityTypeNodes.{IsEdgeFault, IsEdgeSound, IsEnumeratedAt, IsExternalAt, IsLinkFault, LeadsTo, node_at};
 
 use crate::entity_type_links::{Edge, Nodes};
 use cedar_below::{EntityType, NonEmpty};
 use cedar_declarations::SchemaError;
-use cedar_schema_elements::{ValidatorEntityType, ValidatorEntityTypeKind};
 use std::alloc::Global;
 use std::collections::HashSet;
-
-/// Whether an entity type is enumerated.
-fn is_enumerated(ty: &ValidatorEntityType) -> bool
-    ensures { IsTrue result ↔ IsEnumerated (entity_type_of ty.now).kind }
-{
-    matches!(ty.kind, ValidatorEntityTypeKind::Enum(_))
-}
 
 /// Whether an enumerated entity type stands under a name.
 fn is_enumerated_at(nodes: &Nodes, name: &EntityType) -> bool
     ensures { IsTrue result ↔ IsEnumeratedAt (node_at nodes.now name.now) }
 {
     match nodes.get(name) {
-        Some(ty) => is_enumerated(ty),
+        Some(ty) => ty.is_enumerated(),
         None => false,
     }
 }
@@ -103,7 +94,7 @@ pub(crate) fn check_descendants(nodes: &Nodes) -> Result<(), SchemaError>
         × IsExternalAt (node_at nodes.now lower) × IsLinkFault lower upper (fault_of error))) }
 {
     for (name, ty) in nodes {
-        if is_enumerated(ty) {
+        if ty.is_enumerated() {
             check_below(nodes, name, &ty.descendants)?;
         }
     }

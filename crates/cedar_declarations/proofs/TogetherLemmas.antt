@@ -225,8 +225,7 @@ action_definition_says bag uid elsewhere among = absurd (action_definition_decla
 -- only definitions count
 pub entity_counted : (body : EntityBody) (expr : Expr) → CountsInEntity body expr → IsDefinition body
 entity_counted (standard ps shape tags) expr counts = tt
-entity_counted (enumerated choices) expr counts = absurd counts
-entity_counted (external ps) expr counts = absurd counts
+entity_counted _ expr counts = absurd counts
 
 -- only requests of definitions count
 pub requests_counted : (it : Requests) (expr : Expr) → CountsInRequests it expr → AreRequests it

@@ -37,9 +37,8 @@ turn_at S (y ∷ xs) (v ∷ vs) turns (suc i) x is = turn_at S xs vs turns.1 i x
 -- lists of which something holds pairwise are of one length
 same_length : {A B : Type 0} (R : A → B → Type 0) (xs : List A) (ys : List B) → HoldsPairwise R xs ys → length xs ≡ length ys
 same_length R [] [] turns = refl
-same_length R [] (y ∷ ys) turns = absurd turns
-same_length R (x ∷ xs) [] turns = absurd turns
 same_length R (x ∷ xs) (y ∷ ys) turns = ap suc (same_length R xs ys turns.1)
+same_length R _ _ turns = absurd turns
 
 -- the name of the item at an index
 pub name_at : (items : List (PlainName × Expr)) (i : ℕ) (item : PlainName × Expr) → slice_get items i ≡ Some item
@@ -183,6 +182,5 @@ module _ {Z : Type 0} (items : List (PlainName × Expr)) (indices : List (PlainN
 pub HoldsPairwise-push : {A B : Type 0} (R : A → B → Type 0) (xs : List A) (ys : List B) (x : A) (y : B) → HoldsPairwise R xs ys
     → R x y → HoldsPairwise R (xs ++ x ∷ []) (ys ++ y ∷ [])
 HoldsPairwise-push R [] [] x y turns last = (last, tt)
-HoldsPairwise-push R [] (other ∷ ys) x y turns last = absurd turns
-HoldsPairwise-push R (first ∷ xs) [] x y turns last = absurd turns
 HoldsPairwise-push R (first ∷ xs) (other ∷ ys) x y turns last = (turns.0, HoldsPairwise-push R xs ys x y turns.1 last)
+HoldsPairwise-push R _ _ x y turns last = absurd turns

@@ -121,9 +121,6 @@ mutual
   -- each reference of an expression that is elaborated resolves
   pub resolves_each : (defined : Defined) {expr : Expr} {ty : Ty} → ElaboratesTo defined expr ty → (reference : Reference)
       → Refers expr reference → (name : PlainName) × ResolvesTo (names_of defined) reference name
-  resolves_each defined as_text reference refers = absurd refers
-  resolves_each defined as_long reference refers = absurd refers
-  resolves_each defined as_truth reference refers = absurd refers
   resolves_each defined (as_set element) reference refers = resolves_each defined element reference refers
   resolves_each defined (as_record members) reference refers = members_resolve defined members reference refers
   resolves_each defined (as_entity other name resolves is_entity none) reference refers =
@@ -132,7 +129,7 @@ mutual
   resolves_each defined (as_common other name body resolves is_common elaborated) reference refers =
       let P : Reference → Type 0 = λ each. ResolvesTo (names_of defined) each name in
       (name, subst P refers resolves)
-  resolves_each defined (as_extension name) reference refers = absurd refers
+  resolves_each defined _ reference refers = absurd refers
 
   -- the same of the attributes of a record
   members_resolve : (defined : Defined) {members : Members} {fields : Fields} → MembersElaborateTo defined members fields

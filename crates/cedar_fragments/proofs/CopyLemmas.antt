@@ -38,17 +38,15 @@ action_type_alike kind name copy alike = ap (reference_to_one kind) alike.name
 pub turn_weaker : {A : Type 0} (R S : A → A → Type 0) → ((x y : A) → R x y → S x y) → (xs ys : List A) → HoldsPairwise R xs ys
     → HoldsPairwise S xs ys
 turn_weaker R S follows [] [] turn = tt
-turn_weaker R S follows [] (y ∷ ys) turn = absurd turn
-turn_weaker R S follows (x ∷ xs) [] turn = absurd turn
 turn_weaker R S follows (x ∷ xs) (y ∷ ys) turn = (follows x y turn.0, turn_weaker R S follows xs ys turn.1)
+turn_weaker R S follows _ _ turn = absurd turn
 
 -- lists show the same one after another where each item shows the same as that of the other in turn
 pub same_flat : {A P : Type 0} (R : A → A → Type 0) (shown : A → List P) → ((x y : A) → R x y → shown y ≡ shown x) → (xs ys : List A)
     → HoldsPairwise R xs ys → flat_map shown ys ≡ flat_map shown xs
 same_flat R shown same [] [] turn = refl
-same_flat R shown same [] (y ∷ ys) turn = absurd turn
-same_flat R shown same (x ∷ xs) [] turn = absurd turn
 same_flat R shown same (x ∷ xs) (y ∷ ys) turn = λ i. same x y turn.0 i ++ same_flat R shown same xs ys turn.1 i
+same_flat R shown same _ _ turn = absurd turn
 
 module _ (N : Type 0) (alike : N → N → Type 0) where
   -- names that are alike pairwise refer to the same

@@ -118,9 +118,8 @@ attributes_locs N entries = flat_map (λ entry. attribute_locs N no_locs entry.1
 keep_pairwise : (all : List (String Global × TypeOfAttribute ConditionalName)) (made : List (String Global × TypeOfAttribute InternalName))
     → HoldsPairwise (SameKey KeepsAttribute) all made → attributes_locs InternalName made ≡ attributes_locs ConditionalName all
 keep_pairwise [] [] turn = refl
-keep_pairwise [] (other ∷ made) turn = absurd turn
-keep_pairwise (entry ∷ all) [] turn = absurd turn
 keep_pairwise (entry ∷ all) (other ∷ made) turn = λ i. turn.0.1 i ++ keep_pairwise all made turn.1 i
+keep_pairwise _ _ turn = absurd turn
 
 -- a record type that is made of such attributes keeps them
 pub keep_attributes : (written : RecordType ConditionalName)

@@ -17,9 +17,8 @@ module _ {A B : Type 0} (R : A → B → Type 0) where
   -- two lists after two others
   pub pairwise_append : (xs xs' : List A) (ys ys' : List B) → HoldsPairwise R xs ys → HoldsPairwise R xs' ys' → HoldsPairwise R (xs ++ xs') (ys ++ ys')
   pairwise_append [] xs' [] ys' front back = back
-  pairwise_append [] xs' (y ∷ ys) ys' front back = absurd front
-  pairwise_append (x ∷ xs) xs' [] ys' front back = absurd front
   pairwise_append (x ∷ xs) xs' (y ∷ ys) ys' front back = (front.0, pairwise_append xs xs' ys ys' front.1 back)
+  pairwise_append _ xs' _ ys' front back = absurd front
 
 -- some items have given others, which are related to them through two functions, and others are left
 pub record TurnSoFar {X Y A B : Type 0} (R : A → B → Type 0) (f : X → A) (g : Y → B) (all : List X) (made : List Y) (left : List X) : Type 0 where
@@ -74,9 +73,8 @@ module _ {K V W : Type 0} (R : V → W → Type 0) where
   -- entries that are related pairwise have the same keys
   same_keys : (done : List (K × V)) (made : List (K × W)) → HoldsPairwise (SameKey R) done made → keys_of done ≡ keys_of made
   same_keys [] [] turn = refl
-  same_keys [] (other ∷ made) turn = absurd turn
-  same_keys (entry ∷ done) [] turn = absurd turn
   same_keys (entry ∷ done) (other ∷ made) turn = (λ i. turn.0.0 i ∷ same_keys done made turn.1 i)
+  same_keys _ _ turn = absurd turn
 
   -- at first none has
   pub related_none : (all left : List (K × V)) (made : List (K × W)) → all ≡ left → made ≡ [] → RelatedSoFar R all made left

@@ -58,8 +58,6 @@ module _ (names : Names) where
       → ResolvesMembers names (members_from (map (λ entry. (string_bytes entry.0, positional_attribute entry.1)) written))
       (members_from (map (λ entry. (string_bytes entry.0, flag_and_expr InternalName resolved_reference entry.1)) resolved))
   resolved_members [] [] turn = resolves_no_member
-  resolved_members [] (other ∷ resolved) turn = absurd turn
-  resolved_members (entry ∷ written) [] turn = absurd turn
   resolved_members (entry ∷ written) (other ∷ resolved) turn =
       let rest = resolved_members written resolved turn.1 in
       let here = flag_and_expr-parts ConditionalName positional_reference entry.1 in
@@ -80,6 +78,7 @@ module _ (names : Names) where
       subst P (sym here)
       (subst Q (sym there)
       (subst S (λ i. (turn.0.0 i, turn.0.1.0 i)) (resolves_member (string_bytes entry.0) (out-TypeOfAttribute ConditionalName entry.1).required turn.0.1.1 rest)))
+  resolved_members _ _ turn = absurd turn
 
   -- a record type that is made of attributes
   abbrev pub Made : Type 0

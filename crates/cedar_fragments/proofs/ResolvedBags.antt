@@ -69,10 +69,9 @@ module _ (names : Names) where
   pub resolved_together : {X Y : Type 0} (f : X → Bag) (g : Y → Bag) (xs : List X) (ys : List Y)
       → HoldsPairwise ResolvesUnreservedBag (map f xs) (map g ys) → ResolvesUnreservedBag (flat_map f xs) (flat_map g ys)
   resolved_together f g [] [] turn = (tt, λ reference name requested. absurd (omega (arith, requested.1.1)))
-  resolved_together f g [] (y ∷ ys) turn = absurd turn
-  resolved_together f g (x ∷ xs) [] turn = absurd turn
   resolved_together f g (x ∷ xs) (y ∷ ys) turn =
       resolved_append (f x) (flat_map f xs) (g y) (flat_map g ys) turn.0 (resolved_together f g xs ys turn.1)
+  resolved_together f g _ _ turn = absurd turn
 
   -- in declarations none of which is of an action nothing is requested
   pub none_requested : {X : Type 0} (f : X → Declaration) (xs : List X) → ((x : X) (reference : Reference) → ¬ IsRequestedIn (f x).body reference)

@@ -115,21 +115,19 @@ module _ (N : Type 0) (alike : N → N → Type 0) where
   turn_more : (done made : Entries N) (entry copy : String Global × TypeOfAttribute N) → HoldsPairwise IsEntryCopy done made
       → IsEntryCopy entry copy → HoldsPairwise IsEntryCopy (done ++ entry ∷ []) (made ++ copy ∷ [])
   turn_more [] [] entry copy turn one = (one, tt)
-  turn_more [] (other ∷ made) entry copy turn one = absurd turn
-  turn_more (first ∷ done) [] entry copy turn one = absurd turn
   turn_more (first ∷ done) (other ∷ made) entry copy turn one = (turn.0, turn_more done made entry copy turn.1 one)
+  turn_more _ _ entry copy turn one = absurd turn
 
   -- the copy of a name that is above others is above their copies
   above_copies : (done made : Entries N) (key copy : String Global) → string_bytes copy ≡ string_bytes key → HoldsPairwise IsEntryCopy done made
       → AllByRecursion (λ other. string_cmp key other ≡ Greater) (keys_of done)
       → AllByRecursion (λ other. string_cmp copy other ≡ Greater) (keys_of made)
   above_copies [] [] key copy same turn above = tt
-  above_copies [] (other ∷ made) key copy same turn above = absurd turn
-  above_copies (first ∷ done) [] key copy same turn above = absurd turn
   above_copies (first ∷ done) (other ∷ made) key copy same turn above = (
     (λ i. text_cmp (same i) (turn.0.0 i)) ∙ above.0,
     above_copies done made key copy same turn.1 above.1,
   )
+  above_copies _ _ key copy same turn above = absurd turn
 
   -- one more is copied, and goes to the end
   pub copied_more : (all made after left rest : Entries N) (key name : String Global) (attribute copy : TypeOfAttribute N)
@@ -161,17 +159,15 @@ module _ (N : Type 0) (alike : N → N → Type 0) where
       → ((entry copy : String Global × TypeOfAttribute N) → IsEntryCopy entry copy → shown copy ≡ shown entry)
       → (all made : Entries N) → HoldsPairwise IsEntryCopy all made → map shown made ≡ map shown all
   same_shown shown same [] [] turn = refl
-  same_shown shown same [] (copy ∷ made) turn = absurd turn
-  same_shown shown same (entry ∷ all) [] turn = absurd turn
   same_shown shown same (entry ∷ all) (copy ∷ made) turn = λ i. same entry copy turn.0 i ∷ same_shown shown same all made turn.1 i
+  same_shown shown same _ _ turn = absurd turn
 
   same_locs : (locs : N → Locs) → ((entry copy : String Global × TypeOfAttribute N) → IsEntryCopy entry copy
       → attribute_locs N locs copy.1 ≡ attribute_locs N locs entry.1)
       → (all made : Entries N) → HoldsPairwise IsEntryCopy all made → entry_locs N locs made ≡ entry_locs N locs all
   same_locs locs same [] [] turn = refl
-  same_locs locs same [] (copy ∷ made) turn = absurd turn
-  same_locs locs same (entry ∷ all) [] turn = absurd turn
   same_locs locs same (entry ∷ all) (copy ∷ made) turn = λ i. same entry copy turn.0 i ++ same_locs locs same all made turn.1 i
+  same_locs locs same _ _ turn = absurd turn
 
   -- a record type whose attributes are all copied is a copy
   pub copied_record : (written : RecordType N) (it : Made N) (left : Entries N)

@@ -11,7 +11,8 @@ use Rattle.cedar_declarations.specs.SchemaError.{fault_of}
 use Rattle.cedar_schema_elements.specs.ValidatorEntityType.{entity_type_of}
 use Rattle.cedar_schema_elements.specs.declared.entity_type.ValidatorEntityType.{ValidatorEntityType}
 use Rattle.cedar_builder.proofs.EntityTypeChecks.{certain_of_all, entry_enumerated, entry_leads, entry_stands, shown_more}
-use Rattle.cedar_builder.specs.EntityTypeNodes.{IsEnumerated, IsEnumeratedAt, IsExternalAt, IsLinkFault, LeadsTo, node_at}
+use Rattle.cedar_declarations.specs.ValidSchema.{IsEnumerated}
+use Rattle.cedar_builder.specs.EntityTypeNodes.{IsEnumeratedAt, IsExternalAt, IsLinkFault, LeadsTo, node_at}
 use Rattle.cedar_builder.proofs.entity_type_checks.check_descendants.Goals as goal
 
 abbrev Entry : Type 0
