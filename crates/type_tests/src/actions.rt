@@ -1,6 +1,6 @@
 //! Tests of actions of a schema.
 
-use crate::test_values::{PLACE, entity_types, name, uid};
+use crate::test_values::{PLACE, entity_type, entity_types, name, uid};
 use cedar_names::json_schema::{ConditionalName, ReferenceType};
 use cedar_schema_elements::{ValidatorActionId, ValidatorApplySpec};
 use cedar_types::Type;
@@ -64,6 +64,39 @@ fn copies_of_actions_are_equal(rt: HostRuntime) -> Result<(), Fail> {
         holds(is_copied(alloc, word, principals)?, word)?;
     }
     Ok(())
+}
+
+#[test]
+fn external_actions_are_for_no_requests(rt: HostRuntime) -> Result<(), Fail> {
+    let alloc = rt.alloc();
+    let look = external(alloc)?;
+    holds(
+        look.context().is_none() && look.principals().count() == 0,
+        "principals",
+    )?;
+    holds(look.resources().count() == 0, "resources")?;
+    holds(
+        !look.is_applicable_principal_type(&entity_type(alloc, "User")?),
+        "User",
+    )?;
+    holds(
+        !look.is_applicable_resource_type(&entity_type(alloc, "App")?),
+        "App",
+    )
+}
+
+#[test]
+fn defined_actions_are_for_their_requests(rt: HostRuntime) -> Result<(), Fail> {
+    let alloc = rt.alloc();
+    let view = view(alloc)?;
+    let (user, photo) = (entity_type(alloc, "User")?, entity_type(alloc, "Photo")?);
+    let fits = view.is_applicable_principal_type(&user) && view.is_applicable_resource_type(&photo);
+    let swapped = view.is_applicable_principal_type(&photo)
+        || view.is_applicable_resource_type(&user);
+    holds(
+        fits && !swapped && view.context().is_some(),
+        "User and Photo",
+    )
 }
 
 /// Requests for resources of the entity type `User`, before names are resolved.

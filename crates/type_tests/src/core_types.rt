@@ -66,6 +66,19 @@ fn core_types_are_of_the_same_kind(rt: HostRuntime) -> Result<(), Fail> {
     Ok(())
 }
 
+/// The entity type of the core type of the type of a word.
+fn core_entity(alloc: Global, word: &str) -> Result<String, Fail> {
+    match core_type_of(alloc, sample(alloc, word)?)? {
+        CoreSchemaType::Entity { ty } => Ok(ty.to_string(alloc)?),
+        _ => Err(Fail::from("no entity type")),
+    }
+}
+
+#[test]
+fn core_entities_are_of_their_entity_type(rt: HostRuntime) -> Result<(), Fail> {
+    same("Foo", core_entity(rt.alloc(), "Foo")?.as_str(), "Foo")
+}
+
 /// Types, each with one whose core type it is consistent with or not.
 const CONSISTENT: &[(&str, &str, bool)] = &[
     ("a-long", "a-long", true),

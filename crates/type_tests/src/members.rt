@@ -1,8 +1,10 @@
 //! Tests of membership.
 
 use crate::test_values::{name, sample, value};
-use cedar_below::{CoreSchemaType, ExtensionFunction, Extensions, Value};
-use shorthand::checked::holds;
+use cedar_below::{
+    CoreSchemaType, ExtensionFunction, ExtensionFunctionLookupError, Extensions, Value,
+};
+use shorthand::checked::same;
 use std::alloc::Global;
 use std::collections::BTreeMap;
 use std::test::Fail;
@@ -25,38 +27,72 @@ pub(crate) fn extensions(alloc: Global) -> Result<Extensions, Fail> {
     Ok(Extensions::new(vec![in alloc; name(alloc, "ipaddr")?]?, functions))
 }
 
-/// Types, each with a value and whether the value has the type, if its function is known.
-const MEMBERS: &[(&str, &str, Option<bool>)] = &[
-    ("long", "1", Some(true)),
-    ("string", "1", Some(false)),
-    ("string", "x", Some(true)),
-    ("Foo", "blue", Some(true)),
-    ("Bar", "blue", Some(false)),
-    ("any-entity", "blue", Some(true)),
-    ("ipaddr", "ip()", Some(true)),
-    ("ipaddr", "x", Some(false)),
-    ("ipaddr", "nosuch()", None),
-    ("long", "nosuch()", Some(false)),
+/// Types, each with a value, and whether the value has the type or else which function it asks for.
+const MEMBERS: &[(&str, &str, &str)] = &[
+    ("long", "1", "true"),
+    ("string", "1", "false"),
+    ("string", "x", "true"),
+    ("Foo", "blue", "true"),
+    ("Bar", "blue", "false"),
+    ("any-entity", "blue", "true"),
+    ("unit", "{}", "true"),
+    ("a-long-optional", "{}", "true"),
+    ("a-long", "{}", "false"),
+    ("ipaddr", "ip=x", "true"),
+    ("ipaddr", "ip()", "true"),
+    ("ipaddr", "ip=x&1", "true"),
+    ("ipaddr", "ip=1", "false"),
+    ("ipaddr", "x", "false"),
+    ("ipaddr", "nosuch()", "no function nosuch"),
+    ("ipaddr", "ip=nosuch()", "false"),
+    ("set-ipaddr", "[ip=x;nosuch()", "no function nosuch"),
+    ("set-ipaddr", "[ip=x;ip()", "true"),
+    ("long", "nosuch()", "false"),
 ];
 
-/// Whether the value of a word has the type of another, if its function is known.
-fn is_member(
+/// What the answer is as a text.
+fn answer_text(
+    alloc: Global,
+    answer: Result<bool, ExtensionFunctionLookupError>,
+) -> Result<String, Fail> {
+    match answer {
+        Ok(has_type) => Ok(format!(in alloc; "{has_type}")?),
+        Err(fault) => Ok(format!(in alloc; "no function {}", fault.name)?),
+    }
+}
+
+/// Whether the expression of a word has the type of another.
+fn of_expression(
     alloc: Global,
     word: &str,
     of: &str,
     extensions: &Extensions,
-) -> Result<Option<bool>, Fail> {
-    let value = Value::new(value(alloc, word)?);
-    let ty = sample(alloc, of)?;
-    Ok(ty.typecheck_value(&value, extensions).ok())
+) -> Result<String, Fail> {
+    let (ty, expr) = (sample(alloc, of)?, value(alloc, word)?);
+    answer_text(alloc, ty.typecheck_restricted_expr(&expr, extensions))
+}
+
+/// Whether the value of a word has the type of another.
+fn of_value(alloc: Global, word: &str, of: &str, extensions: &Extensions) -> Result<String, Fail> {
+    let (ty, value) = (sample(alloc, of)?, Value::new(value(alloc, word)?));
+    answer_text(alloc, ty.typecheck_value(&value, extensions))
 }
 
 #[test]
 fn values_have_types_by_their_rules(rt: HostRuntime) -> Result<(), Fail> {
     let alloc = rt.alloc();
     let extensions = extensions(alloc)?;
-    for &(ty, word, has) in MEMBERS {
-        holds(is_member(alloc, word, ty, &extensions)? == has, word)?;
+    for &(ty, word, answer) in MEMBERS {
+        same(
+            word,
+            of_value(alloc, word, ty, &extensions)?.as_str(),
+            answer,
+        )?;
+        same(
+            word,
+            of_expression(alloc, word, ty, &extensions)?.as_str(),
+            answer,
+        )?;
     }
     Ok(())
 }

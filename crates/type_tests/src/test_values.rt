@@ -3,6 +3,7 @@
 use cedar_below::{Eid, EntityType, EntityUID, Loc, Name, RestrictedExpr};
 use cedar_types::{AttributeType, EntityKind, EntityLUB, OpenTag, Type};
 use std::alloc::Global;
+use std::collections::BTreeMap;
 use std::rc::Rc;
 use std::test::Fail;
 
@@ -71,7 +72,7 @@ fn leaf(alloc: Global, word: &str) -> Result<Type, Fail> {
         "string" => Ok(Type::primitive_string()),
         "any-set" => Ok(Type::any_set()),
         "any-entity" => Ok(Type::any_entity_reference()),
-        "ipaddr" => Ok(Type::extension(name(alloc, word)?)),
+        "ipaddr" | "decimal" => Ok(Type::extension(name(alloc, word)?)),
         _ => Ok(Type::Entity(kind(alloc, word)?)),
     }
 }
@@ -116,6 +117,7 @@ const RECORDS: &[Record] = &[
     ("any-record", OPEN, &[]),
     ("a-long", CLOSED, &[("a", true, "long")]),
     ("a-text", CLOSED, &[("a", true, "string")]),
+    ("a b-long", CLOSED, &[("a b", true, "long")]),
     ("a-long-open", OPEN, &[("a", true, "long")]),
     ("a-long-optional", CLOSED, &[("a", false, "long")]),
     ("a-true", CLOSED, &[("a", true, "true")]),
@@ -220,7 +222,7 @@ pub(crate) fn sample(alloc: Global, word: &str) -> Result<Type, Fail> {
 }
 
 /// The value of a word: a number, the entity `Foo::"blue"`, a call without arguments such as `ip()`, or else a text.
-pub(crate) fn value(alloc: Global, word: &str) -> Result<RestrictedExpr, Fail> {
+fn simple_value(alloc: Global, word: &str) -> Result<RestrictedExpr, Fail> {
     if let Some(function) = word.strip_suffix("()") {
         return Ok(RestrictedExpr::ExtensionCall {
             function: name(alloc, function)?,
@@ -231,5 +233,47 @@ pub(crate) fn value(alloc: Global, word: &str) -> Result<RestrictedExpr, Fail> {
         "1" => Ok(RestrictedExpr::Long(1)),
         "blue" => Ok(RestrictedExpr::EntityUid(uid(alloc, "Foo", "blue")?)),
         _ => Ok(RestrictedExpr::String(text(alloc, word)?)),
+    }
+}
+
+/// The values of the words of a text that `&` stands between, of which there may be none.
+fn arguments(alloc: Global, text: &str) -> Result<Vec<RestrictedExpr>, Fail> {
+    let mut values = Vec::new(alloc);
+    if !text.is_empty() {
+        for word in text.split('&') {
+            values.push(simple_value(alloc, word)?)?;
+        }
+    }
+    Ok(values)
+}
+
+/// The value of a word: a call with arguments, such as `ip=x&1`, or one that is simple.
+fn element(alloc: Global, word: &str) -> Result<RestrictedExpr, Fail> {
+    match word.split_once('=') {
+        Some((function, args)) => Ok(RestrictedExpr::ExtensionCall {
+            function: name(alloc, function)?,
+            args: arguments(alloc, args)?,
+        }),
+        None => simple_value(alloc, word),
+    }
+}
+
+/// The set of the elements that `;` stands between.
+fn set(alloc: Global, text: &str) -> Result<RestrictedExpr, Fail> {
+    let mut elements = Vec::new(alloc);
+    for word in text.split(';') {
+        elements.push(element(alloc, word)?)?;
+    }
+    Ok(RestrictedExpr::Set(elements))
+}
+
+/// The value of a word: `{}`, a set such as `[ip=x;1`, or one that may be an element.
+pub(crate) fn value(alloc: Global, word: &str) -> Result<RestrictedExpr, Fail> {
+    if word == "{}" {
+        return Ok(RestrictedExpr::Record(BTreeMap::new(alloc)));
+    }
+    match word.strip_prefix('[') {
+        Some(elements) => set(alloc, elements),
+        None => element(alloc, word),
     }
 }

@@ -32,6 +32,7 @@ const TEXTS: &[(&str, &str)] = &[
     ),
     ("mixed-closed", "{a: Long,b?: Set<Foo>,}"),
     ("repeated", "{a: Long,b: String,}"),
+    ("a b-long", "{a b: Long,}"),
     (
         "any-texts",
         "{: Long,Z: Long,a: Long,a b: Long,ab: Long,b: Long,é: Long,日: Long,}",
