@@ -142,7 +142,8 @@ module _ (names others : Names) (bag other : Bag) (turn : HoldsPairwise (Declara
   pub types_same : declared_types bag ≡ declared_types other
   types_same i = common_same i ++ entity_same i
 
-  aliases_same : (extensions : Extensions) → aliases bag extensions ≡ aliases other extensions
+  -- and the same aliases
+  pub aliases_same : (extensions : Extensions) → aliases bag extensions ≡ aliases other extensions
   aliases_same extensions i =
       map (λ (it : Text × Expr). (alias_name it.0, it.1))
       (filter (λ (it : Text × Expr). not (list_any

@@ -15,12 +15,12 @@ use Rattle.cedar_names.specs.EntityBody.{EntityBody, standard, enumerated, exter
 use Rattle.cedar_names.specs.Expr.{Expr}
 use Rattle.cedar_names.specs.Reference.{Reference, ActionReference}
 use Rattle.cedar_declaration_laws.proofs.MeaningLemmas.{MeansTheSame, MeansTheSame-sym, AreAlike, open_alike, extension_alike, refers_alike, MovesTo, elaborated_alike, no_record_alike}
-use Rattle.cedar_declaration_laws.proofs.MovedBags.{common_same, entity_same, action_same, defined_entity_same, defined_action_same, types_same, names_same, entity_moved, action_moved, definition_moved}
+use Rattle.cedar_declaration_laws.proofs.MovedBags.{common_same, entity_same, action_same, defined_entity_same, defined_action_same, types_same, aliases_same, names_same, entity_moved, action_moved, definition_moved}
 use Rattle.cedar_declaration_laws.proofs.MovedLemmas.{NamesTheSame, TagsAlike, EntitiesAlike, RequestsAlike, BodiesAlike, DeclarationsAlike, declarations-sym, resolved_declaration}
 use Rattle.cedar_declarations.proofs.ResolutionLemmas.{first_defined}
 use Rattle.cedar_declarations.proofs.TurnLemmas.{turn_forth, turn_back, turn_weaker}
 use Rattle.cedar_declarations.proofs.TogetherLemmas.{AreRequests, declared_definition, definition_declared, declared_action_definition, action_definition_declared}
-use Rattle.cedar_declarations.specs.Bag.{Bag, action_uids, declared_common, declared_entities, built_ins, definitions, defined_names}
+use Rattle.cedar_declarations.specs.Bag.{Bag, action_uids, aliases, declared_common, declared_entities, built_ins, definitions, defined_names}
 use Rattle.cedar_declarations.specs.Counted.{CountsInEntity, CountsInRequests, CountsIn, IsCounted, entity_parents, IsPrincipalOrResource, IsEntityTypePosition, IsAtEntityTypePosition, HasToResolve}
 use Rattle.cedar_declarations.specs.DeclaredSchema.{AreDeclaredTags, IsDeclaredKind, IsDeclaredEntityType, IsNamedBy, IsDeclaredActionKind, IsDeclaredAction, IsDeclaredSchema}
 use Rattle.cedar_declarations.specs.Descent.{HasParent, HasParentAction, IsDescendant, IsDescendantAction}
@@ -544,12 +544,19 @@ module _ (bag other : Bag) (extensions : Extensions)
         action_entities = declared.action_entities;
       }
 
--- a bag and the resolved one are alike pairwise, each over the names that it defines
+-- a bag and the resolved one are alike pairwise
+resolved_alike : (bag resolved : Bag) (extensions : Extensions) → ResolvesBag (defined_names bag extensions) bag resolved
+    → HoldsPairwise (DeclarationsAlike (defined_names bag extensions) (defined_names bag extensions)) bag resolved
+resolved_alike bag resolved extensions =
+    let names = defined_names bag extensions in
+    turn_weaker (ResolvesDeclaration names) (DeclarationsAlike names names) (resolved_declaration names) bag resolved
+
+-- each over the names that it defines too
 resolved_turn : (bag resolved : Bag) (extensions : Extensions) → ResolvesBag (defined_names bag extensions) bag resolved
     → HoldsPairwise (DeclarationsAlike (defined_names bag extensions) (defined_names resolved extensions)) bag resolved
 resolved_turn bag resolved extensions it =
     let names = defined_names bag extensions in
-    let alike = turn_weaker (ResolvesDeclaration names) (DeclarationsAlike names names) (resolved_declaration names) bag resolved it in
+    let alike = resolved_alike bag resolved extensions it in
     let P : Names → Type 0 = λ others. HoldsPairwise (DeclarationsAlike names others) bag resolved in
     subst P (names_same names names bag resolved alike extensions) alike
 
@@ -578,6 +585,9 @@ module _ (bag resolved : Bag) (extensions : Extensions) (it : ResolvesBag (defin
   -- it defines what the bag does
   pub resolved_defines : defined_names bag extensions ≡ defined_names resolved extensions
   resolved_defines =
-      let names = defined_names bag extensions in
-      names_same names names bag resolved
-      (turn_weaker (ResolvesDeclaration names) (DeclarationsAlike names names) (resolved_declaration names) bag resolved it) extensions
+      let names = defined_names bag extensions in names_same names names bag resolved (resolved_alike bag resolved extensions it) extensions
+
+  -- it has the bag's aliases
+  pub resolved_aliases : aliases bag extensions ≡ aliases resolved extensions
+  resolved_aliases =
+      let names = defined_names bag extensions in aliases_same names names bag resolved (resolved_alike bag resolved extensions it) extensions

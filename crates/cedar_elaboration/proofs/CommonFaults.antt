@@ -1,30 +1,29 @@
 -- What common types that are elaborated say of the bag, and what it says that they are refused.
-use Rattle.std.proofs.Common.{◌≡◌, ◌⊎◌, List, ◌++◌, map, sym, subst, ◌∙◌, refl, inl, inr, ⊎_elim, Contains}
+use Rattle.std.proofs.Common.{◌≡◌, ◌⊎◌, List, ◌++◌, map, ap, sym, subst, ◌∙◌, refl, append_assoc, inl, inr, ⊎_elim, Contains}
 use Rattle.std.proofs.lemmas.List.{map-append}
 use Rattle.std.proofs.lemmas.List.Elements.{Contains-append_left}
 use Rattle.std.specs.BTreeSet.{BTreeSet}
 use Rattle.cedar_below.proofs.Chains.{refined}
 use Rattle.cedar_below.specs.Chain.{Chain, one}
 use Rattle.cedar_below.specs.Extensions.{extension_types}
+use Rattle.cedar_below.specs.InternalName.{name_of}
 use Rattle.cedar_below.specs.Lists.{SameItems, Twice}
 use Rattle.cedar_below.specs.PlainName.{PlainName}
-use Rattle.cedar_below.specs.declared.entity_type.EntityType.{EntityType}
 use Rattle.cedar_below.specs.declared.extension.Extensions.{Extensions}
 use Rattle.cedar_below.specs.declared.internal_name.InternalName.{InternalName}
 use Rattle.cedar_elaboration.proofs.AliasLemmas.{built_in_closed, declared_or_built_in, defined_twice}
-use Rattle.cedar_elaboration.specs.BuiltIn.{free_aliases}
-use Rattle.cedar_elaboration.specs.DeclaredTypes.{AreTypesOf, AreElaborated, names_of_types}
+use Rattle.cedar_elaboration.specs.DeclaredTypes.{AreTypesOf, AreElaborated}
 use Rattle.cedar_elaboration.specs.SoundTypes.{CommonTypesAreSound}
 use Rattle.cedar_declarations.proofs.BuiltInLemmas.{refers_declared}
 use Rattle.cedar_declarations.proofs.DeclarationLemmas.{common_declaration}
 use Rattle.cedar_declarations.proofs.DefinedLemmas.{SameDefined, SameDefined-sym, resolves_there, unresolved_there, elaborated_there}
 use Rattle.cedar_declarations.proofs.OccurrenceLemmas.{Contains-image, Twice-left}
-use Rattle.cedar_declarations.specs.Bag.{Bag, declared_common, declared_types, aliases, built_in_types, built_ins, definitions}
+use Rattle.cedar_declarations.specs.Bag.{Bag, declared_common, aliases, built_ins, definitions}
 use Rattle.cedar_declarations.specs.Counted.{CountsIn, IsCounted}
 use Rattle.cedar_declarations.specs.Defined.{Defined}
 use Rattle.cedar_declarations.specs.Fault.{Fault, out_of_memory, open_record, type_not_defined, unknown_extension_type, reserved_name, duplicate_common_type, common_type_cycle}
 use Rattle.cedar_declarations.specs.IllFormed.{IsFault, RefersToCommon}
-use Rattle.cedar_fragments.specs.declared.namespace.entity_types.EntityTypeFragment.{EntityTypeFragment}
+use Rattle.cedar_declarations.specs.ResolvedExpr.{resolved_expr}
 use Rattle.cedar_declaration_laws.proofs.MentionLemmas.{known_built_in}
 use Rattle.cedar_names.specs.Declaration.{Body}
 use Rattle.cedar_names.specs.Expr.{Expr}
@@ -32,7 +31,8 @@ use Rattle.cedar_names.specs.declared.json_schema.type_of.Type.{«Type»}
 use Rattle.cedar_type_rules.specs.Ty.{Ty}
 use Rattle.cedar_elaboration.specs.Common.{AreSound, IsCommonFault}
 use Rattle.cedar_elaboration.specs.Scope.{HoldsElaborated}
-use Rattle.cedar_elaboration.specs.Indices.{common_items, defined_by, item_names}
+use Rattle.cedar_elaboration.specs.Indices.{defined_by, item_names}
+use Rattle.cedar_resolution.specs.Collected.{collected_common}
 
 -- a step from a common type to one that it refers to is one where the same is defined
 refers_there : (defined other : Defined) → SameDefined defined other → (name to : PlainName)
@@ -54,19 +54,16 @@ common_counts bag it among =
     let P : Body → Type 0 = λ each. CountsIn each it.1 in
     (found.0, found.1, subst P (sym found.2) refl)
 
-module _ (bag : Bag) (extensions : Extensions) (declared : List (InternalName × «Type» InternalName))
-    (entity_types : List (EntityType × EntityTypeFragment InternalName)) (entity_names : BTreeSet InternalName)
-    (are : AreTypesOf bag extensions declared entity_types entity_names)
-    (types : List (InternalName × «Type» InternalName))
-    (all : common_items types ≡ common_items declared ++ built_ins extensions
-    ++ free_aliases (names_of_types declared entity_types) (built_in_types extensions)) where
-  -- the names are those of the types that the bag declares
-  names_declared : names_of_types declared entity_types ≡ declared_types bag
-  names_declared = (λ i. item_names (are.common i) ++ are.entities i)
-
+module _ (bag : Bag) (extensions : Extensions) (declared built_in : List (InternalName × «Type» InternalName))
+    (entity_names : BTreeSet InternalName) (are : AreTypesOf bag extensions declared built_in entity_names)
+    (types : List (InternalName × «Type» InternalName)) (all : types ≡ declared ++ built_in) where
   -- the types are those that the bag defines
-  all_defined : common_items types ≡ (definitions bag extensions).common
-  all_defined = all ∙ (λ i. are.common i ++ built_ins extensions ++ free_aliases (names_declared i) (built_in_types extensions))
+  all_defined : collected_common types ≡ (definitions bag extensions).common
+  all_defined =
+      ap collected_common all
+      ∙ (map-append (λ (it : InternalName × «Type» InternalName). (name_of it.0, resolved_expr it.1)) declared built_in
+      ∙ ((λ i. are.common i ++ are.built_in i)
+      ∙ sym (append_assoc (declared_common bag) (built_ins extensions) (aliases bag extensions))))
 
   -- they define the same as the bag, actions aside
   same_defined : SameDefined (defined_by types entity_names) (definitions bag extensions)
@@ -119,7 +116,7 @@ module _ (bag : Bag) (extensions : Extensions) (declared : List (InternalName ×
   common_fault _ fault = absurd fault.2
 
   -- what is sure of them is sure of the bag
-  pub common_sound : ((name : PlainName) → ¬ Twice (item_names (common_items types)) name)
+  pub common_sound : ((name : PlainName) → ¬ Twice (item_names (collected_common types)) name)
       → ((name : PlainName) → ¬ Chain (RefersToCommon (defined_by types entity_names)) name name)
       → AreSound (defined_by types entity_names) (extension_types extensions)
       → CommonTypesAreSound bag extensions
@@ -143,11 +140,11 @@ module _ (bag : Bag) (extensions : Extensions) (declared : List (InternalName ×
 
   -- what they are elaborated as is what those of the bag are
   pub common_elaborated : (elaborated : List (PlainName × Ty))
-      → SameItems (map (λ it. it.0) elaborated) (item_names (common_items types))
+      → SameItems (map (λ it. it.0) elaborated) (item_names (collected_common types))
       → HoldsElaborated (defined_by types entity_names) elaborated → AreElaborated bag extensions elaborated
   common_elaborated elaborated names holds =
       record {
-        each = λ it among. (names it.0).1 (Contains-image (λ (each : PlainName × Expr). each.0) (common_items types) it
+        each = λ it among. (names it.0).1 (Contains-image (λ (each : PlainName × Expr). each.0) (collected_common types) it
             (same_defined.common_back it among));
         elaborated = λ name ty among.
             let found = holds name ty among in

@@ -19,7 +19,8 @@ use Rattle.cedar_below.specs.Lists.{Twice}
 use Rattle.cedar_elaboration.proofs.Entries.{inserted_cases, inserted_names, seen, seen_names}
 use Rattle.cedar_declarations.specs.ResolvedExpr.{resolved_expr}
 use Rattle.cedar_names.specs.declared.json_schema.type_of.Type.{«Type»}
-use Rattle.cedar_elaboration.specs.Indices.{AreIndices, common_items, item_names}
+use Rattle.cedar_elaboration.specs.Indices.{AreIndices, item_names}
+use Rattle.cedar_resolution.specs.Collected.{collected_common}
 
 -- an item stays at its place as others come after
 pub slice_get-front : {X : Type 0} (xs ys : List X) (i : ℕ) (x : X) → slice_get xs i ≡ Some x → slice_get (xs ++ ys) i ≡ Some x
@@ -135,38 +136,38 @@ repeated_name front rest name indices so_far among =
 -- the declared common types up to an index, and the one at it
 pub items_more : (declared : List (InternalName × «Type» InternalName)) (item_index : ℕ) (item : InternalName × «Type» InternalName)
     → item_index < length declared → item ≡ get_or declared item_index item
-    → common_items (take (item_index + 1) declared) ≡ common_items (take item_index declared) ++ (name_of item.0, resolved_expr item.1) ∷ []
+    → collected_common (take (item_index + 1) declared) ≡ collected_common (take item_index declared) ++ (name_of item.0, resolved_expr item.1) ∷ []
 items_more declared item_index item within is =
-    ap common_items (take_more declared item_index item within ∙ ap (λ it. take item_index declared ++ it ∷ []) (sym is))
+    ap collected_common (take_more declared item_index item within ∙ ap (λ it. take item_index declared ++ it ∷ []) (sym is))
     ∙ map-append (λ it. (name_of it.0, resolved_expr it.1)) (take item_index declared) (item ∷ [])
 
 -- their names, and how many there are before it
 pub names_more : (declared : List (InternalName × «Type» InternalName)) (item_index : ℕ) (item : InternalName × «Type» InternalName)
     → item_index < length declared → item ≡ get_or declared item_index item
-    → (item_names (common_items (take (item_index + 1) declared))
-    ≡ item_names (common_items (take item_index declared)) ++ name_of item.0 ∷ [])
-    × (item_index ≡ length (item_names (common_items (take item_index declared))))
+    → (item_names (collected_common (take (item_index + 1) declared))
+    ≡ item_names (collected_common (take item_index declared)) ++ name_of item.0 ∷ [])
+    × (item_index ≡ length (item_names (collected_common (take item_index declared))))
 names_more declared item_index item within is = (
   ap item_names (items_more declared item_index item within is)
-      ∙ map-append (λ it. it.0) (common_items (take item_index declared)) ((name_of item.0, resolved_expr item.1) ∷ []),
-  sym (length-map (common_items (take item_index declared)) (λ it. it.0)
+      ∙ map-append (λ it. it.0) (collected_common (take item_index declared)) ((name_of item.0, resolved_expr item.1) ∷ []),
+  sym (length-map (collected_common (take item_index declared)) (λ it. it.0)
       ∙ (length-map (take item_index declared) (λ it. (name_of it.0, resolved_expr it.1)) ∙ length-take-le item_index declared (omega (arith, within)))),
 )
 
 -- the names of declared common types, around that of one of them
 pub names_split : (declared : List (InternalName × «Type» InternalName)) (item_index : ℕ) (item : InternalName × «Type» InternalName)
     → item_index < length declared → item ≡ get_or declared item_index item
-    → item_names (common_items declared)
-    ≡ item_names (common_items (take item_index declared)) ++ name_of item.0 ∷ item_names (common_items (drop (suc item_index) declared))
+    → item_names (collected_common declared)
+    ≡ item_names (collected_common (take item_index declared)) ++ name_of item.0 ∷ item_names (collected_common (drop (suc item_index) declared))
 names_split declared item_index item within is =
-    ap (λ all. item_names (common_items all)) (split_at declared item_index item within is)
+    ap (λ all. item_names (collected_common all)) (split_at declared item_index item within is)
     ∙ (ap item_names (map-append (λ it. (name_of it.0, resolved_expr it.1)) (take item_index declared) (item ∷ drop (suc item_index) declared))
-    ∙ map-append (λ it. it.0) (common_items (take item_index declared)) (common_items (item ∷ drop (suc item_index) declared)))
+    ∙ map-append (λ it. it.0) (collected_common (take item_index declared)) (collected_common (item ∷ drop (suc item_index) declared)))
 
 -- a declared common type at an index, as plain data
 pub item_at_index : (declared : List (InternalName × «Type» InternalName)) (item_index : ℕ) (item : InternalName × «Type» InternalName)
     → item_index < length declared → item ≡ get_or declared item_index item
-    → slice_get (common_items declared) item_index ≡ Some (name_of item.0, resolved_expr item.1)
+    → slice_get (collected_common declared) item_index ≡ Some (name_of item.0, resolved_expr item.1)
 item_at_index declared item_index item within is =
     slice_get-map (λ it. (name_of it.0, resolved_expr it.1)) declared item_index
     ∙ ap (option_map (λ it. (name_of it.0, resolved_expr it.1))) (slice_get-get_or declared item_index item within ∙ ap Some (sym is))

@@ -9,4 +9,3 @@ mod ReferringLemmas
 mod ResolvedLemmas
 pub mod Results
 mod ScopeLemmas
-pub mod TakenLemmas

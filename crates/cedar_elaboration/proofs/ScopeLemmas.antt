@@ -9,7 +9,7 @@ use Rattle.cedar_declarations.specs.Fault.{Fault, reserved_name, type_not_define
 use Rattle.cedar_declarations.specs.Mentions.{MembersRefer, Refers}
 use Rattle.cedar_declarations.specs.Names.{IsDefined, IsEntity, IsUnresolved, MayNameCommon, MayNameEntity, ResolvesTo}
 use Rattle.cedar_declarations.specs.Resolved.{reference_to_one}
-use Rattle.cedar_declarations.specs.ElaboratesTo.{ElaboratesTo, MembersElaborateTo, as_text, as_long, as_truth, as_set, as_record, as_entity, as_common, as_extension, as_no_member, as_member}
+use Rattle.cedar_declarations.specs.ElaboratesTo.{ElaboratesTo, MembersElaborateTo, as_set, as_record, as_entity, as_common, as_extension, as_no_member, as_member}
 use Rattle.cedar_names.specs.Expr.{Expr, Members, extension_expr, named, set_expr}
 use Rattle.cedar_names.specs.Reference.{Reference}
 use Rattle.cedar_names.specs.declared.json_schema.reference_type.ReferenceType.{ReferenceType}

@@ -1,33 +1,25 @@
 -- Types that are declared, of a bag, and what its common types are elaborated as.
 use Rattle.std.specs.Prelude.{◌≡◌, List, ◌++◌, map, Contains}
 use Rattle.std.specs.BTreeSet.{BTreeSet}
-use Rattle.cedar_below.specs.EntityType.{type_name}
 use Rattle.cedar_below.specs.Extensions.{extension_types}
 use Rattle.cedar_below.specs.Lists.{SameItems}
 use Rattle.cedar_below.specs.PlainName.{PlainName, IsReserved}
 use Rattle.cedar_below.specs.TypeNames.{TypeNamesFit}
-use Rattle.cedar_below.specs.declared.entity_type.EntityType.{EntityType}
 use Rattle.cedar_below.specs.declared.extension.Extensions.{Extensions}
 use Rattle.cedar_below.specs.declared.internal_name.InternalName.{InternalName}
-use Rattle.cedar_declarations.specs.Bag.{Bag, declared_common, declared_entities, definitions}
-use Rattle.cedar_fragments.specs.declared.namespace.entity_types.EntityTypeFragment.{EntityTypeFragment}
+use Rattle.cedar_declarations.specs.Bag.{Bag, declared_common, aliases, built_ins, definitions}
 use Rattle.cedar_names.specs.Expr.{Expr}
 use Rattle.cedar_names.specs.declared.json_schema.type_of.Type.{«Type»}
 use Rattle.cedar_type_rules.specs.Ty.{Ty}
 use Rattle.cedar_elaboration.specs.Scope.{HoldsElaborated, set_names}
-use Rattle.cedar_elaboration.specs.Indices.{common_items, item_names}
+use Rattle.cedar_resolution.specs.Collected.{collected_common}
 
--- the names of common types and of entity types
-abbrev pub names_of_types : List (InternalName × «Type» InternalName) → List (EntityType × EntityTypeFragment InternalName)
-    → List PlainName
-names_of_types common_types entity_types = item_names (common_items common_types) ++ map (λ it. type_name it.0) entity_types
-
--- the common types and the entity types are those that the bag declares, over full names; the names are those of the entity
--- types that it defines, none of them reserved; and names of extension types fit
-pub record AreTypesOf (bag : Bag) (extensions : Extensions) (common_types : List (InternalName × «Type» InternalName))
-    (entity_types : List (EntityType × EntityTypeFragment InternalName)) (entity_names : BTreeSet InternalName) : Type 0 where
-  pub common : common_items common_types ≡ declared_common bag
-  pub entities : map (λ it. type_name it.0) entity_types ≡ map (λ it. it.0) (declared_entities bag)
+-- the common types are those that the bag declares, over full names, and then the built-in ones and its aliases; the names are
+-- those of the entity types that it defines, none of them reserved; and names of extension types fit
+pub record AreTypesOf (bag : Bag) (extensions : Extensions) (common_types built_in_types : List (InternalName × «Type» InternalName))
+    (entity_names : BTreeSet InternalName) : Type 0 where
+  pub common : collected_common common_types ≡ declared_common bag
+  pub built_in : collected_common built_in_types ≡ built_ins extensions ++ aliases bag extensions
   pub names : SameItems (definitions bag extensions).entities (set_names entity_names)
   pub unreserved : (name : PlainName) → Contains (definitions bag extensions).entities name → ¬ IsReserved name
   pub fit : TypeNamesFit (extension_types extensions)

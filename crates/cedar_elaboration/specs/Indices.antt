@@ -8,15 +8,11 @@ use Rattle.cedar_below.specs.PlainName.{PlainName}
 use Rattle.cedar_below.specs.declared.internal_name.InternalName.{InternalName}
 use Rattle.cedar_declarations.specs.Defined.{Defined}
 use Rattle.cedar_declarations.specs.Names.{MayNameCommon}
-use Rattle.cedar_declarations.specs.ResolvedExpr.{resolved_expr}
 use Rattle.cedar_names.specs.Expr.{Expr}
 use Rattle.cedar_names.specs.Reference.{Reference}
 use Rattle.cedar_names.specs.declared.json_schema.type_of.Type.{«Type»}
 use Rattle.cedar_elaboration.specs.Scope.{set_names}
-
--- common types by full name, with what the type of each stands for
-abbrev pub common_items : List (InternalName × «Type» InternalName) → List (PlainName × Expr)
-common_items declared = map (λ it. (name_of it.0, resolved_expr it.1)) declared
+use Rattle.cedar_resolution.specs.Collected.{collected_common}
 
 -- the names of some items
 abbrev pub item_names : List (PlainName × Expr) → List PlainName
@@ -28,7 +24,7 @@ defined_over items entities = record { common = items; entities = entities; acti
 
 -- what is defined by declared common types, and by entity types of the names of a set
 abbrev pub defined_by : List (InternalName × «Type» InternalName) → BTreeSet InternalName → Defined
-defined_by declared entities = defined_over (common_items declared) (set_names entities)
+defined_by declared entities = defined_over (collected_common declared) (set_names entities)
 
 -- the indices of a map, each with the name that it stands under
 abbrev pub indexed_names : BTreeMap InternalName ℕ → List (PlainName × ℕ)

@@ -1,4 +1,3 @@
-pub mod BuiltIn
 pub mod Common
 pub mod DeclaredTypes
 pub mod Indices

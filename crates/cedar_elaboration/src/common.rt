@@ -13,7 +13,8 @@ ghost use Rattle.cedar_type_rules.specs.Ty.{Ty};
 ghost use Rattle.cedar_elaboration.specs.Common.{AreSound, IsCommonFault};
 ghost use Rattle.cedar_elaboration.specs.Scope.{HoldsElaborated, elaborated_types};
 ghost use Rattle.cedar_elaboration.specs.Order.{IsElaborationOrder};
-ghost use Rattle.cedar_elaboration.specs.Indices.{common_items, defined_by, item_names};
+ghost use Rattle.cedar_elaboration.specs.Indices.{defined_by, item_names};
+ghost use Rattle.cedar_resolution.specs.Collected.{collected_common};
 
 use crate::elaborating::elaborate;
 use crate::indices::CommonType;
@@ -34,9 +35,9 @@ fn elaborate_in_order(
     entities: &BTreeSet<InternalName>,
     extensions: &Extensions,
 ) -> Result<BTreeMap<InternalName, Type>, SchemaError>
-    requires { IsElaborationOrder (common_items declared.now) order.now }
+    requires { IsElaborationOrder (collected_common declared.now) order.now }
     ensures holds { IfOk result (λ types. HoldsElaborated (defined_by declared.now entities.now) (elaborated_types types)) }
-    ensures each { IfOk result (λ types. Included (item_names (common_items declared.now)) (map (λ it. it.0) (elaborated_types types))) }
+    ensures each { IfOk result (λ types. Included (item_names (collected_common declared.now)) (map (λ it. it.0) (elaborated_types types))) }
     ensures sound { OnOk result (AreSound (defined_by declared.now entities.now) (extension_types extensions.now)) }
     ensures fault { IfErr result (λ error. IsCommonFault (defined_by declared.now entities.now) (extension_types extensions.now) (fault_of error)) }
 {
@@ -68,11 +69,11 @@ pub fn common_types(
     extensions: &Extensions,
 ) -> Result<BTreeMap<InternalName, Type>, SchemaError>
     ensures names { IfOk result (λ types.
-        SameItems (map (λ it. it.0) (elaborated_types types)) (item_names (common_items declared.now))) }
+        SameItems (map (λ it. it.0) (elaborated_types types)) (item_names (collected_common declared.now))) }
     ensures holds { IfOk result (λ types. HoldsElaborated (defined_by declared.now entities.now) (elaborated_types types)) }
-    ensures elaborates { IfOk result (λ types. (name : PlainName) (expr : Expr) → Contains (common_items declared.now) (name, expr)
+    ensures elaborates { IfOk result (λ types. (name : PlainName) (expr : Expr) → Contains (collected_common declared.now) (name, expr)
         → (ty : Ty) × Contains (elaborated_types types) (name, ty) × ElaboratesTo (defined_by declared.now entities.now) expr ty) }
-    ensures once { OnOk result ((name : PlainName) → ¬ Twice (item_names (common_items declared.now)) name) }
+    ensures once { OnOk result ((name : PlainName) → ¬ Twice (item_names (collected_common declared.now)) name) }
     ensures no_cycle { OnOk result ((name : PlainName) → ¬ Chain (RefersToCommon (defined_by declared.now entities.now)) name name) }
     ensures sound { OnOk result (AreSound (defined_by declared.now entities.now) (extension_types extensions.now)) }
     ensures fault { IfErr result (λ error. IsCommonFault (defined_by declared.now entities.now) (extension_types extensions.now) (fault_of error)) }

@@ -5,7 +5,8 @@ ghost use Rattle.cedar_below.specs.PlainName.{PlainName};
 ghost use Rattle.cedar_declarations.specs.Fault.{duplicate_common_type, out_of_memory};
 ghost use Rattle.cedar_below.specs.Lists.{Twice};
 ghost use Rattle.cedar_declarations.specs.SchemaError.{fault_of};
-ghost use Rattle.cedar_elaboration.specs.Indices.{AreIndices, common_items, item_names, indexed_names};
+ghost use Rattle.cedar_elaboration.specs.Indices.{AreIndices, item_names, indexed_names};
+ghost use Rattle.cedar_resolution.specs.Collected.{collected_common};
 
 use cedar_below::{InternalName, put};
 use cedar_declarations::SchemaError;
@@ -21,11 +22,11 @@ pub(crate) type Indices = BTreeMap<InternalName, usize>;
 
 /// The index of each common type. A name that stands twice is refused.
 pub(crate) fn name_indices(alloc: Global, declared: &[CommonType]) -> Result<Indices, SchemaError>
-    ensures indices { IfOk result (λ indices. AreIndices (item_names (common_items declared.now)) (indexed_names indices)) }
-    ensures once { OnOk result ((name : PlainName) → ¬ Twice (item_names (common_items declared.now)) name) }
+    ensures indices { IfOk result (λ indices. AreIndices (item_names (collected_common declared.now)) (indexed_names indices)) }
+    ensures once { OnOk result ((name : PlainName) → ¬ Twice (item_names (collected_common declared.now)) name) }
     ensures fault { IfErr result (λ error. (fault_of error ≡ out_of_memory)
         ⊎ ((name : PlainName) × (fault_of error ≡ duplicate_common_type name)
-        × Twice (item_names (common_items declared.now)) name)) }
+        × Twice (item_names (collected_common declared.now)) name)) }
 {
     let mut indices = BTreeMap::new(alloc);
     for (item_index, item) in declared.iter().enumerate() {

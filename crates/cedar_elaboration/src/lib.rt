@@ -7,8 +7,6 @@ pub use defined::defined_common_types;
 pub use elaborating::elaborate;
 pub use type_scope::TypeScope;
 
-mod aliases;
-mod built_in;
 mod common;
 mod defined;
 mod elaborating;

@@ -6,7 +6,8 @@ ghost use Rattle.cedar_below.specs.PlainName.{PlainName};
 ghost use Rattle.cedar_declarations.specs.Mentions.{Refers};
 ghost use Rattle.cedar_declarations.specs.SchemaError.{fault_of};
 ghost use Rattle.cedar_elaboration.specs.Order.{HasNoCycle, IsOrderFault, IsElaborationOrder};
-ghost use Rattle.cedar_elaboration.specs.Indices.{AddsIndices, common_items, item_names, indexed_names};
+ghost use Rattle.cedar_elaboration.specs.Indices.{AddsIndices, item_names, indexed_names};
+ghost use Rattle.cedar_resolution.specs.Collected.{collected_common};
 
 use crate::indices::{CommonType, Indices, name_indices};
 use crate::referring::referred_indices;
@@ -18,7 +19,7 @@ use std::alloc::Global;
 /// For each common type the indices of those that it refers to.
 fn all_targets(alloc: Global, declared: &[CommonType], indices: &Indices) -> M<Vec<Vec<usize>>>
     ensures { IfOk result (λ targets. HoldsPairwise (λ it found. AddsIndices (indexed_names indices.now) (Refers it.1) [] found.items)
-        (common_items declared.now) targets.items) }
+        (collected_common declared.now) targets.items) }
 {
     let mut targets = Vec::new(alloc);
     for item in declared {
@@ -33,10 +34,10 @@ pub(crate) fn elaboration_order(
     alloc: Global,
     declared: &[CommonType],
 ) -> Result<Vec<usize>, SchemaError>
-    ensures order { IfOk result (λ order. IsElaborationOrder (common_items declared.now) order.items) }
-    ensures once { OnOk result ((name : PlainName) → ¬ Twice (item_names (common_items declared.now)) name) }
-    ensures no_cycle { OnOk result (HasNoCycle (common_items declared.now)) }
-    ensures fault { IfErr result (λ error. IsOrderFault (common_items declared.now) (fault_of error)) }
+    ensures order { IfOk result (λ order. IsElaborationOrder (collected_common declared.now) order.items) }
+    ensures once { OnOk result ((name : PlainName) → ¬ Twice (item_names (collected_common declared.now)) name) }
+    ensures no_cycle { OnOk result (HasNoCycle (collected_common declared.now)) }
+    ensures fault { IfErr result (λ error. IsOrderFault (collected_common declared.now) (fault_of error)) }
 {
     let indices = name_indices(alloc, declared)?;
     let targets = all_targets(alloc, declared, &indices)?;

@@ -1,2 +1,2 @@
-pub mod AlsoUnless
+pub mod BuiltIn
 pub mod Collected

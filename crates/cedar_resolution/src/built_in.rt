@@ -1,34 +1,64 @@
-//! The built-in types, and the names by which they are defined.
+//! The built-in types and their aliases.
 
-ghost use Rattle.std.specs.Prelude.{◌≡◌, IfOk, map};
+ghost use Rattle.std.specs.Prelude.{if◌then◌else◌, ◌≡◌, ◌↔◌, ◌++◌, [], ◌∷◌, Contains, IfOk, IsTrue, OnOk, map};
 ghost use Rattle.cedar_below.specs.Id.{id_text};
 ghost use Rattle.cedar_below.specs.InternalName.{name_of};
-ghost use Rattle.cedar_declarations.specs.Bag.{built_in_types, built_in_name, alias_name};
-ghost use Rattle.cedar_fragments.specs.HeldNames.{held_names, HasAlso};
-ghost use Rattle.cedar_resolution.specs.AlsoUnless.{HasAlsoUnless};
+ghost use Rattle.cedar_below.specs.Name.{plain_name};
+ghost use Rattle.cedar_declarations.specs.Bag.{built_in_name, built_in_types, built_ins};
+ghost use Rattle.cedar_declarations.specs.ResolvedExpr.{resolved_expr, resolved_variant};
+ghost use Rattle.cedar_fragments.specs.HeldNames.{held_names};
+ghost use Rattle.cedar_fragments.specs.ShadowedNames.{type_names};
+ghost use Rattle.cedar_names.specs.Expr.{extension_expr};
+ghost use Rattle.cedar_resolution.specs.BuiltIn.{free_aliases, named_types};
+ghost use Rattle.cedar_resolution.specs.Collected.{collected_common};
 
-use cedar_below::{Extensions, Id, InternalName, M, identifier};
+use cedar_below::{Extensions, Id, InternalName, M, Name, UnreservedId, identifier};
 use cedar_fragments::defs::AllDefs;
+use cedar_names::json_schema::{Type, TypeVariant};
 use std::alloc::Global;
 
-/// The base names of the built-in types: the primitive types, and the extension types in the order
-/// in which they were handed in.
-pub(crate) fn built_in_words(alloc: Global, extensions: &Extensions) -> M<Vec<Id>>
-    ensures { IfOk result (λ words. map id_text words.items ≡ map (λ it. it.0) (built_in_types extensions.now)) }
+/// A common type: its full name, and its type.
+pub(crate) type CommonType = (InternalName, Type<InternalName>);
+
+/// A built-in type: its base name, and its type.
+type BuiltInType = (Id, Type<InternalName>);
+
+/// A type variant as a type, without a location.
+fn plain(ty: TypeVariant<InternalName>) -> Type<InternalName>
+    ensures { resolved_expr result ≡ resolved_variant ty }
 {
-    let mut words = Vec::new(alloc);
-    words.push(identifier(alloc, "Bool")?)?;
-    words.push(identifier(alloc, "Long")?)?;
-    words.push(identifier(alloc, "String")?)?;
-    for name in extensions.ext_types() {
-        words.push(name.basename().clone()?)?;
-    }
-    Ok(words)
+    Type::Plain { ty, loc: None }
 }
 
-/// The full name of a built-in type: its base name in the namespace `__cedar`. Out of memory is
-/// the only refusal.
-pub fn built_in_type_name(alloc: Global, word: &Id) -> M<InternalName>
+/// The extension type of a name.
+fn extension_type(alloc: Global, name: &Name) -> M<Type<InternalName>>
+    ensures { IfOk result (λ ty. resolved_expr ty ≡ extension_expr (plain_name name.now).base) }
+{
+    let text = String::from_str(alloc, name.basename().as_str())?;
+    match UnreservedId::new(text) {
+        Some(name) => Ok(plain(TypeVariant::Extension { name })),
+        None => unreachable!(),
+    }
+}
+
+/// The built-in types under their base names: the primitive types, and the extension types in the
+/// order in which they were handed in.
+fn built_in_types(alloc: Global, extensions: &Extensions) -> M<Vec<BuiltInType>>
+    ensures { IfOk result (λ types. named_types types.items ≡ built_in_types extensions.now) }
+{
+    let mut types = Vec::new(alloc);
+    types.push((identifier(alloc, "Bool")?, plain(TypeVariant::Boolean)))?;
+    types.push((identifier(alloc, "Long")?, plain(TypeVariant::Long)))?;
+    types.push((identifier(alloc, "String")?, plain(TypeVariant::String)))?;
+    for name in extensions.ext_types() {
+        let ty = extension_type(alloc, name)?;
+        types.push((name.basename().clone()?, ty))?;
+    }
+    Ok(types)
+}
+
+/// The full name of a built-in type: its base name in the namespace `__cedar`.
+fn built_in_type_name(alloc: Global, word: &Id) -> M<InternalName>
     ensures { IfOk result (λ name. name_of name ≡ built_in_name (id_text word.now)) }
 {
     let mut path = Vec::new(alloc);
@@ -36,34 +66,67 @@ pub fn built_in_type_name(alloc: Global, word: &Id) -> M<InternalName>
     Ok(InternalName::new(word.clone()?, path, None))
 }
 
-/// The same names, and among those of common types also the full names of the built-in types.
-pub(crate) fn with_built_ins(alloc: Global, defs: AllDefs, words: &[Id]) -> M<AllDefs>
-    ensures common { IfOk result (λ after. HasAlso (held_names after).common (held_names defs).common
-        (map (λ word. built_in_name (id_text word)) words.now)) }
-    ensures entities_stay { IfOk result (λ after. (held_names after).entities ≡ (held_names defs).entities) }
-    ensures actions_stay { IfOk result (λ after. (held_names after).actions ≡ (held_names defs).actions) }
+/// Built-in types under their full names.
+fn built_ins(alloc: Global, types: Vec<BuiltInType>) -> M<Vec<CommonType>>
+    ensures { IfOk result (λ named. collected_common named.items ≡ map (λ it. (built_in_name it.0, it.1)) (named_types types.items)) }
 {
-    let mut defs = defs;
-    for word in words {
-        defs.mark_as_defined_as_common_type(built_in_type_name(alloc, word)?)?;
+    let mut named = Vec::new(alloc);
+    for (word, ty) in types {
+        named.push((built_in_type_name(alloc, &word)?, ty))?;
     }
-    Ok(defs)
+    Ok(named)
 }
 
-/// The same names, and among those of common types also the base name of each built-in type, alone,
-/// unless it is the name of an entity type.
-pub(crate) fn with_aliases(alloc: Global, defs: AllDefs, words: &[Id]) -> M<AllDefs>
-    ensures common { IfOk result (λ after. HasAlsoUnless (held_names after).common (held_names defs).common
-        (map (λ word. alias_name (id_text word)) words.now) (held_names defs).entities) }
-    ensures entities_stay { IfOk result (λ after. (held_names after).entities ≡ (held_names defs).entities) }
-    ensures actions_stay { IfOk result (λ after. (held_names after).actions ≡ (held_names defs).actions) }
+/// Whether a type of the name is declared, common or entity.
+fn is_declared(declared: &AllDefs, name: &InternalName) -> bool
+    ensures { IsTrue result ↔ Contains (type_names (held_names declared.now)) (name_of name.now) }
 {
-    let mut defs = defs;
-    for word in words {
-        let alias = InternalName::new(word.clone()?, Vec::new(alloc), None);
-        if !defs.is_defined_as_entity(&alias) {
-            defs.mark_as_defined_as_common_type(alias)?;
-        }
+    declared.is_defined_as_common(name) || declared.is_defined_as_entity(name)
+}
+
+/// Adds a common type if its name is free.
+fn add_free(
+    named: &mut Vec<CommonType>,
+    name: InternalName,
+    ty: Type<InternalName>,
+    is_free: bool,
+) -> M<()>
+    ensures { OnOk result (collected_common named.new.items
+        ≡ (if is_free then collected_common named.old.items ++ (name_of name, resolved_expr ty) ∷ [] else collected_common named.old.items)) }
+{
+    if is_free {
+        named.push((name, ty))?;
     }
-    Ok(defs)
+    Ok(())
+}
+
+/// The aliases of built-in types: each under its base name alone, unless a type of that name is
+/// declared.
+fn aliases(alloc: Global, types: Vec<BuiltInType>, declared: &AllDefs) -> M<Vec<CommonType>>
+    ensures { IfOk result (λ named. collected_common named.items
+        ≡ free_aliases (type_names (held_names declared.now)) (named_types types.items)) }
+{
+    let mut named = Vec::new(alloc);
+    for (word, ty) in types {
+        let name = InternalName::new(word, Vec::new(alloc), None);
+        let is_free = !is_declared(declared, &name);
+        add_free(&mut named, name, ty, is_free)?;
+    }
+    Ok(named)
+}
+
+/// The common types that no fragment declares, where these names are declared: the built-in types,
+/// and after them their aliases.
+pub(crate) fn built_in_common_types(
+    alloc: Global,
+    declared: &AllDefs,
+    extensions: &Extensions,
+) -> M<Vec<CommonType>>
+    ensures { IfOk result (λ types. collected_common types.items
+        ≡ built_ins extensions.now ++ free_aliases (type_names (held_names declared.now)) (built_in_types extensions.now)) }
+{
+    let mut types = built_ins(alloc, built_in_types(alloc, extensions)?)?;
+    let mut aliases = aliases(alloc, built_in_types(alloc, extensions)?, declared)?;
+    types.append(&mut aliases)?;
+    Ok(types)
 }

@@ -1,36 +1,63 @@
 //! The names that fragments define.
 
-ghost use Rattle.std.specs.Prelude.{◌≡◌, ◌⊎◌, IfOk, IfErr, OnOk};
+ghost use Rattle.std.specs.Prelude.{◌≡◌, ◌⊎◌, ◌++◌, IfOk, IfErr, OnOk, map};
+ghost use Rattle.cedar_below.specs.InternalName.{name_of};
 ghost use Rattle.cedar_below.specs.PlainName.{PlainName};
 ghost use Rattle.cedar_below.specs.PlainUid.{PlainUid};
-ghost use Rattle.cedar_declarations.specs.Bag.{defined_names};
+ghost use Rattle.cedar_declarations.specs.Bag.{aliases, built_ins, defined_names};
 ghost use Rattle.cedar_declarations.specs.Fault.{out_of_memory, type_shadowing, action_shadowing};
 ghost use Rattle.cedar_declarations.specs.IllFormed.{IsFault};
 ghost use Rattle.cedar_declarations.specs.SchemaError.{fault_of};
 ghost use Rattle.cedar_fragments.specs.FragmentDeclarations.{conditional_bag};
-ghost use Rattle.cedar_fragments.specs.HeldNames.{held_names, HoldsJust};
+ghost use Rattle.cedar_fragments.specs.HeldNames.{held_names, HasAlso, HoldsJust};
+ghost use Rattle.cedar_resolution.specs.Collected.{collected_common};
 
-use crate::built_in::{built_in_words, with_aliases, with_built_ins};
-use cedar_below::Extensions;
+use crate::built_in::{CommonType, built_in_common_types};
+use cedar_below::{Extensions, M};
 use cedar_declarations::SchemaError;
 use cedar_fragments::defs::AllDefs;
 use cedar_fragments::namespace::ValidatorSchemaFragment;
 use cedar_names::json_schema::ConditionalName;
 use std::alloc::Global;
 
-/// All names that fragments define over some extensions: those that they declare, the built-in
-/// types and their aliases, and the types of actions.
+/// The same names, and among those of common types also those of some types.
+fn with_common_types(defs: AllDefs, types: &[CommonType]) -> M<AllDefs>
+    ensures common { IfOk result (λ after. HasAlso (held_names after).common (held_names defs).common (map (λ it. name_of it.0) types.now)) }
+    ensures entities_stay { IfOk result (λ after. (held_names after).entities ≡ (held_names defs).entities) }
+    ensures actions_stay { IfOk result (λ after. (held_names after).actions ≡ (held_names defs).actions) }
+{
+    let mut defs = defs;
+    for it in types {
+        defs.mark_as_defined_as_common_type(it.0.clone()?)?;
+    }
+    Ok(defs)
+}
+
+/// The names that fragments define over some extensions.
+#[derive(Debug, Drop)]
+pub(crate) struct DefinedNames {
+    /// The names: those that are declared, the built-in types and their aliases, and the types of
+    /// actions.
+    pub(crate) defs: AllDefs,
+    /// The built-in types, and after them their aliases.
+    pub(crate) built_in: Vec<CommonType>,
+}
+
+/// All names that fragments define over some extensions, and the common types among them that no
+/// fragment declares.
 ///
 /// They are refused with one of these kinds:
 ///
 /// - `TypeShadowing`, `ActionShadowing`: a declared name would shadow another (RFC 70)
 /// - `Memory`: memory ran out
-pub fn defined_names(
+pub(crate) fn defined_names(
     alloc: Global,
     fragments: &[ValidatorSchemaFragment<ConditionalName, ConditionalName>],
     extensions: &Extensions,
-) -> Result<AllDefs, SchemaError>
-    ensures names { IfOk result (λ defs. HoldsJust (held_names defs) (defined_names (conditional_bag fragments.now) extensions.now)) }
+) -> Result<DefinedNames, SchemaError>
+    ensures names { IfOk result (λ defined. HoldsJust (held_names defined.defs) (defined_names (conditional_bag fragments.now) extensions.now)) }
+    ensures built_in { IfOk result (λ defined. collected_common defined.built_in.items
+        ≡ built_ins extensions.now ++ aliases (conditional_bag fragments.now) extensions.now) }
     ensures no_type_shadows { OnOk result ((plain qualified : PlainName)
         → ¬ IsFault (conditional_bag fragments.now) extensions.now (type_shadowing plain qualified)) }
     ensures no_action_shadows { OnOk result ((plain qualified : PlainUid)
@@ -40,8 +67,8 @@ pub fn defined_names(
 {
     let declared = AllDefs::new(alloc, fragments)?;
     declared.rfc_70_shadowing_checks()?;
-    let words = built_in_words(alloc, extensions)?;
-    let built_in = with_built_ins(alloc, declared, &words)?;
-    let defined = with_aliases(alloc, built_in, &words)?;
-    Ok(defined.with_action_types()?)
+    let built_in = built_in_common_types(alloc, &declared, extensions)?;
+    let defined = with_common_types(declared, &built_in)?;
+    let defs = defined.with_action_types()?;
+    Ok(DefinedNames { defs, built_in })
 }

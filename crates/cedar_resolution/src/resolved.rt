@@ -1,10 +1,10 @@
 //! How fragments come to name what is defined.
 
-ghost use Rattle.std.specs.Prelude.{◌≡◌, ◌⊎◌, IfOk, IfErr, OnOk};
+ghost use Rattle.std.specs.Prelude.{◌≡◌, ◌⊎◌, ◌++◌, IfOk, IfErr, OnOk};
 ghost use Rattle.std.specs.List.{flat_map};
 ghost use Rattle.cedar_below.specs.PlainName.{PlainName};
 ghost use Rattle.cedar_below.specs.PlainUid.{PlainUid};
-ghost use Rattle.cedar_declarations.specs.Bag.{defined_names};
+ghost use Rattle.cedar_declarations.specs.Bag.{aliases, built_ins, defined_names};
 ghost use Rattle.cedar_declarations.specs.Fault.{out_of_memory, type_shadowing, action_shadowing};
 ghost use Rattle.cedar_declarations.specs.IllFormed.{IsFault};
 ghost use Rattle.cedar_declarations.specs.SchemaError.{fault_of};
@@ -12,13 +12,14 @@ ghost use Rattle.cedar_declarations.specs.Resolved.{ResolvesBag};
 ghost use Rattle.cedar_fragments.specs.FragmentDeclarations.{conditional_bag, resolved_fragment};
 ghost use Rattle.cedar_fragments.specs.HeldNames.{held_names, HoldsJust};
 ghost use Rattle.cedar_fragments.specs.QualifyFault.{IsUnresolvableBag};
+ghost use Rattle.cedar_resolution.specs.Collected.{collected_common};
 
-use crate::defined::defined_names;
+use crate::defined::{DefinedNames, defined_names};
 use cedar_below::{EntityType, Extensions, InternalName};
 use cedar_declarations::SchemaError;
 use cedar_fragments::defs::AllDefs;
 use cedar_fragments::namespace::ValidatorSchemaFragment;
-use cedar_names::json_schema::ConditionalName;
+use cedar_names::json_schema::{ConditionalName, Type};
 use std::alloc::Global;
 
 /// The same fragments, where each name is that of what it resolves to.
@@ -45,6 +46,10 @@ pub struct Resolved {
     pub fragments: Vec<ValidatorSchemaFragment<InternalName, EntityType>>,
     /// The names that the fragments define, with built-in types, aliases and types of actions.
     pub defs: AllDefs,
+    /// The common types that no fragment declares: the built-in types under their full names, and
+    /// after them their aliases, each under its base name alone unless a type of that name is
+    /// declared (RFC 24).
+    pub built_in: Vec<(InternalName, Type<InternalName>)>,
 }
 
 /// The same fragments, where each name is that of what it resolves to among all that the
@@ -65,6 +70,8 @@ pub fn resolve_fragments(
         (conditional_bag fragments.items) (flat_map resolved_fragment resolved.fragments.items)) }
     ensures names { IfOk result (λ resolved.
         HoldsJust (held_names resolved.defs) (defined_names (conditional_bag fragments.items) extensions.now)) }
+    ensures built_in { IfOk result (λ resolved. collected_common resolved.built_in.items
+        ≡ built_ins extensions.now ++ aliases (conditional_bag fragments.items) extensions.now) }
     ensures no_type_shadows { OnOk result ((plain qualified : PlainName)
         → ¬ IsFault (conditional_bag fragments.items) extensions.now (type_shadowing plain qualified)) }
     ensures no_action_shadows { OnOk result ((plain qualified : PlainUid)
@@ -72,7 +79,11 @@ pub fn resolve_fragments(
     ensures fault { IfErr result (λ error. (fault_of error ≡ out_of_memory)
         ⊎ IsFault (conditional_bag fragments.items) extensions.now (fault_of error)) }
 {
-    let defs = defined_names(alloc, &fragments, extensions)?;
+    let DefinedNames { defs, built_in } = defined_names(alloc, &fragments, extensions)?;
     let fragments = qualify_fragments(alloc, fragments, &defs)?;
-    Ok(Resolved { fragments, defs })
+    Ok(Resolved {
+        fragments,
+        defs,
+        built_in,
+    })
 }

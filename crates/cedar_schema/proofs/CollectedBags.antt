@@ -27,7 +27,7 @@ type_unreserved ty name same =
 module _ (bag : Bag) (entity_types : List (EntityType × EntityTypeFragment InternalName))
     (is_entities : collected_entities entity_types ≡ declared_entities bag) where
   -- the names of the entity types are those that are declared
-  pub names_collected : map (λ it. type_name it.0) entity_types ≡ map (λ it. it.0) (declared_entities bag)
+  names_collected : map (λ it. type_name it.0) entity_types ≡ map (λ it. it.0) (declared_entities bag)
   names_collected =
       let key : PlainName × EntityBody → PlainName = λ it. it.0 in
       sym (map-map key _ entity_types) ∙ ap (map key) is_entities

@@ -25,13 +25,14 @@ use Rattle.cedar_fragments.specs.declared.namespace.actions.ActionFragment.{Acti
 use Rattle.cedar_fragments.specs.declared.namespace.entity_types.EntityTypeFragment.{EntityTypeFragment}
 use Rattle.cedar_resolution.specs.Collected.{collected_actions, collected_common, collected_entities}
 use Rattle.cedar_names.specs.declared.json_schema.type_of.Type.{«Type»}
-use Rattle.cedar_schema.proofs.CollectedBags.{collected_unreserved, names_collected}
+use Rattle.cedar_schema.proofs.CollectedBags.{collected_unreserved}
 use Rattle.cedar_schema.proofs.KnownBags.{knows_all}
 use Rattle.cedar_schema.specs.ResolvedBag.{IsResolvedOver}
 use Rattle.cedar_elaboration.specs.Scope.{set_names, elaborated_types}
 use Rattle.cedar_elaboration.specs.declared.type_scope.TypeScope.{TypeScope}
 
-module _ (bag : Bag) (given : Extensions) (held : Names) (over : IsResolvedOver bag given held) (names : BTreeSet InternalName)
+module _ (bag : Bag) (given : Extensions) (held : Names) (built_in : List (InternalName × «Type» InternalName))
+    (over : IsResolvedOver bag given held (collected_common built_in)) (names : BTreeSet InternalName)
     (are_held : set_names names ≡ held.entities) (common : List (InternalName × «Type» InternalName))
     (entity_types : List (EntityType × EntityTypeFragment InternalName))
     (actions : List (EntityUID × ActionFragment InternalName EntityType))
@@ -44,10 +45,10 @@ module _ (bag : Bag) (given : Extensions) (held : Names) (over : IsResolvedOver 
       let P : List PlainName → Type 0 = SameItems (definitions bag given).entities in subst P (sym are_held) over.entities
 
   -- the common types can be elaborated
-  pub types_of : AreTypesOf bag given common entity_types names
+  pub types_of : AreTypesOf bag given common built_in names
   types_of = record {
     common = is_common;
-    entities = names_collected bag entity_types is_entities;
+    built_in = over.built_in;
     names = same_names;
     unreserved = collected_unreserved bag given entity_types actions is_entities is_actions;
     fit = over.fit;

@@ -1,27 +1,29 @@
 -- What resolution makes sure of.
-use Rattle.std.proofs.Common.{subst}
+use Rattle.std.proofs.Common.{◌≡◌, ◌++◌, ◌∙◌, List, ap, subst}
 use Rattle.cedar_below.specs.Extensions.{extension_types}
 use Rattle.cedar_below.specs.Lists.{SameItems}
 use Rattle.cedar_below.specs.PlainName.{PlainName}
 use Rattle.cedar_below.specs.PlainUid.{PlainUid}
 use Rattle.cedar_below.specs.TypeNames.{TypeNamesFit}
 use Rattle.cedar_below.specs.declared.extension.Extensions.{Extensions}
-use Rattle.cedar_declarations.specs.Bag.{Bag, defined_names}
+use Rattle.cedar_declarations.specs.Bag.{Bag, aliases, built_ins, defined_names}
 use Rattle.cedar_declarations.specs.Fault.{type_shadowing, action_shadowing}
 use Rattle.cedar_declarations.specs.IllFormed.{IsFault}
 use Rattle.cedar_declarations.specs.Names.{Names}
 use Rattle.cedar_declarations.specs.Resolved.{ResolvesBag}
 use Rattle.cedar_fragments.specs.HeldNames.{HoldsJust}
-use Rattle.cedar_declaration_laws.proofs.ResolutionLaws.{resolved_defines, resolved_parent_names, resolved_still_resolves, resolution}
+use Rattle.cedar_names.specs.Expr.{Expr}
+use Rattle.cedar_declaration_laws.proofs.ResolutionLaws.{resolved_aliases, resolved_defines, resolved_parent_names, resolved_still_resolves, resolution}
 use Rattle.cedar_schema.specs.ResolvedBag.{IsResolvedOver}
 
 -- the resolved bag of one in which nothing shadows another
-pub resolved_over : (bag resolved : Bag) (extensions : Extensions) (names : Names) → TypeNamesFit (extension_types extensions)
+pub resolved_over : (bag resolved : Bag) (extensions : Extensions) (names : Names) (built_in : List (PlainName × Expr)) → TypeNamesFit (extension_types extensions)
     → ResolvesBag (defined_names bag extensions) bag resolved → HoldsJust names (defined_names bag extensions)
+    → built_in ≡ built_ins extensions ++ aliases bag extensions
     → ((plain qualified : PlainName) → ¬ IsFault bag extensions (type_shadowing plain qualified))
     → ((plain qualified : PlainUid) → ¬ IsFault bag extensions (action_shadowing plain qualified))
-    → IsResolvedOver resolved extensions names
-resolved_over bag resolved extensions names fit qualifies just no_types no_actions =
+    → IsResolvedOver resolved extensions names built_in
+resolved_over bag resolved extensions names built_in fit qualifies just are no_types no_actions =
     let same = resolution bag resolved extensions qualifies in
     let P : Names → Type 0 = λ defined. SameItems defined.entities names.entities in
     record {
@@ -30,5 +32,6 @@ resolved_over bag resolved extensions names fit qualifies just no_types no_actio
       types_shadow = λ plain qualified fault. no_types plain qualified ((same.0 (type_shadowing plain qualified)).1 fault);
       actions_shadow = λ plain qualified fault. no_actions plain qualified ((same.0 (action_shadowing plain qualified)).1 fault);
       entities = subst P (resolved_defines bag resolved extensions qualifies) (λ name. ((just.entities name).1, (just.entities name).0));
+      built_in = are ∙ ap (λ others. built_ins extensions ++ others) (resolved_aliases bag resolved extensions qualifies);
       fit = fit;
     }

@@ -1,5 +1,5 @@
 -- What the steps make sure of, together, is that the bag isn't ill-formed.
-use Rattle.std.proofs.Common.{subst, map, Contains}
+use Rattle.std.proofs.Common.{List, subst, map, Contains}
 use Rattle.cedar_below.proofs.Lists.{Contains-preimage}
 use Rattle.cedar_below.specs.PlainName.{PlainName}
 use Rattle.cedar_below.specs.declared.extension.Extensions.{Extensions}
@@ -15,11 +15,12 @@ use Rattle.cedar_fragments.specs.DefinitionFault.{HasNoDefinitionFault}
 use Rattle.cedar_declaration_laws.proofs.MentionLemmas.{HasKnownExtensions}
 use Rattle.cedar_declaration_laws.proofs.SureBags.{of_counted, of_placed, sure_is_well}
 use Rattle.cedar_names.specs.EntityBody.{EntityBody}
+use Rattle.cedar_names.specs.Expr.{Expr}
 use Rattle.cedar_below.specs.PlainName.{IsActionType}
 use Rattle.cedar_schema.specs.ResolvedBag.{IsResolvedOver}
 
-module _ (bag : Bag) (extensions : Extensions) (names : Names) (resolved : IsResolvedOver bag extensions names)
-    (definitions_sound : HasNoDefinitionFault bag) (common : CommonTypesAreSound bag extensions)
+module _ (bag : Bag) (extensions : Extensions) (names : Names) (built_in : List (PlainName × Expr))
+    (resolved : IsResolvedOver bag extensions names built_in) (definitions_sound : HasNoDefinitionFault bag) (common : CommonTypesAreSound bag extensions)
     (entities : EntityTypesAreSound bag extensions) (actions : ActionsAreSound bag extensions) where
   -- a declared entity type is no type of actions
   declared_no_action : (name : PlainName) → Contains (map (λ it. it.0) (declared_entities bag)) name → ¬ IsActionType name

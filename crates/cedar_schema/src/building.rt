@@ -16,7 +16,7 @@ ghost use Rattle.cedar_declarations.specs.IllFormed.{IsFault, IsIllFormed};
 ghost use Rattle.cedar_declarations.specs.SchemaError.{fault_of};
 ghost use Rattle.cedar_fragments.specs.FragmentDeclarations.{conditional_bag};
 ghost use Rattle.cedar_fragments.specs.HeldNames.{held_names};
-ghost use Rattle.cedar_resolution.specs.Collected.{resolved_bag};
+ghost use Rattle.cedar_resolution.specs.Collected.{collected_common, resolved_bag};
 ghost use Rattle.cedar_declaration_laws.specs.EndToEnd.{IsBuiltFrom};
 ghost use Rattle.cedar_schema.specs.Located.{ShowsFragments};
 ghost use Rattle.cedar_schema.specs.SchemaKeys.{AreKeysLocated};
@@ -30,7 +30,7 @@ use cedar_declarations::SchemaError;
 use cedar_elaboration::{TypeScope, defined_common_types};
 use cedar_fragments::defs::AllDefs;
 use cedar_fragments::namespace::ValidatorSchemaFragment;
-use cedar_names::json_schema::ConditionalName;
+use cedar_names::json_schema::{ConditionalName, Type};
 use cedar_resolution::{Declarations, Resolved, collect_declarations, resolve_fragments};
 use cedar_schema_elements::{ValidatorActionId, ValidatorEntityType, action_entities};
 use std::alloc::Global;
@@ -64,21 +64,23 @@ fn uids_ascend(actions: &BTreeMap<EntityUID, ValidatorActionId>)
     let _keys = actions.keys();
 }
 
-/// What fragments over full names declare, where the names of entity types are these.
+/// What fragments over full names declare, where the names of entity types are these, and so are
+/// the built-in types and their aliases.
 fn build_resolved(
     alloc: Global,
     fragments: Vec<ValidatorSchemaFragment<InternalName, EntityType>>,
     defs: &AllDefs,
+    built_in: Vec<(InternalName, Type<InternalName>)>,
     located: Located,
     extensions: &Extensions,
 ) -> Result<SchemaParts, SchemaError>
-    ensures declared { IfOk result (λ parts. IsResolvedOver (resolved_bag fragments.items) extensions.now (held_names defs.now)
+    ensures declared { IfOk result (λ parts. IsResolvedOver (resolved_bag fragments.items) extensions.now (held_names defs.now) (collected_common built_in.items)
         → IsDeclaredSchema (resolved_bag fragments.items) extensions.now (parts_schema parts)) }
     ensures located { IfOk result (λ parts. parts.located ≡ located) }
     ensures keys { IfOk result (λ parts. AreKeysLocated parts.entity_types.entries parts.actions.entries) }
-    ensures well_formed { OnOk result (IsResolvedOver (resolved_bag fragments.items) extensions.now (held_names defs.now)
+    ensures well_formed { OnOk result (IsResolvedOver (resolved_bag fragments.items) extensions.now (held_names defs.now) (collected_common built_in.items)
         → ¬ IsIllFormed (resolved_bag fragments.items) extensions.now) }
-    ensures fault { IfErr result (λ error. IsResolvedOver (resolved_bag fragments.items) extensions.now (held_names defs.now)
+    ensures fault { IfErr result (λ error. IsResolvedOver (resolved_bag fragments.items) extensions.now (held_names defs.now) (collected_common built_in.items)
         → (fault_of error ≡ out_of_memory) ⊎ IsFault (resolved_bag fragments.items) extensions.now (fault_of error)) }
 {
     let Declarations {
@@ -87,7 +89,7 @@ fn build_resolved(
         actions: declared_actions,
     } = collect_declarations(alloc, fragments)?;
     let names = defs.entity_type_names();
-    let common = defined_common_types(alloc, common_types, &declared, names, extensions)?;
+    let common = defined_common_types(alloc, common_types, built_in, names, extensions)?;
     let known = TypeScope {
         common: &common,
         entities: names,
@@ -122,6 +124,10 @@ pub(crate) fn build(
     ensures keys { IfOk result (λ parts. AreKeysLocated parts.entity_types.entries parts.actions.entries) }
 {
     let located = located_in(alloc, &fragments)?;
-    let Resolved { fragments, defs } = resolve_fragments(alloc, fragments, extensions)?;
-    build_resolved(alloc, fragments, &defs, located, extensions)
+    let Resolved {
+        fragments,
+        defs,
+        built_in,
+    } = resolve_fragments(alloc, fragments, extensions)?;
+    build_resolved(alloc, fragments, &defs, built_in, located, extensions)
 }

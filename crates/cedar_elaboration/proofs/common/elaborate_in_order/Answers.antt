@@ -9,7 +9,8 @@ use Rattle.cedar_declarations.specs.ResolvedExpr.{resolved_expr}
 use Rattle.cedar_elaboration.proofs.IndexLemmas.{item_at_index, index_of, split_at}
 use Rattle.cedar_elaboration.proofs.ElaborationLemmas.{Covers-next, ElaboratedInOrder, ElaboratedInOrder-more, fault_at, types_seen}
 use Rattle.cedar_elaboration.specs.Scope.{set_names}
-use Rattle.cedar_elaboration.specs.Indices.{common_items, defined_over, item_names}
+use Rattle.cedar_elaboration.specs.Indices.{defined_over, item_names}
+use Rattle.cedar_resolution.specs.Collected.{collected_common}
 use Rattle.cedar_elaboration.proofs.common.elaborate_in_order.Goals as goal
 use Rattle.cedar_elaboration.proofs.common.elaborate_in_order.Goals.{After-row_known-1}
 
@@ -30,7 +31,7 @@ offset_bounds-declared-item_index c = let below = within c in search (rules, bel
 
 pub returns-in_err-ty-clause-fault : goal.returns-in_err-ty-clause-fault
 returns-in_err-ty-clause-fault c =
-    let items = common_items c.args.declared.now in
+    let items = collected_common c.args.declared.now in
     let entities = set_names c.args.entities.now in
     let extensions = extension_types c.args.extensions.now in
     let order = c.args.order.now in
@@ -48,7 +49,7 @@ returns-in_err-ty-clause-fault c =
 
 pub loop-item_index-preserved : goal.loop-item_index-preserved
 loop-item_index-preserved c =
-    let items = common_items c.args.declared.now in
+    let items = collected_common c.args.declared.now in
     let entities = set_names c.args.entities.now in
     let extensions = extension_types c.args.extensions.now in
     let defined = defined_over items entities in
@@ -77,7 +78,7 @@ loop-item_index-preserved c =
 
 pub returns-clause-each : goal.returns-clause-each
 returns-clause-each c name among =
-    let items = common_items c.args.declared.now in
+    let items = collected_common c.args.declared.now in
     let at = index_of (item_names items) name among in
     let P : ℕ → Type 0 = λ each. at.0 < each in
     let below : at.0 < length items = subst P (length-map items (λ it. it.0)) (slice_get_within (item_names items) at.0 name at.1) in
@@ -88,7 +89,7 @@ returns-clause-each c name among =
 
 pub returns-clause-sound : goal.returns-clause-sound
 returns-clause-sound c item among =
-    let items = common_items c.args.declared.now in
+    let items = collected_common c.args.declared.now in
     let at = index_of items item among in
     let Q : List ℕ → Type 0 = λ each. Contains each at.0 in
     c.loop-item_index.invariant.sound at.0

@@ -2,10 +2,10 @@ use Rattle.std.proofs.Common.{take}
 use Rattle.cedar_below.specs.Extensions.{extension_types}
 use Rattle.cedar_elaboration.proofs.ElaborationLemmas.{ElaboratedInOrder}
 use Rattle.cedar_elaboration.specs.Scope.{set_names, elaborated_types}
-use Rattle.cedar_elaboration.specs.Indices.{common_items}
+use Rattle.cedar_resolution.specs.Collected.{collected_common}
 use Rattle.cedar_elaboration.proofs.common.elaborate_in_order.Given as goal
 
 abbrev pub invariant-loop-item_index : goal.invariant-loop-item_index
 invariant-loop-item_index l =
-    ElaboratedInOrder (common_items l.declared) (set_names l.entities) (extension_types l.extensions) (take l.item_index-index l.order)
+    ElaboratedInOrder (collected_common l.declared) (set_names l.entities) (extension_types l.extensions) (take l.item_index-index l.order)
     (elaborated_types l.common)

@@ -7,7 +7,8 @@ use Rattle.cedar_below.specs.contracts.internal_name.InternalNameOrd.TheImpl as 
 use Rattle.cedar_below.specs.Lists.{Twice}
 use Rattle.cedar_elaboration.proofs.Entries.{found_name}
 use Rattle.cedar_elaboration.proofs.IndexLemmas.{NumberedSoFar, NumberedSoFar-more, repeated_name, names_more, names_split}
-use Rattle.cedar_elaboration.specs.Indices.{common_items, item_names, indexed_names}
+use Rattle.cedar_elaboration.specs.Indices.{item_names, indexed_names}
+use Rattle.cedar_resolution.specs.Collected.{collected_common}
 use Rattle.cedar_elaboration.proofs.indices.name_indices.Goals as goal
 
 pub returns-then-contains_key-clause-fault : goal.returns-then-contains_key-clause-fault
@@ -16,20 +17,20 @@ returns-then-contains_key-clause-fault c =
     let item = c.index-declared-item_index.result in
     let name = name_of item.0 in
     let P : List PlainName → Type 0 = λ names. Twice names name in
-    let twice : Twice (item_names (common_items declared)) name =
+    let twice : Twice (item_names (collected_common declared)) name =
     subst P (sym (names_split declared c.loop-item_index.item_index item c.loop-item_index-test.true c.index-declared-item_index.is))
-    (repeated_name (item_names (common_items (take c.loop-item_index.item_index declared))) _ name (indexed_names c.loop-item_index.indices)
+    (repeated_name (item_names (collected_common (take c.loop-item_index.item_index declared))) _ name (indexed_names c.loop-item_index.indices)
     c.loop-item_index.invariant
     ((found_name ((order.ghosts).cmp) name_of internal_name_ord-Equal (λ item_index. item_index) c.loop-item_index.indices.entries item.0
     _ c.contains_key.ensures).0 c.if-contains_key.true)) in
-    let Q : PlainName → Type 0 = λ each. Twice (item_names (common_items declared)) each in
+    let Q : PlainName → Type 0 = λ each. Twice (item_names (collected_common declared)) each in
     inr (name_of c.in_ok-clone.field-0, refl, subst Q (sym c.in_ok-clone.ensures.name) twice)
 
 pub loop-item_index-preserved : goal.loop-item_index-preserved
 loop-item_index-preserved c =
     let declared = c.args.declared.now in
     let item = c.index-declared-item_index.result in
-    let names = item_names (common_items (take c.loop-item_index.item_index declared)) in
+    let names = item_names (collected_common (take c.loop-item_index.item_index declared)) in
     let P : List PlainName → Type 0 = λ each. NumberedSoFar each (indexed_names c.put.new.map) in
     let Q : List _ → Type 0 = λ each. NumberedSoFar (names ++ name_of item.0 ∷ []) (map (λ entry. (name_of entry.0, entry.1)) each) in
     subst P (sym (names_more declared c.loop-item_index.item_index item c.loop-item_index-test.true c.index-declared-item_index.is).0)

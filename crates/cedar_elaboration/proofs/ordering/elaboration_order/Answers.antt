@@ -9,20 +9,21 @@ use Rattle.cedar_declarations.specs.IllFormed.{RefersToCommon}
 use Rattle.cedar_declarations.specs.ResolvedExpr.{resolved_expr}
 use Rattle.cedar_elaboration.proofs.OrderLemmas.{as_many, cycle_found, name_at, no_cycle_among, order_of_indices}
 use Rattle.cedar_elaboration.proofs.IndexLemmas.{item_at_index}
-use Rattle.cedar_elaboration.specs.Indices.{common_items, defined_over, indexed_names}
+use Rattle.cedar_elaboration.specs.Indices.{defined_over, indexed_names}
+use Rattle.cedar_resolution.specs.Collected.{collected_common}
 use Rattle.cedar_elaboration.proofs.ordering.elaboration_order.Goals as goal
 use Rattle.cedar_elaboration.proofs.ordering.elaboration_order.Goals.{In-Cycle}
 
 pub returns-in-Order-clause-order : goal.returns-in-Order-clause-order
 returns-in-Order-clause-order c =
     let in_order = rw c.in-Order.is at c.in_ok-order.ensures in
-    order_of_indices (common_items c.args.declared.now) (indexed_names c.in_ok-indices.indices) c.in_ok-targets.targets.items
+    order_of_indices (collected_common c.args.declared.now) (indexed_names c.in_ok-indices.indices) c.in_ok-targets.targets.items
     c.in_ok-indices.ensures.indices c.in_ok-targets.ensures c.in-Order.order.items in_order.0
 
 pub returns-in-Order-clause-no_cycle : goal.returns-in-Order-clause-no_cycle
 returns-in-Order-clause-no_cycle c =
     let in_order = rw c.in-Order.is at c.in_ok-order.ensures in
-    no_cycle_among (common_items c.args.declared.now) (indexed_names c.in_ok-indices.indices) c.in_ok-targets.targets.items
+    no_cycle_among (collected_common c.args.declared.now) (indexed_names c.in_ok-indices.indices) c.in_ok-targets.targets.items
     c.in_ok-indices.ensures.indices c.in_ok-targets.ensures c.in_ok-indices.ensures.once in_order.1
 
 -- the index that is on a cycle is one of a common type
@@ -31,7 +32,7 @@ within c =
     let chain = rw c.in-Cycle.is at c.in_ok-order.ensures in
     let step = last_step (LeadsTo c.in_ok-targets.targets.items) c.in-Cycle.item_index c.in-Cycle.item_index chain in
     let P : ℕ → Type 0 = λ each. c.in-Cycle.item_index < each in
-    subst P (sym (as_many (common_items c.args.declared.now) (indexed_names c.in_ok-indices.indices) c.in_ok-targets.targets.items
+    subst P (sym (as_many (collected_common c.args.declared.now) (indexed_names c.in_ok-indices.indices) c.in_ok-targets.targets.items
     c.in_ok-indices.ensures.indices c.in_ok-targets.ensures)
     ∙ length-map c.args.declared.now (λ it. (name_of it.0, resolved_expr it.1))) step.1.1
 
@@ -43,7 +44,7 @@ offset_bounds-declared-item_index c = let below = within c in search (rules, bel
 
 pub returns-clause-fault : goal.returns-clause-fault
 returns-clause-fault c entities =
-    let items = common_items c.args.declared.now in
+    let items = collected_common c.args.declared.now in
     let item = c.index-declared-item_index.result in
     let below : c.in-Cycle.item_index < length c.args.declared.now = within (goal.at.returns-clause-fault c).In-Cycle in
     let stands = name_at items c.in-Cycle.item_index (name_of item.0, resolved_expr item.1)

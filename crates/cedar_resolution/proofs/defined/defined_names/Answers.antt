@@ -1,13 +1,15 @@
-use Rattle.std.proofs.Common.{◌≡◌, ◌⊎◌, List, map, sym, subst, ◌∙◌, inl, inr, ⊎_elim}
+use Rattle.std.proofs.Common.{◌≡◌, ◌⊎◌, ◌++◌, List, ap, map, sym, subst, ◌∙◌, inl, inr, ⊎_elim}
 use Rattle.std.proofs.lemmas.Result.{err_from_is_err_and}
-use Rattle.cedar_below.specs.Id.{id_text}
+use Rattle.std.proofs.lemmas.Simd.{map-map}
+use Rattle.cedar_below.specs.InternalName.{name_of}
 use Rattle.cedar_below.specs.Lists.{SameItems}
 use Rattle.cedar_below.specs.PlainName.{PlainName}
 use Rattle.cedar_below.specs.PlainUid.{PlainUid}
-use Rattle.cedar_below.specs.declared.id.Id.{Id}
-use Rattle.cedar_declarations.specs.Bag.{action_uids, built_in_name, alias_name, defined_names}
+use Rattle.cedar_below.specs.declared.internal_name.InternalName.{InternalName}
+use Rattle.cedar_declarations.specs.Bag.{action_uids, aliases, built_ins, defined_names}
 use Rattle.cedar_declarations.specs.Fault.{out_of_memory}
 use Rattle.cedar_declarations.specs.IllFormed.{IsFault}
+use Rattle.cedar_declarations.specs.ResolvedExpr.{resolved_expr}
 use Rattle.cedar_declarations.specs.SchemaError.{fault_of}
 use Rattle.cedar_fragments.proofs.DeclaredNames.{names_are_declared}
 use Rattle.cedar_fragments.specs.FragmentDeclarations.{conditional_bag}
@@ -15,10 +17,13 @@ use Rattle.cedar_fragments.specs.HeldNames.{held_names, declared_names, HasAlso,
 use Rattle.cedar_fragments.specs.declared.defs.all_defs.AllDefs.{AllDefs}
 use Rattle.cedar_fragments.specs.declared.namespace.fragment.ValidatorSchemaFragment.{ValidatorSchemaFragment}
 use Rattle.cedar_names.specs.ConditionalExpr.{positional_reference}
+use Rattle.cedar_names.specs.Expr.{Expr}
+use Rattle.cedar_names.specs.declared.json_schema.type_of.Type.{«Type»}
 use Rattle.cedar_names.specs.declared.json_schema.conditional_name.ConditionalName.{ConditionalName}
-use Rattle.cedar_resolution.proofs.DefinedNames.{names_in, just_declared, shadowing_fault, no_type_fault, no_action_fault, same_common, same_entities}
-use Rattle.cedar_resolution.specs.AlsoUnless.{HasAlsoUnless}
+use Rattle.cedar_resolution.proofs.DefinedNames.{names_in, just_declared, shadowing_fault, no_type_fault, no_action_fault, same_aliases, same_common, same_entities}
+use Rattle.cedar_resolution.specs.Collected.{collected_common}
 use Rattle.cedar_resolution.proofs.defined.defined_names.Goals as goal
+use Rattle.cedar_resolution.proofs.defined.defined_names.Goals.{After-deref}
 
 -- the names that fragments declare are those of their bag
 declared_just : (fragments : List (ValidatorSchemaFragment ConditionalName ConditionalName)) (defs : AllDefs)
@@ -44,36 +49,46 @@ returns-in_err-rfc_70_shadowing_checks-clause-fault c =
     c.from_residual-in_err-rfc_70_shadowing_checks.ensures.1 in
     rw (p.1, p.2) at_fault
 
+module _ (c : After-deref) where
+  -- the built-in types and aliases are those of the bag
+  built_in_are : collected_common c.in_ok-built_in.built_in.items
+      ≡ built_ins c.args.extensions.now ++ aliases (conditional_bag c.args.fragments.now) c.args.extensions.now
+  built_in_are =
+      let bag = conditional_bag c.args.fragments.now in
+      let extensions = c.args.extensions.now in
+      c.in_ok-built_in.ensures
+      ∙ ap (λ others. built_ins extensions ++ others) (same_aliases bag extensions (held_names c.in_ok-declared.declared)
+      (declared_just c.args.fragments.now c.in_ok-declared.declared c.in_ok-declared.ensures))
+
+pub returns-clause-built_in : goal.returns-clause-built_in
+returns-clause-built_in c = built_in_are ((goal.at.returns-clause-built_in c).After-deref)
+
 pub returns-clause-names : goal.returns-clause-names
 returns-clause-names c =
     let bag = conditional_bag c.args.fragments.now in
     let extensions = c.args.extensions.now in
     let held = held_names c.in_ok-declared.declared in
-    let built_in = held_names c.in_ok-built_in.built_in in
-    let aliased = held_names c.in_ok-defined.defined in
-    let all = held_names c.in_ok-with_action_types.field-0 in
+    let marked = held_names c.in_ok-defined.defined in
+    let all = held_names c.in_ok-defs.defs in
     let just = declared_just c.args.fragments.now c.in_ok-declared.declared c.in_ok-declared.ensures in
     let Common : List PlainName → Type 0 = λ names. SameItems names (defined_names bag extensions).common in
-    let BuiltIn : List Id → Type 0 = λ words. HasAlso built_in.common held.common (map (λ word. built_in_name
-    (id_text word)) words) in
-    let Alias : List Id → Type 0 = λ words.
-    HasAlsoUnless aliased.common built_in.common (map (λ word. alias_name (id_text word)) words) built_in.entities in
-    let Entities : List PlainName → Type 0 = λ names. HasAlso all.entities names (map
-    (λ uid. uid.ty) aliased.actions) in
+    let Marked : List (InternalName × «Type» InternalName) → Type 0 = λ types. HasAlso marked.common held.common (map
+    (λ it. name_of it.0) types) in
+    let Also : List PlainName → Type 0 = HasAlso marked.common held.common in
+    let Entities : List PlainName → Type 0 = λ names. HasAlso all.entities names (map (λ uid. uid.ty) marked.actions) in
     let Types : List PlainUid → Type 0 = λ uids. HasAlso all.entities held.entities (map (λ uid. uid.ty) uids) in
     let Actions : List PlainUid → Type 0 = λ uids. SameItems uids (action_uids bag) in
-    let actions_stay = c.in_ok-defined.ensures.actions_stay ∙ c.in_ok-built_in.ensures.actions_stay in
+    let built_in = c.in_ok-built_in.built_in.items in
     record {
-      common = subst Common (sym c.in_ok-with_action_types.ensures.common_stay)
-          (same_common bag extensions held just c.in_ok-words.words.items c.in_ok-words.ensures built_in.common
-          aliased.common built_in.entities
-          c.in_ok-built_in.ensures.entities_stay (subst BuiltIn c.deref.ensures.value c.in_ok-built_in.ensures.common)
-          (subst Alias c.deref-2.ensures.value c.in_ok-defined.ensures.common));
+      common = subst Common (sym c.in_ok-defs.ensures.common_stay)
+          (same_common bag extensions held just (collected_common built_in) marked.common
+          (built_in_are ((goal.at.returns-clause-names c).After-deref))
+          (subst Also (sym (map-map (λ (it : PlainName × Expr). it.0) (λ (it : InternalName × «Type» InternalName). (name_of it.0, resolved_expr it.1)) built_in))
+          (subst Marked c.deref.ensures.value c.in_ok-defined.ensures.common)));
       entities = same_entities bag extensions held just all.entities
-          (subst Types actions_stay
-          (subst Entities (c.in_ok-defined.ensures.entities_stay ∙ c.in_ok-built_in.ensures.entities_stay)
-          c.in_ok-with_action_types.ensures.entities));
-      actions = subst Actions (sym (c.in_ok-with_action_types.ensures.actions_stay ∙ actions_stay)) just.actions;
+          (subst Types c.in_ok-defined.ensures.actions_stay
+          (subst Entities c.in_ok-defined.ensures.entities_stay c.in_ok-defs.ensures.entities));
+      actions = subst Actions (sym (c.in_ok-defs.ensures.actions_stay ∙ c.in_ok-defined.ensures.actions_stay)) just.actions;
     }
 
 pub returns-clause-no_type_shadows : goal.returns-clause-no_type_shadows

@@ -1,9 +1,9 @@
-use Rattle.std.proofs.Common.{◌≡◌, ◌⊎◌, List, subst}
+use Rattle.std.proofs.Common.{◌≡◌, ◌⊎◌, ◌++◌, List, subst}
 use Rattle.std.proofs.lemmas.Result.{err_from_is_err_and}
 use Rattle.cedar_below.specs.PlainName.{PlainName}
 use Rattle.cedar_below.specs.PlainUid.{PlainUid}
 use Rattle.cedar_below.specs.declared.extension.Extensions.{Extensions}
-use Rattle.cedar_declarations.specs.Bag.{defined_names}
+use Rattle.cedar_declarations.specs.Bag.{aliases, built_ins, defined_names}
 use Rattle.cedar_declarations.specs.Fault.{Fault, out_of_memory, type_shadowing, action_shadowing}
 use Rattle.cedar_declarations.specs.IllFormed.{IsFault}
 use Rattle.cedar_declarations.specs.SchemaError.{fault_of}
@@ -12,6 +12,7 @@ use Rattle.cedar_fragments.specs.HeldNames.{held_names, HoldsJust}
 use Rattle.cedar_fragments.specs.declared.defs.all_defs.AllDefs.{AllDefs}
 use Rattle.cedar_fragments.specs.declared.namespace.fragment.ValidatorSchemaFragment.{ValidatorSchemaFragment}
 use Rattle.cedar_names.specs.declared.json_schema.conditional_name.ConditionalName.{ConditionalName}
+use Rattle.cedar_resolution.specs.Collected.{collected_common}
 use Rattle.cedar_resolution.proofs.SameNames.{bag_alike}
 use Rattle.cedar_resolution.proofs.ResolutionFaults.{resolution_fault}
 use Rattle.cedar_resolution.proofs.resolved.resolve_fragments.Goals as goal
@@ -40,9 +41,9 @@ returns-in_err-defs-clause-fault c =
 pub returns-in_err-fragments-clause-fault : goal.returns-in_err-fragments-clause-fault
 returns-in_err-fragments-clause-fault c =
     let found = fault_of c.in_err-fragments.field-0.0 in
-    let P : Fragments → Type 0 = Defines c.in_ok-defs.defs c.args.extensions.now in
+    let P : Fragments → Type 0 = Defines c.in_ok-defs.field-0.defs c.args.extensions.now in
     let at_fault : Refuses c.args.extensions.now found c.args.fragments.items =
-    resolution_fault c.args.fragments.items c.args.extensions.now (held_names c.in_ok-defs.defs)
+    resolution_fault c.args.fragments.items c.args.extensions.now (held_names c.in_ok-defs.field-0.defs)
     (subst P c.deref.ensures.value c.in_ok-defs.ensures.names) found c.in_err-fragments.ensures.fault in
     let p = err_from_is_err_and c.from_residual-in_err-fragments.result c.from_residual-in_err-fragments.ensures.1 in
     rw (p.1, p.2) at_fault
@@ -50,15 +51,21 @@ returns-in_err-fragments-clause-fault c =
 pub returns-clause-resolved : goal.returns-clause-resolved
 returns-clause-resolved c =
     let bag = conditional_bag c.args.fragments.items in
-    let P : Fragments → Type 0 = Defines c.in_ok-defs.defs c.args.extensions.now in
-    bag_alike (held_names c.in_ok-defs.defs) (defined_names bag c.args.extensions.now)
+    let P : Fragments → Type 0 = Defines c.in_ok-defs.field-0.defs c.args.extensions.now in
+    bag_alike (held_names c.in_ok-defs.field-0.defs) (defined_names bag c.args.extensions.now)
     (subst P c.deref.ensures.value c.in_ok-defs.ensures.names) bag
     (flat_map resolved_fragment c.in_ok-fragments.fragments.items) c.in_ok-fragments.ensures.resolved
 
 pub returns-clause-names : goal.returns-clause-names
 returns-clause-names c =
-    let P : Fragments → Type 0 = Defines c.in_ok-defs.defs c.args.extensions.now in
+    let P : Fragments → Type 0 = Defines c.in_ok-defs.field-0.defs c.args.extensions.now in
     subst P c.deref.ensures.value c.in_ok-defs.ensures.names
+
+pub returns-clause-built_in : goal.returns-clause-built_in
+returns-clause-built_in c =
+    let P : Fragments → Type 0 = λ fragments. collected_common c.in_ok-defs.field-0.built_in.items
+    ≡ built_ins c.args.extensions.now ++ aliases (conditional_bag fragments) c.args.extensions.now in
+    subst P c.deref.ensures.value c.in_ok-defs.ensures.built_in
 
 pub returns-clause-no_type_shadows : goal.returns-clause-no_type_shadows
 returns-clause-no_type_shadows c =

@@ -3,7 +3,7 @@ use Rattle.std.proofs.lemmas.Result.{err_from_is_err_and, IfErr-weaker, IfOk-wea
 use Rattle.cedar_declarations.specs.SchemaError.{fault_of}
 use Rattle.cedar_fragments.specs.FragmentDeclarations.{conditional_bag}
 use Rattle.cedar_fragments.specs.HeldNames.{held_names}
-use Rattle.cedar_resolution.specs.Collected.{resolved_bag}
+use Rattle.cedar_resolution.specs.Collected.{collected_common, resolved_bag}
 use Rattle.cedar_declaration_laws.proofs.BuiltFrom.{built_from}
 use Rattle.cedar_declaration_laws.proofs.ResolutionLaws.{resolution}
 use Rattle.cedar_schema.proofs.Mapped.{IfErr-mapped, IfOk-mapped, OnOk-mapped}
@@ -25,8 +25,9 @@ returns-clause-built c =
     let given = c.args.extensions.now in
     let fragments = c.in_ok-fragments.field-0.fragments.items in
     let resolved = resolved_bag fragments in
-    let over = resolved_over bag resolved given (held_names c.in_ok-fragments.field-0.defs) c.requires c.in_ok-fragments.ensures.resolved
-    c.in_ok-fragments.ensures.names c.in_ok-fragments.ensures.no_type_shadows c.in_ok-fragments.ensures.no_action_shadows in
+    let over = resolved_over bag resolved given (held_names c.in_ok-fragments.field-0.defs)
+    (collected_common c.in_ok-fragments.field-0.built_in.items) c.requires c.in_ok-fragments.ensures.resolved
+    c.in_ok-fragments.ensures.names c.in_ok-fragments.ensures.built_in c.in_ok-fragments.ensures.no_type_shadows c.in_ok-fragments.ensures.no_action_shadows in
     let same = resolution bag resolved given c.in_ok-fragments.ensures.resolved in
     let r = c.build_resolved.result in
     built_from bag given c.requires _

@@ -1,4 +1,4 @@
-use Rattle.std.proofs.Common.{◌≡◌, ◌⊎◌, List, map, sym, subst, refl}
+use Rattle.std.proofs.Common.{◌≡◌, ◌⊎◌, map, refl}
 use Rattle.std.specs.BTreeMap.{BTreeMap}
 use Rattle.std.proofs.lemmas.Result.{err_from_is_err_and}
 use Rattle.cedar_below.specs.Entities.{entities_of}
@@ -9,7 +9,6 @@ use Rattle.cedar_builder.specs.EntityTypesReady.{IsReady}
 use Rattle.cedar_builder.specs.ActionsReady.{AreActionsOf}
 use Rattle.cedar_elaboration.specs.DeclaredTypes.{AreTypesOf, AreElaborated}
 use Rattle.cedar_elaboration.specs.SoundTypes.{CommonTypesAreSound}
-use Rattle.cedar_declarations.specs.Bag.{declared_entities}
 use Rattle.cedar_declarations.specs.Fault.{out_of_memory}
 use Rattle.cedar_declarations.specs.IllFormed.{IsFault}
 use Rattle.cedar_declarations.specs.SchemaError.{fault_of}
@@ -19,8 +18,7 @@ use Rattle.cedar_schema_elements.specs.declared.entity_type.ValidatorEntityType.
 use Rattle.cedar_fragments.proofs.SoundFragments.{fragments_have_no_fault}
 use Rattle.cedar_fragments.specs.FragmentDeclarations.{resolved_action_type}
 use Rattle.cedar_fragments.specs.HeldNames.{held_names}
-use Rattle.cedar_fragments.specs.declared.namespace.entity_types.EntityTypeFragment.{EntityTypeFragment}
-use Rattle.cedar_resolution.specs.Collected.{collected_entities, resolved_bag}
+use Rattle.cedar_resolution.specs.Collected.{collected_common, resolved_bag}
 use Rattle.cedar_schema.proofs.DeclaredParts.{declared_parts}
 use Rattle.cedar_schema.proofs.ReadySteps.{actions_of, ready, types_of}
 use Rattle.cedar_schema.proofs.SurePieces.{pieces_well}
@@ -28,24 +26,23 @@ use Rattle.cedar_schema.specs.ResolvedBag.{IsResolvedOver}
 use Rattle.cedar_elaboration.specs.Scope.{elaborated_types}
 use Rattle.cedar_elaboration.specs.declared.type_scope.TypeScope.{TypeScope}
 use Rattle.cedar_schema.proofs.building.build_resolved.Goals as goal
-use Rattle.cedar_schema.proofs.building.build_resolved.Goals.{After-deref}
+use Rattle.cedar_schema.proofs.building.build_resolved.Goals.{After-entity_type_names-names}
 
 -- the bag is resolved over the names that are defined
-abbrev IsResolved : After-deref → Type 0
+abbrev IsResolved : After-entity_type_names-names → Type 0
 IsResolved c = IsResolvedOver (resolved_bag c.args.fragments.items) c.args.extensions.now (held_names c.args.defs.now)
+    (collected_common c.args.built_in.items)
 
-module _ (c : After-deref) (over : IsResolved c) where
+module _ (c : After-entity_type_names-names) (over : IsResolved c) where
   -- the common types of the bag can be elaborated
   types_here : AreTypesOf (resolved_bag c.args.fragments.items) c.args.extensions.now c.in_ok-common_types.field-0.common_types.items
-      c.deref.result.now c.entity_type_names-names.result.now
+      c.args.built_in.items c.entity_type_names-names.result.now
   types_here =
-      let bag = resolved_bag c.args.fragments.items in
       let collected = c.in_ok-common_types.field-0 in
       let declared = c.in_ok-common_types.ensures in
-      let P : List (EntityType × EntityTypeFragment InternalName) → Type 0 = λ types. collected_entities types ≡ declared_entities bag in
-      types_of bag c.args.extensions.now (held_names c.args.defs.now) over c.entity_type_names-names.result.now
-      c.entity_type_names-names.ensures collected.common_types.items c.deref.result.now collected.actions.items declared.common
-      (subst P (sym c.deref.ensures.value) declared.entities) declared.actions
+      types_of (resolved_bag c.args.fragments.items) c.args.extensions.now (held_names c.args.defs.now) c.args.built_in.items over
+      c.entity_type_names-names.result.now c.entity_type_names-names.ensures collected.common_types.items collected.entity_types.items
+      collected.actions.items declared.common declared.entities declared.actions
 
   module _ (known : TypeScope) (names : known.entities.now ≡ c.entity_type_names-names.result.now)
       (extensions : known.extensions.now ≡ c.args.extensions.now)
@@ -57,7 +54,7 @@ module _ (c : After-deref) (over : IsResolved c) where
     ready_here =
         let collected = c.in_ok-common_types.field-0 in
         let declared = c.in_ok-common_types.ensures in
-        ready (resolved_bag c.args.fragments.items) c.args.extensions.now (held_names c.args.defs.now) over
+        ready (resolved_bag c.args.fragments.items) c.args.extensions.now (held_names c.args.defs.now) c.args.built_in.items over
         c.entity_type_names-names.result.now c.entity_type_names-names.ensures collected.common_types.items collected.entity_types.items
         collected.actions.items declared.common declared.entities declared.actions known names extensions written sound
 
@@ -68,13 +65,13 @@ module _ (c : After-deref) (over : IsResolved c) where
     acting_here =
         let collected = c.in_ok-common_types.field-0 in
         let declared = c.in_ok-common_types.ensures in
-        actions_of (resolved_bag c.args.fragments.items) c.args.extensions.now (held_names c.args.defs.now) over
+        actions_of (resolved_bag c.args.fragments.items) c.args.extensions.now (held_names c.args.defs.now) c.args.built_in.items over
         c.entity_type_names-names.result.now c.entity_type_names-names.ensures collected.common_types.items collected.entity_types.items
         collected.actions.items declared.common declared.entities declared.actions known names extensions written sound
 
 pub returns-in_err-common-clause-fault : goal.returns-in_err-common-clause-fault
 returns-in_err-common-clause-fault c =
-    let here = (goal.at.returns-in_err-common-clause-fault c).After-deref in
+    let here = (goal.at.returns-in_err-common-clause-fault c).After-entity_type_names-names in
     let found = fault_of c.in_err-common.field-0.0 in
     let at_fault : IsResolved here → (found ≡ out_of_memory) ⊎ IsFault (resolved_bag c.args.fragments.items) c.args.extensions.now found =
     λ over. c.in_err-common.ensures.fault (resolved_bag c.args.fragments.items) (types_here here over) in
@@ -83,7 +80,7 @@ returns-in_err-common-clause-fault c =
 
 pub returns-in_err-entity_types-clause-fault : goal.returns-in_err-entity_types-clause-fault
 returns-in_err-entity_types-clause-fault c =
-    let here = (goal.at.returns-in_err-entity_types-clause-fault c).After-deref in
+    let here = (goal.at.returns-in_err-entity_types-clause-fault c).After-entity_type_names-names in
     let bag = resolved_bag c.args.fragments.items in
     let given = c.args.extensions.now in
     let common = c.in_ok-common.ensures in
@@ -97,7 +94,7 @@ returns-in_err-entity_types-clause-fault c =
 
 pub returns-in_err-actions-clause-fault : goal.returns-in_err-actions-clause-fault
 returns-in_err-actions-clause-fault c =
-    let here = (goal.at.returns-in_err-actions-clause-fault c).After-deref in
+    let here = (goal.at.returns-in_err-actions-clause-fault c).After-entity_type_names-names in
     let bag = resolved_bag c.args.fragments.items in
     let given = c.args.extensions.now in
     let common = c.in_ok-common.ensures in
@@ -114,7 +111,7 @@ returns-in_err-actions-clause-fault c =
 
 pub returns-clause-well_formed : goal.returns-clause-well_formed
 returns-clause-well_formed c over =
-    let here = (goal.at.returns-clause-well_formed c).After-deref in
+    let here = (goal.at.returns-clause-well_formed c).After-entity_type_names-names in
     let bag = resolved_bag c.args.fragments.items in
     let given = c.args.extensions.now in
     let types = types_here here over in
@@ -123,13 +120,13 @@ returns-clause-well_formed c over =
     let is_ready = ready_here here over _ refl refl written sound in
     let acting = acting_here here over _ refl refl written sound c.in_ok-entity_types.entity_types
     (c.in_ok-entity_types.ensures.declared bag given is_ready) in
-    pieces_well bag given (held_names c.args.defs.now) over
+    pieces_well bag given (held_names c.args.defs.now) (collected_common c.args.built_in.items) over
     (fragments_have_no_fault InternalName resolved_reference EntityType resolved_action_type c.args.fragments.items) sound
     (c.in_ok-entity_types.ensures.sound bag given is_ready) (c.in_ok-actions.ensures.sound bag given acting)
 
 pub returns-clause-declared : goal.returns-clause-declared
 returns-clause-declared c over =
-    let here = (goal.at.returns-clause-declared c).After-deref in
+    let here = (goal.at.returns-clause-declared c).After-entity_type_names-names in
     let bag = resolved_bag c.args.fragments.items in
     let given = c.args.extensions.now in
     let types = types_here here over in

@@ -3,20 +3,22 @@ use Rattle.std.proofs.lemmas.List.{nil_from_length}
 use Rattle.cedar_below.specs.Id.{id_text}
 use Rattle.cedar_below.specs.InternalName.{name_of}
 use Rattle.cedar_below.specs.PlainName.{PlainName}
-use Rattle.cedar_elaboration.proofs.TakenLemmas.{KeptSoFar-none, KeptSoFar-next, KeptSoFar-all, taken_is}
-use Rattle.cedar_elaboration.specs.DeclaredTypes.{names_of_types}
+use Rattle.cedar_resolution.proofs.KeptSoFar.{KeptSoFar-none, KeptSoFar-next, KeptSoFar-all}
+use Rattle.cedar_resolution.proofs.TakenNames.{taken_is}
+use Rattle.cedar_fragments.specs.HeldNames.{held_names}
+use Rattle.cedar_fragments.specs.ShadowedNames.{type_names}
 use Rattle.cedar_declarations.specs.Bag.{alias_name}
 use Rattle.cedar_declarations.specs.ResolvedExpr.{resolved_expr}
-use Rattle.cedar_elaboration.specs.Indices.{common_items}
-use Rattle.cedar_elaboration.proofs.aliases.aliases.Goals as goal
+use Rattle.cedar_resolution.specs.Collected.{collected_common}
+use Rattle.cedar_resolution.proofs.built_in.aliases.Goals as goal
 
 pub loop-word-init : goal.loop-word-init
 loop-word-init c =
-    KeptSoFar-none _ _ _ _ _ _ (sym c.into_iter-word-iterator.ensures.into_iter_gives.0) (ap common_items c.new-named.ensures.items)
+    KeptSoFar-none _ _ _ _ _ _ (sym c.into_iter-word-iterator.ensures.into_iter_gives.0) (ap collected_common c.new-named.ensures.items)
 
 pub loop-word-preserved : goal.loop-word-preserved
 loop-word-preserved c =
-    let names = names_of_types c.args.common_types.now c.args.entity_types.now in
+    let names = type_names (held_names c.args.declared.now) in
     let word = id_text c.in-Some.word in
     let named : name_of c.new-name.result ≡ alias_name word =
     (λ i. record {
@@ -27,7 +29,7 @@ loop-word-preserved c =
     KeptSoFar-next _ _ _ _ _ _ _ _ (c.in-Some.word, c.in-Some.ty) (not c.is_declared-is_free.result) c.in-Some.ensures.steps.0
     (ap not (taken_is names word c.is_declared-is_free.result (subst P named c.is_declared-is_free.ensures)))
     (c.in_ok-add_free.ensures ∙ ap (λ name. cond (not c.is_declared-is_free.result)
-    (common_items c.loop-word.named.items ++ (name, resolved_expr c.in-Some.ty) ∷ []) (common_items c.loop-word.named.items)) named)
+    (collected_common c.loop-word.named.items ++ (name, resolved_expr c.in-Some.ty) ∷ []) (collected_common c.loop-word.named.items)) named)
     c.loop-word.invariant
 
 pub returns : goal.returns

@@ -6,7 +6,7 @@ use Rattle.cedar_below.specs.PlainName.{PlainName}
 use Rattle.cedar_below.specs.Text.{Text}
 use Rattle.cedar_below.specs.declared.name.Name.{Name}
 use Rattle.cedar_names.specs.Expr.{Expr, extension_expr, long_expr, text_expr, truth_expr}
-use Rattle.cedar_elaboration.proofs.built_in.built_in_types.Goals as goal
+use Rattle.cedar_resolution.proofs.built_in.built_in_types.Goals as goal
 
 -- what an extension type stands for, under its base name
 abbrev entry : PlainName → Text × Expr

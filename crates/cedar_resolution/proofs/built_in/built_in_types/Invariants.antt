@@ -1,8 +1,8 @@
 use Rattle.std.proofs.Common.{◌≡◌, ◌∷◌, codes, map, take}
 use Rattle.cedar_below.specs.Name.{plain_name}
-use Rattle.cedar_elaboration.specs.BuiltIn.{named_types}
+use Rattle.cedar_resolution.specs.BuiltIn.{named_types}
 use Rattle.cedar_names.specs.Expr.{extension_expr, long_expr, text_expr, truth_expr}
-use Rattle.cedar_elaboration.proofs.built_in.built_in_types.Given as goal
+use Rattle.cedar_resolution.proofs.built_in.built_in_types.Given as goal
 
 abbrev pub invariant-loop-name : goal.invariant-loop-name
 invariant-loop-name l =

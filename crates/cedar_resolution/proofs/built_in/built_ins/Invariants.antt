@@ -6,7 +6,7 @@ use Rattle.cedar_declarations.specs.Bag.{built_in_name}
 use Rattle.cedar_declarations.specs.ResolvedExpr.{resolved_expr}
 use Rattle.cedar_fragments.proofs.ListedSoFar.{ListedSoFar}
 use Rattle.cedar_names.specs.Expr.{Expr}
-use Rattle.cedar_elaboration.proofs.built_in.built_ins.Given as goal
+use Rattle.cedar_resolution.proofs.built_in.built_ins.Given as goal
 
 abbrev pub invariant-loop-word : goal.invariant-loop-word
 invariant-loop-word l =

@@ -11,7 +11,7 @@ use Rattle.cedar_declarations.specs.ResolvedExpr.{resolved_expr}
 use Rattle.cedar_fragments.proofs.ListedSoFar.{ListedSoFar-none, ListedSoFar-more, listed_same}
 use Rattle.cedar_names.specs.Expr.{Expr}
 use Rattle.cedar_names.specs.declared.json_schema.type_of.Type.{«Type»}
-use Rattle.cedar_elaboration.proofs.built_in.built_ins.Goals as goal
+use Rattle.cedar_resolution.proofs.built_in.built_ins.Goals as goal
 
 pub loop-word-init : goal.loop-word-init
 loop-word-init c = ListedSoFar-none _ _ _ _ _ _ (sym c.into_iter-word-iterator.ensures.into_iter_gives.0) c.new-named.ensures.items

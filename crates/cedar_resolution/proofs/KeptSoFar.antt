@@ -1,38 +1,7 @@
--- Names that stand among others, and aliases that are kept so far.
-use Rattle.std.proofs.Common.{◌≡◌, ℕ, ◌+◌, ◌<◌, Bool, true, false, List, [], ◌∷◌, ◌++◌, length, get_or, take, map, ap, sym, subst, ◌∙◌, ◌↔◌, IsTrue, refl, ⊎_elim, append_assoc, Contains, cond}
-use Rattle.std.proofs.lemmas.List.{map_more, map-append, append-nil}
-use Rattle.std.proofs.lemmas.List.Elements.{Contains-append_cases}
-use Rattle.std.proofs.lemmas.Simd.{map-map}
-use Rattle.std.specs.Cmp.{both_ways}
+-- Items that are gone through, of which a test keeps some.
+use Rattle.std.proofs.Common.{◌≡◌, Bool, true, false, List, [], ◌∷◌, ◌++◌, map, ap, sym, ◌∙◌, refl, append_assoc, cond}
+use Rattle.std.proofs.lemmas.List.{map-append, append-nil}
 use Rattle.std.specs.List.{filter}
-use Rattle.std.specs.Ordering.{is_eq}
-use Rattle.cedar_below.specs.InternalName.{name_of}
-use Rattle.cedar_below.specs.PlainName.{PlainName, name_cmp}
-use Rattle.cedar_below.specs.Text.{Text}
-use Rattle.cedar_below.specs.declared.internal_name.InternalName.{InternalName}
-use Rattle.cedar_declarations.proofs.OccurrenceLemmas.{Contains-image, Contains-single, any_of, name_test, some_of}
-use Rattle.cedar_elaboration.specs.BuiltIn.{is_taken}
-use Rattle.cedar_declarations.specs.Bag.{alias_name}
-use Rattle.cedar_declarations.specs.ResolvedExpr.{resolved_expr}
-use Rattle.cedar_names.specs.Expr.{Expr}
-use Rattle.cedar_names.specs.declared.json_schema.type_of.Type.{«Type»}
-use Rattle.cedar_elaboration.specs.Indices.{common_items, item_names}
-
--- the image of an item that stands at an index is among the images
-pub image_there : {X Y : Type 0} (f : X → Y) (xs : List X) (i : ℕ) (x : X) (y : Y) → i < length xs → x ≡ get_or xs i x → f x ≡ y
-    → Contains (map f xs) y
-image_there {Y = Y} f xs i x y lt is same =
-    let P : Y → Type 0 = Contains (map f xs) in subst P same (Contains-image f xs x (i, lt, sym is))
-
--- with one more item, whose image is another, there is still none of the image
-pub still_none : {X Y : Type 0} (f : X → Y) (xs : List X) (i : ℕ) (x : X) (y : Y) → i < length xs → x ≡ get_or xs i x → ¬ (f x ≡ y)
-    → ¬ Contains (map f (take i xs)) y → ¬ Contains (map f (take (i + 1) xs)) y
-still_none {Y = Y} f xs i x y lt is differs none among =
-    let P : List Y → Type 0 = λ ys. Contains ys y in
-    ⊎_elim none
-    (λ last. differs (Contains-single (f x) y last))
-    (Contains-append_cases (map f (take i xs)) (f x ∷ []) y
-    (subst P (map_more f xs i x lt ∙ ap (λ z. map f (take i xs) ++ f z ∷ []) (sym is)) among))
 
 -- some items have given those others that a test keeps, which show the same, and others are left
 pub record KeptSoFar {A B C : Type 0} (p : C → Bool) (f : A → C) (g : C → B) (all : List A) (made : List B) (left : List A) : Type 0 where
@@ -89,20 +58,3 @@ module _ {A B C : Type 0} (p : C → Bool) (f : A → C) (g : C → B) where
   KeptSoFar-all all left made nothing so_far =
       so_far.same ∙ ap (λ items. map g (filter p (map f items)))
       (sym (so_far.split ∙ (ap (λ others. so_far.done ++ others) nothing ∙ append-nil so_far.done)))
-
--- the names of common types
-pub names_of_images : (types : List (InternalName × «Type» InternalName))
-    → item_names (common_items types) ≡ map (λ it. name_of it.0) types
-names_of_images types = map-map (λ (it : PlainName × Expr). it.0) (λ (it : InternalName × «Type» InternalName). (name_of it.0, resolved_expr it.1)) types
-
--- a base name is taken where it is among the names alone
-pub taken_is : (names : List PlainName) (word : Text) (answer : Bool) → IsTrue answer ↔ Contains names (alias_name word)
-    → is_taken names word ≡ answer
-taken_is names word answer is =
-    let test : PlainName → Bool = λ name. is_eq (name_cmp (alias_name word) name) in
-    let P : PlainName → Type 0 = Contains names in
-    both_ways (is_taken names word) answer
-    (λ taken.
-    let found = some_of test names taken in
-    is.1 (subst P (sym ((name_test (alias_name word) found.0).0 found.2)) found.1))
-    (λ told. any_of test names (alias_name word) (is.0 told) ((name_test (alias_name word) (alias_name word)).1 refl))

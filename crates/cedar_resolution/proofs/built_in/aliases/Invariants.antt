@@ -1,0 +1,19 @@
+use Rattle.std.proofs.Common.{not}
+use Rattle.std.specs.Vec.Iter.{into_iter_items}
+use Rattle.cedar_below.specs.Id.{id_text}
+use Rattle.cedar_below.specs.Text.{Text}
+use Rattle.cedar_declarations.specs.Bag.{alias_name}
+use Rattle.cedar_declarations.specs.ResolvedExpr.{resolved_expr}
+use Rattle.cedar_resolution.proofs.KeptSoFar.{KeptSoFar}
+use Rattle.cedar_resolution.specs.BuiltIn.{is_taken}
+use Rattle.cedar_fragments.specs.HeldNames.{held_names}
+use Rattle.cedar_fragments.specs.ShadowedNames.{type_names}
+use Rattle.cedar_names.specs.Expr.{Expr}
+use Rattle.cedar_resolution.specs.Collected.{collected_common}
+use Rattle.cedar_resolution.proofs.built_in.aliases.Given as goal
+
+abbrev pub invariant-loop-word : goal.invariant-loop-word
+invariant-loop-word l =
+    KeptSoFar {C = Text × Expr} (λ it. not (is_taken (type_names (held_names l.declared)) it.0))
+    (λ it. (id_text it.0, resolved_expr it.1)) (λ it. (alias_name it.0, it.1))
+    l.fn.types.items (collected_common l.named.items) (into_iter_items l.word-iterator)

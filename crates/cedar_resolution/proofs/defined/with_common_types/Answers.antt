@@ -1,0 +1,26 @@
+use Rattle.std.proofs.Common.{◌∙◌}
+use Rattle.cedar_below.specs.InternalName.{name_of}
+use Rattle.cedar_below.specs.PlainName.{PlainName}
+use Rattle.cedar_below.specs.declared.internal_name.InternalName.{InternalName}
+use Rattle.cedar_fragments.proofs.SetLemmas.{HasAlso-next, HasAlso-all}
+use Rattle.cedar_fragments.specs.HeldNames.{held_names}
+use Rattle.cedar_names.specs.declared.json_schema.type_of.Type.{«Type»}
+use Rattle.cedar_resolution.proofs.defined.with_common_types.Goals as goal
+
+-- the name of a common type
+abbrev key : InternalName × «Type» InternalName → PlainName
+key it = name_of it.0
+
+pub loop-it-preserved : goal.loop-it-preserved
+loop-it-preserved c = (
+  HasAlso-next key (held_names c.args.defs).common c.args.types.now _ _ c.loop-it.it-index c.it-item.result _
+      c.loop-it-test.true c.it-item.is c.in_ok-clone.ensures.name c.loop-it.invariant.0
+      c.in_ok-mark_as_defined_as_common_type.ensures.added,
+  c.in_ok-mark_as_defined_as_common_type.ensures.entities_stay ∙ c.loop-it.invariant.1,
+  c.in_ok-mark_as_defined_as_common_type.ensures.actions_stay ∙ c.loop-it.invariant.2,
+)
+
+pub returns-clause-common : goal.returns-clause-common
+returns-clause-common c =
+    HasAlso-all key (held_names c.args.defs).common c.args.types.now _ c.loop-it.it-index c.loop-it-test.false
+    c.loop-it.invariant.0
