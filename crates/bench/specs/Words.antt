@@ -14,7 +14,8 @@ abbrev pub schema_piece_names : List Text
 schema_piece_names =
     codes "build-whole" ∷ codes "build-split" ∷ codes "build-common-chain" ∷ codes "close-chain"
     ∷ codes "close-ring" ∷ codes "close-star" ∷ codes "close-trees" ∷ codes "schema-look-up" ∷ codes "environments"
-    ∷ codes "known-attributes" ∷ codes "validate" ∷ codes "write-back" ∷ []
+    ∷ codes "known-attributes" ∷ codes "validate" ∷ codes "write-back" ∷ codes "build-environments"
+    ∷ codes "copy-schema" ∷ codes "scale" ∷ []
 
 -- the text is the name of a piece of work
 abbrev pub IsPieceName : Text → Type 0
@@ -26,6 +27,20 @@ pub record IsTimeOfPiece (words : List Text) : Type 0 where
   pub is_piece : IsPieceName piece
   pub asked : words ≡ codes "time" ∷ piece ∷ []
 
--- the words give a command: none at all, `time` alone, or `time` with the name of a piece
+-- the words ask for all pieces of work to be timed beside earlier figures
+pub record IsComparison (words : List Text) : Type 0 where
+  pub file : Text
+  pub asked : words ≡ codes "beside" ∷ file ∷ []
+
+-- the words ask for a piece of work to be timed beside earlier figures
+pub record IsComparisonOfPiece (words : List Text) : Type 0 where
+  pub file : Text
+  pub piece : Text
+  pub is_piece : IsPieceName piece
+  pub asked : words ≡ codes "beside" ∷ file ∷ piece ∷ []
+
+-- the words give a command: none at all, `time` alone or with the name of a piece, or `beside` with the name of a file and,
+-- it may be, that of a piece
 abbrev pub IsCommand : List Text → Type 0
-IsCommand words = (words ≡ []) ⊎ ((words ≡ codes "time" ∷ []) ⊎ IsTimeOfPiece words)
+IsCommand words =
+    (words ≡ []) ⊎ ((words ≡ codes "time" ∷ []) ⊎ (IsTimeOfPiece words ⊎ (IsComparison words ⊎ IsComparisonOfPiece words)))

@@ -1,6 +1,6 @@
 //! What the words of the program ask for.
 
-ghost use Rattle.std.specs.Prelude.{◌≡◌, ◌↔◌, codes, Contains, IsSome, map, string_bytes};
+ghost use Rattle.std.specs.Prelude.{◌≡◌, ◌↔◌, ◌⊎◌, codes, Contains, IsSome, map, string_bytes};
 ghost use Rattle.bench.specs.Words.{IsCommand, IsPieceName, schema_piece_names, type_piece_names};
 
 use crate::piece::Piece;
@@ -48,6 +48,9 @@ fn schema_piece_named(name: &str) -> Option<Piece>
         "known-attributes" => Some(Piece::KnownAttributes),
         "validate" => Some(Piece::Validate),
         "write-back" => Some(Piece::ConvertBack),
+        "build-environments" => Some(Piece::BuildEnvironments),
+        "copy-schema" => Some(Piece::CopySchema),
+        "scale" => Some(Piece::Scale),
         _ => None,
     }
 }
@@ -64,17 +67,21 @@ fn piece_named(name: &str) -> Option<Piece>
 
 /// What the program is asked to do.
 #[derive(Clone, Copy)]
-pub(crate) enum Command {
+pub(crate) enum Command<'a> {
     /// To do each piece once, at its smallest size.
     Once,
     /// To time all pieces.
     TimeAll,
     /// To time one piece.
     Time(Piece),
+    /// To time all pieces beside the figures of a file of this name.
+    CompareAll(&'a str),
+    /// To time one piece beside the figures of a file of this name.
+    Compare(&'a str, Piece),
 }
 
 /// The command of one word.
-fn time_all_command(word: &str) -> Option<Command>
+fn time_all_command<'a>(word: &str) -> Option<Command<'a>>
     ensures { IsSome result ↔ (word.now ≡ codes "time") }
 {
     match word {
@@ -83,24 +90,36 @@ fn time_all_command(word: &str) -> Option<Command>
     }
 }
 
-/// The command of a word and the name of a piece.
-fn time_command(word: &str, piece: &str) -> Option<Command>
-    ensures { IsSome result ↔ ((word.now ≡ codes "time") × IsPieceName piece.now) }
+/// The command of a word and another: the name of a piece, or that of a file.
+fn time_command<'a>(word: &str, other: &'a str) -> Option<Command<'a>>
+    ensures { IsSome result ↔ (((word.now ≡ codes "time") × IsPieceName other.now) ⊎ (word.now ≡ codes "beside")) }
 {
     match word {
-        "time" => Some(Command::Time(piece_named(piece)?)),
+        "time" => Some(Command::Time(piece_named(other)?)),
+        "beside" => Some(Command::CompareAll(other)),
+        _ => None,
+    }
+}
+
+/// The command of a word, the name of a file and that of a piece.
+fn compare_command<'a>(word: &str, file: &'a str, piece: &str) -> Option<Command<'a>>
+    ensures { IsSome result ↔ ((word.now ≡ codes "beside") × IsPieceName piece.now) }
+{
+    match word {
+        "beside" => Some(Command::Compare(file, piece_named(piece)?)),
         _ => None,
     }
 }
 
 /// The command that some words give, compared exactly, or None where they give none.
-pub(crate) fn command_of(words: &[String]) -> Option<Command>
+pub(crate) fn command_of(words: &[String]) -> Option<Command<'_>>
     ensures { IsSome result ↔ IsCommand (map string_bytes words.now) }
 {
     match words {
         [] => Some(Command::Once),
         [time] => time_all_command(time.as_str()),
-        [time, piece] => time_command(time.as_str(), piece.as_str()),
+        [time, other] => time_command(time.as_str(), other.as_str()),
+        [beside, file, piece] => compare_command(beside.as_str(), file.as_str(), piece.as_str()),
         _ => None,
     }
 }

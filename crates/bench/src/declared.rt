@@ -87,10 +87,14 @@ fn entity_types(
     Ok(entity_types)
 }
 
-/// The declaration of an action for requests of each entity type of some numbers on each of them.
-fn action(alloc: Global, numbers: Range<usize>) -> Result<ActionType<RawName>, Stop> {
-    let principal_types = references(alloc, numbers.start..numbers.end)?;
-    let resource_types = references(alloc, numbers)?;
+/// The declaration of an action for requests of each entity type of some numbers on each of others.
+fn action(
+    alloc: Global,
+    principals: Range<usize>,
+    resources: Range<usize>,
+) -> Result<ActionType<RawName>, Stop> {
+    let principal_types = references(alloc, principals)?;
+    let resource_types = references(alloc, resources)?;
     let context = record_of(alloc, plain(TypeVariant::String))?;
     Ok(ActionType {
         attributes: None,
@@ -106,14 +110,15 @@ fn action(alloc: Global, numbers: Range<usize>) -> Result<ActionType<RawName>, S
     })
 }
 
-/// Declares the action of a name, for requests of each entity type of some numbers on each of them.
+/// Declares the action of a name, for requests of each entity type of some numbers on each of others.
 fn add_action(
     alloc: Global,
     actions: &mut BTreeMap<String, ActionType<RawName>>,
     name: String,
-    numbers: Range<usize>,
+    principals: Range<usize>,
+    resources: Range<usize>,
 ) -> Result<(), Stop> {
-    actions.insert(name, action(alloc, numbers)?)?;
+    actions.insert(name, action(alloc, principals, resources)?)?;
     Ok(())
 }
 
@@ -125,7 +130,8 @@ fn actions(
     let mut actions = BTreeMap::new(alloc);
     for number in numbers {
         let name = numbered(alloc, "action", number)?;
-        add_action(alloc, &mut actions, name, number..number.saturating_add(1))?;
+        let end = number.saturating_add(1);
+        add_action(alloc, &mut actions, name, number..end, number..end)?;
     }
     Ok(actions)
 }
@@ -226,6 +232,21 @@ pub(crate) fn chain(alloc: Global, count: usize) -> Result<Vec<Fragment<RawName>
 pub(crate) fn applying_to_all(alloc: Global, count: usize) -> Result<Vec<Fragment<RawName>>, Stop> {
     let name = numbered(alloc, "all", count)?;
     let mut of_all = definition(alloc, 0..count)?;
-    add_action(alloc, &mut of_all.actions, name, 0..count)?;
+    add_action(alloc, &mut of_all.actions, name, 0..count, 0..count)?;
     alone(alloc, of_all)
+}
+
+/// One action that applies to as many entity types as principals, and to as many others as resources.
+pub(crate) fn crossing(alloc: Global, count: usize) -> Result<Vec<Fragment<RawName>>, Stop> {
+    let end = count.saturating_mul(2);
+    let mut actions = BTreeMap::new(alloc);
+    let name = numbered(alloc, "all", count)?;
+    add_action(alloc, &mut actions, name, 0..count, count..end)?;
+    let definition = NamespaceDefinition {
+        common_types: BTreeMap::new(alloc),
+        entity_types: entity_types(alloc, 0..end)?,
+        actions,
+        loc: None,
+    };
+    alone(alloc, definition)
 }

@@ -11,6 +11,7 @@ mod command;
 mod declared;
 mod graphs;
 mod measured;
+mod memory;
 mod names;
 mod piece;
 mod prepared;

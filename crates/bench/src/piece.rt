@@ -57,10 +57,16 @@ pub(crate) enum Piece {
     Validate,
     /// A schema of as many entity types and actions, converted back as a fragment.
     ConvertBack,
+    /// One action of as many principals and as many resources, built from one fragment.
+    BuildEnvironments,
+    /// A copy of a schema of as many entity types and actions.
+    CopySchema,
+    /// As many entity types and actions, built from one fragment: more than a schema is thought to have.
+    Scale,
 }
 
 /// All pieces, in the order in which they are measured.
-pub(crate) const PIECES: [Piece; 27] = [
+pub(crate) const PIECES: [Piece; 30] = [
     Piece::SubtypeClosedStrict,
     Piece::SubtypeClosedPermissive,
     Piece::SubtypeOpenStrict,
@@ -88,6 +94,9 @@ pub(crate) const PIECES: [Piece; 27] = [
     Piece::KnownAttributes,
     Piece::Validate,
     Piece::ConvertBack,
+    Piece::BuildEnvironments,
+    Piece::CopySchema,
+    Piece::Scale,
 ];
 
 /// How large a piece of work is, and how often a run does it.
@@ -97,25 +106,6 @@ pub(crate) struct Sized {
     pub(crate) size: usize,
     /// How often a run does it.
     pub(crate) operations: u32,
-}
-
-/// Three sizes, each with how often a run does the work.
-const fn sizes(rows: [(usize, u32); 3]) -> [Sized; 3] {
-    let [(small, often), (middle, sometimes), (large, seldom)] = rows;
-    [
-        Sized {
-            size: small,
-            operations: often,
-        },
-        Sized {
-            size: middle,
-            operations: sometimes,
-        },
-        Sized {
-            size: large,
-            operations: seldom,
-        },
-    ]
 }
 
 impl Piece {
@@ -149,45 +139,44 @@ impl Piece {
             Piece::KnownAttributes => "known-attributes",
             Piece::Validate => "validate",
             Piece::ConvertBack => "write-back",
+            Piece::BuildEnvironments => "build-environments",
+            Piece::CopySchema => "copy-schema",
+            Piece::Scale => "scale",
         }
     }
 
-    /// The sizes at which the piece is timed, the smallest of which is also done once.
-    pub(crate) fn sizes(self) -> [Sized; 3] {
+    /// The sizes at which the piece is timed, each with how often a run does it; the smallest, which is
+    /// the first, is also done once.
+    pub(crate) fn sizes(self) -> &'static [(usize, u32)] {
         match self {
             Piece::SubtypeClosedStrict
             | Piece::SubtypeClosedPermissive
             | Piece::SubtypeOpenStrict
             | Piece::SubtypeOpenPermissive
-            | Piece::Equality => sizes([(10, 100_000), (100, 10_000), (1000, 1000)]),
-            Piece::LookUp | Piece::Copy => sizes([
-                (10, 1_000_000),
-                (100, 1_000_000),
-                (1000, 1_000_000),
-            ]),
+            | Piece::Equality => &[(10, 100_000), (100, 10_000), (1000, 1000)],
+            Piece::LookUp | Piece::Copy => &[(10, 1_000_000), (100, 1_000_000), (1000, 1_000_000)],
             Piece::Membership
             | Piece::Print
             | Piece::JoinStrict
             | Piece::JoinPermissive
-            | Piece::Separation => sizes([(10, 10_000), (100, 1000), (1000, 100)]),
-            Piece::UnionInclusion | Piece::UnionDisjointness => sizes([
-                (10, 100_000),
-                (100, 10_000),
-                (1000, 1000),
-            ]),
-            Piece::UnionJoins => sizes([(30, 1000), (100, 100), (300, 10)]),
-            Piece::BuildWhole | Piece::BuildSplit | Piece::Validate | Piece::ConvertBack => sizes([
-                (100, 50),
-                (1000, 5),
-                (5000, 1),
-            ]),
-            Piece::BuildCommonChain => sizes([(10, 1000), (1000, 10), (100_000, 1)]),
-            Piece::CloseChain => sizes([(50, 200), (150, 20), (500, 2)]),
-            Piece::CloseRing => sizes([(30, 500), (100, 50), (300, 5)]),
-            Piece::CloseStar | Piece::CloseTrees => sizes([(50, 1000), (500, 100), (5000, 5)]),
-            Piece::SchemaLookUp => sizes([(100, 100_000), (1000, 100_000), (5000, 100_000)]),
-            Piece::Environments => sizes([(10, 10_000), (30, 1000), (100, 100)]),
-            Piece::KnownAttributes => sizes([(10, 10_000), (30, 1000), (100, 1000)]),
+            | Piece::Separation => &[(10, 10_000), (100, 1000), (1000, 100)],
+            Piece::UnionInclusion | Piece::UnionDisjointness => {
+                &[(10, 100_000), (100, 10_000), (1000, 1000)]
+            }
+            Piece::UnionJoins => &[(30, 1000), (100, 100), (300, 10)],
+            Piece::BuildWhole | Piece::BuildSplit | Piece::Validate | Piece::ConvertBack => {
+                &[(100, 50), (1000, 5), (5000, 1)]
+            }
+            Piece::BuildCommonChain => &[(10, 1000), (1000, 10), (100_000, 1)],
+            Piece::CloseChain => &[(50, 200), (150, 20), (500, 2)],
+            Piece::CloseRing => &[(30, 500), (100, 50), (300, 5)],
+            Piece::CloseStar | Piece::CloseTrees => &[(50, 1000), (500, 100), (5000, 5)],
+            Piece::SchemaLookUp => &[(100, 100_000), (1000, 100_000), (5000, 100_000)],
+            Piece::Environments => &[(10, 10_000), (30, 1000), (100, 100)],
+            Piece::KnownAttributes => &[(10, 10_000), (30, 1000), (100, 1000)],
+            Piece::BuildEnvironments => &[(30, 100), (100, 10), (300, 1), (1000, 1)],
+            Piece::CopySchema => &[(1000, 10), (10_000, 1)],
+            Piece::Scale => &[(10_000, 1), (30_000, 1), (100_000, 1), (200_000, 1)],
         }
     }
 }

@@ -4,7 +4,7 @@ ghost use Rattle.cedar_below.specs.Extensions.{extension_types};
 ghost use Rattle.cedar_below.specs.TypeNames.{TypeNamesFit};
 
 use crate::by_hand::{actions, growing_types, standard_types, uid};
-use crate::declared::{applying_to_all, chain, split, whole};
+use crate::declared::{applying_to_all, chain, crossing, split, whole};
 use crate::graphs::{Graph, Shape, graph};
 use crate::names::{entity_type, numbered};
 use crate::piece::Piece;
@@ -51,6 +51,8 @@ pub(crate) enum OfSchema {
     Environments,
     /// The fragment that it is converted back as.
     ConvertBack,
+    /// A copy of it.
+    Copy,
 }
 
 /// What is borrowed by the work, which may be done on it again.
@@ -185,10 +187,10 @@ fn environments(alloc: Global, count: usize) -> Result<Prepared, Stop> {
     on_borrowed(Borrowed::Schema(OfSchema::Environments, schema))
 }
 
-/// A schema of as many entity types and actions, to be converted back.
-fn converted_back(alloc: Global, count: usize) -> Result<Prepared, Stop> {
+/// A schema of as many entity types and actions, of which something is asked.
+fn schema_alone(alloc: Global, question: OfSchema, count: usize) -> Result<Prepared, Stop> {
     let schema = built(alloc, whole(alloc, count)?)?;
-    on_borrowed(Borrowed::Schema(OfSchema::ConvertBack, schema))
+    on_borrowed(Borrowed::Schema(question, schema))
 }
 
 /// The last entity type and the last action of a schema, to be looked up.
@@ -258,6 +260,9 @@ pub(crate) fn prepare(alloc: Global, piece: Piece, count: usize) -> Result<Prepa
         Piece::Environments => environments(alloc, count),
         Piece::KnownAttributes => known_attributes(alloc, count),
         Piece::Validate => validate(alloc, count),
-        Piece::ConvertBack => converted_back(alloc, count),
+        Piece::ConvertBack => schema_alone(alloc, OfSchema::ConvertBack, count),
+        Piece::BuildEnvironments => build(crossing(alloc, count)?),
+        Piece::CopySchema => schema_alone(alloc, OfSchema::Copy, count),
+        Piece::Scale => build(whole(alloc, count)?),
     }
 }

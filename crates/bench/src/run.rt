@@ -1,22 +1,23 @@
-//! What the program does, over any clock and any two writers.
+//! What the program does, over any clock, any files and any two writers.
 
 ghost use Rattle.std.specs.Prelude.{◌≡◌, ◌↔◌, ◌⊎◌, map, string_bytes};
 ghost use Rattle.bench.specs.Words.{IsCommand};
 
 use crate::command::{Command, command_of};
-use crate::measured::{Least, table, tenths_of};
-use crate::piece::{PIECES, Piece, Sized};
+use crate::measured::{Least, lesser, table, tenths_of};
+use crate::memory::{forget_peak, peak};
+use crate::piece::{PIECES, Piece};
 use crate::prepared::{Borrowed, Given, Prepared, prepare};
 use crate::stop::Stop;
-use std::alloc::Global;
+use std::alloc::{AllocGlobal, Global};
 use std::hint::black_box;
-use std::io;
 use std::io::Write;
-use std::rt::Clock;
+use std::rt::{Clock, Files};
 use std::time::Instant;
+use std::{fs, io};
 
 /// How to call the program.
-const USAGE: &str = "usage: bench | bench time | bench time PIECE\n";
+const USAGE: &str = "usage: bench | bench time [PIECE] | bench beside FILE [PIECE]\n";
 
 /// How many runs a piece gets at each size.
 const RUNS: u32 = 3;
@@ -24,9 +25,17 @@ const RUNS: u32 = 3;
 /// The nanoseconds of a second, beyond which a run is told of on the way.
 const SECOND: u128 = 1_000_000_000;
 
-/// Does a piece once at its smallest size, and answers the line of what it computed.
-fn computed(alloc: Global, piece: Piece) -> Result<String, Stop> {
-    let [Sized { size, .. }, ..] = piece.sizes();
+/// How large a piece of work is, and how often a run does it.
+#[derive(Clone, Copy)]
+struct Sized {
+    /// Of how many attributes, entity types or declarations.
+    size: usize,
+    /// How often a run does it.
+    operations: u32,
+}
+
+/// Does a piece once at a size, and answers the line of what it computed.
+fn computed(alloc: Global, piece: Piece, size: usize) -> Result<String, Stop> {
     let computed = match prepare(alloc, piece, size)? {
         Prepared::Borrowed(borrowed) => borrowed.work(alloc)?,
         Prepared::Given(given) => given.work(alloc)?,
@@ -39,7 +48,9 @@ fn computed(alloc: Global, piece: Piece) -> Result<String, Stop> {
 fn once<O: Write>(alloc: Global, out: &mut O) -> Result<(), Stop> {
     let mut text = String::new(alloc);
     for piece in PIECES {
-        text.push_str(&computed(alloc, piece)?)?;
+        if let Some(&(size, _)) = piece.sizes().first() {
+            text.push_str(&computed(alloc, piece, size)?)?;
+        }
     }
     out.write_all(text.as_bytes())?;
     Ok(())
@@ -111,18 +122,20 @@ fn tell<O: Write, E: Write>(
     Ok(())
 }
 
-/// The least time of an operation of a piece at a size, of several runs.
-fn least<C: Clock, O: Write, E: Write>(
-    clock: &C,
+/// The least time of an operation of a piece at a size, and the least memory, of several runs.
+fn least<R: Clock + Files + AllocGlobal, O: Write, E: Write>(
+    rt: &R,
     alloc: Global,
     piece: Piece,
     sized: Sized,
     out: &mut O,
     err: &mut E,
 ) -> Result<Least, Stop> {
-    let mut tenths = u128::MAX;
+    let (mut tenths, mut kib) = (u128::MAX, None);
     for _ in 0..RUNS {
-        let nanoseconds = time_of_run(clock, alloc, piece, sized)?;
+        forget_peak(rt);
+        let nanoseconds = time_of_run(rt, alloc, piece, sized)?;
+        kib = lesser(kib, peak(rt));
         tell(alloc, piece, sized, nanoseconds, out, err)?;
         tenths = tenths.min(tenths_of(nanoseconds, sized.operations));
     }
@@ -130,58 +143,77 @@ fn least<C: Clock, O: Write, E: Write>(
         piece,
         size: sized.size,
         tenths,
+        kib,
     })
 }
 
 /// Times a piece at its sizes, and adds what was measured.
-fn time_piece<C: Clock, O: Write, E: Write>(
-    clock: &C,
+fn time_piece<R: Clock + Files + AllocGlobal, O: Write, E: Write>(
+    rt: &R,
     alloc: Global,
     piece: Piece,
     rows: &mut Vec<Least>,
     out: &mut O,
     err: &mut E,
 ) -> Result<(), Stop> {
-    for sized in piece.sizes() {
-        rows.push(least(clock, alloc, piece, sized, out, err)?)?;
+    for &(size, operations) in piece.sizes() {
+        let sized = Sized { size, operations };
+        rows.push(least(rt, alloc, piece, sized, out, err)?)?;
     }
     Ok(())
 }
 
-/// Times some pieces, and writes the table.
-fn time<C: Clock, O: Write, E: Write>(
-    clock: &C,
+/// Times some pieces, and writes the table, beside earlier figures where there are any.
+fn time<R: Clock + Files + AllocGlobal, O: Write, E: Write>(
+    rt: &R,
     alloc: Global,
     pieces: &[Piece],
+    earlier: Option<&str>,
     out: &mut O,
     err: &mut E,
 ) -> Result<(), Stop> {
     let mut rows = Vec::new(alloc);
     for piece in pieces {
-        time_piece(clock, alloc, *piece, &mut rows, out, err)?;
+        time_piece(rt, alloc, *piece, &mut rows, out, err)?;
     }
-    out.write_all(table(alloc, &rows)?.as_bytes())?;
+    out.write_all(table(alloc, &rows, earlier)?.as_bytes())?;
     Ok(())
 }
 
+/// The figures of a file.
+fn figures<R: Files + AllocGlobal>(rt: &R, file: &str) -> Result<String, Stop> {
+    fs::read_to_string(rt, file).map_err(|error| match error.kind() {
+        io::ErrorKind::OutOfMemory => Stop::Memory,
+        _ => Stop::Figures,
+    })
+}
+
 /// Does what a command asks for.
-fn carry_out<C: Clock, O: Write, E: Write>(
-    clock: &C,
+fn carry_out<R: Clock + Files + AllocGlobal, O: Write, E: Write>(
+    rt: &R,
     alloc: Global,
-    command: Command,
+    command: Command<'_>,
     out: &mut O,
     err: &mut E,
 ) -> Result<(), Stop> {
     match command {
         Command::Once => once(alloc, out),
-        Command::TimeAll => time(clock, alloc, &PIECES, out, err),
-        Command::Time(piece) => time(clock, alloc, &[piece], out, err),
+        Command::TimeAll => time(rt, alloc, &PIECES, None, out, err),
+        Command::Time(piece) => time(rt, alloc, &[piece], None, out, err),
+        Command::CompareAll(file) => {
+            let earlier = figures(rt, file)?;
+            time(rt, alloc, &PIECES, Some(&earlier), out, err)
+        }
+        Command::Compare(file, piece) => {
+            let earlier = figures(rt, file)?;
+            time(rt, alloc, &[piece], Some(&earlier), out, err)
+        }
     }
 }
 
 /// The status that goes with why the program stopped, of which `err` gets a line: 1 where what was
-/// made ready was refused, 3 where memory ran out, and 4 where the clock or a writer refused. A
-/// failed write to `err` is ignored.
+/// made ready was refused, 3 where memory ran out, and 4 where the clock, a writer or the file of
+/// earlier figures refused. A failed write to `err` is ignored.
 fn stopped<E: Write>(stop: Stop, err: &mut E) -> u8
     ensures { (result ≡ 1) ⊎ ((result ≡ 3) ⊎ (result ≡ 4)) }
 {
@@ -189,6 +221,7 @@ fn stopped<E: Write>(stop: Stop, err: &mut E) -> u8
         Stop::Refused => ("refused\n", 1),
         Stop::Memory => ("memory\n", 3),
         Stop::System => ("system\n", 4),
+        Stop::Figures => ("the file of earlier figures can't be read\n", 4),
     };
     let _ = err.write_all(line.as_bytes());
     status
@@ -200,11 +233,12 @@ fn stopped<E: Write>(stop: Stop, err: &mut E) -> u8
 /// - 1: what was made ready was refused; `err` has the line `refused`.
 /// - 2: the words give no command; `err` has the line on usage.
 /// - 3: memory ran out; `err` has the line `memory`.
-/// - 4: the clock couldn't be read, or `out` couldn't be written; `err` has the line `system`.
+/// - 4: the clock couldn't be read, or `out` couldn't be written, and `err` has the line `system`; or the
+///   file of earlier figures couldn't be read, of which `err` has a line.
 ///
 /// A failed write to `err` is ignored.
-pub fn run<C: Clock, O: Write, E: Write>(
-    clock: &C,
+pub fn run<R: Clock + Files + AllocGlobal, O: Write, E: Write>(
+    rt: &R,
     alloc: Global,
     words: &[String],
     out: &mut O,
@@ -216,7 +250,7 @@ pub fn run<C: Clock, O: Write, E: Write>(
         let _ = err.write_all(USAGE.as_bytes());
         return 2;
     };
-    match carry_out(clock, alloc, command, out, err) {
+    match carry_out(rt, alloc, command, out, err) {
         Ok(()) => 0,
         Err(stop) => stopped(stop, err),
     }

@@ -14,6 +14,8 @@ pub(crate) enum Stop {
     System,
     /// What was prepared was refused by the call that is measured.
     Refused,
+    /// The file of earlier figures couldn't be read.
+    Figures,
 }
 
 impl From<Memory> for Stop {

@@ -106,10 +106,12 @@ impl OfTwo {
 }
 
 impl OfSchema {
-    /// How many environments or declarations there are.
+    /// How many environments or declarations there are, or how many attributes and descendants the entity
+    /// types of a copy have.
     fn work(self, alloc: Global, schema: &ValidatorSchema) -> Result<usize, Stop> {
         match self {
             OfSchema::Environments => Ok(environments(schema)),
+            OfSchema::Copy => Ok(entries_of(&schema.clone()?)),
             OfSchema::ConvertBack => Ok(declarations(&schema.to_json_schema(alloc)?)),
         }
     }
