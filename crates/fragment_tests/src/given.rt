@@ -1,12 +1,17 @@
 //! Definitions and fragments that are put together, and the names that they show.
 
-use crate::declarations::{Conditional, Definition, definition_of, fragment_of};
+use crate::declarations::{
+    Conditional, Definition, definition_of, definition_or_refusal, fragment_of,
+};
+use crate::refusals::refusal_text;
+use crate::shown::shown;
 use cedar_below::M;
 use cedar_fragments::namespace::{
-    ActionsDef, CommonTypeDefs, EntityTypesDef, ValidatorNamespaceDef,
+    ActionsDef, CommonTypeDefs, EntityTypesDef, ValidatorNamespaceDef, ValidatorSchemaFragment,
 };
 use cedar_names::json_schema::{ConditionalName, Type, TypeVariant};
 use shorthand::checked::{holds, same};
+use shorthand::fragment_of as plain_fragment;
 use shorthand::names::{internal_namespace, located_at, unreserved_id};
 use std::alloc::Global;
 use std::collections::HashMap;
@@ -136,4 +141,61 @@ fn given_common_types_are_declared(rt: HostRuntime) -> Result<(), Fail> {
     let single = format!(in alloc; "{:?}", single(alloc)?)?;
     holds(several.contains(GIVEN), "several")?;
     holds(single.contains(GIVEN), "a single one")
+}
+
+/// Definitions that are refused, each with what is printed of the refusal.
+const REFUSED: &[(&str, &str)] = &[
+    (
+        "N: action b attributes; action c; action a attributes",
+        "attributes of actions are not supported: \"a\", \"b\"",
+    ),
+    (
+        "N: external entity Action",
+        "the entity type N::Action has the name of an action type",
+    ),
+    (
+        "A::__cedar::N: external entity T",
+        "the name A::__cedar::N::T is reserved",
+    ),
+];
+
+/// What is printed of the refusal of the definition that a text spells.
+fn refusal(alloc: Global, text: &str) -> Result<String, Fail> {
+    match definition_or_refusal(alloc, text)? {
+        Ok(_) => Err(Fail::from("no refusal")),
+        Err(error) => Ok(refusal_text(alloc, error)?),
+    }
+}
+
+#[test]
+fn definitions_are_refused_for_what_is_at_fault(rt: HostRuntime) -> Result<(), Fail> {
+    let alloc = rt.alloc();
+    for &(text, expected) in REFUSED {
+        same(text, refusal(alloc, text)?.as_str(), expected)?;
+    }
+    Ok(())
+}
+
+/// Fragments of plain data, each with its definitions in the order of their namespaces.
+const PLAIN: &[&str] = &[
+    ": entity O | A: type C = Long@1 | B: entity T in O,A::X {a@3: n:A::C@2} | \
+     N::M: action c in b@1 P B::T R O",
+    "A: action b",
+];
+
+/// The fragment of the plain data that a text spells.
+fn of_plain_data(alloc: Global, text: &str) -> Result<Conditional, Fail> {
+    let written = plain_fragment(alloc, text)?.ok_or("an id twice")?;
+    Ok(ValidatorSchemaFragment::from_schema_fragment(alloc, written)?)
+}
+
+#[test]
+fn plain_data_becomes_its_definitions(rt: HostRuntime) -> Result<(), Fail> {
+    let alloc = rt.alloc();
+    for &text in PLAIN {
+        let plain = shown(alloc, of_plain_data(alloc, text)?)?;
+        let expected = shown(alloc, fragment_of(alloc, text)?)?;
+        same(text, plain.as_str(), expected.as_str())?;
+    }
+    Ok(())
 }
