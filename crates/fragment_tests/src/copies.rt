@@ -1,7 +1,7 @@
 //! Copies of fragments, before and after their names are resolved.
 
 use crate::declarations::fragment_of;
-use crate::shown::is_copied;
+use crate::shown::is_alike;
 use cedar_below::{EntityType, InternalName};
 use cedar_fragments::defs::AllDefs;
 use cedar_fragments::namespace::ValidatorSchemaFragment;
@@ -17,8 +17,10 @@ const WRITTEN: &str =
 #[test]
 fn copies_of_fragments_show_the_same(rt: HostRuntime) -> Result<(), Fail> {
     let fragment = fragment_of(rt.alloc(), WRITTEN)?;
-    let is_alike = is_copied(rt.alloc(), &fragment, ValidatorSchemaFragment::clone)?;
-    holds(is_alike, "a fragment")
+    holds(
+        is_alike(rt.alloc(), fragment.clone()?, &fragment)?,
+        "a copy",
+    )
 }
 
 /// The fragment of a text, with its names resolved among its own.
@@ -34,6 +36,8 @@ pub(crate) fn resolved_fragment(
 #[test]
 fn copies_of_resolved_fragments_show_the_same(rt: HostRuntime) -> Result<(), Fail> {
     let fragment = resolved_fragment(rt.alloc(), WRITTEN)?;
-    let is_alike = is_copied(rt.alloc(), &fragment, ValidatorSchemaFragment::clone)?;
-    holds(is_alike, "a fragment")
+    holds(
+        is_alike(rt.alloc(), fragment.clone()?, &fragment)?,
+        "a copy",
+    )
 }

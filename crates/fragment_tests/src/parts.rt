@@ -1,13 +1,13 @@
 //! The parts of a definition, each copied and qualified by itself.
 
 use crate::copies::resolved_fragment;
-use crate::declarations::{Definition, definition_of, fragment_of};
-use crate::shown::{is_copied, shown};
+use crate::declarations::{definition_of, fragment_of};
+use crate::shown::{is_alike, shown};
 use cedar_below::M;
 use cedar_fragments::defs::AllDefs;
 use cedar_fragments::namespace::{
-    ActionDef, ActionFragment, ActionParent, ActionRequests, ActionsDef, CommonTypeDef,
-    CommonTypeDefs, EntityTypeDef, EntityTypeFragment, EntityTypesDef, ValidatorNamespaceDef,
+    ActionDef, ActionParent, ActionRequests, ActionsDef, CommonTypeDefs, EntityTypeDef,
+    EntityTypesDef, ValidatorNamespaceDef,
 };
 use cedar_names::json_schema::ConditionalName;
 use shorthand::checked::{holds, same};
@@ -30,31 +30,35 @@ const WRITTEN: &str =
      action a in b@1 P T R U context {a: n:D}";
 
 /// That definition.
-fn definition(alloc: Global) -> Result<Definition, Fail> {
+fn definition(
+    alloc: Global,
+) -> Result<ValidatorNamespaceDef<ConditionalName, ConditionalName>, Fail> {
     definition_of(alloc, WRITTEN)
 }
 
 #[test]
 fn copies_of_definitions_are_shown_alike(rt: HostRuntime) -> Result<(), Fail> {
     let definition = definition(rt.alloc())?;
-    let is_alike = is_copied(rt.alloc(), &definition, ValidatorNamespaceDef::clone)?;
-    holds(is_alike, "a definition")
+    holds(
+        is_alike(rt.alloc(), definition.clone()?, &definition)?,
+        "a copy",
+    )
 }
 
 /// Whether the copies of common types, and of each of them, are shown alike.
 fn common_types_are_copied(alloc: Global, defs: &CommonTypes) -> M<bool> {
     for def in defs.iter() {
-        if !is_copied(alloc, def, CommonTypeDef::clone)? {
+        if !is_alike(alloc, def.clone()?, def)? {
             return Ok(false);
         }
     }
-    is_copied(alloc, defs, CommonTypeDefs::clone)
+    is_alike(alloc, defs.clone()?, defs)
 }
 
 /// Whether the copies of an entity type, and of what is declared of it, are shown alike.
 fn entity_type_is_copied(alloc: Global, def: &EntityTypeDef<ConditionalName>) -> M<bool> {
-    let is_alike = is_copied(alloc, &def.fragment, EntityTypeFragment::clone)?;
-    Ok(is_copied(alloc, def, EntityTypeDef::clone)? && is_alike)
+    let fragment = is_alike(alloc, def.fragment.clone()?, &def.fragment)?;
+    Ok(is_alike(alloc, def.clone()?, def)? && fragment)
 }
 
 /// Whether the copies of entity types, and of each of them, are shown alike.
@@ -64,13 +68,13 @@ fn entity_types_are_copied(alloc: Global, defs: &EntityTypes) -> M<bool> {
             return Ok(false);
         }
     }
-    is_copied(alloc, defs, EntityTypesDef::clone)
+    is_alike(alloc, defs.clone()?, defs)
 }
 
 /// Whether the copies of the parents of an action are shown alike.
 fn parents_are_copied(alloc: Global, parents: &[ActionParent<ConditionalName>]) -> M<bool> {
     for parent in parents {
-        if !is_copied(alloc, parent, ActionParent::clone)? {
+        if !is_alike(alloc, parent.clone()?, parent)? {
             return Ok(false);
         }
     }
@@ -83,18 +87,17 @@ fn requests_are_copied(
     requests: &Option<ActionRequests<ConditionalName>>,
 ) -> M<bool> {
     match requests {
-        Some(requests) => is_copied(alloc, requests, ActionRequests::clone),
+        Some(requests) => is_alike(alloc, requests.clone()?, requests),
         None => Ok(true),
     }
 }
 
 /// Whether the copies of an action, and of all that is declared of it, are shown alike.
 fn action_is_copied(alloc: Global, def: &ActionDef<ConditionalName, ConditionalName>) -> M<bool> {
-    let fragment = &def.fragment;
-    let parents = parents_are_copied(alloc, fragment.parents.as_slice())?;
-    let requests = requests_are_copied(alloc, &fragment.requests)?;
-    let is_alike = is_copied(alloc, fragment, ActionFragment::clone)?;
-    Ok(is_copied(alloc, def, ActionDef::clone)? && parents && requests && is_alike)
+    let parents = parents_are_copied(alloc, def.fragment.parents.as_slice())?;
+    let requests = requests_are_copied(alloc, &def.fragment.requests)?;
+    let fragment = is_alike(alloc, def.fragment.clone()?, &def.fragment)?;
+    Ok(is_alike(alloc, def.clone()?, def)? && fragment && parents && requests)
 }
 
 /// Whether the copies of actions, and of each of them, are shown alike.
@@ -104,7 +107,7 @@ fn actions_are_copied(alloc: Global, defs: &Actions) -> M<bool> {
             return Ok(false);
         }
     }
-    is_copied(alloc, defs, ActionsDef::clone)
+    is_alike(alloc, defs.clone()?, defs)
 }
 
 /// Fails where the copy of a part isn't shown as the part is.

@@ -9,14 +9,8 @@ pub(crate) fn shown<T: Debug + Drop>(alloc: Global, value: T) -> M<String> {
     Ok(format!(in alloc; "{value:?}")?)
 }
 
-/// Whether the copy that a call makes of a value is shown as the value is.
-pub(crate) fn is_copied<T: Debug + Drop, F: Fn(&T) -> M<T> + Drop>(
-    alloc: Global,
-    value: &T,
-    copy: F,
-) -> M<bool>
-    requires { F.IsAlwaysCallable copy }
-{
-    let copied = shown(alloc, copy(value)?)?;
-    Ok(copied == format!(in alloc; "{value:?}")?)
+/// Whether a copy is shown as the value is that it was made of.
+pub(crate) fn is_alike<T: Debug + Drop>(alloc: Global, copy: T, value: &T) -> M<bool> {
+    let copy = shown(alloc, copy)?;
+    Ok(copy == format!(in alloc; "{value:?}")?)
 }

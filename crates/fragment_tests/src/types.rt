@@ -1,6 +1,6 @@
 //! Types that are written in a namespace, and copies of the names in them.
 
-use crate::shown::{is_copied, shown};
+use crate::shown::{is_alike, shown};
 use cedar_below::{EntityType, InternalName};
 use cedar_names::json_schema::{ConditionalName, FragmentName, ReferenceType, Type, TypeVariant};
 use shorthand::checked::{holds, same};
@@ -70,16 +70,13 @@ fn types_are_qualified_by_their_names(rt: HostRuntime) -> Result<(), Fail> {
 fn copies_of_names_are_shown_alike(rt: HostRuntime) -> Result<(), Fail> {
     let alloc = rt.alloc();
     let ty = entity_type(alloc, "N::T@1")?;
-    holds(is_copied(alloc, &ty, EntityType::copied)?, "an entity type")?;
+    holds(is_alike(alloc, ty.copied()?, &ty)?, "an entity type")?;
     let name = internal_name(alloc, "N@2")?;
-    holds(
-        is_copied(alloc, &name, InternalName::copied)?,
-        "a full name",
-    )?;
+    holds(is_alike(alloc, name.copied()?, &name)?, "a full name")?;
     let kind = ReferenceType::Common;
     let name = raw(alloc, "T@1")?.conditionally_qualify_with(alloc, Some(&name), kind)?;
     holds(
-        is_copied(alloc, &name, ConditionalName::copied)?,
+        is_alike(alloc, name.copied()?, &name)?,
         "a name that isn't resolved",
     )
 }

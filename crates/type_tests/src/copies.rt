@@ -1,4 +1,4 @@
-//! Copies of types' parts, and of what entity types and actions of a schema hold.
+//! Copies of the parts of types, and of what entity types and actions of a schema hold.
 
 use crate::entity_types::{attributes, of_kind};
 use crate::test_values::{entity_types, kind, text};
@@ -12,33 +12,30 @@ use std::alloc::Global;
 use std::collections::HashSet;
 use std::test::Fail;
 
-/// Whether the copy that a call makes of a value is equal to it.
-fn is_copied<T: PartialEq + Drop, F: Fn(&T) -> M<T> + Drop>(value: &T, copy: F) -> M<bool>
-    requires { F.IsAlwaysCallable copy }
-{
-    Ok(copy(value)? == *value)
-}
-
 /// What may be known of a truth value.
 const TRUTHS: &[BoolType] = &[BoolType::AnyBool, BoolType::True, BoolType::False];
 
 #[test]
 fn copies_of_ids_and_truths_are_equal(rt: HostRuntime) -> Result<(), Fail> {
     let id = Eid(text(rt.alloc(), "red")?);
-    holds(is_copied(&id, Eid::clone)?, "an id")?;
+    holds(id.clone()? == id, "an id")?;
     for known in TRUTHS {
-        holds(is_copied(known, BoolType::clone)?, "a truth value")?;
+        holds(known.clone()? == *known, "a truth value")?;
     }
     Ok(())
 }
 
+/// Whether the copy of the union of a kind of entities is equal, where it has one.
+fn union_is_copied(union: Option<&EntityLUB>) -> M<bool> {
+    match union {
+        Some(union) => Ok(union.clone()? == *union),
+        None => Ok(true),
+    }
+}
+
 /// Whether the copies of a kind of entities, and of its union where it has one, are equal.
 fn entities_are_copied(kind: &EntityKind) -> M<bool> {
-    let is_equal = is_copied(kind, EntityKind::clone)?;
-    match kind.as_entity_lub() {
-        Some(union) => Ok(is_copied(union, EntityLUB::clone)? && is_equal),
-        None => Ok(is_equal),
-    }
+    Ok(kind.clone()? == *kind && union_is_copied(kind.as_entity_lub())?)
 }
 
 #[test]
@@ -50,26 +47,36 @@ fn copies_of_kinds_of_entities_are_equal(rt: HostRuntime) -> Result<(), Fail> {
     Ok(())
 }
 
-/// Whether the copies of attributes, and of each of the two of some names, are equal.
+/// Whether the copy of an attribute is equal, of one that there is.
+fn attribute_is_copied(attribute: Option<&AttributeType>) -> M<bool> {
+    match attribute {
+        Some(attribute) => Ok(attribute.clone()? == *attribute),
+        None => Ok(false),
+    }
+}
+
+/// Whether the copies of attributes, and of the one of the name `b`, are equal.
 fn attributes_are_copied(attributes: &Attributes) -> M<bool> {
-    let (Some(a), Some(b)) = (attributes.get_attr("a"), attributes.get_attr("b")) else {
-        return Ok(false);
-    };
-    let each = is_copied(a, AttributeType::clone)? && is_copied(b, AttributeType::clone)?;
-    Ok(is_copied(attributes, Attributes::clone)? && each)
+    Ok(attributes.clone()? == *attributes && attribute_is_copied(attributes.get_attr("b"))?)
 }
 
 #[test]
 fn copies_of_attributes_are_equal(rt: HostRuntime) -> Result<(), Fail> {
-    holds(attributes_are_copied(&attributes(rt.alloc())?)?, "a and b")
+    let attributes = attributes(rt.alloc())?;
+    holds(attributes_are_copied(&attributes)?, "a and b")
+}
+
+/// Whether the copy of what a standard entity type has is equal.
+fn standard_is_copied(standard: &StandardValidatorEntityType) -> M<bool> {
+    Ok(standard.clone()? == *standard)
 }
 
 /// Whether the copies of how an entity type is declared, and of what a standard one has, are equal.
 fn declared_is_copied(kind: &ValidatorEntityTypeKind) -> M<bool> {
-    let is_equal = is_copied(kind, ValidatorEntityTypeKind::clone)?;
+    let is_equal = kind.clone()? == *kind;
     match kind {
         ValidatorEntityTypeKind::Standard(standard) => {
-            Ok(is_copied(standard, StandardValidatorEntityType::clone)? && is_equal)
+            Ok(standard_is_copied(standard)? && is_equal)
         }
         _ => Ok(is_equal),
     }
@@ -94,8 +101,5 @@ fn for_photos(alloc: Global) -> Result<ValidatorApplySpec<EntityType>, Fail> {
 #[test]
 fn copies_of_requests_are_equal(rt: HostRuntime) -> Result<(), Fail> {
     let spec = for_photos(rt.alloc())?;
-    holds(
-        is_copied(&spec, ValidatorApplySpec::<EntityType>::clone)?,
-        "a copy",
-    )
+    holds(spec.clone()? == spec, "a copy")
 }
