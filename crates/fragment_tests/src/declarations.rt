@@ -24,11 +24,11 @@ pub(crate) fn definition_or_refusal(
     text: &str,
 ) -> Result<Result<Definition, SchemaError>, Fail> {
     let (namespace, declarations) = text.split_once(": ").ok_or("no namespace")?;
+    let namespace = internal_namespace(alloc, namespace)?;
     let mut definition = nothing(alloc);
     for declaration in declarations.split("; ") {
         declare(alloc, &mut definition, declaration)?;
     }
-    let namespace = internal_namespace(alloc, namespace)?;
     Ok(ValidatorNamespaceDef::from_namespace_definition(alloc, namespace, definition))
 }
 

@@ -176,12 +176,13 @@ fn definitions_are_refused_for_what_is_at_fault(rt: HostRuntime) -> Result<(), F
     Ok(())
 }
 
-/// Fragments of plain data, each with its definitions in the order of their namespaces.
-const PLAIN: &[&str] = &[
-    ": entity O | A: type C = Long@1 | B: entity T in O,A::X {a@3: n:A::C@2} | \
-     N::M: action c in b@1 P B::T R O",
-    "A: action b",
-];
+/// Plain data, declaration by declaration, and its definitions in the order of their namespaces.
+const PLAIN: (&str, &str) = (
+    "N::M: action c in b@1 P O R A::T; entity O; A: action b; A: type C = Long@1 | \
+     A: entity T in O {a@3: n:C@2}",
+    ": entity O | A: type C = Long@1; entity T in O {a@3: n:C@2}; action b | \
+     N::M: action c in b@1 P O R A::T",
+);
 
 /// The fragment of the plain data that a text spells.
 fn of_plain_data(alloc: Global, text: &str) -> Result<Conditional, Fail> {
@@ -192,10 +193,7 @@ fn of_plain_data(alloc: Global, text: &str) -> Result<Conditional, Fail> {
 #[test]
 fn plain_data_becomes_its_definitions(rt: HostRuntime) -> Result<(), Fail> {
     let alloc = rt.alloc();
-    for &text in PLAIN {
-        let plain = shown(alloc, of_plain_data(alloc, text)?)?;
-        let expected = shown(alloc, fragment_of(alloc, text)?)?;
-        same(text, plain.as_str(), expected.as_str())?;
-    }
-    Ok(())
+    let plain = shown(alloc, of_plain_data(alloc, PLAIN.0)?)?;
+    let expected = shown(alloc, fragment_of(alloc, PLAIN.1)?)?;
+    same("plain data", plain.as_str(), expected.as_str())
 }

@@ -26,7 +26,7 @@ fn answer(alloc: Global, checked: Result<(), SchemaError>) -> Result<String, Fai
     }
 }
 
-/// Fragments and further common types, each with the names of which one would shadow the other.
+/// Fragments and further common types, each with what the check of their names answers.
 const SHADOWED: &[(&[&str], &[&str], &str)] = &[
     (
         &["N: action b", ": action b"],
@@ -61,7 +61,7 @@ const SHADOWED: &[(&[&str], &[&str], &str)] = &[
     (&[": entity T", "__cedar: type T = Long"], &[], "none"),
 ];
 
-/// What the check answers of what some fragments define and of further common types.
+/// What the check answers of what some fragments define, with further common types.
 fn checked(alloc: Global, texts: &[&str], common: &[&str]) -> Result<String, Fail> {
     answer(
         alloc,

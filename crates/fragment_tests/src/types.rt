@@ -1,11 +1,12 @@
 //! Types that are written in a namespace, and copies of the names in them.
 
 use crate::shown::{is_alike, shown};
-use cedar_below::{EntityType, InternalName};
+use cedar_below::M;
 use cedar_names::json_schema::{ConditionalName, FragmentName, ReferenceType, Type, TypeVariant};
 use shorthand::checked::{holds, same};
 use shorthand::names::{entity_type, internal_name, located_at, raw};
 use std::alloc::Global;
+use std::fmt::Debug;
 use std::test::Fail;
 
 /// The type that refers to a name, of the kind that is said, at a place.
@@ -66,17 +67,31 @@ fn types_are_qualified_by_their_names(rt: HostRuntime) -> Result<(), Fail> {
     Ok(())
 }
 
+/// Whether the copy of a name, by the call of the trait, is shown alike.
+fn is_copied<N: FragmentName + Debug + Drop>(alloc: Global, name: N) -> M<bool> {
+    is_alike(alloc, name.copied()?, &name)
+}
+
+/// A name that isn't resolved, and has two possibilities.
+fn unresolved(alloc: Global) -> Result<ConditionalName, Fail> {
+    let inside = internal_name(alloc, "N@2")?;
+    let kind = ReferenceType::Common;
+    Ok(raw(alloc, "T@1")?.conditionally_qualify_with(alloc, Some(&inside), kind)?)
+}
+
 #[test]
 fn copies_of_names_are_shown_alike(rt: HostRuntime) -> Result<(), Fail> {
     let alloc = rt.alloc();
-    let ty = entity_type(alloc, "N::T@1")?;
-    holds(is_alike(alloc, ty.copied()?, &ty)?, "an entity type")?;
-    let name = internal_name(alloc, "N@2")?;
-    holds(is_alike(alloc, name.copied()?, &name)?, "a full name")?;
-    let kind = ReferenceType::Common;
-    let name = raw(alloc, "T@1")?.conditionally_qualify_with(alloc, Some(&name), kind)?;
     holds(
-        is_alike(alloc, name.copied()?, &name)?,
+        is_copied(alloc, entity_type(alloc, "N::T@1")?)?,
+        "an entity type",
+    )?;
+    holds(
+        is_copied(alloc, internal_name(alloc, "N::T@1")?)?,
+        "a full name",
+    )?;
+    holds(
+        is_copied(alloc, unresolved(alloc)?)?,
         "a name that isn't resolved",
     )
 }

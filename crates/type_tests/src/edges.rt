@@ -11,8 +11,8 @@ use std::alloc::Global;
 use std::hash::Hash;
 use std::test::Fail;
 
-/// How many edges a node has before one to a key is added, and after that. None where the copy of the
-/// key isn't equal to it, or the node hasn't that edge in the end.
+/// How many edges a node has before one to a key is added, and after that. None where the copy of
+/// the key isn't equal to it, or the node hasn't that edge in the end.
 fn counted<K: Eq + Hash + Drop, V: TCNode<K> + Drop>(
     mut node: V,
     key: K,
