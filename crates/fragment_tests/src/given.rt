@@ -186,8 +186,10 @@ const PLAIN: (&str, &str) = (
 
 /// The fragment of the plain data that a text spells.
 fn of_plain_data(alloc: Global, text: &str) -> Result<Conditional, Fail> {
-    let written = plain_fragment(alloc, text)?.ok_or("an id twice")?;
-    Ok(ValidatorSchemaFragment::from_schema_fragment(alloc, written)?)
+    match plain_fragment(alloc, text)? {
+        Some(written) => Ok(ValidatorSchemaFragment::from_schema_fragment(alloc, written)?),
+        None => Err(Fail::from("an id twice")),
+    }
 }
 
 #[test]
