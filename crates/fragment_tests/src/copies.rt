@@ -1,10 +1,11 @@
 //! Copies of fragments, before and after their names are resolved.
 
 use crate::declarations::fragment_of;
+use crate::shown::is_alike;
 use cedar_below::{EntityType, InternalName};
 use cedar_fragments::defs::AllDefs;
 use cedar_fragments::namespace::ValidatorSchemaFragment;
-use shorthand::checked::same;
+use shorthand::checked::holds;
 use std::alloc::Global;
 use std::test::Fail;
 
@@ -15,11 +16,11 @@ const WRITTEN: &str =
 
 #[test]
 fn copies_of_fragments_show_the_same(rt: HostRuntime) -> Result<(), Fail> {
-    let alloc = rt.alloc();
-    let fragment = fragment_of(alloc, WRITTEN)?;
-    let shown = format!(in alloc; "{fragment:?}")?;
-    let copied = format!(in alloc; "{:?}", fragment.clone()?)?;
-    same("a copy", copied.as_str(), shown.as_str())
+    let fragment = fragment_of(rt.alloc(), WRITTEN)?;
+    holds(
+        is_alike(rt.alloc(), fragment.clone()?, &fragment)?,
+        "a copy",
+    )
 }
 
 /// The fragment of a text, with its names resolved among its own.
@@ -34,9 +35,9 @@ pub(crate) fn resolved_fragment(
 
 #[test]
 fn copies_of_resolved_fragments_show_the_same(rt: HostRuntime) -> Result<(), Fail> {
-    let alloc = rt.alloc();
-    let fragment = resolved_fragment(alloc, WRITTEN)?;
-    let shown = format!(in alloc; "{fragment:?}")?;
-    let copied = format!(in alloc; "{:?}", fragment.clone()?)?;
-    same("a copy", copied.as_str(), shown.as_str())
+    let fragment = resolved_fragment(rt.alloc(), WRITTEN)?;
+    holds(
+        is_alike(rt.alloc(), fragment.clone()?, &fragment)?,
+        "a copy",
+    )
 }

@@ -4,6 +4,7 @@
 //! with nothing before the colon for the empty namespace, and may stand in a reserved one. Declarations are
 //! written as [`shorthand`] says.
 
+use cedar_declarations::SchemaError;
 use cedar_fragments::namespace::{ValidatorNamespaceDef, ValidatorSchemaFragment};
 use cedar_names::json_schema::ConditionalName;
 use shorthand::names::internal_namespace;
@@ -17,15 +18,23 @@ pub(crate) type Definition = ValidatorNamespaceDef<ConditionalName, ConditionalN
 /// A fragment over conditional names.
 pub(crate) type Conditional = ValidatorSchemaFragment<ConditionalName, ConditionalName>;
 
-/// The definition of a namespace that a text spells.
-pub(crate) fn definition_of(alloc: Global, text: &str) -> Result<Definition, Fail> {
+/// The definition of a namespace that a text spells, or its refusal.
+pub(crate) fn definition_or_refusal(
+    alloc: Global,
+    text: &str,
+) -> Result<Result<Definition, SchemaError>, Fail> {
     let (namespace, declarations) = text.split_once(": ").ok_or("no namespace")?;
+    let namespace = internal_namespace(alloc, namespace)?;
     let mut definition = nothing(alloc);
     for declaration in declarations.split("; ") {
         declare(alloc, &mut definition, declaration)?;
     }
-    let namespace = internal_namespace(alloc, namespace)?;
-    Ok(ValidatorNamespaceDef::from_namespace_definition(alloc, namespace, definition)?)
+    Ok(ValidatorNamespaceDef::from_namespace_definition(alloc, namespace, definition))
+}
+
+/// The definition of a namespace that a text spells.
+pub(crate) fn definition_of(alloc: Global, text: &str) -> Result<Definition, Fail> {
+    Ok(definition_or_refusal(alloc, text)??)
 }
 
 /// The fragment that a text spells.

@@ -1,12 +1,17 @@
 //! Definitions and fragments that are put together, and the names that they show.
 
-use crate::declarations::{Conditional, Definition, definition_of, fragment_of};
+use crate::declarations::{
+    Conditional, Definition, definition_of, definition_or_refusal, fragment_of,
+};
+use crate::refusals::refusal_text;
+use crate::shown::shown;
 use cedar_below::M;
 use cedar_fragments::namespace::{
-    ActionsDef, CommonTypeDefs, EntityTypesDef, ValidatorNamespaceDef,
+    ActionsDef, CommonTypeDefs, EntityTypesDef, ValidatorNamespaceDef, ValidatorSchemaFragment,
 };
 use cedar_names::json_schema::{ConditionalName, Type, TypeVariant};
 use shorthand::checked::{holds, same};
+use shorthand::fragment_of as plain_fragment;
 use shorthand::names::{internal_namespace, located_at, unreserved_id};
 use std::alloc::Global;
 use std::collections::HashMap;
@@ -136,4 +141,61 @@ fn given_common_types_are_declared(rt: HostRuntime) -> Result<(), Fail> {
     let single = format!(in alloc; "{:?}", single(alloc)?)?;
     holds(several.contains(GIVEN), "several")?;
     holds(single.contains(GIVEN), "a single one")
+}
+
+/// Definitions that are refused, each with what is printed of the refusal.
+const REFUSED: &[(&str, &str)] = &[
+    (
+        "N: action b attributes; action c; action a attributes",
+        "attributes of actions are not supported: \"a\", \"b\"",
+    ),
+    (
+        "N: external entity Action",
+        "the entity type N::Action has the name of an action type",
+    ),
+    (
+        "A::__cedar::N: external entity T",
+        "the name A::__cedar::N::T is reserved",
+    ),
+];
+
+/// What is printed of the refusal of the definition that a text spells.
+fn refusal(alloc: Global, text: &str) -> Result<String, Fail> {
+    match definition_or_refusal(alloc, text)? {
+        Ok(_) => Err(Fail::from("no refusal")),
+        Err(error) => Ok(refusal_text(alloc, error)?),
+    }
+}
+
+#[test]
+fn definitions_are_refused_for_what_is_at_fault(rt: HostRuntime) -> Result<(), Fail> {
+    let alloc = rt.alloc();
+    for &(text, expected) in REFUSED {
+        same(text, refusal(alloc, text)?.as_str(), expected)?;
+    }
+    Ok(())
+}
+
+/// Plain data, declaration by declaration, and its definitions in the order of their namespaces.
+const PLAIN: (&str, &str) = (
+    "N::M: action c in b@1 P O R A::T; entity O; A: action b; A: type C = Long@1 | \
+     A: entity T in O {a@3: n:C@2}",
+    ": entity O | A: type C = Long@1; entity T in O {a@3: n:C@2}; action b | \
+     N::M: action c in b@1 P O R A::T",
+);
+
+/// The fragment of the plain data that a text spells.
+fn of_plain_data(alloc: Global, text: &str) -> Result<Conditional, Fail> {
+    match plain_fragment(alloc, text)? {
+        Some(written) => Ok(ValidatorSchemaFragment::from_schema_fragment(alloc, written)?),
+        None => Err(Fail::from("an id twice")),
+    }
+}
+
+#[test]
+fn plain_data_becomes_its_definitions(rt: HostRuntime) -> Result<(), Fail> {
+    let alloc = rt.alloc();
+    let plain = shown(alloc, of_plain_data(alloc, PLAIN.0)?)?;
+    let expected = shown(alloc, fragment_of(alloc, PLAIN.1)?)?;
+    same("plain data", plain.as_str(), expected.as_str())
 }

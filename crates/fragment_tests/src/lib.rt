@@ -11,8 +11,16 @@ mod declarations;
 #[cfg(test)]
 mod given;
 #[cfg(test)]
+mod parts;
+#[cfg(test)]
 mod qualification;
 #[cfg(test)]
 mod refusals;
 #[cfg(test)]
 mod resolution;
+#[cfg(test)]
+mod shadowing;
+#[cfg(test)]
+mod shown;
+#[cfg(test)]
+mod types;

@@ -34,7 +34,7 @@ fn external(alloc: Global) -> Result<ValidatorActionId, Fail> {
 }
 
 /// The action of a word.
-fn action(alloc: Global, word: &str) -> Result<ValidatorActionId, Fail> {
+pub(crate) fn action(alloc: Global, word: &str) -> Result<ValidatorActionId, Fail> {
     match word {
         "view" => view(alloc),
         _ => external(alloc),

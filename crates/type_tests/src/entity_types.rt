@@ -1,15 +1,16 @@
 //! Tests of entity types of a schema.
 
 use crate::test_values::{PLACE, entity_type, entity_types, sample, text};
-use cedar_below::{Eid, NonEmpty};
+use cedar_below::{Eid, EntityType, NonEmpty};
 use cedar_schema_elements::ValidatorEntityType;
 use cedar_types::{Attributes, OpenTag, Type};
-use shorthand::checked::holds;
+use shorthand::checked::{holds, same};
+use shorthand::names::internal_name;
 use std::alloc::Global;
 use std::test::Fail;
 
 /// The attributes `a: Long` and `b?: Set<Foo>`.
-fn attributes(alloc: Global) -> Result<Attributes, Fail> {
+pub(crate) fn attributes(alloc: Global) -> Result<Attributes, Fail> {
     match sample(alloc, "mixed")? {
         Type::Record { attrs, .. } => Ok(attrs),
         _ => Err("a record")?,
@@ -46,7 +47,7 @@ fn external(alloc: Global) -> Result<ValidatorEntityType, Fail> {
 }
 
 /// The entity type of a word for its kind.
-fn of_kind(alloc: Global, kind: &str) -> Result<ValidatorEntityType, Fail> {
+pub(crate) fn of_kind(alloc: Global, kind: &str) -> Result<ValidatorEntityType, Fail> {
     match kind {
         "standard" => standard(alloc),
         "enumerated" => enumerated(alloc),
@@ -79,6 +80,38 @@ fn copies_of_entity_types_are_equal(rt: HostRuntime) -> Result<(), Fail> {
     let alloc = rt.alloc();
     for &(kind, has_tags) in KINDS {
         holds(is_copied(alloc, kind, has_tags)?, kind)?;
+    }
+    Ok(())
+}
+
+/// Names, each with the entity type that it becomes or the name that is given back, and where that
+/// was written.
+const NAMES: &[(&str, &str)] = &[
+    ("T", "T at None"),
+    (
+        "N::T@1",
+        "N::T at Some(Loc { source: 1, start: 2, stop: 5 })",
+    ),
+    ("__cedar", "reserved __cedar at None"),
+    (
+        "N::__cedar::T@2",
+        "reserved N::__cedar::T at Some(Loc { source: 2, start: 2, stop: 5 })",
+    ),
+];
+
+/// What becomes of a name that is taken for an entity type.
+fn from_name(alloc: Global, name: &str) -> Result<String, Fail> {
+    match EntityType::from_internal(internal_name(alloc, name)?) {
+        Ok(ty) => Ok(format!(in alloc; "{ty} at {:?}", ty.loc())?),
+        Err(name) => Ok(format!(in alloc; "reserved {name} at {:?}", name.loc())?),
+    }
+}
+
+#[test]
+fn names_that_are_reserved_are_given_back(rt: HostRuntime) -> Result<(), Fail> {
+    let alloc = rt.alloc();
+    for &(name, expected) in NAMES {
+        same(name, from_name(alloc, name)?.as_str(), expected)?;
     }
     Ok(())
 }

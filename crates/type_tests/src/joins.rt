@@ -2,7 +2,7 @@
 
 use crate::test_values::{kind, sample, union};
 use cedar_below::{Memory, ValidationMode};
-use cedar_types::{JoinError, Type, reduce};
+use cedar_types::{EntityKind, EntityLUB, JoinError, JoinOrder, Type, reduce};
 use shorthand::checked::same;
 use std::alloc::Global;
 use std::fmt::Display;
@@ -199,6 +199,78 @@ fn unions_and_kinds_are_joined_through_the_trait(rt: HostRuntime) -> Result<(), 
     ] {
         same("unions", reduced_unions(alloc, mode)?.as_str(), expected)?;
         same("kinds", reduced_kinds(alloc, mode)?.as_str(), expected)?;
+    }
+    Ok(())
+}
+
+/// What a value is joined to with another one, by the call of the trait.
+fn by_trait<T: JoinOrder + Display + Drop>(
+    alloc: Global,
+    value: T,
+    other: T,
+    mode: ValidationMode,
+) -> Result<String, Fail> {
+    printed(alloc, value.join(alloc, &other, mode))
+}
+
+/// What the kinds of two words are joined to, by their own call.
+fn joined_kinds(
+    alloc: Global,
+    first: &str,
+    second: &str,
+    mode: ValidationMode,
+) -> Result<String, Fail> {
+    let (a, b) = (kind(alloc, first)?, kind(alloc, second)?);
+    printed(alloc, a.least_upper_bound(&b, mode))
+}
+
+/// Compares what the unions, the kinds and the types of two words are joined to with a text.
+fn all_join_to(
+    alloc: Global,
+    first: &str,
+    second: &str,
+    mode: ValidationMode,
+    expected: &str,
+) -> Result<(), Fail> {
+    let unions = by_trait::<EntityLUB>(alloc, union(alloc, first)?, union(alloc, second)?, mode)?;
+    same("unions", unions.as_str(), expected)?;
+    let kinds = by_trait::<EntityKind>(alloc, kind(alloc, first)?, kind(alloc, second)?, mode)?;
+    same("kinds", kinds.as_str(), expected)?;
+    let types = by_trait::<Type>(alloc, sample(alloc, first)?, sample(alloc, second)?, mode)?;
+    same("types", types.as_str(), expected)?;
+    let kinds = joined_kinds(alloc, first, second, mode)?;
+    same("kinds by their own call", kinds.as_str(), expected)
+}
+
+/// Words of entity types, each two with what they are joined to in strict and in permissive mode.
+const ENTITIES: &[(&str, &str, &str, &str)] = &[
+    ("Foo", "Foo", "Foo", "Foo"),
+    (
+        "Foo",
+        "Bar",
+        "EntityType",
+        "__cedar::internal::Union<Bar, Foo>",
+    ),
+    (
+        "Foo|Bar",
+        "Foo",
+        "EntityType",
+        "__cedar::internal::Union<Bar, Foo>",
+    ),
+    (
+        "Foo|Bar",
+        "Bar|Foo",
+        "__cedar::internal::Union<Bar, Foo>",
+        "__cedar::internal::Union<Bar, Foo>",
+    ),
+];
+
+#[test]
+fn unions_kinds_and_types_are_joined_alike(rt: HostRuntime) -> Result<(), Fail> {
+    let alloc = rt.alloc();
+    for &(first, second, strict, permissive) in ENTITIES {
+        all_join_to(alloc, first, second, ValidationMode::Strict, strict)?;
+        all_join_to(alloc, first, second, ValidationMode::Permissive, permissive)?;
     }
     Ok(())
 }

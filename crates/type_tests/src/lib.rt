@@ -6,7 +6,11 @@ mod actions;
 #[cfg(test)]
 mod attributes;
 #[cfg(test)]
+mod copies;
+#[cfg(test)]
 mod core_types;
+#[cfg(test)]
+mod edges;
 #[cfg(test)]
 mod entity_types;
 #[cfg(test)]
