@@ -6,8 +6,6 @@ mod borrowed;
 #[cfg(test)]
 mod known;
 #[cfg(test)]
-mod large;
-#[cfg(test)]
 mod locations;
 #[cfg(test)]
 mod queries;
