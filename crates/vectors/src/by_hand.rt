@@ -212,6 +212,36 @@ const REFUSED: &[(&str, &str, &str)] = &[
         "enum Ghost; action Action::v for Ghost",
     ),
     (
+        "entity U : Action",
+        "refused: UndeclaredEntityTypes Action",
+        "entity U : Action; action Action::v",
+    ),
+    (
+        "entity U : N::Action; action Action::v",
+        "refused: UndeclaredEntityTypes N::Action",
+        "entity U : N::Action; action N::Action::v",
+    ),
+    (
+        "entity U tags Action; action N::Action::v",
+        "refused: UndeclaredEntityTypes Action",
+        "entity U tags Action; action Action::v",
+    ),
+    (
+        "entity U tags N::Action; action Action::v",
+        "refused: UndeclaredEntityTypes N::Action",
+        "entity U tags N::Action; external action N::Action::v",
+    ),
+    (
+        "action N::Action::v : Action",
+        "refused: UndeclaredEntityTypes Action",
+        "action Action::v : Action",
+    ),
+    (
+        "action Action::v : N::Action",
+        "refused: UndeclaredEntityTypes N::Action",
+        "action Action::v : N::Action; action N::Action::w",
+    ),
+    (
         "entity U : ext nosuch",
         "refused: UnknownExtensionType nosuch",
         "entity U : ext ipaddr",

@@ -72,6 +72,33 @@ const UNKNOWN: &[(&str, &str, &str)] = &[
         "refused: TypeNotDefined Gone",
     ),
     (
+        "a principal of another namespace that isn't there",
+        "N: entity P; M: action view P N::Q R N::P",
+        "refused: TypeNotDefined N::Q",
+    ),
+    (
+        "a resource of another namespace that isn't there",
+        "N: entity P; M: entity R; M: action view P N::P R N::R",
+        "refused: TypeNotDefined N::R",
+    ),
+    (
+        "a parent of another namespace that isn't there",
+        "N: entity G; M: entity H; M: entity U in N::H",
+        "refused: TypeNotDefined N::H",
+    ),
+    (
+        "a common type that nothing declares",
+        "N: type T = Long; entity U {a: c:T}",
+        "refused: TypeNotDefined T",
+    ),
+    (
+        "two unknown groups of one action",
+        "action view in gone,lost",
+        "refused: ActionNotDefined Action::\"gone\" or refused: ActionNotDefined Action::\"lost\" or \
+         refused: ActionNotDefined Action::\"gone\" Action::\"lost\" or \
+         refused: ActionNotDefined Action::\"lost\" Action::\"gone\"",
+    ),
+    (
         "an unknown type in a context",
         "action view P - R - context {a: n:Gone}",
         "refused: TypeNotDefined Gone",

@@ -189,6 +189,11 @@ const HIERARCHY: &[(&str, &str, &str)] = &[
          entity bar standard; entity baz standard; entity buz standard; entity foo standard",
     ),
     (
+        "a parent of another namespace",
+        "N: entity G; M: entity U in N::G | M: entity G",
+        "descendant N::G M::U; entity M::G standard; entity M::U standard; entity N::G standard",
+    ),
+    (
         "descendants are chains of parents",
         "entity C in B; entity B in A; entity A",
         "descendant A B; descendant A C; descendant B C; entity A standard; entity B standard; entity C standard",
