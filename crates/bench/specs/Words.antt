@@ -30,17 +30,17 @@ pub record IsTimeOfPiece (words : List Text) : Type 0 where
 -- the words ask for all pieces of work to be timed beside earlier figures
 pub record IsComparison (words : List Text) : Type 0 where
   pub file : Text
-  pub asked : words ≡ codes "beside" ∷ file ∷ []
+  pub asked : words ≡ codes "time" ∷ codes "beside" ∷ file ∷ []
 
 -- the words ask for a piece of work to be timed beside earlier figures
 pub record IsComparisonOfPiece (words : List Text) : Type 0 where
-  pub file : Text
   pub piece : Text
   pub is_piece : IsPieceName piece
-  pub asked : words ≡ codes "beside" ∷ file ∷ piece ∷ []
+  pub file : Text
+  pub asked : words ≡ codes "time" ∷ piece ∷ codes "beside" ∷ file ∷ []
 
--- the words give a command: none at all, `time` alone or with the name of a piece, or `beside` with the name of a file and,
--- it may be, that of a piece
+-- the words give a command: none at all, or `time`, which may be followed by the name of a piece, and then by `beside` and the
+-- name of a file
 abbrev pub IsCommand : List Text → Type 0
 IsCommand words =
     (words ≡ []) ⊎ ((words ≡ codes "time" ∷ []) ⊎ (IsTimeOfPiece words ⊎ (IsComparison words ⊎ IsComparisonOfPiece words)))

@@ -1,6 +1,6 @@
 //! What the words of the program ask for.
 
-ghost use Rattle.std.specs.Prelude.{◌≡◌, ◌↔◌, ◌⊎◌, codes, Contains, IsSome, map, string_bytes};
+ghost use Rattle.std.specs.Prelude.{◌≡◌, ◌↔◌, codes, Contains, IsSome, map, string_bytes};
 ghost use Rattle.bench.specs.Words.{IsCommand, IsPieceName, schema_piece_names, type_piece_names};
 
 use crate::piece::Piece;
@@ -90,23 +90,42 @@ fn time_all_command<'a>(word: &str) -> Option<Command<'a>>
     }
 }
 
-/// The command of a word and another: the name of a piece, or that of a file.
-fn time_command<'a>(word: &str, other: &'a str) -> Option<Command<'a>>
-    ensures { IsSome result ↔ (((word.now ≡ codes "time") × IsPieceName other.now) ⊎ (word.now ≡ codes "beside")) }
+/// The command of a word and the name of a piece.
+fn time_command<'a>(word: &str, piece: &str) -> Option<Command<'a>>
+    ensures { IsSome result ↔ ((word.now ≡ codes "time") × IsPieceName piece.now) }
 {
     match word {
-        "time" => Some(Command::Time(piece_named(other)?)),
-        "beside" => Some(Command::CompareAll(other)),
+        "time" => Some(Command::Time(piece_named(piece)?)),
         _ => None,
     }
 }
 
-/// The command of a word, the name of a file and that of a piece.
-fn compare_command<'a>(word: &str, file: &'a str, piece: &str) -> Option<Command<'a>>
-    ensures { IsSome result ↔ ((word.now ≡ codes "beside") × IsPieceName piece.now) }
+/// The file of earlier figures that a word and a name stand for, if they do.
+fn earlier<'a>(word: &str, file: &'a str) -> Option<&'a str>
+    ensures { IsSome result ↔ (word.now ≡ codes "beside") }
 {
     match word {
-        "beside" => Some(Command::Compare(file, piece_named(piece)?)),
+        "beside" => Some(file),
+        _ => None,
+    }
+}
+
+/// The command of a word, another one, and the name of a file.
+fn compare_all_command<'a>(word: &str, beside: &str, file: &'a str) -> Option<Command<'a>>
+    ensures { IsSome result ↔ ((word.now ≡ codes "time") × (beside.now ≡ codes "beside")) }
+{
+    match word {
+        "time" => Some(Command::CompareAll(earlier(beside, file)?)),
+        _ => None,
+    }
+}
+
+/// The command of a word, the name of a piece, another word, and the name of a file.
+fn compare_command<'a>(word: &str, piece: &str, beside: &str, file: &'a str) -> Option<Command<'a>>
+    ensures { IsSome result ↔ ((word.now ≡ codes "time") × IsPieceName piece.now × (beside.now ≡ codes "beside")) }
+{
+    match word {
+        "time" => Some(Command::Compare(earlier(beside, file)?, piece_named(piece)?)),
         _ => None,
     }
 }
@@ -118,8 +137,18 @@ pub(crate) fn command_of(words: &[String]) -> Option<Command<'_>>
     match words {
         [] => Some(Command::Once),
         [time] => time_all_command(time.as_str()),
-        [time, other] => time_command(time.as_str(), other.as_str()),
-        [beside, file, piece] => compare_command(beside.as_str(), file.as_str(), piece.as_str()),
+        [time, piece] => time_command(time.as_str(), piece.as_str()),
+        [time, beside, file] => {
+            compare_all_command(time.as_str(), beside.as_str(), file.as_str())
+        }
+        [time, piece, beside, file] => {
+            compare_command(
+                time.as_str(),
+                piece.as_str(),
+                beside.as_str(),
+                file.as_str(),
+            )
+        }
         _ => None,
     }
 }

@@ -17,7 +17,7 @@ use std::time::Instant;
 use std::{fs, io};
 
 /// How to call the program.
-const USAGE: &str = "usage: bench | bench time [PIECE] | bench beside FILE [PIECE]\n";
+const USAGE: &str = "usage: bench | bench time [PIECE] [beside FILE]\n";
 
 /// How many runs a piece gets at each size.
 const RUNS: u32 = 3;
