@@ -13,17 +13,18 @@ mod row;
 /// Prints a line for each row, and on standard error the row that took longest.
 fn main(rt: HostRuntime) -> Result<(), Fail> {
     let alloc = rt.alloc();
-    let (mut slowest, mut longest) = ("none", 0);
-    for row in ROWS {
+    let (mut slowest, mut longest) = (0, 0);
+    for (number, row) in ROWS.iter().enumerate() {
         let start = Instant::now(&rt)?;
         let line = line(alloc, row)?;
         let milliseconds = start.elapsed(&rt)?.as_millis();
         rt.println(line.as_str())?;
         if milliseconds >= longest {
-            (slowest, longest) = (row.0, milliseconds);
+            (slowest, longest) = (number, milliseconds);
         }
     }
-    let told = format!(in alloc; "slowest: {slowest}, {longest} milliseconds")?;
+    let name = ROWS.get(slowest).map_or("none", |row| row.0);
+    let told = format!(in alloc; "slowest: {name}, {longest} milliseconds")?;
     rt.eprintln(told.as_str())?;
     Ok(())
 }
