@@ -90,6 +90,12 @@ pub(crate) const ROWS: &[Row] = &[
         Expected::Stored,
     ),
     (
+        "200 sets in one another",
+        Input::Sets(200),
+        Question::Lines,
+        Expected::Stored,
+    ),
+    (
         "65 actions in a ring",
         Input::ActionRing(65),
         Question::Lines,
