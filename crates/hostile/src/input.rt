@@ -16,7 +16,8 @@ pub(crate) enum Input {
     /// An entity type with an attribute of the first of as many common types, each a record of two
     /// of the next and the last one of whole numbers.
     Doubling(usize),
-    /// An entity type with an attribute of whole numbers within as many sets.
+    /// An entity type with an attribute of the first of as many common types, each a set of the next
+    /// and the last one of whole numbers.
     Sets(usize),
     /// As many actions, each below the next and the last below the first.
     ActionRing(usize),
@@ -79,13 +80,15 @@ fn doubling(alloc: Global, depth: usize) -> M<String> {
     Ok(text)
 }
 
-/// An entity type with an attribute of numbers within sets.
+/// Common types that are sets of the next, after an entity type with an attribute of the first.
 fn sets(alloc: Global, depth: usize) -> M<String> {
-    let (before, after) = (
-        repeated(alloc, "Set<", depth)?,
-        repeated(alloc, ">", depth)?,
-    );
-    Ok(format!(in alloc; "entity U {{a: {before}Long{after}}}")?)
+    let end = depth.saturating_sub(1);
+    let mut text = format!(in alloc; "entity U {{a: n:T0}}; type T{end} = Set<Long>")?;
+    for number in 0..end {
+        let next = number.saturating_add(1);
+        text.push_str(format!(in alloc; "; type T{number} = Set<n:T{next}>")?.as_str())?;
+    }
+    Ok(text)
 }
 
 /// Actions, each below the next and the last below the first.
