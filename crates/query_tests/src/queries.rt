@@ -6,7 +6,7 @@ use cedar_schema::below::Loc;
 use cedar_schema::{LocatedCommonType, LocatedType, Type, ValidatorSchema};
 use shorthand::checked::{holds, one_of, same};
 use shorthand::names::{entity_type, internal_name};
-use shorthand::{fragment_of, sample_extensions};
+use shorthand::{fragment_of, nothing, sample_extensions};
 use std::alloc::Global;
 use std::test::Fail;
 
@@ -124,6 +124,15 @@ fn nothing_declared_gives_the_empty_schema(rt: HostRuntime) -> Result<(), Fail> 
         &empty,
         &[("copy", ""), ("names", ""), ("namespaces", "")],
     )
+}
+
+#[test]
+fn nothing_declared_in_a_definition_gives_the_empty_schema(rt: HostRuntime) -> Result<(), Fail> {
+    let alloc = rt.alloc();
+    let extensions = sample_extensions(alloc)?;
+    assert!(rt; extensions.type_names_fit());
+    let schema = ValidatorSchema::from_namespace_def(alloc, nothing(alloc), &extensions)?;
+    holds(schema == ValidatorSchema::empty(alloc), "no declarations")
 }
 
 /// Declarations in the empty namespace, for each call that builds.

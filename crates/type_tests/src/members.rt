@@ -48,6 +48,11 @@ const MEMBERS: &[(&str, &str, &str)] = &[
     ("set-ipaddr", "[ip=x;nosuch()", "no function nosuch"),
     ("set-ipaddr", "[ip=x;ip()", "true"),
     ("long", "nosuch()", "false"),
+    ("ipaddr", "ip=x&nosuch()", "true"),
+    ("a-long", "{a:1}", "true"),
+    ("a-long", "{a:1,z:nosuch()}", "false"),
+    ("ipaddr-and-long", "{a:nosuch(),b:x}", "false"),
+    ("ipaddr-and-long", "{a:nosuch(),b:1}", "no function nosuch"),
 ];
 
 /// What the answer is as a text.

@@ -92,7 +92,7 @@ const PAIRS: &[(&str, &str, Option<bool>)] = &[
 
 /// The one value of an extension type that is handed in.
 fn samples(alloc: Global) -> Result<Vec<Value>, Fail> {
-    let address = Value::new(value(alloc, "ip()")?);
+    let address = Value::new(value(alloc, "ip=x")?);
     Ok(vec![in alloc; address]?)
 }
 
@@ -106,4 +106,14 @@ fn values_separate_types_where_they_differ(rt: HostRuntime) -> Result<(), Fail> 
         holds(separated == expected, first)?;
     }
     Ok(())
+}
+
+#[test]
+fn extension_types_are_stated_with_samples_alone(rt: HostRuntime) -> Result<(), Fail> {
+    let alloc = rt.alloc();
+    let extensions = extensions(alloc)?;
+    let samples = samples(alloc)?;
+    let addresses = sample(alloc, "set-ipaddr")?;
+    holds(!addresses.is_stated(&extensions, &[]), "no samples")?;
+    holds(addresses.is_stated(&extensions, &samples), "a sample")
 }

@@ -187,6 +187,11 @@ const RECORDS: &[Record] = &[
         &[("b", false, "set-Foo"), ("a", true, "long")],
     ),
     (
+        "ipaddr-and-long",
+        CLOSED,
+        &[("a", true, "ipaddr"), ("b", true, "long")],
+    ),
+    (
         "mixed-closed",
         CLOSED,
         &[("b", false, "set-Foo"), ("a", true, "long")],
@@ -267,10 +272,23 @@ fn set(alloc: Global, text: &str) -> Result<RestrictedExpr, Fail> {
     Ok(RestrictedExpr::Set(elements))
 }
 
-/// The value of a word: `{}`, a set such as `[ip=x;1`, or one that may be an element.
+/// The record of the entries of a text that `,` stands between, each a name, `:` and a value that
+/// may be an element. There may be none.
+fn record_value(alloc: Global, text: &str) -> Result<RestrictedExpr, Fail> {
+    let mut values = BTreeMap::new(alloc);
+    for entry in text.split(',') {
+        if let Some((name, word)) = entry.split_once(':') {
+            values.insert(self::text(alloc, name)?, element(alloc, word)?)?;
+        }
+    }
+    Ok(RestrictedExpr::Record(values))
+}
+
+/// The value of a word: a record such as `{a:1,b:x}`, a set such as `[ip=x;1`, or one that may be an
+/// element.
 pub(crate) fn value(alloc: Global, word: &str) -> Result<RestrictedExpr, Fail> {
-    if word == "{}" {
-        return Ok(RestrictedExpr::Record(BTreeMap::new(alloc)));
+    if let Some(entries) = word.strip_prefix('{') {
+        return record_value(alloc, entries.trim_end_matches('}'));
     }
     match word.strip_prefix('[') {
         Some(elements) => set(alloc, elements),
