@@ -17,8 +17,7 @@ pub mod Texts
 pub mod TextsOfNames
 pub mod TextsOfUids
 pub mod TreeLemmas
-pub mod TurnLemmas
+mod TurnLemmas
 pub mod UidReading
 pub mod Uids
-pub mod ValueCopies
 pub mod ValueLemmas

@@ -1,5 +1,4 @@
 pub mod Chain
-pub mod Copies
 pub mod CoreSchemaType
 pub mod CoreTy
 pub mod Eid
@@ -13,7 +12,6 @@ pub mod ExtensionsFault
 pub mod ExtensionsFaultText
 pub mod FeedsVariant
 pub mod Fits
-pub mod Held
 pub mod Id
 pub mod Identifier
 pub mod InternalName

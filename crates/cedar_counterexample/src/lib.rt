@@ -3,6 +3,7 @@
 
 pub use separating::separating_value;
 
+mod copying;
 mod fresh;
 mod putting;
 mod samples;

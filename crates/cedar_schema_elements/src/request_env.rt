@@ -21,16 +21,15 @@ pub struct RequestEnv<'a> {
     pub context: &'a Type,
 }
 
-/// The types of a request that are held apart from the schema which they came from. Each is shared,
-/// since an action has as many environments as pairs of a principal and a resource.
+/// The types of a request that are held apart from the schema which they came from.
 #[derive(Debug, Drop)]
 pub struct UnlinkedRequestEnv {
     /// The entity type of the principal.
-    pub principal: Rc<EntityType>,
+    pub principal: EntityType,
     /// The action.
-    pub action: Rc<EntityUID>,
+    pub action: EntityUID,
     /// The entity type of the resource.
-    pub resource: Rc<EntityType>,
+    pub resource: EntityType,
     /// The type of the context.
     pub context: Rc<Type>,
 }
@@ -48,7 +47,7 @@ impl UnlinkedRequestEnv {
         }
     }
 
-    /// The same types, shared. Out of memory is the only refusal.
+    /// The same types, of which that of the context is shared. Out of memory is the only refusal.
     pub fn clone(&self) -> M<Self>
         ensures { IfOk result (λ copy. owned_environment copy ≡ owned_environment self.now) }
     {

@@ -6,6 +6,4 @@ mod below;
 #[cfg(test)]
 mod names;
 #[cfg(test)]
-mod plain;
-#[cfg(test)]
 mod reading;
