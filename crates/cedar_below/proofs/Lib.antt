@@ -17,7 +17,8 @@ pub mod Texts
 pub mod TextsOfNames
 pub mod TextsOfUids
 pub mod TreeLemmas
-mod TurnLemmas
+pub mod TurnLemmas
 pub mod UidReading
 pub mod Uids
+pub mod ValueCopies
 pub mod ValueLemmas

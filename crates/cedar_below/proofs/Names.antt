@@ -11,7 +11,7 @@ use Rattle.std.specs.Prelude.{nat_eq}
 use Rattle.std.specs.declared.cmp.Ordering.TheVariants.{Equal}
 use Rattle.cedar_below.specs.EntityType.{type_name}
 use Rattle.cedar_below.specs.Id.{id_text}
-use Rattle.cedar_below.specs.InternalName.{name_of}
+use Rattle.cedar_below.specs.InternalName.{name_of, parts_of}
 use Rattle.cedar_below.specs.Name.{plain_name}
 use Rattle.cedar_below.specs.PlainName.{PlainName, name_cmp}
 use Rattle.cedar_below.specs.Text.{text_cmp}
@@ -22,11 +22,14 @@ use Rattle.cedar_below.specs.contracts.entity_type.EntityTypePartialEq.TheImpl a
 use Rattle.cedar_below.specs.contracts.internal_name.InternalNameHash.TheImpl as internal_name_hash
 use Rattle.cedar_below.specs.contracts.internal_name.InternalNameOrd.TheImpl as internal_name_ord
 use Rattle.cedar_below.specs.contracts.internal_name.InternalNamePartialEq.TheImpl as internal_name_eq
+use Rattle.cedar_below.specs.contracts.internal_name.NamePartsOrd.TheImpl as name_parts_ord
+use Rattle.cedar_below.specs.contracts.internal_name.NamePartsPartialEq.TheImpl as name_parts_eq
 use Rattle.cedar_below.specs.contracts.name.NameHash.TheImpl as name_hash
 use Rattle.cedar_below.specs.contracts.name.NameOrd.TheImpl as name_ord
 use Rattle.cedar_below.specs.contracts.name.NamePartialEq.TheImpl as name_eq
 use Rattle.cedar_below.specs.declared.entity_type.EntityType.{EntityType}
 use Rattle.cedar_below.specs.declared.internal_name.InternalName.{InternalName}
+use Rattle.cedar_below.specs.declared.internal_name.NameParts.{NameParts}
 use Rattle.cedar_below.specs.declared.name.Name.{Name}
 use Rattle.cedar_below.proofs.PlainNames.{name_cmp-Equal}
 use Rattle.cedar_below.proofs.Texts.{text_eq-Decides, texts_eq-Decides}
@@ -40,20 +43,28 @@ same_parts a b =
     (λ e. (ap (λ (name : PlainName). name.base) e, ap (λ (name : PlainName). name.path) e))
     (Decides-and _ _ (text_eq-Decides a.base b.base) (texts_eq-Decides a.path b.path))
 
--- names are equal exactly where they stand for the same name
-pub internal_name_eq-same : (a b : InternalName) → IsTrue ((internal_name_eq.ghosts).eq a b) ↔ (name_of a ≡ name_of b)
-internal_name_eq-same a b =
+-- the parts of names are equal exactly where they stand for the same name
+name_parts_eq-same : (a b : NameParts) → IsTrue ((name_parts_eq.ghosts).eq a b) ↔ (parts_of a ≡ parts_of b)
+name_parts_eq-same a b =
     Decides-at
     _
     _
     (ap (λ paths. pointwise nat_eq (id_text a.id) (id_text b.id) && paths)
     (sym (pointwise-map id_text (pointwise nat_eq) a.path.items b.path.items)))
-    (same_parts (name_of a) (name_of b))
+    (same_parts (parts_of a) (parts_of b))
+
+-- the parts of names order as what they stand for
+name_parts_ord-name_cmp : (a b : NameParts) → (name_parts_ord.ghosts).cmp a b ≡ name_cmp (parts_of a) (parts_of b)
+name_parts_ord-name_cmp a b =
+    ap (λ paths. ordering_then (text_cmp (id_text a.id) (id_text b.id)) paths) (sym (lex_map id_text text_cmp a.path.items b.path.items))
+
+-- names are equal exactly where they stand for the same name
+pub internal_name_eq-same : (a b : InternalName) → IsTrue ((internal_name_eq.ghosts).eq a b) ↔ (name_of a ≡ name_of b)
+internal_name_eq-same a b = name_parts_eq-same a.parts.value b.parts.value
 
 -- names order as what they stand for
 pub internal_name_ord-name_cmp : (a b : InternalName) → (internal_name_ord.ghosts).cmp a b ≡ name_cmp (name_of a) (name_of b)
-internal_name_ord-name_cmp a b =
-    ap (λ paths. ordering_then (text_cmp (id_text a.id) (id_text b.id)) paths) (sym (lex_map id_text text_cmp a.path.items b.path.items))
+internal_name_ord-name_cmp a b = name_parts_ord-name_cmp a.parts.value b.parts.value
 
 -- names tie exactly where they stand for the same name
 pub internal_name_ord-Equal : (a b : InternalName) → ((internal_name_ord.ghosts).cmp a b ≡ Equal) ↔ (name_of a ≡ name_of b)

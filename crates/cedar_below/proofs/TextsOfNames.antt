@@ -80,4 +80,4 @@ names_by_text a b (base, path) (last, other) e =
 
 -- a name's parts are identifiers
 pub IsOfIdentifiers-name_of : (name : InternalName) → IsOfIdentifiers (name_of name)
-IsOfIdentifiers-name_of name = (name.id.identifier, ids_are_identifiers name.path.items)
+IsOfIdentifiers-name_of name = (name.parts.value.id.identifier, ids_are_identifiers name.parts.value.path.items)

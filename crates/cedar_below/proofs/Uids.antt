@@ -25,7 +25,7 @@ entity_uid_eq-same a b =
     _
     (λ both i. record { ty = both.0 i; eid = both.1 i })
     (λ e. (ap (λ (uid : PlainUid). uid.ty) e, ap (λ (uid : PlainUid). uid.eid) e))
-    (Decides-and _ _ (entity_type_eq-same a.ty b.ty) (eid_eq-same a.eid b.eid))
+    (Decides-and _ _ (entity_type_eq-same a.ty b.ty) (eid_eq-same a.eid.value b.eid.value))
 
 -- equal uids are found alike
 pub entity_uid_searches-respect_eq : (uids : List EntityUID) (a b : EntityUID) → IsTrue ((entity_uid_eq.ghosts).eq a b)
@@ -35,7 +35,7 @@ entity_uid_searches-respect_eq uids a b same = list_any_congr entity_uid_equal.L
 -- uids order as what they stand for
 pub entity_uid_ord-uid_cmp : (a b : EntityUID) → (entity_uid_ord.ghosts).cmp a b ≡ uid_cmp (uid_of a) (uid_of b)
 entity_uid_ord-uid_cmp a b =
-    ap (λ types. ordering_then types (text_cmp (eid_text a.eid) (eid_text b.eid))) (entity_type_ord-name_cmp a.ty b.ty)
+    ap (λ types. ordering_then types (text_cmp (eid_text a.eid.value) (eid_text b.eid.value))) (entity_type_ord-name_cmp a.ty b.ty)
 
 -- uids tie exactly where they stand for the same uid
 pub entity_uid_ord-Equal : (a b : EntityUID) → ((entity_uid_ord.ghosts).cmp a b ≡ Equal) ↔ (uid_of a ≡ uid_of b)

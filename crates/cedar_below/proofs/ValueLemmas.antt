@@ -71,8 +71,8 @@ IsName-stretch k = (
 -- what a name stands for isn't reserved
 pub IsName-plain_name : (name : Name) → IsName (plain_name name)
 IsName-plain_name name = (
-  name.name.id.identifier,
-  All-map IsIdentifier id_text name.name.path.items (λ k d below. (slice_index_or name.name.path.items k d).identifier),
+  name.name.parts.value.id.identifier,
+  All-map IsIdentifier id_text name.name.parts.value.path.items (λ k d below. (slice_index_or name.name.parts.value.path.items k d).identifier),
   name.unreserved,
 )
 

@@ -1,4 +1,5 @@
 pub mod Chain
+pub mod Copies
 pub mod CoreSchemaType
 pub mod CoreTy
 pub mod Eid
@@ -12,6 +13,7 @@ pub mod ExtensionsFault
 pub mod ExtensionsFaultText
 pub mod FeedsVariant
 pub mod Fits
+pub mod Held
 pub mod Id
 pub mod Identifier
 pub mod InternalName

@@ -1,4 +1,4 @@
-use Rattle.std.specs.Prelude.{◌≡◌, ◌↔◌, ◌⊎◌, List, [], ◌∷◌, Contains}
+use Rattle.std.specs.Prelude.{◌≡◌, ◌↔◌, ◌⊎◌, List, [], ◌∷◌, Contains, Option, Some, None}
 
 -- each member of the one list is a member of the other
 abbrev pub Included : {A : Type 0} → List A → List A → Type 0
@@ -18,3 +18,9 @@ HoldsPairwise R _ _ = ⊥
 abbrev pub Twice : {A : Type 0} → List A → A → Type 0
 Twice [] item = ⊥
 Twice (first ∷ rest) item = ((first ≡ item) × Contains rest item) ⊎ Twice rest item
+
+-- a relation holds between two things that are both there, or neither is
+abbrev pub HoldsOfBoth : {A B : Type 0} → (A → B → Type 0) → Option A → Option B → Type 0
+HoldsOfBoth R None None = Unit {0}
+HoldsOfBoth R (Some it) (Some other) = R it other
+HoldsOfBoth R _ _ = ⊥

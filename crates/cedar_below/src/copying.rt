@@ -1,9 +1,9 @@
-//! Lists and maps copied by calls that copy their items.
+//! Lists, maps and what may be there, copied by calls that copy their items.
 
 ghost use Rattle.std.specs.Prelude.{◌≡◌, IfOk, Ok, Result};
 ghost use Rattle.std.specs.Fn.{FnReturnsAt};
 ghost use Rattle.std.specs.declared.cmp.Ordering.TheVariants.{Equal};
-ghost use Rattle.cedar_below.specs.Lists.{HoldsPairwise};
+ghost use Rattle.cedar_below.specs.Lists.{HoldsOfBoth, HoldsPairwise};
 ghost use Rattle.cedar_below.specs.declared.memory.Memory.{Memory};
 
 use crate::memory::M;
@@ -20,6 +20,17 @@ pub fn copied_items<V: Drop, F: Fn(&V) -> M<V> + Drop>(items: &Vec<V>, copy: F) 
         copies.push(copy(item)?)?;
     }
     Ok(copies)
+}
+
+/// The copy of what may be there.
+pub fn copied_option<V: Drop, F: Fn(&V) -> M<V> + Drop>(it: &Option<V>, copy: F) -> M<Option<V>>
+    requires { F.IsAlwaysCallable copy }
+    ensures { IfOk result (HoldsOfBoth (λ item other. FnReturnsAt F.Fn copy item (Ok other)) it.now) }
+{
+    match it {
+        None => Ok(None),
+        Some(item) => Ok(Some(copy(item)?)),
+    }
 }
 
 /// The copies of the entries of a map, in their order. The copy of a key has to tie with it.

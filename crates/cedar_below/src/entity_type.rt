@@ -1,7 +1,7 @@
 //! Names of entity types.
 
 ghost use Rattle.std.specs.Prelude.{◌≡◌, ◌↔◌, IsTrue, IfErr, IfOk, OnOk, None};
-ghost use Rattle.cedar_below.specs.EntityType.{type_name, type_loc};
+ghost use Rattle.cedar_below.specs.EntityType.{type_name, type_loc, is_type_shared};
 ghost use Rattle.cedar_below.specs.InternalName.{name_of, name_loc};
 ghost use Rattle.cedar_below.specs.Name.{plain_name, plain_loc};
 ghost use Rattle.cedar_below.specs.NameFault.{IsNameFault};
@@ -82,6 +82,15 @@ impl EntityType {
         self.0.loc()
     }
 
+    /// The same entity type, as written at this place, or nowhere.
+    pub fn with_loc(self, loc: Option<Loc>) -> Self
+        ensures name { type_name result ≡ type_name self }
+        ensures loc { type_loc result ≡ loc }
+        ensures shared { is_type_shared result ≡ is_type_shared self }
+    {
+        EntityType(self.0.with_loc(loc))
+    }
+
     /// Whether this is a type of actions: its base name is `Action`, whatever its path.
     pub fn is_action(&self) -> bool
         ensures { IsTrue result ↔ IsActionType (type_name self.now) }
@@ -89,10 +98,20 @@ impl EntityType {
         self.0.basename().as_str() == ACTION
     }
 
-    /// An equal entity type with the same location.
+    /// The same entity type with the same location, shared: each copy of it is a count.
+    pub fn into_shared(self) -> M<Self>
+        ensures name { IfOk result (λ shared. type_name shared ≡ type_name self) }
+        ensures loc { IfOk result (λ shared. type_loc shared ≡ type_loc self) }
+        ensures shared { IfOk result (λ shared. IsTrue (is_type_shared shared)) }
+    {
+        Ok(EntityType(self.0.into_shared()?))
+    }
+
+    /// An equal entity type with the same location. That of a shared one is shared with it.
     pub fn clone(&self) -> M<Self>
         ensures name { IfOk result (λ copy. type_name copy ≡ type_name self.now) }
         ensures loc { IfOk result (λ copy. type_loc copy ≡ type_loc self.now) }
+        ensures shared { IfOk result (λ copy. is_type_shared copy ≡ is_type_shared self.now) }
     {
         Ok(EntityType(self.0.clone()?))
     }

@@ -3,7 +3,7 @@
 ghost use Rattle.std.specs.Prelude.{◌≡◌, ◌↔◌, IsTrue, IfOk, IfErr, None};
 ghost use Rattle.cedar_below.specs.Eid.{eid_text};
 ghost use Rattle.cedar_below.specs.EntityType.{type_loc, type_name};
-ghost use Rattle.cedar_below.specs.EntityUID.{uid_of, uid_loc, uid_type_loc};
+ghost use Rattle.cedar_below.specs.EntityUID.{uid_of, uid_loc, uid_type_loc, is_uid_shared};
 ghost use Rattle.cedar_below.specs.PlainName.{IsActionType};
 ghost use Rattle.cedar_below.specs.NameFault.{IsNameFault};
 ghost use Rattle.cedar_below.specs.UidReading.{IsTypeBefore, IsTypeFault};
@@ -12,6 +12,7 @@ ghost use Rattle.cedar_below.specs.UidText.{IsReservedUidText, IsUidText, uid_te
 use crate::eid::Eid;
 use crate::entity_type::EntityType;
 use crate::escape::read_id;
+use crate::held::Held;
 use crate::internal_name::InternalName;
 use crate::loc::Loc;
 use crate::memory::M;
@@ -22,12 +23,12 @@ use std::fmt;
 
 /// The uid of an entity: its type, and its id within the type.
 ///
-/// Equality, order and hash ignore the location. Uids order by type, and then by the id's bytes.
+/// Equality, order and hash ignore the location, and whether the uid is shared. Uids order by type, and then by the id's bytes.
 #[derive(Debug, Drop)]
 #[derive_where(PartialEq, Eq, PartialOrd, Ord, Hash)]
 pub struct EntityUID {
     ty: EntityType,
-    eid: Eid,
+    eid: Held<Eid>,
     #[derive_where(skip(EqHashOrd))]
     loc: Option<Loc>,
 }
@@ -64,7 +65,27 @@ impl EntityUID {
         ensures loc { uid_loc result ≡ loc }
         ensures type_loc { uid_type_loc result ≡ type_loc ty }
     {
-        EntityUID { ty, eid, loc }
+        EntityUID {
+            ty,
+            eid: Held::new(eid),
+            loc,
+        }
+    }
+
+    /// The same uid with the same locations, shared: each copy of it is two counts, of its type and
+    /// of its id.
+    pub fn into_shared(self) -> M<Self>
+        ensures uid { IfOk result (λ shared. uid_of shared ≡ uid_of self) }
+        ensures loc { IfOk result (λ shared. uid_loc shared ≡ uid_loc self) }
+        ensures type_loc { IfOk result (λ shared. uid_type_loc shared ≡ uid_type_loc self) }
+        ensures shared { IfOk result (λ shared. IsTrue (is_uid_shared shared)) }
+    {
+        let alloc = *self.eid.value().0.allocator();
+        Ok(EntityUID {
+            ty: self.ty.into_shared()?,
+            eid: self.eid.into_shared(alloc)?,
+            loc: self.loc,
+        })
     }
 
     /// The uid that a text spells, as uids print: the name of its type, `::`, and its id in quotes,
@@ -107,7 +128,7 @@ impl EntityUID {
     pub fn eid(&self) -> &Eid
         ensures { eid_text result.now ≡ (uid_of self.now).eid }
     {
-        &self.eid
+        self.eid.value()
     }
 
     /// Where the uid was written, if that is known.
@@ -124,15 +145,21 @@ impl EntityUID {
         self.ty.is_action()
     }
 
-    /// An equal uid with the same locations, its own and its type's.
+    /// An equal uid with the same locations, its own and its type's. What is shared of a uid is
+    /// shared with its copy.
     pub fn clone(&self) -> M<Self>
         ensures uid { IfOk result (λ copy. uid_of copy ≡ uid_of self.now) }
         ensures loc { IfOk result (λ copy. uid_loc copy ≡ uid_loc self.now) }
         ensures type_loc { IfOk result (λ copy. uid_type_loc copy ≡ uid_type_loc self.now) }
+        ensures shared { IfOk result (λ copy. is_uid_shared copy ≡ is_uid_shared self.now) }
     {
+        let eid = match self.eid.other_owner()? {
+            Some(eid) => eid,
+            None => Held::new(self.eid.value().clone()?),
+        };
         Ok(EntityUID {
             ty: self.ty.clone()?,
-            eid: self.eid.clone()?,
+            eid,
             loc: self.loc,
         })
     }
@@ -147,6 +174,6 @@ impl fmt::Display for EntityUID {
     ghost output = { λ uid. Some (uid_text (uid_of uid)) };
 
     fn fmt<W: fmt::Write>(&self, f: &mut fmt::Formatter<W>) -> fmt::Result {
-        write!(f, "{}::{}", self.ty, Quoted(self.eid.as_str()))
+        write!(f, "{}::{}", self.ty, Quoted(self.eid().as_str()))
     }
 }

@@ -3,22 +3,30 @@
 ghost use Rattle.std.specs.Prelude.{◌≡◌, ◌↔◌, IsTrue, IfOk, Contains, map};
 ghost use Rattle.cedar_below.specs.Identifier.{reserved_word};
 ghost use Rattle.cedar_below.specs.Id.{id_text};
-ghost use Rattle.cedar_below.specs.InternalName.{name_of, name_loc};
+ghost use Rattle.cedar_below.specs.InternalName.{name_of, name_loc, is_name_shared, parts_of};
 ghost use Rattle.cedar_below.specs.PlainName.{IsUnqualified, IsReserved};
 
+use crate::held::Held;
 use crate::id::Id;
 use crate::loc::Loc;
 use crate::memory::M;
 use std::fmt;
 
-/// A name: a base name, and a path of identifiers before it. It may be reserved.
-///
-/// Equality, order and hash ignore the location. Names order by base name, and then by path.
-#[derive(Debug, Drop)]
-#[derive_where(PartialEq, Eq, PartialOrd, Ord, Hash)]
-pub struct InternalName {
+/// The parts of a name: its base name, and the identifiers before it, outermost first.
+#[derive(Debug, Drop, PartialEq, Eq, PartialOrd, Ord, Hash)]
+pub(crate) struct NameParts {
     id: Id,
     path: Vec<Id>,
+}
+
+/// A name: a base name, and a path of identifiers before it. It may be reserved.
+///
+/// Equality, order and hash ignore the location, and whether the name is shared. Names order by
+/// base name, and then by path.
+#[derive(Drop)]
+#[derive_where(PartialEq, Eq, PartialOrd, Ord, Hash)]
+pub struct InternalName {
+    parts: Held<NameParts>,
     #[derive_where(skip(EqHashOrd))]
     loc: Option<Loc>,
 }
@@ -46,6 +54,18 @@ fn has_reserved(path: &[Id]) -> bool
     false
 }
 
+impl NameParts {
+    /// Equal parts.
+    fn clone(&self) -> M<Self>
+        ensures { IfOk result (λ copy. parts_of copy ≡ parts_of self.now) }
+    {
+        Ok(NameParts {
+            id: self.id.clone()?,
+            path: clone_path(&self.path)?,
+        })
+    }
+}
+
 impl InternalName {
     /// The name with this base name and this path, outermost part first.
     pub fn new(id: Id, path: Vec<Id>, loc: Option<Loc>) -> Self
@@ -53,21 +73,37 @@ impl InternalName {
         ensures path { (name_of result).path ≡ map id_text path.items }
         ensures loc { name_loc result ≡ loc }
     {
-        InternalName { id, path, loc }
+        InternalName {
+            parts: Held::new(NameParts { id, path }),
+            loc,
+        }
+    }
+
+    /// The same name with the same location, shared: each copy of it is a count.
+    pub fn into_shared(self) -> M<Self>
+        ensures name { IfOk result (λ shared. name_of shared ≡ name_of self) }
+        ensures loc { IfOk result (λ shared. name_loc shared ≡ name_loc self) }
+        ensures shared { IfOk result (λ shared. IsTrue (is_name_shared shared)) }
+    {
+        let alloc = *self.parts.value().path.allocator();
+        Ok(InternalName {
+            parts: self.parts.into_shared(alloc)?,
+            loc: self.loc,
+        })
     }
 
     /// The base name.
     pub fn basename(&self) -> &Id
         ensures { id_text result.now ≡ (name_of self.now).base }
     {
-        &self.id
+        &self.parts.value().id
     }
 
     /// The identifiers before the base name, outermost first.
     pub fn path(&self) -> &[Id]
         ensures { map id_text result.now ≡ (name_of self.now).path }
     {
-        self.path.as_slice()
+        self.parts.value().path.as_slice()
     }
 
     /// Where the name was written, if that is known.
@@ -81,6 +117,7 @@ impl InternalName {
     pub fn with_loc(self, loc: Option<Loc>) -> Self
         ensures name { name_of result ≡ name_of self }
         ensures loc { name_loc result ≡ loc }
+        ensures shared { is_name_shared result ≡ is_name_shared self }
     {
         InternalName { loc, ..self }
     }
@@ -89,26 +126,41 @@ impl InternalName {
     pub fn is_unqualified(&self) -> bool
         ensures { IsTrue result ↔ IsUnqualified (name_of self.now) }
     {
-        self.path.is_empty()
+        self.path().is_empty()
     }
 
     /// Whether a part of the name is the reserved word `__cedar`.
     pub fn is_reserved(&self) -> bool
         ensures { IsTrue result ↔ IsReserved (name_of self.now) }
     {
-        self.id.is_reserved() || has_reserved(&self.path)
+        self.basename().is_reserved() || has_reserved(self.path())
     }
 
-    /// An equal name with the same location.
+    /// An equal name with the same location. That of a shared name is shared with it.
     pub fn clone(&self) -> M<Self>
         ensures name { IfOk result (λ copy. name_of copy ≡ name_of self.now) }
         ensures loc { IfOk result (λ copy. name_loc copy ≡ name_loc self.now) }
+        ensures shared { IfOk result (λ copy. is_name_shared copy ≡ is_name_shared self.now) }
     {
+        let parts = match self.parts.other_owner()? {
+            Some(parts) => parts,
+            None => Held::new(self.parts.value().clone()?),
+        };
         Ok(InternalName {
-            id: self.id.clone()?,
-            path: clone_path(&self.path)?,
+            parts,
             loc: self.loc,
         })
+    }
+}
+
+impl fmt::Debug for InternalName {
+    fn fmt<W: fmt::Write>(&self, f: &mut fmt::Formatter<W>) -> fmt::Result {
+        let parts = self.parts.value();
+        f.debug_struct("InternalName")
+            .field("id", &parts.id)
+            .field("path", &parts.path)
+            .field("loc", &self.loc)
+            .finish()
     }
 }
 
@@ -120,9 +172,10 @@ impl fmt::Display for InternalName {
     ghost output = { λ name. Some (name_text (name_of name)) };
 
     fn fmt<W: fmt::Write>(&self, f: &mut fmt::Formatter<W>) -> fmt::Result {
-        for part in &self.path {
+        let parts = self.parts.value();
+        for part in &parts.path {
             write!(f, "{part}::")?;
         }
-        write!(f, "{}", self.id)
+        write!(f, "{}", parts.id)
     }
 }

@@ -1,7 +1,7 @@
 //! The layers below a Cedar schema: names, uids, values, core types, extensions and entities.
 #![tactic(auto)]
 
-pub use copying::{copied_entries, copied_items};
+pub use copying::{copied_entries, copied_items, copied_option};
 pub use core_schema_type::{CoreAttributeType, CoreSchemaType};
 pub use eid::Eid;
 pub use entities::Entities;
@@ -33,6 +33,7 @@ mod entity_uid;
 mod escape;
 mod extension;
 mod fits;
+mod held;
 mod id;
 mod internal_name;
 mod loc;
@@ -48,4 +49,5 @@ mod type_names;
 mod unreserved_id;
 mod validation_mode;
 mod value;
+mod value_copies;
 mod words;

@@ -27,7 +27,7 @@ impl Name {
     ghost use Rattle.cedar_below.specs.NameFault.{IsNameFault};
     ghost use Rattle.cedar_below.specs.NameText.{IsNameText, IsReservedNameText};
     ghost use Rattle.cedar_below.specs.PlainName.{IsUnqualified, IsReserved, name_text};
-    ghost use Rattle.cedar_below.specs.Name.{plain_name, plain_loc};
+    ghost use Rattle.cedar_below.specs.Name.{plain_name, plain_loc, is_plain_shared};
 
     /// The name, or None where it is reserved.
     pub fn new(name: InternalName) -> Option<Self>
@@ -79,6 +79,17 @@ impl Name {
         self.name.loc()
     }
 
+    /// The same name, as written at this place, or nowhere.
+    pub fn with_loc(self, loc: Option<Loc>) -> Self
+        ensures name { plain_name result ≡ plain_name self }
+        ensures loc { plain_loc result ≡ loc }
+        ensures shared { is_plain_shared result ≡ is_plain_shared self }
+    {
+        Name {
+            name: self.name.with_loc(loc),
+        }
+    }
+
     /// Whether the path is empty.
     pub fn is_unqualified(&self) -> bool
         ensures { IsTrue result ↔ IsUnqualified (plain_name self.now) }
@@ -110,10 +121,22 @@ impl Name {
         self.name
     }
 
-    /// An equal name with the same location.
+    /// The same name with the same location, shared: each copy of it is a count.
+    pub fn into_shared(self) -> M<Self>
+        ensures name { IfOk result (λ shared. plain_name shared ≡ plain_name self) }
+        ensures loc { IfOk result (λ shared. plain_loc shared ≡ plain_loc self) }
+        ensures shared { IfOk result (λ shared. IsTrue (is_plain_shared shared)) }
+    {
+        Ok(Name {
+            name: self.name.into_shared()?,
+        })
+    }
+
+    /// An equal name with the same location. That of a shared name is shared with it.
     pub fn clone(&self) -> M<Self>
         ensures name { IfOk result (λ copy. plain_name copy ≡ plain_name self.now) }
         ensures loc { IfOk result (λ copy. plain_loc copy ≡ plain_loc self.now) }
+        ensures shared { IfOk result (λ copy. is_plain_shared copy ≡ is_plain_shared self.now) }
     {
         Ok(Name {
             name: self.name.clone()?,

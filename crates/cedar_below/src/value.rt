@@ -1,10 +1,14 @@
 //! Values and the expressions that they are given by.
 
-ghost use Rattle.std.specs.Prelude.{◌≡◌};
+ghost use Rattle.std.specs.Prelude.{◌≡◌, IfOk};
+ghost use Rattle.cedar_below.specs.Copies.{IsCopy};
+ghost use Rattle.cedar_below.specs.RestrictedExpr.{tree_of};
 ghost use Rattle.cedar_below.specs.Value.{value_expr};
 
 use crate::entity_uid::EntityUID;
+use crate::memory::M;
 use crate::name::Name;
+use crate::value_copies::copy_of;
 use std::collections::BTreeMap;
 
 /// A value as it is written: a literal, a set, a record, or a call of an extension function.
@@ -31,6 +35,15 @@ pub enum RestrictedExpr {
     },
 }
 
+impl RestrictedExpr {
+    /// An expression that stands for the same value.
+    pub fn clone(&self) -> M<Self>
+        ensures { IfOk result (λ copy. IsCopy (tree_of self.now) (tree_of copy)) }
+    {
+        copy_of(self)
+    }
+}
+
 /// A value, given by an expression that stands for it.
 #[derive(Debug, Drop)]
 pub struct Value {
@@ -50,5 +63,12 @@ impl Value {
         ensures { result.now ≡ value_expr self.now }
     {
         &self.expr
+    }
+
+    /// The same value.
+    pub fn clone(&self) -> M<Self>
+        ensures { IfOk result (λ copy. IsCopy (tree_of (value_expr self.now)) (tree_of (value_expr copy))) }
+    {
+        Ok(Value::new(self.expr.clone()?))
     }
 }

@@ -9,7 +9,8 @@ use Rattle.cedar_below.specs.declared.entity_type.EntityType.{EntityType}
 use Rattle.cedar_declarations.specs.Counted.{CountsInRequests, IsPrincipalOrResource}
 use Rattle.cedar_declarations.specs.Fault.{Fault, context_not_record, reserved_name, undeclared_entity_types, out_of_memory}
 use Rattle.cedar_declarations.specs.Mentions.{HasOpenRecord}
-use Rattle.cedar_declarations.specs.PlainSchema.{ActionKind, defined_action, external_action}
+use Rattle.cedar_declarations.specs.DeclaredSchema.{IsActionKindOver}
+use Rattle.cedar_declarations.specs.PlainSchema.{ActionKind}
 use Rattle.cedar_declarations.specs.Resolved.{reference_to_one}
 use Rattle.cedar_declarations.specs.Together.{action_definition_in}
 use Rattle.cedar_declarations.specs.ElaboratesTo.{IsRecordType}
@@ -47,13 +48,9 @@ reference_to_action uid = record { id = uid.eid; ty = reference_to_one Entity ui
 abbrev pub AreNamed : List Reference → List PlainName → Type 0
 AreNamed references names = (name : PlainName) → Contains names name ↔ Contains references (reference_to_one Entity name)
 
--- the kind is the one that is declared: the names of the principals and of the resources, and the context elaborated;
--- or external
+-- the kind is the one that is declared, over a scope
 abbrev pub IsElaboratedKind : TypeScope → Requests → ActionKind → Type 0
-IsElaboratedKind scope (requests principals resources context) (defined_action principal_types resource_types ty) =
-    AreNamed principals principal_types × AreNamed resources resource_types × ElaboratesAs scope context ty
-IsElaboratedKind scope elsewhere external_action = Unit {0}
-IsElaboratedKind scope _ _ = ⊥
+IsElaboratedKind scope = IsActionKindOver AreNamed (ElaboratesAs scope)
 
 -- the context is elaborated as a record type
 abbrev pub HasRecord : TypeScope → Requests → Type 0

@@ -1,8 +1,10 @@
 -- What the private steps promise of declarations: those of one name together, their parents, and what is elaborated.
-use Rattle.std.specs.Prelude.{Bool, true, false, ◌≡◌, ◌⊎◌, List, Option, Some, None, map}
+use Rattle.std.specs.Prelude.{Bool, true, false, ◌≡◌, ◌⊎◌, List, Option, map}
+use Rattle.cedar_below.specs.Lists.{HoldsOfBoth}
 use Rattle.cedar_below.specs.PlainName.{PlainName}
 use Rattle.cedar_declarations.specs.Counted.{CountsInEntity}
-use Rattle.cedar_declarations.specs.EntityTypeKind.{EntityTypeKind, standard_kind, enumerated_kind, external_kind}
+use Rattle.cedar_declarations.specs.DeclaredSchema.{IsKindOver}
+use Rattle.cedar_declarations.specs.EntityTypeKind.{EntityTypeKind}
 use Rattle.cedar_declarations.specs.Fault.{Fault, shape_not_record, out_of_memory}
 use Rattle.cedar_declarations.specs.Mentions.{HasOpenRecord}
 use Rattle.cedar_declarations.specs.ElaboratesTo.{IsRecordType}
@@ -20,18 +22,11 @@ entry_names entries = map (λ it. it.0) entries
 
 -- the type of tags is the one that is declared, elaborated, or there is none
 abbrev pub AreElaboratedTags : TypeScope → Option Expr → Option Ty → Type 0
-AreElaboratedTags scope (Some expr) (Some ty) = ElaboratesAs scope expr ty
-AreElaboratedTags scope None None = Unit {0}
-AreElaboratedTags scope _ _ = ⊥
+AreElaboratedTags scope = HoldsOfBoth (ElaboratesAs scope)
 
--- the kind is the one that is declared: closed attributes that are the shape elaborated, with its tags; the same
--- choices; or external
+-- the kind is the one that is declared, over a scope
 abbrev pub IsElaboratedKind : TypeScope → EntityBody → EntityTypeKind → Type 0
-IsElaboratedKind scope (standard parents shape tags) (standard_kind fields openness ty) =
-    ElaboratesAs scope shape (record_of fields ClosedAttributes) × (openness ≡ ClosedAttributes) × AreElaboratedTags scope tags ty
-IsElaboratedKind scope (enumerated ids) (enumerated_kind choices) = ids ≡ choices
-IsElaboratedKind scope (external parents) external_kind = Unit {0}
-IsElaboratedKind scope _ _ = ⊥
+IsElaboratedKind scope = IsKindOver (ElaboratesAs scope)
 
 -- the shape is elaborated as a record type
 abbrev pub HasRecord : TypeScope → EntityBody → Type 0

@@ -1,7 +1,7 @@
-pub mod CopyLemmas
 pub mod FillingLemmas
 pub mod FreshLemmas
 pub mod NameLists
+pub mod PutLemmas
 pub mod Sizes
 pub mod StartLemmas
 pub mod TypeCounterexamples

@@ -3,7 +3,6 @@
 
 pub use separating::separating_value;
 
-mod copying;
 mod fresh;
 mod putting;
 mod samples;

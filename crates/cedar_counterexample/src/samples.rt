@@ -12,7 +12,6 @@ ghost use Rattle.cedar_types.specs.EntityKind.{kind_ty};
 ghost use Rattle.cedar_types.specs.Meaning.{fields_of, ty_of};
 ghost use Rattle.cedar_types.specs.Samples.{value_trees};
 
-use crate::copying::copy_of;
 use crate::fresh::type_of_length;
 use crate::putting::put;
 use cedar_below::{Eid, EntityType, EntityUID, Extensions, M, RestrictedExpr, Value};
@@ -87,7 +86,7 @@ pub(crate) fn sample_of(
             Ok(RestrictedExpr::Record(values))
         }
         Type::ExtensionType { .. } => match ty.sample_among(extensions, samples) {
-            Some(sample) => copy_of(alloc, sample.expr()),
+            Some(sample) => sample.expr().clone(),
             None => unreachable!(),
         },
     }

@@ -12,7 +12,8 @@ use Rattle.cedar_names.specs.Expr.{Expr}
 use Rattle.cedar_names.specs.Reference.{Reference, ActionReference, name_within}
 use Rattle.cedar_declaration_laws.proofs.MeaningLemmas.{MeansTheSame, MeansTheSame-sym, resolved_means, AreAlike, AreAlike-sym, resolved_alike}
 use Rattle.cedar_declarations.proofs.ResolutionLemmas.{IsFirst-same}
-use Rattle.cedar_declarations.proofs.TurnLemmas.{turn_back, turn_weaker}
+use Rattle.cedar_declarations.proofs.TurnLemmas.{turn_back}
+use Rattle.cedar_below.proofs.TurnLemmas.{turn_weaker}
 use Rattle.cedar_declarations.specs.Bag.{common_in, entity_in, action_in, declared_name, declared_uid}
 use Rattle.cedar_declarations.specs.Names.{Names, NamesAction}
 use Rattle.cedar_declarations.specs.Occurrences.{IsFirst}

@@ -18,7 +18,8 @@ use Rattle.cedar_declaration_laws.proofs.MeaningLemmas.{MeansTheSame, MeansTheSa
 use Rattle.cedar_declaration_laws.proofs.MovedBags.{common_same, entity_same, action_same, defined_entity_same, defined_action_same, types_same, aliases_same, names_same, entity_moved, action_moved, definition_moved}
 use Rattle.cedar_declaration_laws.proofs.MovedLemmas.{NamesTheSame, TagsAlike, EntitiesAlike, RequestsAlike, BodiesAlike, DeclarationsAlike, declarations-sym, resolved_declaration}
 use Rattle.cedar_declarations.proofs.ResolutionLemmas.{first_defined}
-use Rattle.cedar_declarations.proofs.TurnLemmas.{turn_forth, turn_back, turn_weaker}
+use Rattle.cedar_declarations.proofs.TurnLemmas.{turn_forth, turn_back}
+use Rattle.cedar_below.proofs.TurnLemmas.{turn_weaker}
 use Rattle.cedar_declarations.proofs.TogetherLemmas.{AreRequests, declared_definition, definition_declared, declared_action_definition, action_definition_declared}
 use Rattle.cedar_declarations.specs.Bag.{Bag, action_uids, aliases, declared_common, declared_entities, built_ins, definitions, defined_names}
 use Rattle.cedar_declarations.specs.Counted.{CountsInEntity, CountsInRequests, CountsIn, IsCounted, entity_parents, IsPrincipalOrResource, IsEntityTypePosition, IsAtEntityTypePosition, HasToResolve}

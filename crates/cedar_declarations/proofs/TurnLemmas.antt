@@ -20,10 +20,3 @@ pub turn_back : {A B : Type 0} (R : A → B → Type 0) (S : B → A → Type 0)
 turn_back R S back [] [] turn = tt
 turn_back R S back (x ∷ xs) (y ∷ ys) turn = (back x y turn.0, turn_back R S back xs ys turn.1)
 turn_back R S back _ _ turn = absurd turn
-
--- where a relation implies another, so it does in turn
-pub turn_weaker : {A B : Type 0} (R S : A → B → Type 0) → ((x : A) (y : B) → R x y → S x y) → (xs : List A) (ys : List B)
-    → HoldsPairwise R xs ys → HoldsPairwise S xs ys
-turn_weaker R S to [] [] turn = tt
-turn_weaker R S to (x ∷ xs) (y ∷ ys) turn = (to x y turn.0, turn_weaker R S to xs ys turn.1)
-turn_weaker R S to _ _ turn = absurd turn

@@ -1,5 +1,6 @@
-use Rattle.std.specs.Prelude.{◌≡◌, ◌↔◌, List, map, Contains, Option, Some, None}
+use Rattle.std.specs.Prelude.{◌≡◌, ◌↔◌, List, map, Contains, Option}
 use Rattle.std.specs.List.Sorted.{IsStrictlySortedBy}
+use Rattle.cedar_below.specs.Lists.{HoldsOfBoth}
 use Rattle.cedar_below.specs.PlainName.{PlainName, name_cmp}
 use Rattle.cedar_below.specs.PlainUid.{PlainUid, uid_cmp}
 use Rattle.cedar_below.specs.declared.extension.Extensions.{Extensions}
@@ -19,20 +20,22 @@ use Rattle.cedar_declarations.specs.EntityTypeKind.{EntityTypeKind, standard_kin
 use Rattle.cedar_type_rules.specs.Ty.{Ty, record_of}
 use Rattle.cedar_type_rules.specs.declared.open_tag.OpenTag.TheVariants.{ClosedAttributes}
 
+-- the kind is the one that is declared, where it is given what an expression is elaborated as: closed attributes that are
+-- the shape elaborated, with the type of its tags, or none; the same choices; or external
+abbrev pub IsKindOver : (Expr → Ty → Type 0) → EntityBody → EntityTypeKind → Type 0
+IsKindOver Elaborates (standard parents shape tags) (standard_kind fields openness ty) =
+    Elaborates shape (record_of fields ClosedAttributes) × (openness ≡ ClosedAttributes) × HoldsOfBoth Elaborates tags ty
+IsKindOver Elaborates (enumerated ids) (enumerated_kind choices) = ids ≡ choices
+IsKindOver Elaborates (external parents) external_kind = Unit {0}
+IsKindOver Elaborates _ _ = ⊥
+
 -- the type of tags is the one that is declared, elaborated, or there is none
 abbrev pub AreDeclaredTags : Defined → Option Expr → Option Ty → Type 0
-AreDeclaredTags defined (Some expr) (Some ty) = ElaboratesTo defined expr ty
-AreDeclaredTags defined None None = Unit {0}
-AreDeclaredTags defined _ _ = ⊥
+AreDeclaredTags defined = HoldsOfBoth (ElaboratesTo defined)
 
--- the kind is the one that is declared: closed attributes that are the shape elaborated, with its tags; the same
--- choices; or external
+-- the kind is the one that is declared
 abbrev pub IsDeclaredKind : Defined → EntityBody → EntityTypeKind → Type 0
-IsDeclaredKind defined (standard parents shape tags) (standard_kind fields openness ty) =
-    ElaboratesTo defined shape (record_of fields ClosedAttributes) × (openness ≡ ClosedAttributes) × AreDeclaredTags defined tags ty
-IsDeclaredKind defined (enumerated ids) (enumerated_kind choices) = ids ≡ choices
-IsDeclaredKind defined (external parents) external_kind = Unit {0}
-IsDeclaredKind defined _ _ = ⊥
+IsDeclaredKind defined = IsKindOver (ElaboratesTo defined)
 
 -- the entity type stands under its name, is of the kind that its declarations say, and has just the declared descendants
 pub record IsDeclaredEntityType (bag : Bag) (extensions : Extensions) (it : PlainName × SchemaEntityType) : Type 0 where
@@ -46,15 +49,21 @@ pub record IsDeclaredEntityType (bag : Bag) (extensions : Extensions) (it : Plai
 abbrev pub IsNamedBy : Names → List Reference → PlainName → Type 0
 IsNamedBy names references name = (reference : Reference) × Contains references reference × ResolvesTo names reference name
 
--- the kind of an action is the declared one: the names of the principals and of the resources, and the context
--- elaborated; or external
+-- the names are just those that some of the references resolve to
+abbrev pub AreNamedBy : Names → List Reference → List PlainName → Type 0
+AreNamedBy names references listed = (name : PlainName) → Contains listed name ↔ IsNamedBy names references name
+
+-- the kind of an action is the declared one, where it is given which names references are to, and what an expression is
+-- elaborated as: the names of the principals and of the resources, and the context elaborated; or external
+abbrev pub IsActionKindOver : (List Reference → List PlainName → Type 0) → (Expr → Ty → Type 0) → Requests → ActionKind → Type 0
+IsActionKindOver AreNamed Elaborates (requests principals resources context) (defined_action principal_types resource_types ty) =
+    AreNamed principals principal_types × AreNamed resources resource_types × Elaborates context ty
+IsActionKindOver AreNamed Elaborates elsewhere external_action = Unit {0}
+IsActionKindOver AreNamed Elaborates _ _ = ⊥
+
+-- the kind of an action is the declared one
 abbrev pub IsDeclaredActionKind : Defined → Requests → ActionKind → Type 0
-IsDeclaredActionKind defined (requests principals resources context) (defined_action principal_types resource_types ty) =
-    ((name : PlainName) → Contains principal_types name ↔ IsNamedBy (names_of defined) principals name)
-    × ((name : PlainName) → Contains resource_types name ↔ IsNamedBy (names_of defined) resources name)
-    × ElaboratesTo defined context ty
-IsDeclaredActionKind defined elsewhere external_action = Unit {0}
-IsDeclaredActionKind defined _ _ = ⊥
+IsDeclaredActionKind defined = IsActionKindOver (AreNamedBy (names_of defined)) (ElaboratesTo defined)
 
 -- the action stands under its uid, is of the kind that its declarations say, and has just the declared descendants
 pub record IsDeclaredAction (bag : Bag) (extensions : Extensions) (it : PlainUid × SchemaAction) : Type 0 where

@@ -1,5 +1,5 @@
-use Rattle.std.specs.Prelude.{◌≡◌, Bool, [], ◌∷◌, Option, Some, None}
-use Rattle.cedar_below.specs.Lists.{HoldsPairwise}
+use Rattle.std.specs.Prelude.{◌≡◌, Bool, [], ◌∷◌, Option}
+use Rattle.cedar_below.specs.Lists.{HoldsOfBoth, HoldsPairwise}
 use Rattle.cedar_below.specs.PlainName.{PlainName}
 use Rattle.cedar_below.specs.PlainUid.{PlainUid}
 use Rattle.cedar_below.specs.Text.{Text}
@@ -44,9 +44,7 @@ mutual
 
 -- the same of the type of tags, if there is one
 abbrev pub ResolvesTags : Names → Option Expr → Option Expr → Type 0
-ResolvesTags names (Some expr) (Some resolved) = Resolves names expr resolved
-ResolvesTags names None None = Unit {0}
-ResolvesTags names _ _ = ⊥
+ResolvesTags names = HoldsOfBoth (Resolves names)
 
 -- the same of what is declared of an entity type
 abbrev pub ResolvesEntityBody : Names → EntityBody → EntityBody → Type 0

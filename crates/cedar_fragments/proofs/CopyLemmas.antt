@@ -34,13 +34,6 @@ resolved_alike kind name copy alike = ap (reference_to_one kind) alike.name
 pub action_type_alike : RefersAlike EntityType AlikeEntity resolved_action_type
 action_type_alike kind name copy alike = ap (reference_to_one kind) alike.name
 
--- what holds of two lists pairwise follows in turn
-pub turn_weaker : {A : Type 0} (R S : A → A → Type 0) → ((x y : A) → R x y → S x y) → (xs ys : List A) → HoldsPairwise R xs ys
-    → HoldsPairwise S xs ys
-turn_weaker R S follows [] [] turn = tt
-turn_weaker R S follows (x ∷ xs) (y ∷ ys) turn = (follows x y turn.0, turn_weaker R S follows xs ys turn.1)
-turn_weaker R S follows _ _ turn = absurd turn
-
 -- lists show the same one after another where each item shows the same as that of the other in turn
 pub same_flat : {A P : Type 0} (R : A → A → Type 0) (shown : A → List P) → ((x y : A) → R x y → shown y ≡ shown x) → (xs ys : List A)
     → HoldsPairwise R xs ys → flat_map shown ys ≡ flat_map shown xs

@@ -4,7 +4,8 @@ use Rattle.std.proofs.lemmas.List.Elements.{Contains-append_cases}
 use Rattle.std.specs.List.{flat_map}
 use Rattle.cedar_below.proofs.Lists.{Contains-preimage}
 use Rattle.cedar_below.specs.Lists.{HoldsPairwise, Included}
-use Rattle.cedar_declarations.proofs.TurnLemmas.{turn_forth, turn_weaker}
+use Rattle.cedar_declarations.proofs.TurnLemmas.{turn_forth}
+use Rattle.cedar_below.proofs.TurnLemmas.{turn_weaker}
 use Rattle.cedar_declarations.specs.Bag.{Bag}
 use Rattle.cedar_declarations.specs.Counted.{HasToResolve}
 use Rattle.cedar_declarations.specs.Fault.{Fault}

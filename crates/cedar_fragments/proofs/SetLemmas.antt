@@ -1,5 +1,6 @@
 -- Sets of names and of uids, by what they stand for.
-use Rattle.std.proofs.Common.{◌≡◌, ◌⊎◌, ◌↔◌, true, List, [], ◌∷◌, ◌++◌, map, ap, sym, subst, ◌∙◌, refl, inl, inr, ⊎_elim, Contains, arith, ℕ, ◌+◌, ◌<◌, ◌≤◌, length, get_or, take, append_assoc}
+use Rattle.std.proofs.Common.{◌≡◌, ◌⊎◌, ◌↔◌, true, Option, Some, None, IfSome, is_some, List, [], ◌∷◌, ◌++◌, map, ap, sym, subst, ◌∙◌, refl, inl, inr, ⊎_elim, Contains, arith, ℕ, ◌+◌, ◌<◌, ◌≤◌, length, get_or, take, append_assoc}
+use Rattle.std.proofs.lemmas.Bool.{false≢true}
 use Rattle.std.proofs.lemmas.List.{map_more, take_more, take_all, flat_map_more, map-append, append-nil}
 use Rattle.std.proofs.lemmas.List.Elements.{Contains-append_left, Contains-append_right, Contains-append_cases}
 use Rattle.std.specs.BTreeSet.{insert_key}
@@ -10,7 +11,7 @@ use Rattle.std.specs.declared.cmp.Ordering.{Ordering}
 use Rattle.std.specs.declared.cmp.Ordering.TheVariants.{Less, Equal, Greater}
 use Rattle.cedar_below.proofs.Lists.{Contains-cons, Contains-cons_cases, list_any-Contains}
 use Rattle.cedar_below.specs.Lists.{SameItems}
-use Rattle.cedar_fragments.specs.HeldNames.{HasAlso}
+use Rattle.cedar_fragments.specs.HeldNames.{HasAlso, StandsWhere}
 
 -- an answer that says so is a tie
 pub is_eq-Equal : (answer : Ordering) → is_eq answer ≡ true → answer ≡ Equal
@@ -32,6 +33,13 @@ module _ {K P : Type 0} (R : K → K → Ordering) (f : K → P) (tie : (a b : K
         λ e. sym ((tie key other).0 (is_eq-Equal (R key other) e)),
         λ same. ap is_eq ((tie key other).1 (sym same)),
       )) keys
+
+  -- and what it finds stands for the same
+  pub stands_where : {R' : Type 0} (now : R' → K) (keys : List K) (key : K) (found : Option R')
+      → is_some found ≡ list_any (λ other. is_eq (R key other)) keys → IfSome found (λ one. R key (now one) ≡ Equal)
+      → StandsWhere (λ one. f (now one)) (f key) (Contains (map f keys) (f key)) found
+  stands_where now keys key None none same = λ among. false≢true (none ∙ (found-Decides keys key).1 among)
+  stands_where now keys key (Some one) some same = (sym ((tie key (now one)).0 same), (found-Decides keys key).0 (sym some))
 
   -- what an insertion leaves
   pub inserted : (keys : List K) (key : K) → HasAlso (map f (insert_key R keys key)) (map f keys) (f key ∷ [])

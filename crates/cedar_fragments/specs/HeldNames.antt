@@ -1,4 +1,4 @@
-use Rattle.std.specs.Prelude.{◌≡◌, ◌⊎◌, ◌↔◌, List, map, Contains}
+use Rattle.std.specs.Prelude.{◌≡◌, ◌⊎◌, ◌↔◌, List, Option, MatchOption, map, Contains}
 use Rattle.std.specs.List.{flat_map}
 use Rattle.cedar_below.specs.EntityType.{type_name}
 use Rattle.cedar_below.specs.EntityUID.{uid_of}
@@ -86,3 +86,7 @@ pub record AreTheDeclaredNames (names : Names) (bag : Bag) : Type 0 where
   pub common : names.common ≡ map (λ it. it.0) (declared_common bag)
   pub entities : names.entities ≡ map (λ it. it.0) (declared_entities bag)
   pub actions : names.actions ≡ action_uids bag
+
+-- something is there exactly where the fact holds, and it stands for the item
+abbrev pub StandsWhere : {R P : Type 0} → (R → P) → P → Type 0 → Option R → Type 0
+StandsWhere f item fact found = MatchOption found (¬ fact) (λ one. (f one ≡ item) × fact)

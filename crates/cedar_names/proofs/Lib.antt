@@ -4,6 +4,7 @@ pub mod Equality
 pub mod ExprLemmas
 pub mod FitLemmas
 pub mod Lasts
+pub mod NestingLemmas
 pub mod QualifyLemmas
 pub mod ReservedWords
 pub mod VariantLemmas

@@ -4,15 +4,22 @@ use Rattle.cedar_below.specs.InternalName.{name_loc, name_of}
 use Rattle.cedar_below.specs.declared.entity_type.EntityType.{EntityType}
 use Rattle.cedar_below.specs.declared.internal_name.InternalName.{InternalName}
 use Rattle.cedar_names.specs.ConditionalName.{possibilities_of, possibility_locs, reference_type_of}
+use Rattle.cedar_names.specs.RawName.{raw_loc, raw_name}
 use Rattle.cedar_names.specs.Reference.{Reference}
 use Rattle.cedar_names.specs.TypeLocs.{Locs, type_locs, variant_locs, record_locs, attribute_locs}
 use Rattle.cedar_names.specs.TypeExpr.{type_expr, variant_expr, record_type_expr, flag_and_expr}
 use Rattle.cedar_names.specs.declared.json_schema.conditional_name.ConditionalName.{ConditionalName}
+use Rattle.cedar_names.specs.declared.json_schema.raw_name.RawName.{RawName}
 use Rattle.cedar_names.specs.declared.json_schema.reference_type.ReferenceType.{ReferenceType}
 use Rattle.cedar_names.specs.declared.json_schema.type_of.RecordType.{RecordType}
 use Rattle.cedar_names.specs.declared.json_schema.type_of.Type.{«Type»}
 use Rattle.cedar_names.specs.declared.json_schema.type_of.TypeOfAttribute.{TypeOfAttribute}
 use Rattle.cedar_names.specs.declared.json_schema.type_of.TypeVariant.{TypeVariant}
+
+-- a name as it was written is like another: the same name at the same location
+pub record AlikeRaw (it copy : RawName) : Type 0 where
+  pub name : raw_name copy ≡ raw_name it
+  pub loc : raw_loc copy ≡ raw_loc it
 
 -- a conditional name is like another: it has the same possibilities at the same locations, and the same reference type
 pub record AlikeConditional (name copy : ConditionalName) : Type 0 where

@@ -4,9 +4,11 @@ pub mod ConditionalExpr
 pub mod ConditionalName
 pub mod Copies
 pub mod Declaration
+pub mod DeclarationCopies
 pub mod EntityBody
 pub mod Expr
 pub mod NamespaceName
+pub mod Nesting
 pub mod PlainMembers
 pub mod PossibleNames
 pub mod RawExpr

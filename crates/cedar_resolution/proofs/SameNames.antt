@@ -3,7 +3,7 @@ use Rattle.std.proofs.Common.{Option, Some, None, inl, inr, ⊎_elim, Contains}
 use Rattle.cedar_below.specs.PlainName.{PlainName}
 use Rattle.cedar_below.specs.PlainUid.{PlainUid}
 use Rattle.cedar_declarations.proofs.ResolutionLemmas.{IsFirst-like}
-use Rattle.cedar_declarations.proofs.TurnLemmas.{turn_weaker}
+use Rattle.cedar_below.proofs.TurnLemmas.{turn_weaker}
 use Rattle.cedar_declarations.specs.Bag.{Bag}
 use Rattle.cedar_declarations.specs.Names.{Names, IsDefined, ResolvesTo, IsUnresolved, NamesAction, NamesNoAction}
 use Rattle.cedar_declarations.specs.Resolved.{ResolvesReference, Resolves, ResolvesMembers, resolves_text, resolves_long, resolves_truth, resolves_set, resolves_record, resolves_named, resolves_extension, resolves_no_member, resolves_member, ResolvesTags, ResolvesEntityBody, ResolvesParent, ResolvesRequests, ResolvesBody, ResolvesDeclaration, ResolvesBag}

@@ -1,6 +1,11 @@
 -- The environments that are listed for actions are those of the schema.
-use Rattle.std.proofs.Common.{◌≡◌, ◌≢◌, ◌↔◌, List, [], ◌∷◌, ◌++◌, Some, None, map, ap, sym, subst, ◌∙◌, refl, ⊎_elim, Contains, AllPairs, arith}
-use Rattle.std.proofs.lemmas.List.{map-append, map-id}
+use Rattle.std.proofs.Common.{◌≡◌, ◌≢◌, ◌↔◌, ◌+◌, ◌<◌, ℕ, List, [], ◌∷◌, ◌++◌, Some, None, map, ap, sym, subst, ◌∙◌, refl, ⊎_elim, Contains, AllPairs, append_assoc, arith, get_or, length, take}
+use Rattle.std.proofs.lemmas.List.{append-nil, map-append, map-id, take_more}
+use Rattle.std.proofs.lemmas.List.Concat.{flat_map_single}
+use Rattle.std.specs.declared.alloc.Global.{Global}
+use Rattle.std.specs.declared.rc.Rc.{Rc}
+use Rattle.cedar_below.specs.EntityType.{type_name}
+use Rattle.cedar_below.specs.declared.entity_type.EntityType.{EntityType}
 use Rattle.cedar_schema_elements.specs.ActionKind.{kind_context, kind_principals, kind_resources}
 use Rattle.cedar_schema_elements.specs.ValidatorActionId.{plain_action_entry}
 use Rattle.cedar_schema_elements.specs.declared.action_id.ValidatorActionId.{ValidatorActionId}
@@ -13,10 +18,10 @@ use Rattle.cedar_declarations.proofs.OccurrenceLemmas.{Contains-flat_map, Contai
 use Rattle.cedar_declarations.specs.Environments.{AreEnvironmentsOf, Environment, IsRequestOf}
 use Rattle.cedar_below.specs.Lists.{Twice}
 use Rattle.cedar_declarations.specs.PlainSchema.{ActionKind, SchemaAction, SchemaEntityType, defined_action, external_action}
-use Rattle.cedar_schema_elements.proofs.GivenLemmas.{all_differ}
+use Rattle.cedar_schema_elements.proofs.GivenLemmas.{all_differ, all_once}
 use Rattle.cedar_schema_elements.specs.ActionEntities.{schema_with}
 use Rattle.cedar_schema_elements.specs.RequestEnvironments.{action_environments, kind_environments, with_principals, with_resources}
-use Rattle.cedar_schema_elements.specs.RequestEnv.{owned_environment}
+use Rattle.cedar_schema_elements.specs.RequestEnv.{owned_environment, shared_name}
 use Rattle.cedar_schema_elements.specs.declared.request_env.UnlinkedRequestEnv.{UnlinkedRequestEnv}
 use Rattle.cedar_type_rules.specs.Ty.{Ty}
 
@@ -45,6 +50,15 @@ names_once names distinct name =
     let P : List PlainName → Type 0 = λ each. ¬ Twice each name in
     subst P (sym (map-id names)) (Twice-distinct names name distinct)
 
+-- the environments of a principal with resources that differ stand once
+resources_once : (uid : PlainUid) (context : Ty) (principal : PlainName) (resources : List PlainName) → AllPairs (λ a b. a ≢ b) resources
+    → (it : Environment) → ¬ Twice (with_resources uid context principal resources) it
+resources_once uid context principal resources differ =
+    let P : List Environment → Type 0 = λ items. (it : Environment) → ¬ Twice items it in
+    subst P (flat_map_single (environment uid context principal) resources)
+    (all_once (resource_environments uid context principal) (λ name. name) (λ it. it.resource) (of_resource uid context principal)
+    (λ resource. alone_once (environment uid context principal resource)) resources (names_once resources differ))
+
 -- what one more environment shows
 pub one_more_shown : (made pushed : List UnlinkedRequestEnv) (new : UnlinkedRequestEnv) (it : Environment) → pushed ≡ made ++ new ∷ []
     → owned_environment new ≡ it → map owned_environment pushed ≡ map owned_environment made ++ it ∷ []
@@ -58,6 +72,14 @@ pub of_principal : (uid : PlainUid) (context : Ty) (resources : List PlainName) 
 of_principal uid context resources principal it among =
     let found = Contains-preimage (environment uid context principal) resources it among in
     sym (ap (λ (each : Environment). each.principal) found.2)
+
+-- the environments of principals that differ with resources that differ stand once
+pub pairs_once : (uid : PlainUid) (context : Ty) (principals resources : List PlainName) → AllPairs (λ a b. a ≢ b) principals
+    → AllPairs (λ a b. a ≢ b) resources → (it : Environment) → ¬ Twice (with_principals uid context principals resources) it
+pairs_once uid context principals resources differ others_differ =
+    all_once (λ principal. with_resources uid context principal resources) (λ name. name) (λ it. it.principal)
+    (of_principal uid context resources) (λ principal. resources_once uid context principal resources others_differ) principals
+    (names_once principals differ)
 
 -- an environment of an action is under its uid, and of requests that it is for
 pub of_kind : (uid : PlainUid) (kind : ActionKind) (it : Environment)
@@ -133,3 +155,40 @@ are_environments entries environments is once types entities =
       once = all_differ (action_environments (map plain_action_entry entries)) once;
     } in
     subst P (sym is) made
+
+-- entity types that are shared
+abbrev Shared : Type 0
+Shared = List (Rc EntityType Global)
+
+-- one more is shared, and the others are left
+pub shared_more : (all : List PlainName) (made after : Shared) (left rest : List EntityType) (ty : EntityType) (one : Rc EntityType Global)
+    → left ≡ ty ∷ rest → after ≡ made ++ one ∷ [] → shared_name one ≡ type_name ty → map shared_name made ++ map type_name left ≡ all
+    → map shared_name after ++ map type_name rest ≡ all
+shared_more all made after left rest ty one is is_after same so_far =
+    ap (λ items. map shared_name items ++ map type_name rest) is_after
+    ∙ (ap (λ names. names ++ map type_name rest) (map-append shared_name made (one ∷ []))
+    ∙ (append_assoc (map shared_name made) (shared_name one ∷ []) (map type_name rest)
+    ∙ (ap (λ name. map shared_name made ++ name ∷ map type_name rest) same
+    ∙ (ap (λ others. map shared_name made ++ map type_name others) (sym is) ∙ so_far))))
+
+-- where none is left, all are shared
+pub shared_all : (all : List PlainName) (made : Shared) (left : List EntityType) → left ≡ [] → map shared_name made ++ map type_name left ≡ all
+    → map shared_name made ≡ all
+shared_all all made left nothing so_far =
+    sym (append-nil (map shared_name made)) ∙ (ap (λ others. map shared_name made ++ map type_name others) (sym nothing) ∙ so_far)
+
+-- the environments of one more resource are put behind
+pub resources_more : (uid : PlainUid) (context : Ty) (principal : PlainName) (before middle after : List Environment) (types : Shared) (k : ℕ)
+    (one : Rc EntityType Global) → k < length types → one ≡ get_or types k one
+    → after ≡ middle ++ environment uid context principal (shared_name one) ∷ []
+    → middle ≡ before ++ with_resources uid context principal (map shared_name (take k types))
+    → after ≡ before ++ with_resources uid context principal (map shared_name (take (k + 1) types))
+resources_more uid context principal before middle after types k one lt is is_after so_far =
+    let f : Rc EntityType Global → Environment = λ ty. environment uid context principal (shared_name ty) in
+    let given : Shared → List Environment = λ taken. with_resources uid context principal (map shared_name taken) in
+    let more : given (take (k + 1) types) ≡ given (take k types) ++ f one ∷ [] =
+    ap given (take_more types k one lt ∙ ap (λ last. take k types ++ last ∷ []) (sym is))
+    ∙ (ap (map (environment uid context principal)) (map-append shared_name (take k types) (one ∷ []))
+    ∙ map-append (environment uid context principal) (map shared_name (take k types)) (shared_name one ∷ [])) in
+    is_after ∙ (ap (λ items. items ++ f one ∷ []) so_far
+    ∙ (append_assoc before (given (take k types)) (f one ∷ []) ∙ ap (λ items. before ++ items) (sym more)))

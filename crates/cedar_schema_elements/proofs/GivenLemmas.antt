@@ -83,6 +83,17 @@ module _ {A B K : Type 0} (f : A → List B) (key : A → K) (before : List B) (
         given_more left rest after after x is (sym (append-nil after) ∙ ap (λ items. after ++ items) (sym nothing))
         (subst P (sym nothing) (λ it twice. twice)) so_far
 
+    -- what all that are left give was put behind
+    given_each : (left : List A) (after : List B) → ((x : A) (it : B) → ¬ Twice (f x) it) → GivenSoFar f key before all after left
+        → GivenSoFar f key before all (after ++ flat_map f left) []
+    given_each [] after once so_far =
+        let P : List B → Type 0 = λ items. GivenSoFar f key before all items [] in
+        subst P (sym (append-nil after)) so_far
+    given_each (x ∷ left) after once so_far =
+        let P : List B → Type 0 = λ items. GivenSoFar f key before all items [] in
+        subst P (append_assoc after (f x) (flat_map f left))
+        (given_each left (after ++ f x) once (given_more (x ∷ left) left after (after ++ f x) x refl refl (once x) so_far))
+
   -- where none is left, all that the items give was put behind, each once
   module _ (left : List A) (after : List B) (nothing : left ≡ []) (so_far : GivenSoFar f key before all after left) where
     whole : so_far.done ≡ all
@@ -95,3 +106,23 @@ module _ {A B K : Type 0} (f : A → List B) (key : A → K) (before : List B) (
     given_once =
         let P : List A → Type 0 = λ items. (it : B) → ¬ Twice (flat_map f items) it in
         subst P whole so_far.once
+
+-- what one more gives was put behind, and the others are left
+pub rest_more : {A B : Type 0} (f : A → List B) (all middle after : List B) (left rest : List A) (x : A) → left ≡ x ∷ rest
+    → after ≡ middle ++ f x → middle ++ flat_map f left ≡ all → after ++ flat_map f rest ≡ all
+rest_more f all middle after left rest x is is_after so_far =
+    ap (λ items. items ++ flat_map f rest) is_after
+    ∙ (append_assoc middle (f x) (flat_map f rest)
+    ∙ (ap (λ others. middle ++ flat_map f others) (sym is) ∙ so_far))
+
+-- where none is left, all was put behind
+pub rest_none : {A B : Type 0} (f : A → List B) (all after : List B) (left : List A) → left ≡ [] → after ++ flat_map f left ≡ all → after ≡ all
+rest_none f all after left nothing so_far = sym (append-nil after) ∙ (ap (λ others. after ++ flat_map f others) (sym nothing) ∙ so_far)
+
+-- where each item gives nothing twice, and no two give the same, all of them give nothing twice
+pub all_once : {A B K : Type 0} (f : A → List B) (key : A → K) (key_of : B → K)
+    → ((x : A) (it : B) → Contains (f x) it → key_of it ≡ key x) → ((x : A) (it : B) → ¬ Twice (f x) it) → (all : List A)
+    → ((k : K) → ¬ Twice (map key all) k) → (it : B) → ¬ Twice (flat_map f all) it
+all_once f key key_of keyed once all distinct =
+    given_once f key [] all [] (flat_map f all) refl
+    (given_each f key [] all key_of keyed all [] once (given_none f key [] all all [] refl refl distinct))

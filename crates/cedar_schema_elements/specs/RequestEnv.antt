@@ -1,5 +1,9 @@
+use Rattle.std.specs.declared.alloc.Global.{Global}
+use Rattle.std.specs.declared.rc.Rc.{Rc}
 use Rattle.cedar_below.specs.EntityType.{type_name}
 use Rattle.cedar_below.specs.EntityUID.{uid_of}
+use Rattle.cedar_below.specs.PlainName.{PlainName}
+use Rattle.cedar_below.specs.declared.entity_type.EntityType.{EntityType}
 use Rattle.cedar_declarations.specs.Environments.{Environment}
 use Rattle.cedar_schema_elements.specs.declared.request_env.RequestEnv.{RequestEnv}
 use Rattle.cedar_schema_elements.specs.declared.request_env.UnlinkedRequestEnv.{UnlinkedRequestEnv}
@@ -14,11 +18,15 @@ environment_of it = record {
   context = ty_of it.context.now;
 }
 
+-- the name of an entity type that is shared
+abbrev pub shared_name : Rc EntityType Global → PlainName
+shared_name ty = type_name ty.value
+
 -- the same of those that are owned
 abbrev pub owned_environment : UnlinkedRequestEnv → Environment
 owned_environment it = record {
-  principal = type_name it.principal;
-  action = uid_of it.action;
-  resource = type_name it.resource;
+  principal = shared_name it.principal;
+  action = uid_of it.action.value;
+  resource = shared_name it.resource;
   context = ty_of it.context.value;
 }

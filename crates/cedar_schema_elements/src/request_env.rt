@@ -21,15 +21,16 @@ pub struct RequestEnv<'a> {
     pub context: &'a Type,
 }
 
-/// The types of a request that are held apart from the schema which they came from.
+/// The types of a request that are held apart from the schema which they came from. Each is shared,
+/// since an action has as many environments as pairs of a principal and a resource.
 #[derive(Debug, Drop)]
 pub struct UnlinkedRequestEnv {
     /// The entity type of the principal.
-    pub principal: EntityType,
+    pub principal: Rc<EntityType>,
     /// The action.
-    pub action: EntityUID,
+    pub action: Rc<EntityUID>,
     /// The entity type of the resource.
-    pub resource: EntityType,
+    pub resource: Rc<EntityType>,
     /// The type of the context.
     pub context: Rc<Type>,
 }
@@ -47,7 +48,7 @@ impl UnlinkedRequestEnv {
         }
     }
 
-    /// The same types, of which that of the context is shared. Out of memory is the only refusal.
+    /// The same types, shared. Out of memory is the only refusal.
     pub fn clone(&self) -> M<Self>
         ensures { IfOk result (λ copy. owned_environment copy ≡ owned_environment self.now) }
     {

@@ -10,7 +10,8 @@ use Rattle.cedar_below.specs.PlainUid.{PlainUid}
 use Rattle.cedar_below.specs.Text.{Text}
 use Rattle.cedar_declarations.proofs.OccurrenceLemmas.{Contains-image}
 use Rattle.cedar_declarations.proofs.ResolutionLemmas.{IsFirst-like}
-use Rattle.cedar_declarations.proofs.TurnLemmas.{turn_back, turn_forth, turn_weaker}
+use Rattle.cedar_declarations.proofs.TurnLemmas.{turn_back, turn_forth}
+use Rattle.cedar_below.proofs.TurnLemmas.{turn_weaker}
 use Rattle.cedar_declarations.specs.Bag.{Bag}
 use Rattle.cedar_declarations.specs.Names.{IsDefined, Names}
 use Rattle.cedar_declarations.specs.PlainSchema.{ActionEntity, PlainSchema, SchemaAction, SchemaEntityType}

@@ -8,7 +8,8 @@ use Rattle.cedar_below.specs.PlainName.{PlainName}
 use Rattle.cedar_below.specs.PlainUid.{PlainUid}
 use Rattle.cedar_below.specs.declared.extension.Extensions.{Extensions}
 use Rattle.cedar_declarations.proofs.OccurrenceLemmas.{Contains-image}
-use Rattle.cedar_declarations.proofs.TurnLemmas.{turn_forth, turn_weaker}
+use Rattle.cedar_declarations.proofs.TurnLemmas.{turn_forth}
+use Rattle.cedar_below.proofs.TurnLemmas.{turn_weaker}
 use Rattle.cedar_declarations.specs.ClosedSchema.{ClosesAction, ClosesType}
 use Rattle.cedar_declarations.specs.EntityTypeKind.{EntityTypeKind}
 use Rattle.cedar_declarations.specs.Fault.{Fault, undeclared_entity_types, unknown_extension_type, action_entity_type, invalid_action_type, action_cycle, external_below_enumerated, enumerated_below, undeclared_action_descendant, type_shadowing, action_shadowing}

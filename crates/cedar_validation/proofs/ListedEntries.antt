@@ -5,7 +5,7 @@ use Rattle.cedar_below.proofs.Lists.{Contains-preimage}
 use Rattle.cedar_below.specs.Chain.{Chain, one}
 use Rattle.cedar_below.specs.Lists.{HoldsPairwise}
 use Rattle.cedar_declarations.proofs.OccurrenceLemmas.{Contains-image}
-use Rattle.cedar_declarations.proofs.TurnLemmas.{turn_weaker}
+use Rattle.cedar_below.proofs.TurnLemmas.{turn_weaker}
 use Rattle.cedar_validation.proofs.Pairwise.{pairwise_map}
 use Rattle.cedar_validation.specs.Listed.{IsClosedOf, LeadsTo, ListsIn}
 

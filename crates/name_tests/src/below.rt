@@ -3,7 +3,7 @@
 use cedar_below::{
     CoreAttributeType, CoreSchemaType, Eid, Entities, Entity, EntityType, EntityUID,
     ExtensionFunction, ExtensionFunctionLookupError, Extensions, Id, InternalName, Loc, Name,
-    NonEmpty, RestrictedExpr, UnreservedId,
+    NonEmpty, RestrictedExpr, UnreservedId, Value,
 };
 use shorthand::checked::{holds, same};
 use std::alloc::Global;
@@ -187,6 +187,47 @@ fn copies_of_names_are_equal(rt: HostRuntime) -> Result<(), Fail> {
     holds(is_copied_type(alloc, "A::B")?, "A::B")?;
     let uid = uid(alloc, "A", "b c", Some(PLACE))?;
     holds(uid.clone()? == uid, "a uid")
+}
+
+/// Whether what is shared of a word is equal to what isn't: the name, the entity type and the uid.
+fn is_shared_alike(alloc: Global, word: &str) -> Result<bool, Fail> {
+    let entity_type = EntityType::new(name(alloc, word)?);
+    let shared = entity_type.clone()?.into_shared()?;
+    let uid = uid(alloc, word, "a", Some(PLACE))?;
+    let shared_uid = uid.clone()?.into_shared()?;
+    Ok(
+        shared.clone()? == entity_type
+            && shared_uid.clone()? == uid
+            && shared_uid.loc() == uid.loc(),
+    )
+}
+
+#[test]
+fn shared_names_are_equal_to_others(rt: HostRuntime) -> Result<(), Fail> {
+    for word in ["A", "N::M::A"] {
+        let name = internal(rt.alloc(), word, Some(PLACE))?;
+        let shared = name.clone()?.into_shared()?;
+        let plain = self::name(rt.alloc(), word)?;
+        holds(plain.clone()?.into_shared()? == plain, word)?;
+        holds(shared.clone()? == name && shared.loc() == name.loc(), word)?;
+        holds(is_shared_alike(rt.alloc(), word)?, word)?;
+    }
+    Ok(())
+}
+
+#[test]
+fn copies_of_values_are_shown_alike(rt: HostRuntime) -> Result<(), Fail> {
+    let alloc = rt.alloc();
+    for expr in [ones(alloc, "a b")?, set_of(alloc, 2)?] {
+        let value = Value::new(expr);
+        let copy = format!(in alloc; "{:?}", value.clone()?)?;
+        same(
+            "a value",
+            copy.as_str(),
+            format!(in alloc; "{value:?}")?.as_str(),
+        )?;
+    }
+    Ok(())
 }
 
 /// Extension types of the names of words, without functions.

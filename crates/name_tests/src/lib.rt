@@ -6,4 +6,6 @@ mod below;
 #[cfg(test)]
 mod names;
 #[cfg(test)]
+mod plain;
+#[cfg(test)]
 mod reading;

@@ -89,8 +89,9 @@ fn push_action(alloc: Global, action: &ValidatorActionId, lines: &mut Vec<String
 
 /// Adds the line of an environment of requests.
 fn push_environment(alloc: Global, it: &UnlinkedRequestEnv, lines: &mut Vec<String>) -> M<()> {
-    let uid = uid_text(alloc, &it.action)?;
-    let (principal, resource) = (&it.principal, &it.resource);
+    let types = it.as_request_env();
+    let uid = uid_text(alloc, types.action)?;
+    let (principal, resource) = (types.principal, types.resource);
     lines.push(format!(in alloc; "env {principal} {uid} {resource}")?)?;
     Ok(())
 }

@@ -11,9 +11,9 @@ use std::test::Fail;
 /// The types of requests of a `User` for a `Photo`.
 fn of_users(alloc: Global) -> Result<UnlinkedRequestEnv, Fail> {
     Ok(UnlinkedRequestEnv {
-        principal: entity_type(alloc, "User")?,
-        action: uid(alloc, "Action", "view")?,
-        resource: entity_type(alloc, "Photo")?,
+        principal: Rc::new(alloc, entity_type(alloc, "User")?)?,
+        action: Rc::new(alloc, uid(alloc, "Action", "view")?)?,
+        resource: Rc::new(alloc, entity_type(alloc, "Photo")?)?,
         context: Rc::new(alloc, Type::Long)?,
     })
 }

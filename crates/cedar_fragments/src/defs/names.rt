@@ -4,7 +4,7 @@ ghost use Rattle.std.specs.Prelude.{◌≡◌, ◌↔◌, IsTrue, IfOk, OnOk, On
 ghost use Rattle.cedar_below.specs.EntityUID.{uid_of};
 ghost use Rattle.cedar_below.specs.InternalName.{name_of};
 ghost use Rattle.cedar_declarations.specs.Names.{Names};
-ghost use Rattle.cedar_fragments.specs.HeldNames.{held_names, common_type_names, entity_type_names, uids_of_actions, definition_names, fragment_names, declared_names, HasAlso, HoldsAlso, HoldsJust};
+ghost use Rattle.cedar_fragments.specs.HeldNames.{held_names, common_type_names, entity_type_names, uids_of_actions, definition_names, fragment_names, declared_names, HasAlso, HoldsAlso, HoldsJust, StandsWhere};
 
 use crate::defs::all_defs::AllDefs;
 use crate::namespace::{
@@ -53,6 +53,30 @@ impl AllDefs {
         ensures { IsTrue result ↔ Contains (held_names self.now).actions (uid_of uid.now) }
     {
         self.action_defs.contains(uid)
+    }
+
+    /// The name of an entity type as it was declared, if one of that name is defined.
+    pub(crate) fn declared_entity(&self, name: &InternalName) -> Option<&InternalName>
+        ensures { StandsWhere (λ found. name_of found.now) (name_of name.now)
+            (Contains (held_names self.now).entities (name_of name.now)) result }
+    {
+        self.entity_defs.get(name)
+    }
+
+    /// The name of a common type as it was declared, if one of that name is defined.
+    pub(crate) fn declared_common(&self, name: &InternalName) -> Option<&InternalName>
+        ensures { StandsWhere (λ found. name_of found.now) (name_of name.now)
+            (Contains (held_names self.now).common (name_of name.now)) result }
+    {
+        self.common_defs.get(name)
+    }
+
+    /// The uid of an action as it was declared, if one of that uid is defined.
+    pub(crate) fn declared_action(&self, uid: &EntityUID) -> Option<&EntityUID>
+        ensures { StandsWhere (λ found. uid_of found.now) (uid_of uid.now)
+            (Contains (held_names self.now).actions (uid_of uid.now)) result }
+    {
+        self.action_defs.get(uid)
     }
 
     /// The names of the entity types that are defined, in order.

@@ -1,12 +1,12 @@
 //! What references resolve to.
 
-ghost use Rattle.std.specs.Prelude.{◌≡◌, ◌↔◌, IsTrue, IfOk, IfErr, OnErr, Contains, map};
+ghost use Rattle.std.specs.Prelude.{IfOk, IfErr, MatchOption, Contains, map};
 ghost use Rattle.cedar_below.specs.InternalName.{name_of};
 ghost use Rattle.cedar_below.specs.Lists.{HoldsPairwise};
 ghost use Rattle.cedar_below.specs.PlainName.{PlainName};
 ghost use Rattle.cedar_declarations.specs.Names.{IsDefined, ResolvesTo};
 ghost use Rattle.cedar_declarations.specs.Occurrences.{IsFirst};
-ghost use Rattle.cedar_fragments.specs.HeldNames.{held_names};
+ghost use Rattle.cedar_fragments.specs.HeldNames.{StandsWhere, held_names};
 ghost use Rattle.cedar_fragments.specs.Refused.{IsRefused, IsRefusedAmong};
 ghost use Rattle.cedar_names.specs.ConditionalExpr.{positional_reference};
 ghost use Rattle.cedar_names.specs.ConditionalName.{conditional_reference};
@@ -14,43 +14,63 @@ ghost use Rattle.cedar_names.specs.PossibleNames.{names_of};
 ghost use Rattle.cedar_names.specs.Reference.{Reference};
 
 use crate::defs::all_defs::AllDefs;
-use cedar_below::{InternalName, NonEmpty};
+use cedar_below::{InternalName, M, NonEmpty};
 use cedar_names::json_schema::{ConditionalName, QualifyError, ReferenceType, TypeNotDefinedError};
 
-/// Whether a reference of the kind may name what is defined under a name.
-fn is_defined(all_defs: &AllDefs, kind: ReferenceType, name: &InternalName) -> bool
-    ensures { IsTrue result ↔ IsDefined (held_names all_defs.now) kind (name_of name.now) }
+/// The name as it was declared in a kind that a reference of the kind permits, if it was.
+fn declared<'a>(
+    all_defs: &'a AllDefs,
+    kind: ReferenceType,
+    name: &InternalName,
+) -> Option<&'a InternalName>
+    ensures { StandsWhere (λ found. name_of found.now) (name_of name.now)
+        (IsDefined (held_names all_defs.now) kind (name_of name.now)) result }
 {
     match kind {
-        ReferenceType::Common => all_defs.is_defined_as_common(name),
-        ReferenceType::Entity => all_defs.is_defined_as_entity(name),
-        ReferenceType::CommonOrEntity => {
-            all_defs.is_defined_as_common(name) || all_defs.is_defined_as_entity(name)
-        }
+        ReferenceType::Common => all_defs.declared_common(name),
+        ReferenceType::Entity => all_defs.declared_entity(name),
+        ReferenceType::CommonOrEntity => match all_defs.declared_common(name) {
+            Some(found) => Some(found),
+            None => all_defs.declared_entity(name),
+        },
     }
 }
 
-/// The first of some names that is defined in a kind that a reference of the kind permits, or else
-/// the names as they were.
+/// The name with its location, shared with what declares it in a kind that a reference of the kind
+/// permits, if something does.
+fn shared_name(
+    all_defs: &AllDefs,
+    kind: ReferenceType,
+    name: &InternalName,
+) -> M<Option<InternalName>>
+    ensures { IfOk result (StandsWhere name_of (name_of name.now) (IsDefined (held_names all_defs.now) kind (name_of name.now))) }
+{
+    match declared(all_defs, kind, name) {
+        None => Ok(None),
+        Some(found) => Ok(Some(found.clone()?.with_loc(name.loc()))),
+    }
+}
+
+/// The first of some names that is defined in a kind that a reference of the kind permits, if one
+/// is.
 fn first_defined(
-    names: NonEmpty<InternalName>,
+    names: &NonEmpty<InternalName>,
     kind: ReferenceType,
     all_defs: &AllDefs,
-) -> Result<InternalName, NonEmpty<InternalName>>
-    ensures found { IfOk result (λ name. IsFirst (IsDefined (held_names all_defs.now) kind) (names_of names) (name_of name)) }
-    ensures none { OnErr result ((name : PlainName) → Contains (names_of names) name → ¬ IsDefined (held_names all_defs.now) kind name) }
-    ensures kept { IfErr result (λ kept. kept ≡ names) }
+) -> M<Option<InternalName>>
+    ensures { IfOk result (λ found. MatchOption found
+        ((name : PlainName) → Contains (names_of names.now) name → ¬ IsDefined (held_names all_defs.now) kind name)
+        (λ name. IsFirst (IsDefined (held_names all_defs.now) kind) (names_of names.now) (name_of name))) }
 {
-    let NonEmpty { head, mut tail } = names;
-    if is_defined(all_defs, kind, &head) {
-        return Ok(head);
+    if let Some(name) = shared_name(all_defs, kind, &names.head)? {
+        return Ok(Some(name));
     }
-    for number in 0..tail.len() {
-        if is_defined(all_defs, kind, &tail[number]) {
-            return Ok(tail.swap_remove(number));
+    for name in &names.tail {
+        if let Some(name) = shared_name(all_defs, kind, name)? {
+            return Ok(Some(name));
         }
     }
-    Err(NonEmpty { head, tail })
+    Ok(None)
 }
 
 /// What a name stands for at a position of the kind: the first of its possibilities that is defined
@@ -64,11 +84,11 @@ pub(crate) fn resolve_at(
     ensures resolved { IfOk result (λ found. ResolvesTo (held_names all_defs.now) (positional_reference kind name) (name_of found)) }
     ensures refused { IfErr result (IsRefused (held_names all_defs.now) (positional_reference kind name)) }
 {
-    match first_defined(name.into_possibilities(), kind, all_defs) {
-        Ok(found) => Ok(found),
-        Err(possibilities) => Err(QualifyError::TypeNotDefined(TypeNotDefinedError {
+    match first_defined(name.possibilities(), kind, all_defs)? {
+        Some(found) => Ok(found),
+        None => Err(QualifyError::TypeNotDefined(TypeNotDefinedError {
             undefined_types: NonEmpty {
-                head: ConditionalName::new(possibilities, kind),
+                head: ConditionalName::new(name.into_possibilities(), kind),
                 tail: Vec::new(all_defs.alloc),
             },
         })),

@@ -237,7 +237,7 @@ impl ActionFragment<ConditionalName, ConditionalName> {
     }
 }
 
-/// The uid of an action that is declared in a namespace, which must not be reserved.
+/// The uid of an action that is declared in a namespace, which must not be reserved. It is shared.
 fn action_uid(
     alloc: Global,
     namespace: Option<&InternalName>,
@@ -253,7 +253,7 @@ fn action_uid(
 {
     let name = full_name(alloc, namespace, action_id(alloc)?, loc)?;
     match EntityType::from_internal(name) {
-        Ok(ty) => Ok(EntityUID::new(ty, Eid(id), loc)),
+        Ok(ty) => Ok(EntityUID::new(ty, Eid(id), loc).into_shared()?),
         Err(name) => Err(SchemaError::ReservedName(name)),
     }
 }

@@ -11,9 +11,8 @@ ghost use Rattle.cedar_names.specs.declared.json_schema.reference_type.Reference
 
 use crate::namespace::action_def::ActionDef;
 use crate::namespace::actions::{ActionFragment, ActionParent, ActionRequests, ActionsDef};
-use crate::namespace::copy_types::copied_names;
 use cedar_below::{M, copied_items};
-use cedar_names::json_schema::FragmentName;
+use cedar_names::json_schema::{FragmentName, copied_names};
 
 impl<N: FragmentName + Drop> ActionRequests<N> {
     /// Equal requests with the same locations. Out of memory is the only refusal.

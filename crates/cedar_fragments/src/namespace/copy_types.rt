@@ -2,7 +2,6 @@
 
 ghost use Rattle.std.specs.Prelude.{◌≡◌, IfOk, map};
 ghost use Rattle.std.specs.Option.{option_map};
-ghost use Rattle.cedar_below.specs.Lists.{HoldsPairwise};
 ghost use Rattle.cedar_fragments.specs.FragmentLocs.{common_type_locs, common_types_locs, entity_fragment_locs, entity_type_locs, entity_types_locs, tags_locs};
 ghost use Rattle.cedar_fragments.specs.Located.{common_type_defs, located_common_names, located_name};
 ghost use Rattle.cedar_fragments.specs.TypeDeclarations.{common_type_declaration, common_type_declarations, entity_type_declaration, entity_type_declarations, fragment_body};
@@ -15,14 +14,7 @@ use crate::namespace::common_types::{CommonTypeDef, CommonTypeDefs};
 use crate::namespace::entity_type_def::EntityTypeDef;
 use crate::namespace::entity_types::{EntityTypeFragment, EntityTypesDef};
 use cedar_below::{M, copied_items};
-use cedar_names::json_schema::{AttributesOrContext, FragmentName, Type};
-
-/// Equal names with the same locations, in their order.
-pub(crate) fn copied_names<N: FragmentName + Drop>(names: &Vec<N>) -> M<Vec<N>>
-    ensures { IfOk result (λ copies. HoldsPairwise N.is_alike names.now.items copies.items) }
-{
-    copied_items(names, N::copied)
-}
+use cedar_names::json_schema::{AttributesOrContext, FragmentName, Type, copied_names};
 
 /// An equal type of tags with the same locations, if there is one.
 fn copied_tags<N: FragmentName + Drop>(tags: &Option<Type<N>>) -> M<Option<Type<N>>>

@@ -24,7 +24,8 @@ fn namespace_path(alloc: Global, namespace: Option<&InternalName>) -> M<Vec<Id>>
     Ok(path)
 }
 
-/// The full name of an id in a namespace.
+/// The full name of an id in a namespace, shared, so that all that will speak of what is declared
+/// under it shares it.
 pub(crate) fn full_name(
     alloc: Global,
     namespace: Option<&InternalName>,
@@ -34,5 +35,5 @@ pub(crate) fn full_name(
     ensures name { IfOk result (λ name. name_of name ≡ name_within (namespace_name namespace.entry) (id_text id)) }
     ensures loc { IfOk result (λ name. name_loc name ≡ loc) }
 {
-    Ok(InternalName::new(id, namespace_path(alloc, namespace)?, loc))
+    InternalName::new(id, namespace_path(alloc, namespace)?, loc).into_shared()
 }

@@ -32,21 +32,23 @@ use cedar_below::{Eid, EntityType, EntityUID, InternalName, M, Name, NonEmpty};
 use cedar_declarations::SchemaError;
 use cedar_names::json_schema::{ActionEntityUID, ConditionalName, ReferenceType};
 
-/// The type of the action that has the id and a type of the name, if there is one.
+/// The type of the action that has the id and a type of the name, if there is one: shared with what
+/// declares the action, at the location of the name.
 fn action_type(name: &InternalName, id: &String, all_defs: &AllDefs) -> M<Option<EntityType>>
     ensures { IfOk result (λ found. MatchOption found
         (¬ Contains (held_names all_defs.now).actions (record { ty = name_of name.now; eid = string_bytes id.now }))
         (λ ty. (type_name ty ≡ name_of name.now)
         × Contains (held_names all_defs.now).actions (record { ty = name_of name.now; eid = string_bytes id.now }))) }
 {
+    let loc = name.loc();
     let Some(name) = Name::new(name.clone()?) else {
         return Ok(None);
     };
     let uid = EntityUID::new(EntityType::new(name), Eid(id.clone()?), None);
-    if all_defs.is_defined_as_action(&uid) {
-        return Ok(Some(uid.entity_type().clone()?));
+    match all_defs.declared_action(&uid) {
+        None => Ok(None),
+        Some(found) => Ok(Some(found.entity_type().clone()?.with_loc(loc))),
     }
-    Ok(None)
 }
 
 /// The type of the first action that has the id and a type of some names, if there is one.

@@ -1,13 +1,14 @@
 //! The forms that the names in a fragment take.
 
 ghost use Rattle.std.specs.Prelude.{IfOk};
-ghost use Rattle.cedar_names.specs.Copies.{AlikeConditional, AlikeEntity, AlikeFull};
+ghost use Rattle.cedar_names.specs.Copies.{AlikeConditional, AlikeEntity, AlikeFull, AlikeRaw};
 
 use crate::json_schema::conditional_name::ConditionalName;
+use crate::json_schema::raw_name::RawName;
 use cedar_below::{EntityType, InternalName, M};
 
-/// A form of the names in a fragment: a name that isn't resolved yet, or the full name of what it
-/// names.
+/// A form of the names in a fragment: a name as it was written, one that isn't resolved yet, or the
+/// full name of what it names.
 ///
 /// The ghost member says when a name is like another: equal, with the same locations.
 pub trait FragmentName {
@@ -18,6 +19,14 @@ pub trait FragmentName {
     where
         Self: Sized,
         ensures { IfOk result (is_alike self.now) };
+}
+
+impl FragmentName for RawName {
+    ghost is_alike = { AlikeRaw };
+
+    fn copied(&self) -> M<Self> {
+        self.clone()
+    }
 }
 
 impl FragmentName for ConditionalName {

@@ -8,5 +8,5 @@ pub returns : goal.returns
 returns c = record {
   plain = uids_by_text;
   uids = λ a b alike. uids_by_text (uid_of a) (uid_of b) (IsOfIdentifiers-name_of a.ty.0.name) (IsOfIdentifiers-name_of b.ty.0.name)
-      (IsUtf8-string_bytes a.eid.0) (IsUtf8-string_bytes b.eid.0) alike;
+      (IsUtf8-string_bytes a.eid.value.0) (IsUtf8-string_bytes b.eid.value.0) alike;
 }

@@ -1,6 +1,7 @@
 use Rattle.std.proofs.Common.{ap, subst, sym, ◌∙◌}
 use Rattle.cedar_below.specs.Tree.{entries_from, entry_at}
-use Rattle.cedar_counterexample.proofs.CopyLemmas.{AreReal, Pairs, entries_real, found_put, plain_pairs, real_entries, real_put, texts_sorted}
+use Rattle.cedar_below.proofs.ValueCopies.{AreReal, Pairs, entries_real, plain_pairs, real_entries, texts_sorted}
+use Rattle.cedar_counterexample.proofs.PutLemmas.{found_put, real_put}
 use Rattle.cedar_counterexample.proofs.putting.put.Goals as goal
 
 pub returns-clause-put : goal.returns-clause-put

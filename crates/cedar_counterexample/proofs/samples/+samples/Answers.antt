@@ -7,7 +7,7 @@ use Rattle.cedar_below.specs.Text.{Text}
 use Rattle.cedar_below.specs.Tree.{Tree, entry_at, map_value}
 use Rattle.cedar_type_rules.specs.Stated.{IsStatedWith}
 use Rattle.cedar_type_rules.specs.Ty.{Ty, fields_from}
-use Rattle.cedar_counterexample.proofs.CopyLemmas.{no_entries}
+use Rattle.cedar_below.proofs.ValueCopies.{no_entries}
 use Rattle.cedar_counterexample.proofs.FillingLemmas.{FillingSoFar, filling_put, filling_there, missing_entry, present_entry, record_sample}
 use Rattle.cedar_counterexample.proofs.Sizes.{attribute_smaller, fields_size, ty_size}
 use Rattle.cedar_counterexample.specs.Filling.{IsPut}

@@ -18,7 +18,7 @@ use Rattle.cedar_type_rules.specs.Has.{Has}
 use Rattle.cedar_type_rules.specs.Stated.{IsStatedWith}
 use Rattle.cedar_type_rules.specs.Ty.{Ty, fields_from, record_of, set_of}
 use Rattle.cedar_type_rules.specs.declared.open_tag.OpenTag.{OpenTag}
-use Rattle.cedar_counterexample.proofs.CopyLemmas.{no_entries}
+use Rattle.cedar_below.proofs.ValueCopies.{no_entries}
 use Rattle.cedar_counterexample.proofs.Sizes.{attribute_smaller, fields_size, ty_size}
 use Rattle.cedar_counterexample.proofs.StartLemmas.{AreStatedWith-of, CounterexampleSoFar, attribute_start, missing_start, separating_next, start_separates}
 use Rattle.cedar_counterexample.proofs.TypeCounterexamples.{any_set_separates, ty_of-any_set}

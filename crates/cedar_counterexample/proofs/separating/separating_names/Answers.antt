@@ -5,7 +5,7 @@ use Rattle.cedar_below.specs.RestrictedExpr.{entries_of}
 use Rattle.cedar_below.specs.Tree.{Entries, entry, no_entry, truth_value}
 use Rattle.cedar_type_rules.specs.declared.open_tag.OpenTag.{OpenTag}
 use Rattle.cedar_type_rules.specs.declared.open_tag.OpenTag.TheVariants.{ClosedAttributes, OpenAttributes}
-use Rattle.cedar_counterexample.proofs.CopyLemmas.{no_entries, tree_of-truth}
+use Rattle.cedar_below.proofs.ValueCopies.{no_entries, tree_of-truth}
 use Rattle.cedar_counterexample.proofs.StartLemmas.{further_start, open_start}
 use Rattle.cedar_counterexample.specs.Filling.{IsStart}
 use Rattle.cedar_types.specs.Meaning.{fields_of}

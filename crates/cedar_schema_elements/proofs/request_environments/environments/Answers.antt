@@ -1,12 +1,15 @@
 use Rattle.std.proofs.Common.{◌≡◌, ◌++◌, List, [], Some, map, ap, sym, subst, ◌∙◌}
+use Rattle.cedar_schema_elements.specs.ActionKind.{kind_principals, kind_resources}
+use Rattle.cedar_schema_elements.specs.RequestEnvironments.{with_principals}
 use Rattle.cedar_schema_elements.specs.ValidatorActionId.{action_of, plain_action_entry}
+use Rattle.cedar_below.specs.EntityType.{type_name}
 use Rattle.cedar_below.specs.EntityUID.{uid_of}
 use Rattle.cedar_declarations.specs.Environments.{Environment}
 use Rattle.cedar_below.specs.Lists.{Twice}
-use Rattle.cedar_schema_elements.proofs.EnvironmentLemmas.{are_environments, environments_under, of_action, with_context, without_context}
+use Rattle.cedar_schema_elements.proofs.EnvironmentLemmas.{are_environments, environments_under, of_action, pairs_once, with_context, without_context}
 use Rattle.cedar_schema_elements.proofs.GivenLemmas.{given_all, given_more, given_none, given_nothing, given_once}
 use Rattle.cedar_schema_elements.proofs.KeyLemmas.{uids_once, under}
-use Rattle.cedar_schema_elements.specs.RequestEnv.{owned_environment}
+use Rattle.cedar_schema_elements.specs.RequestEnv.{owned_environment, shared_name}
 use Rattle.cedar_types.specs.Meaning.{ty_of}
 use Rattle.cedar_schema_elements.proofs.request_environments.environments.Goals as goal
 
@@ -21,15 +24,20 @@ pub loop-uid-preserved-in-Some-context : goal.loop-uid-preserved-in-Some-context
 loop-uid-preserved-in-Some-context c =
     let uid = uid_of c.in-Some.uid.now in
     let kind = (action_of c.in-Some.action.now).kind in
-    let typed : ty_of c.in_ok-context.context.value ≡ ty_of c.in-Some-context.context.now =
-    ap ty_of c.in_ok-context.ensures.ok ∙ c.in_ok-clone.ensures.same in
-    let all = with_context uid kind (ty_of c.in_ok-context.context.value) (ap Some typed ∙ c.in-Some-context.ensures.ty) in
+    let context = ty_of c.in-Some-context.context.now in
+    let all = with_context uid kind context c.in-Some-context.ensures.ty in
+    let same : with_principals (uid_of c.in_ok-requests.requests.action.value) (ty_of c.in_ok-requests.requests.context.value)
+    (map type_name c.principals.result) (map shared_name c.in_ok-requests.requests.resources.items)
+    ≡ with_principals uid context (kind_principals kind) (kind_resources kind) =
+    λ i. with_principals (c.in_ok-requests.ensures.action i) (c.in_ok-requests.ensures.context i) (c.principals.ensures.names i)
+    (c.in_ok-requests.ensures.resources i) in
     let P : List Environment → Type 0 = λ items. (it : Environment) → ¬ Twice items it in
     given_more environments_under under [] (map plain_action_entry c.args.actions.now.entries) (λ it. it.action) of_action _ _ _ _
     (plain_action_entry (c.in-Some.uid.now, c.in-Some.action.now))
     (ap (map plain_action_entry) c.in-Some.ensures.steps)
-    (c.in_ok-add_principals.ensures.added ∙ ap (λ items. map owned_environment c.loop-uid.environments.items ++ items) (sym all))
-    (subst P (sym all) c.in_ok-add_principals.ensures.once) c.loop-uid.invariant
+    (c.in_ok-add_principals.ensures ∙ ap (λ items. map owned_environment c.loop-uid.environments.items ++ items) (same ∙ sym all))
+    (subst P (sym all) (pairs_once uid context (kind_principals kind) (kind_resources kind) c.principals.ensures.once
+    c.in_ok-requests.ensures.once)) c.loop-uid.invariant
 
 pub loop-uid-preserved : goal.loop-uid-preserved
 loop-uid-preserved c =

@@ -14,8 +14,8 @@ pub unreachable-requires : goal.unreachable-requires
 unreachable-requires c =
     let namespace = plain_name c.args.namespace.now in
     let name = plain_name c.args.name.now in
-    let base : id_text c.new.result.id ≡ name.base = c.new.ensures.base ∙ (c.in_ok-clone-2.ensures ∙ c.basename-2.ensures) in
-    let path : map id_text c.new.result.path.items ≡ namespace.path ++ namespace.base ∷ [] =
+    let base : id_text c.new.result.parts.value.id ≡ name.base = c.new.ensures.base ∙ (c.in_ok-clone-2.ensures ∙ c.basename-2.ensures) in
+    let path : map id_text c.new.result.parts.value.path.items ≡ namespace.path ++ namespace.base ∷ [] =
     c.new.ensures.path ∙ (ap (map id_text) c.in_ok-push.ensures.items
     ∙ (map-append id_text c.in_ok-path.path.items (c.in_ok-clone.field-0 ∷ [])
     ∙ (λ i. (c.in_ok-path.ensures ∙ c.path.ensures) i ++ (c.in_ok-clone.ensures ∙ c.basename.ensures) i ∷ []))) in

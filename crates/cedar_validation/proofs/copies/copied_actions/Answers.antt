@@ -7,7 +7,7 @@ use Rattle.cedar_below.specs.EntityUID.{uid_loc, uid_of, uid_type_loc}
 use Rattle.cedar_below.specs.Lists.{SameItems}
 use Rattle.cedar_below.specs.contracts.entity_uid.EntityUIDOrd.TheImpl as entity_uid_ord
 use Rattle.cedar_below.proofs.ShownLemmas.{copy_ties}
-use Rattle.cedar_declarations.proofs.TurnLemmas.{turn_weaker}
+use Rattle.cedar_below.proofs.TurnLemmas.{turn_weaker}
 use Rattle.cedar_declarations.specs.SameSchema.{SameActionKind}
 use Rattle.cedar_validation.specs.Copies.{IsActionCopied}
 use Rattle.cedar_validation.proofs.copies.copied_actions.Goals as goal

@@ -5,7 +5,7 @@ use Rattle.cedar_below.specs.EntityType.{type_loc, type_name}
 use Rattle.cedar_below.specs.Lists.{SameItems}
 use Rattle.cedar_below.specs.contracts.entity_type.EntityTypeOrd.TheImpl as entity_type_ord
 use Rattle.cedar_below.proofs.ShownLemmas.{copy_ties}
-use Rattle.cedar_declarations.proofs.TurnLemmas.{turn_weaker}
+use Rattle.cedar_below.proofs.TurnLemmas.{turn_weaker}
 use Rattle.cedar_schema_elements.specs.ValidatorEntityType.{PlainEntityType, attributes_of, descendant_names, entity_type_of, name_loc}
 use Rattle.cedar_schema_elements.specs.declared.entity_type.ValidatorEntityType.{ValidatorEntityType}
 use Rattle.cedar_types.specs.Located.{located_at}

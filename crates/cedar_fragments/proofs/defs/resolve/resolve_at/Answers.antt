@@ -1,15 +1,26 @@
-use Rattle.std.proofs.Common.{◌≡◌, List, ◌∷◌, map, ap, sym, subst, ◌∙◌, Contains}
+use Rattle.std.proofs.Common.{◌≡◌, List, ◌∷◌, Option, map, sym, subst, ◌∙◌, Contains}
+use Rattle.std.specs.Option.{MatchOption}
+use Rattle.cedar_below.specs.InternalName.{name_of}
 use Rattle.cedar_below.specs.PlainName.{PlainName}
+use Rattle.cedar_below.specs.declared.internal_name.InternalName.{InternalName}
+use Rattle.cedar_declarations.specs.Names.{IsDefined}
+use Rattle.cedar_declarations.specs.Occurrences.{IsFirst}
 use Rattle.cedar_names.specs.ConditionalName.{possibilities_of, conditional_reference}
 use Rattle.cedar_names.specs.PossibleNames.{names_of}
+use Rattle.cedar_fragments.specs.HeldNames.{held_names}
 use Rattle.cedar_fragments.proofs.defs.resolve.resolve_at.Goals as goal
 
-pub returns-in-Err-clause-refused : goal.returns-in-Err-clause-refused
-returns-in-Err-clause-refused c =
+pub returns-in-None-clause-refused : goal.returns-in-None-clause-refused
+returns-in-None-clause-refused c =
+    let P : PlainName → Type 0 = IsDefined (held_names c.args.all_defs.now) c.args.kind in
+    let possible = names_of c.possibilities.result.now in
+    let M : Option InternalName → Type 0 = λ found. MatchOption found ((name : PlainName) → Contains possible name → ¬ P name)
+    (λ name. IsFirst P possible (name_of name)) in
+    let none : (name : PlainName) → Contains possible name → ¬ P name = subst M c.in-None.is c.in_ok-found.ensures in
     let names : possibilities_of c.new.result ≡ possibilities_of c.args.name =
-    c.new.ensures.possibilities ∙ (ap names_of c.in-Err.ensures.kept ∙ c.into_possibilities.ensures.names) in (
+    c.new.ensures.possibilities ∙ c.into_possibilities.ensures.names in (
       λ name among.
-          let P : List PlainName → Type 0 = λ each. Contains each name in
-          c.in-Err.ensures.none name (subst P (sym c.into_possibilities.ensures.names) among),
-      (λ i. record { possibilities = names i; kind = c.new.ensures.reference_type i } ∷ map conditional_reference (c.new-in-Err.ensures.items i)),
+          let Q : List PlainName → Type 0 = λ each. Contains each name in
+          none name (subst Q (sym c.possibilities.ensures.names) among),
+      (λ i. record { possibilities = names i; kind = c.new.ensures.reference_type i } ∷ map conditional_reference (c.new-in-None.ensures.items i)),
     )

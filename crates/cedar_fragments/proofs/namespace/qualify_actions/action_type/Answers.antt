@@ -13,10 +13,9 @@ returns-in_default c among =
     false≢true (c.in_default.ensures.valid.1 (subst P (sym c.in_ok-clone.ensures.name)
     (action_unreserved c.args.all_defs.now (record { ty = name_of c.args.name.now; eid = string_bytes c.args.id.now }) among)))
 
-pub returns : goal.returns
-returns c among =
+pub returns-in-None : goal.returns-in-None
+returns-in-None c among =
     let P : PlainUid → Type 0 = Contains (held_names c.args.all_defs.now).actions in
     let ty = c.new-uid.ensures.ty ∙ (c.new-2.ensures.name ∙ (c.in-Some.ensures.name ∙ c.in_ok-clone.ensures.name)) in
     let eid = c.new-uid.ensures.eid ∙ c.in_ok-clone-2.ensures.cases in
-    false≢true (sym c.if-is_defined_as_action.false
-    ∙ c.is_defined_as_action.ensures.1 (subst P (sym (λ i. record { ty = ty i; eid = eid i })) among))
+    c.in-None.ensures (subst P (sym (λ i. record { ty = ty i; eid = eid i })) among)

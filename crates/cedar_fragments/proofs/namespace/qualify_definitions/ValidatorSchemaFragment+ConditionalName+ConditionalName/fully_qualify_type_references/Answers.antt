@@ -3,7 +3,7 @@ use Rattle.std.proofs.lemmas.List.{nil_from_length}
 use Rattle.std.proofs.lemmas.Result.{err_from_is_err_and}
 use Rattle.cedar_below.specs.declared.entity_type.EntityType.{EntityType}
 use Rattle.cedar_below.specs.declared.internal_name.InternalName.{InternalName}
-use Rattle.cedar_declarations.proofs.TurnLemmas.{turn_weaker}
+use Rattle.cedar_below.proofs.TurnLemmas.{turn_weaker}
 use Rattle.cedar_declarations.specs.SchemaError.{fault_of}
 use Rattle.cedar_declarations.specs.Resolved.{ResolvesBag}
 use Rattle.cedar_fragments.proofs.FragmentLemmas.{flat_map-included}

@@ -2,12 +2,14 @@
 
 ghost use Rattle.std.specs.Prelude.{IfOk, List};
 ghost use Rattle.cedar_below.specs.RestrictedExpr.{entries_of, tree_of, trees_of};
-ghost use Rattle.cedar_counterexample.specs.Copies.{AreCopies, AreEntryCopies, IsCopy};
+ghost use Rattle.cedar_below.specs.Copies.{AreCopies, AreEntryCopies, IsCopy};
 
-use crate::putting::put;
-use cedar_below::{M, RestrictedExpr};
+use crate::maps::put;
+use crate::memory::M;
+use crate::value::RestrictedExpr;
 use std::alloc::Global;
 use std::collections::BTreeMap;
+use std::default::Emptied;
 
 /// Copies of some values, in their order.
 #[cycle(copying)]
@@ -16,22 +18,19 @@ fn copy_each(alloc: Global, values: &[RestrictedExpr]) -> M<Vec<RestrictedExpr>>
 {
     let mut copies = Vec::new(alloc);
     for value in values {
-        copies.push(copy_of(alloc, value)?)?;
+        copies.push(copy_of(value)?)?;
     }
     Ok(copies)
 }
 
 /// Copies of the values of a record, each under its name.
 #[cycle(copying)]
-fn copy_entries(
-    alloc: Global,
-    values: &BTreeMap<String, RestrictedExpr>,
-) -> M<BTreeMap<String, RestrictedExpr>>
+fn copy_entries(values: &BTreeMap<String, RestrictedExpr>) -> M<BTreeMap<String, RestrictedExpr>>
     ensures { IfOk result (λ copies. AreEntryCopies (entries_of values.now) (entries_of copies)) }
 {
-    let mut copies = BTreeMap::new(alloc);
+    let mut copies = BTreeMap::emptied(values)?;
     for (name, value) in values {
-        let copy = copy_of(alloc, value)?;
+        let copy = copy_of(value)?;
         put(&mut copies, name.clone()?, copy)?;
     }
     Ok(copies)
@@ -39,7 +38,7 @@ fn copy_entries(
 
 /// An expression that stands for the same value.
 #[cycle(copying)]
-pub(crate) fn copy_of(alloc: Global, expr: &RestrictedExpr) -> M<RestrictedExpr>
+pub(crate) fn copy_of(expr: &RestrictedExpr) -> M<RestrictedExpr>
     ensures { IfOk result (λ copy. IsCopy (tree_of expr.now) (tree_of copy)) }
 {
     match expr {
@@ -47,11 +46,15 @@ pub(crate) fn copy_of(alloc: Global, expr: &RestrictedExpr) -> M<RestrictedExpr>
         RestrictedExpr::Long(number) => Ok(RestrictedExpr::Long(*number)),
         RestrictedExpr::String(text) => Ok(RestrictedExpr::String(text.clone()?)),
         RestrictedExpr::EntityUid(uid) => Ok(RestrictedExpr::EntityUid(uid.clone()?)),
-        RestrictedExpr::Set(values) => Ok(RestrictedExpr::Set(copy_each(alloc, values)?)),
-        RestrictedExpr::Record(values) => Ok(RestrictedExpr::Record(copy_entries(alloc, values)?)),
-        RestrictedExpr::ExtensionCall { function, args } => Ok(RestrictedExpr::ExtensionCall {
-            function: function.clone()?,
-            args: copy_each(alloc, args)?,
-        }),
+        RestrictedExpr::Set(values) => {
+            let copies = copy_each(*values.allocator(), values)?;
+            Ok(RestrictedExpr::Set(copies))
+        }
+        RestrictedExpr::Record(values) => Ok(RestrictedExpr::Record(copy_entries(values)?)),
+        RestrictedExpr::ExtensionCall { function, args } => {
+            let args = copy_each(*args.allocator(), args)?;
+            let function = function.clone()?;
+            Ok(RestrictedExpr::ExtensionCall { function, args })
+        }
     }
 }

@@ -1,32 +1,28 @@
--- Copies of values, and values that are put into records.
-use Rattle.std.proofs.Common.{◌≡◌, ⊎_elim, Bool, true, false, refl, ap, sym, subst, ◌∙◌, List, [], ◌∷◌, ◌++◌, map, Some, Contains, arith, string_bytes, string_cmp, if◌then◌else◌, append_assoc, Global}
+-- Copies of values.
+use Rattle.std.proofs.Common.{◌≡◌, ⊎_elim, Bool, refl, ap, sym, subst, ◌∙◌, List, [], ◌∷◌, ◌++◌, map, Contains, arith, string_bytes, string_cmp, append_assoc, Global}
 use Rattle.std.proofs.lemmas.List.{map-append, append-nil}
-use Rattle.std.proofs.lemmas.Slice.Eq.{bytes_eq-Decides}
 use Rattle.std.proofs.lemmas.Str.{IsUtf8-string_bytes}
 use Rattle.std.specs.BTreeMap.{BTreeMap, insert_entry}
 use Rattle.std.specs.List.{AllByRecursion}
 use Rattle.std.specs.List.Sorted.{IsStrictlySortedBy}
 use Rattle.std.specs.Map.{keys_of}
-use Rattle.std.specs.Ordering.{match_ordering}
-use Rattle.std.specs.Str.{bytes_eq}
-use Rattle.std.specs.declared.cmp.Ordering.{Ordering}
-use Rattle.std.specs.declared.cmp.Ordering.TheVariants.{Less, Equal, Greater}
+use Rattle.std.specs.declared.cmp.Ordering.TheVariants.{Less, Greater}
 use Rattle.std.specs.declared.string.String.{String}
 use Rattle.cedar_below.proofs.Lists.{Contains-cons_cases}
 use Rattle.cedar_below.proofs.Ordered.{IsStrictlySortedBy-map, above_front, insert_entry-end, not_itself}
-use Rattle.cedar_below.proofs.Texts.{text_cmp-Equal, text_cmp-total}
+use Rattle.cedar_below.proofs.Texts.{text_cmp-total}
 use Rattle.cedar_below.proofs.TreeLemmas.{entry_names-entries}
 use Rattle.cedar_below.proofs.ValueLemmas.{IsName-type_name}
 use Rattle.cedar_below.specs.EntityUID.{uid_of}
 use Rattle.cedar_below.specs.IsValue.{AreEntries, AreValues, IsValue}
 use Rattle.cedar_below.specs.RestrictedExpr.{entries_of, tree_of, tree_step, trees_of}
 use Rattle.cedar_below.specs.Text.{Text, text_cmp}
-use Rattle.cedar_below.specs.Tree.{Tree, entries_from, entry_at, no_entry, text_value, trees_from, truth_value, uid_value}
+use Rattle.cedar_below.specs.Tree.{Tree, entries_from, no_entry, text_value, trees_from, truth_value, uid_value}
 use Rattle.cedar_below.specs.declared.entity_uid.EntityUID.{EntityUID}
 use Rattle.cedar_below.specs.declared.value.RestrictedExpr.{RestrictedExpr, fold-roll-RestrictedExpr, roll-RestrictedExpr}
 use Rattle.cedar_below.specs.declared.value.RestrictedExpr.TheOpen as layer
 use Rattle.cedar_below.specs.declared.value.RestrictedExpr.TheVariants as expr
-use Rattle.cedar_counterexample.specs.Copies.{AreCopies, AreEntryCopies, IsCopy}
+use Rattle.cedar_below.specs.Copies.{AreCopies, AreEntryCopies, IsCopy}
 
 -- the values of a record, by name
 abbrev pub Pairs : Type 0
@@ -63,7 +59,7 @@ copied_at value copy of made is also one = (also ∙ (one.0 ∙ sym is), subst I
 
 -- a uid is a real value
 pub uid_real : (uid : EntityUID) → IsValue (uid_value (uid_of uid))
-uid_real uid = (IsName-type_name uid.ty, IsUtf8-string_bytes uid.eid.0)
+uid_real uid = (IsName-type_name uid.ty, IsUtf8-string_bytes uid.eid.value.0)
 
 -- a row of values with one more are values
 values_more : (values : List RestrictedExpr) (value : RestrictedExpr) → AreValues (trees_of values) → IsValue (tree_of value)
@@ -206,58 +202,3 @@ entries_all all made left nothing sorted_by_name so_far =
     let names : texts all ≡ texts made =
     texts-plain all ∙ (ap (map (λ (pair : Text × Tree). pair.0)) (sym same) ∙ sym (texts-plain made)) in
     (ap entries_from same, entries_real made (subst (IsStrictlySortedBy text_cmp) names sorted_by_name) so_far.real)
-
--- a choice under the same test
-chosen_again : {X : Type 0} (b : Bool) (x y z : X) → (if b then x else z) ≡ (if b then x else (if b then y else z))
-chosen_again true x y z = refl
-chosen_again false x y z = refl
-
--- choices under tests that don't both hold
-chosen_apart : {X : Type 0} (b c : Bool) (x y z : X) → (b ≡ true → c ≡ true → ⊥)
-    → (if b then x else (if c then y else z)) ≡ (if c then y else (if b then x else z))
-chosen_apart true true x y z apart = absurd (apart refl refl)
-chosen_apart true false x y z apart = refl
-chosen_apart false true x y z apart = refl
-chosen_apart false false x y z apart = refl
-
-module _ (key : String Global) (value : RestrictedExpr) where
-  -- what is found at a name after a value is put under a key
-  abbrev Finds : Text → Pairs → Pairs → Type 0
-  Finds name old new = entry_at name (entries_from (plain_pairs new))
-      ≡ (if bytes_eq name (string_bytes key) then Some (tree_of value) else entry_at name (entries_from (plain_pairs old)))
-
-  found_at : (name : Text) (pair : String Global × RestrictedExpr) (rest later : Pairs) (answer : Ordering) → string_cmp key pair.0 ≡ answer
-      → Finds name rest later → Finds name (pair ∷ rest) (match_ordering answer ((key, value) ∷ pair ∷ rest) ((pair.0, value) ∷ rest) (pair ∷ later))
-  found_at name pair rest later Less is before = refl
-  found_at name pair rest later Equal is before =
-      let same : string_bytes key ≡ string_bytes pair.0 = (text_cmp-Equal (string_bytes key) (string_bytes pair.0)).0 is in
-      let others = entry_at name (entries_from (plain_pairs rest)) in
-      let P : Text → Type 0 = λ text. (if bytes_eq name text then Some (tree_of value) else others)
-      ≡ (if bytes_eq name (string_bytes key) then Some (tree_of value) else (if bytes_eq name text then Some (tree_of pair.1) else others)) in
-      subst P same (chosen_again (bytes_eq name (string_bytes key)) (Some (tree_of value)) (Some (tree_of pair.1)) others)
-  found_at name pair rest later Greater is before =
-      ap (λ others. if bytes_eq name (string_bytes pair.0) then Some (tree_of pair.1) else others) before
-      ∙ chosen_apart (bytes_eq name (string_bytes pair.0)) (bytes_eq name (string_bytes key)) (Some (tree_of pair.1)) (Some (tree_of value))
-      (entry_at name (entries_from (plain_pairs rest)))
-      (λ first second. (let same : string_bytes key ≡ string_bytes pair.0 = sym ((bytes_eq-Decides name (string_bytes key)).0 second)
-      ∙ (bytes_eq-Decides name (string_bytes pair.0)).0 first in
-      let tied = (text_cmp-Equal (string_bytes key) (string_bytes pair.0)).1 same in
-      let wrong : Greater ≡ Equal = sym is ∙ tied in
-      cc))
-
-  -- after it is put there, it is found under its name, and all else as before
-  pub found_put : (name : Text) (old : Pairs) → Finds name old (insert_entry string_cmp old key value)
-  found_put name [] = refl
-  found_put name (pair ∷ rest) = found_at name pair rest (insert_entry string_cmp rest key value) (string_cmp key pair.0) refl (found_put name rest)
-
-  real_at : (pair : String Global × RestrictedExpr) (rest later : Pairs) (answer : Ordering) → AreReal (pair ∷ rest) → IsValue (tree_of value)
-      → AreReal later → AreReal (match_ordering answer ((key, value) ∷ pair ∷ rest) ((pair.0, value) ∷ rest) (pair ∷ later))
-  real_at pair rest later Less real one before = (one, real)
-  real_at pair rest later Equal real one before = (one, real.1)
-  real_at pair rest later Greater real one before = (real.0, before)
-
-  -- real values with a real one put there are real
-  pub real_put : (old : Pairs) → AreReal old → IsValue (tree_of value) → AreReal (insert_entry string_cmp old key value)
-  real_put [] real one = (one, tt)
-  real_put (pair ∷ rest) real one =
-      real_at pair rest (insert_entry string_cmp rest key value) (string_cmp key pair.0) real one (real_put rest real.1 one)

@@ -1,8 +1,8 @@
 use Rattle.std.proofs.Common.{subst}
 use Rattle.std.proofs.lemmas.Result.{IfOk-weaker}
 use Rattle.cedar_below.specs.Lists.{HoldsPairwise}
-use Rattle.cedar_fragments.proofs.CopyLemmas.{turn_weaker}
-use Rattle.cedar_fragments.proofs.namespace.copy_types.copied_names.Goals as goal
+use Rattle.cedar_below.proofs.TurnLemmas.{turn_weaker}
+use Rattle.cedar_names.proofs.json_schema.declaration_copies.copied_names.Goals as goal
 
 pub returns : goal.returns
 returns g c =

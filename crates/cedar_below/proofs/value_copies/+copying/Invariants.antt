@@ -1,6 +1,6 @@
 use Rattle.std.proofs.Common.{drop}
-use Rattle.cedar_counterexample.proofs.CopyLemmas.{CopiedSoFar, EntriesSoFar}
-use Rattle.cedar_counterexample.proofs.copying.+copying.Given as goal
+use Rattle.cedar_below.proofs.ValueCopies.{CopiedSoFar, EntriesSoFar}
+use Rattle.cedar_below.proofs.value_copies.+copying.Given as goal
 
 abbrev pub invariant-copy_each-loop-value : goal.invariant-copy_each-loop-value
 invariant-copy_each-loop-value l = CopiedSoFar l.values l.copies.items (drop l.value-index l.values)

@@ -6,10 +6,10 @@ use Rattle.cedar_below.specs.Name.{plain_name}
 use Rattle.cedar_below.specs.RestrictedExpr.{entries_of, tree_of, trees_of}
 use Rattle.cedar_below.specs.Tree.{call_value, map_value, text_value, uid_value}
 use Rattle.cedar_below.specs.declared.value.RestrictedExpr.{RestrictedExpr}
-use Rattle.cedar_counterexample.proofs.CopyLemmas.{CopiedSoFar, EntriesSoFar, Pairs, copied_at, copied_more, entries_all, entries_more, texts_sorted, tree_of-text, uid_real}
-use Rattle.cedar_counterexample.specs.Copies.{AreCopies}
+use Rattle.cedar_below.proofs.ValueCopies.{CopiedSoFar, EntriesSoFar, Pairs, copied_at, copied_more, entries_all, entries_more, texts_sorted, tree_of-text, uid_real}
+use Rattle.cedar_below.specs.Copies.{AreCopies}
 use Rattle.std.proofs.lemmas.Str.{IsUtf8-string_bytes}
-use Rattle.cedar_counterexample.proofs.copying.+copying.Goals as goal
+use Rattle.cedar_below.proofs.value_copies.+copying.Goals as goal
 
 pub copy_each-loop-value-preserved : goal.copy_each-loop-value-preserved
 copy_each-loop-value-preserved t c =
@@ -27,7 +27,7 @@ copy_entries-loop-name-preserved t c =
     let all = c.args.values.now.entries in
     let made = c.loop-name.copies.entries in
     let P : Pairs → Type 0 = λ copies. EntriesSoFar all copies c.next.new.self in
-    subst P (sym c.in_ok-put.ensures.entries)
+    subst P (sym c.in_ok-put.ensures)
     (entries_more all made c.loop-name.name-iterator c.next.new.self c.in-Some.name.now c.in_ok-clone.field-0 c.in-Some.value.now c.in_ok-copy.copy
     (texts_sorted all c.into_iter-name-iterator.ensures.into_iter_gives.5) c.in-Some.ensures.steps c.in_ok-clone.ensures.cases
     c.in_ok-copy.ensures c.loop-name.invariant)
@@ -61,17 +61,17 @@ copy_of-returns-in_ok-copy_entries-in-Record t c =
     copied_at (map_value (entries_of values)) (map_value (entries_of copies)) _ _ (ap tree_of c.in-Record.is ∙ tree_of-record values)
     (tree_of-record copies) (ap map_value copied.0, copied.1)
 
-pub copy_of-returns-in_ok-copy_each-in-ExtensionCall :
-    goal.copy_of-returns-in_ok-copy_each-in-ExtensionCall
-copy_of-returns-in_ok-copy_each-in-ExtensionCall t c =
+pub copy_of-returns-in_ok-function-in-ExtensionCall :
+    goal.copy_of-returns-in_ok-function-in-ExtensionCall
+copy_of-returns-in_ok-function-in-ExtensionCall t c =
     let function = c.in-ExtensionCall.function in
     let args = c.in-ExtensionCall.args in
-    let named = c.in_ok-clone-in-ExtensionCall.field-0 in
-    let copies = c.in_ok-copy_each-in-ExtensionCall.field-0 in
+    let named = c.in_ok-function-in-ExtensionCall.function in
+    let copies = c.in_ok-args-in-ExtensionCall.args in
     let P : List RestrictedExpr → Type 0 = λ items. AreCopies (trees_of items) (trees_of copies.items) in
-    let copied = subst P c.deref-in-ExtensionCall.ensures.value c.in_ok-copy_each-in-ExtensionCall.ensures in
+    let copied = subst P c.deref-in-ExtensionCall.ensures.value c.in_ok-args-in-ExtensionCall.ensures in
     let call : call_value (plain_name named) (trees_of copies.items) ≡ call_value (plain_name function) (trees_of args.items) =
-    λ i. call_value (c.in_ok-clone-in-ExtensionCall.ensures.name i) (copied.0 i) in
+    λ i. call_value (c.in_ok-function-in-ExtensionCall.ensures.name i) (copied.0 i) in
     copied_at (call_value (plain_name function) (trees_of args.items)) (call_value (plain_name named) (trees_of copies.items)) _ _
     (ap tree_of c.in-ExtensionCall.is ∙ tree_of-call function args) (tree_of-call named copies)
     (call, (IsName-plain_name named, copied.1))

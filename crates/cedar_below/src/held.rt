@@ -1,0 +1,147 @@
+//! Values that are owned, or shared.
+
+ghost use Rattle.std.specs.Prelude.{◌≡◌, ◌↔◌, IfOk, IfSome, IsSome, IsTrue, false, true};
+ghost use Rattle.std.specs.Cmp.{on_equiv, on_per, on_po, on_total};
+ghost use Rattle.cedar_below.specs.Held.{Kept};
+
+use crate::memory::M;
+use std::alloc::Global;
+use std::cmp::Ordering;
+use std::fmt;
+use std::hash::{Hash, Hasher};
+use std::marker::Model;
+use std::rc::Rc;
+
+/// The form that a value is kept in.
+#[derive(Drop)]
+enum Form<T> {
+    /// A value with one owner.
+    Owned(T),
+    /// A value that is shared.
+    Shared(Rc<T>),
+}
+
+/// A value that has one owner, or is shared by several.
+///
+/// Equality, order, hash and `Debug` are those of the value, whatever the form.
+#[derive(Drop)]
+pub struct Held<T> {
+    form: Form<T>,
+}
+
+impl<T> Model for Held<T> {
+    ghost use Rattle.cedar_below.specs.Held.{Kept, kept};
+
+    ghost Value = { Kept T };
+
+    ghost view = { λ held. kept held.form };
+}
+
+impl<T> Held<T> {
+    /// The value, with one owner.
+    pub fn new(value: T) -> Self
+        ensures value { result.value ≡ value }
+        ensures form { result.is_shared ≡ false }
+    {
+        Held {
+            form: Form::Owned(value),
+        }
+    }
+
+    /// The value.
+    pub fn value(&self) -> &T
+        ensures { result.now ≡ self.now.value }
+    {
+        match &self.form {
+            Form::Owned(value) => value,
+            Form::Shared(shared) => shared.as_ref(),
+        }
+    }
+}
+
+impl<T: Drop> Held<T> {
+    /// The same value, shared from now on, or want of memory.
+    pub fn into_shared(self, alloc: Global) -> M<Self>
+        ensures value { IfOk result (λ shared. shared.value ≡ self.value) }
+        ensures form { IfOk result (λ shared. shared.is_shared ≡ true) }
+    {
+        match self.form {
+            Form::Owned(value) => Ok(Held {
+                form: Form::Shared(Rc::new(alloc, value)?),
+            }),
+            Form::Shared(shared) => Ok(Held {
+                form: Form::Shared(shared),
+            }),
+        }
+    }
+
+    /// Another owner of a shared value, None where the value has one owner, or want of memory.
+    pub fn other_owner(&self) -> M<Option<Self>>
+        ensures value { IfOk result (λ found. IfSome found (λ other. other.value ≡ self.now.value)) }
+        ensures form { IfOk result (λ found. IfSome found (λ other. other.is_shared ≡ true)) }
+        ensures shared { IfOk result (λ found. IsSome found ↔ IsTrue self.now.is_shared) }
+    {
+        match &self.form {
+            Form::Owned(_) => Ok(None),
+            Form::Shared(shared) => Ok(Some(Held {
+                form: Form::Shared(shared.clone()?),
+            })),
+        }
+    }
+}
+
+impl<T: PartialEq> PartialEq for Held<T> {
+    ghost eq = { λ a b. T.eq a.value b.value };
+
+    ghost laws = { on_per (λ a. a.value) T.laws };
+
+    fn eq(&self, other: &Held<T>) -> bool {
+        *self.value() == *other.value()
+    }
+}
+
+impl<T: Eq> Eq for Held<T> {
+    ghost laws = { on_equiv (λ a. a.value) T.Eq.laws };
+}
+
+impl<T: PartialOrd> PartialOrd for Held<T> {
+    ghost partial_cmp = { λ a b. T.partial_cmp a.value b.value };
+
+    ghost laws = { on_po (λ a. a.value) T.PartialOrd.laws };
+
+    fn partial_cmp(&self, other: &Held<T>) -> Option<Ordering> {
+        self.value().partial_cmp(other.value())
+    }
+}
+
+impl<T: Ord> Ord for Held<T> {
+    ghost cmp = { λ a b. T.cmp a.value b.value };
+
+    ghost total = { on_total (λ a. a.value) T.total };
+
+    ghost matches_partial_cmp = { λ a b. T.matches_partial_cmp a.value b.value };
+
+    ghost matches_eq = { λ a b. T.matches_eq a.value b.value };
+
+    fn cmp(&self, other: &Held<T>) -> Ordering {
+        self.value().cmp(other.value())
+    }
+}
+
+impl<T: Hash> Hash for Held<T> {
+    ghost hash_input = { λ a. T.hash_input a.value };
+
+    ghost respects_eq = { λ a b. T.respects_eq a.value b.value };
+
+    fn hash<H: Hasher>(&self, state: &mut H) {
+        self.value().hash(state)
+    }
+}
+
+impl<T: fmt::Debug> fmt::Debug for Held<T> {
+    ghost debug_output = { λ a. T.debug_output a.value };
+
+    fn fmt<W: fmt::Write>(&self, f: &mut fmt::Formatter<W>) -> fmt::Result {
+        fmt::Debug::fmt(self.value(), f)
+    }
+}
