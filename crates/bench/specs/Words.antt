@@ -5,15 +5,18 @@ use Rattle.cedar_below.specs.Text.{Text}
 abbrev pub type_piece_names : List Text
 type_piece_names =
     codes "subtype-closed-strict" ∷ codes "subtype-closed-permissive" ∷ codes "subtype-open-strict"
-    ∷ codes "subtype-open-permissive" ∷ codes "look-up" ∷ codes "membership" ∷ codes "print" ∷ codes "equality"
-    ∷ codes "copy" ∷ codes "union-inclusion" ∷ codes "union-disjointness" ∷ codes "union-joins" ∷ codes "join-strict"
+    ∷ codes "subtype-open-permissive" ∷ codes "look-up" ∷ codes "membership" ∷ codes "print"
+    ∷ codes "equality"
+    ∷ codes "copy" ∷ codes "union-inclusion" ∷ codes "union-disjointness" ∷ codes "union-joins"
+    ∷ codes "join-strict"
     ∷ codes "join-permissive" ∷ codes "separation" ∷ []
 
 -- the names of the pieces of work on schemas
 abbrev pub schema_piece_names : List Text
 schema_piece_names =
     codes "build-whole" ∷ codes "build-split" ∷ codes "build-common-chain" ∷ codes "close-chain"
-    ∷ codes "close-ring" ∷ codes "close-star" ∷ codes "close-trees" ∷ codes "schema-look-up" ∷ codes "environments"
+    ∷ codes "close-ring" ∷ codes "close-star" ∷ codes "close-trees" ∷ codes "schema-look-up"
+    ∷ codes "environments"
     ∷ codes "known-attributes" ∷ codes "validate" ∷ codes "write-back" ∷ codes "build-environments"
     ∷ codes "copy-schema" ∷ codes "scale" ∷ []
 
@@ -39,8 +42,9 @@ pub record IsComparisonOfPiece (words : List Text) : Type 0 where
   pub file : Text
   pub asked : words ≡ codes "time" ∷ piece ∷ codes "beside" ∷ file ∷ []
 
--- the words give a command: none at all, or `time`, which may be followed by the name of a piece, and then by `beside` and the
--- name of a file
+-- the words give a command: none at all, or `time`, which may be followed by the name of a piece,
+-- and then by `beside` and the name of a file
 abbrev pub IsCommand : List Text → Type 0
 IsCommand words =
-    (words ≡ []) ⊎ ((words ≡ codes "time" ∷ []) ⊎ (IsTimeOfPiece words ⊎ (IsComparison words ⊎ IsComparisonOfPiece words)))
+    (words ≡ []) ⊎ ((words ≡ codes "time" ∷ [])
+    ⊎ (IsTimeOfPiece words ⊎ (IsComparison words ⊎ IsComparisonOfPiece words)))

@@ -122,7 +122,8 @@ fn compare_all_command<'a>(word: &str, beside: &str, file: &'a str) -> Option<Co
 
 /// The command of a word, the name of a piece, another word, and the name of a file.
 fn compare_command<'a>(word: &str, piece: &str, beside: &str, file: &'a str) -> Option<Command<'a>>
-    ensures { IsSome result ↔ ((word.now ≡ codes "time") × IsPieceName piece.now × (beside.now ≡ codes "beside")) }
+    ensures { IsSome result ↔ ((word.now ≡ codes "time") × IsPieceName piece.now
+        × (beside.now ≡ codes "beside")) }
 {
     match word {
         "time" => Some(Command::Compare(earlier(beside, file)?, piece_named(piece)?)),

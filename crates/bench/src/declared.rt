@@ -43,14 +43,12 @@ fn references(alloc: Global, numbers: Range<usize>) -> Result<Vec<RawName>, Stop
     Ok(references)
 }
 
-/// The declaration of the entity type of a number: with an attribute of a type, and right below another of the
-/// same trees, but for the first.
+/// The declaration of an entity type with an attribute of a type, right below others.
 fn declaration(
     alloc: Global,
-    number: usize,
+    member_of_types: Vec<RawName>,
     ty: Type<RawName>,
 ) -> Result<EntityType<RawName>, Stop> {
-    let member_of_types = references(alloc, right_above(number))?;
     let shape = record_of(alloc, ty)?;
     Ok(EntityType {
         kind: EntityTypeKind::Standard(StandardEntityType {
@@ -63,14 +61,16 @@ fn declaration(
     })
 }
 
-/// Declares the entity type of a number, with an attribute of a type.
+/// Declares the entity type of a number, with an attribute of a type, and right below another of
+/// the same trees, but for the first.
 fn add_entity_type(
     alloc: Global,
     entity_types: &mut BTreeMap<UnreservedId, EntityType<RawName>>,
     number: usize,
     ty: Type<RawName>,
 ) -> Result<(), Stop> {
-    let declared = declaration(alloc, number, ty)?;
+    let above = references(alloc, right_above(number))?;
+    let declared = declaration(alloc, above, ty)?;
     entity_types.insert(unreserved_id(alloc, "E", number)?, declared)?;
     Ok(())
 }
@@ -110,7 +110,8 @@ fn action(
     })
 }
 
-/// Declares the action of a name, for requests of each entity type of some numbers on each of others.
+/// Declares the action of a name, for requests of each entity type of some numbers on each of
+/// others.
 fn add_action(
     alloc: Global,
     actions: &mut BTreeMap<String, ActionType<RawName>>,
@@ -173,6 +174,29 @@ pub(crate) fn whole(alloc: Global, count: usize) -> Result<Vec<Fragment<RawName>
     alone(alloc, definition(alloc, 0..count)?)
 }
 
+/// The first number of eight digits.
+const FIRST: usize = 10_000_000;
+
+/// As many entity types, each alone, whose names are some letters and a number of eight digits.
+pub(crate) fn eight_digits(
+    alloc: Global,
+    letters: &str,
+    count: usize,
+) -> Result<Vec<Fragment<RawName>>, Stop> {
+    let mut entity_types = BTreeMap::new(alloc);
+    for number in FIRST..FIRST.saturating_add(count) {
+        let declared = declaration(alloc, Vec::new(alloc), plain(TypeVariant::Long))?;
+        entity_types.insert(unreserved_id(alloc, letters, number)?, declared)?;
+    }
+    let definition = NamespaceDefinition {
+        common_types: BTreeMap::new(alloc),
+        entity_types,
+        actions: BTreeMap::new(alloc),
+        loc: None,
+    };
+    alone(alloc, definition)
+}
+
 /// As many entity types and actions, one of each in a fragment.
 pub(crate) fn split(alloc: Global, count: usize) -> Result<Vec<Fragment<RawName>>, Stop> {
     let mut fragments = Vec::new(alloc);
@@ -190,7 +214,8 @@ fn common_type(alloc: Global, number: usize) -> Result<Type<RawName>, Stop> {
     }))
 }
 
-/// What the common type of a number stands for, of as many: the next one, or numbers if it is the last.
+/// What the common type of a number stands for, of as many: the next one, or numbers if it is the
+/// last.
 fn next_of(alloc: Global, number: usize, count: usize) -> Result<Type<RawName>, Stop> {
     let next = number.saturating_add(1);
     if next == count {
@@ -213,8 +238,8 @@ fn common_types(
     Ok(common_types)
 }
 
-/// As many common types, each another name for the next and the last one for numbers, and an entity type with an
-/// attribute of the first.
+/// As many common types, each another name for the next and the last one for numbers, and an entity
+/// type with an attribute of the first.
 pub(crate) fn chain(alloc: Global, count: usize) -> Result<Vec<Fragment<RawName>>, Stop> {
     let first = common_type(alloc, 0)?;
     let mut entity_types = BTreeMap::new(alloc);
@@ -236,7 +261,8 @@ pub(crate) fn applying_to_all(alloc: Global, count: usize) -> Result<Vec<Fragmen
     alone(alloc, of_all)
 }
 
-/// One action that applies to as many entity types as principals, and to as many others as resources.
+/// One action that applies to as many entity types as principals, and to as many others as
+/// resources.
 pub(crate) fn crossing(alloc: Global, count: usize) -> Result<Vec<Fragment<RawName>>, Stop> {
     let end = count.saturating_mul(2);
     let mut actions = BTreeMap::new(alloc);

@@ -28,7 +28,8 @@ pub(crate) enum Shape {
 }
 
 impl Shape {
-    /// The numbers of the entity types that stand right below the one of a number, of as many as there are.
+    /// The numbers of the entity types that stand right below the one of a number, of as many as
+    /// there are.
     pub(crate) fn right_below(self, number: usize, count: usize) -> Range<usize> {
         let below = match self {
             Shape::Chain => number.saturating_add(1)..number.saturating_add(2),

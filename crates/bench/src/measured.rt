@@ -13,7 +13,8 @@ pub(crate) struct Least {
     pub(crate) size: usize,
     /// In tenths of a nanosecond.
     pub(crate) tenths: u128,
-    /// How many KiB of memory the program had at its most, in the run that had least, if that is known.
+    /// How many KiB of memory the program had at its most, in the run that had least, if that is
+    /// known.
     pub(crate) kib: Option<u64>,
 }
 
@@ -83,8 +84,8 @@ fn memory_ratio(alloc: Global, earlier: Option<u64>, later: Option<u64>) -> Resu
     }
 }
 
-/// The ratios of time and memory to the earlier figures of the row, each after a bar; nothing where there are
-/// none.
+/// The ratios of time and memory to the earlier figures of the row, each after a bar; nothing where
+/// there are none.
 fn ratios(alloc: Global, earlier: Option<&str>, row: &Least) -> Result<String, Stop> {
     let Some(said) = earlier.and_then(|text| said_of(text, row)) else {
         return Ok(String::new(alloc));
@@ -94,8 +95,8 @@ fn ratios(alloc: Global, earlier: Option<&str>, row: &Least) -> Result<String, S
     Ok(format!(in alloc; "|{time}|{memory}")?)
 }
 
-/// How much longer an operation takes than at the size before, to a tenth; nothing for the first size of a
-/// piece.
+/// How much longer an operation takes than at the size before, to a tenth; nothing for the first
+/// size of a piece.
 fn growth(alloc: Global, before: Option<&Least>, row: &Least) -> Result<String, Stop> {
     match before {
         Some(before) if before.piece == row.piece => {
@@ -139,9 +140,9 @@ fn head(earlier: Option<&str>) -> &'static str {
     }
 }
 
-/// The table: for each piece and size the least nanoseconds that an operation took, how many times that
-/// is of what it took at the size before, and the KiB of memory that the program had at its most; and, where there is
-/// an earlier table, how many times its time and memory these are.
+/// The table: for each piece and size the least nanoseconds that an operation took, how many times
+/// that is of what it took at the size before, and the KiB of memory that the program had at its
+/// most; and, where there is an earlier table, how many times its time and memory these are.
 pub(crate) fn table(alloc: Global, rows: &[Least], earlier: Option<&str>) -> Result<String, Stop> {
     let mut text = String::from_str(alloc, head(earlier))?;
     let mut before = None;

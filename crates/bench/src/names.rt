@@ -6,6 +6,14 @@ use cedar_schema::json_schema::RawName;
 use std::alloc::Global;
 use std::ops::Range;
 
+/// Letters with which all names of eight digits after them have one hash, where the seed is that of
+/// a hash map of std: the hasher multiplies what it has by the last sixteen bytes, of which the
+/// first eight are just what makes a factor zero.
+pub(crate) const ALIKE: &str = "FloodOf000017770VMgAjaq9";
+
+/// Letters as many, with which they haven't.
+pub(crate) const APART: &str = "FloodOf000017771VMgAjaq9";
+
 /// Some letters with a number after them.
 pub(crate) fn numbered(alloc: Global, letters: &str, number: usize) -> Result<String, Stop> {
     Ok(format!(in alloc; "{letters}{number}")?)

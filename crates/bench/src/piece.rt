@@ -59,14 +59,19 @@ pub(crate) enum Piece {
     ConvertBack,
     /// One action of as many principals and as many resources, built from one fragment.
     BuildEnvironments,
+    /// As many entity types whose names hash alike, built from one fragment.
+    BuildFlood,
+    /// As many entity types with names as long that don't.
+    BuildApart,
     /// A copy of a schema of as many entity types and actions.
     CopySchema,
-    /// As many entity types and actions, built from one fragment: more than a schema is thought to have.
+    /// As many entity types and actions, built from one fragment: more than a schema is thought to
+    /// have.
     Scale,
 }
 
 /// All pieces, in the order in which they are measured.
-pub(crate) const PIECES: [Piece; 30] = [
+pub(crate) const PIECES: [Piece; 32] = [
     Piece::SubtypeClosedStrict,
     Piece::SubtypeClosedPermissive,
     Piece::SubtypeOpenStrict,
@@ -95,6 +100,8 @@ pub(crate) const PIECES: [Piece; 30] = [
     Piece::Validate,
     Piece::ConvertBack,
     Piece::BuildEnvironments,
+    Piece::BuildFlood,
+    Piece::BuildApart,
     Piece::CopySchema,
     Piece::Scale,
 ];
@@ -140,13 +147,15 @@ impl Piece {
             Piece::Validate => "validate",
             Piece::ConvertBack => "write-back",
             Piece::BuildEnvironments => "build-environments",
+            Piece::BuildFlood => "build-flood",
+            Piece::BuildApart => "build-apart",
             Piece::CopySchema => "copy-schema",
             Piece::Scale => "scale",
         }
     }
 
-    /// The sizes at which the piece is timed, each with how often a run does it; the smallest, which is
-    /// the first, is also done once.
+    /// The sizes at which the piece is timed, each with how often a run does it; the smallest,
+    /// which is the first, is also done once.
     pub(crate) fn sizes(self) -> &'static [(usize, u32)] {
         match self {
             Piece::SubtypeClosedStrict
@@ -175,6 +184,7 @@ impl Piece {
             Piece::Environments => &[(10, 10_000), (30, 1000), (100, 100)],
             Piece::KnownAttributes => &[(10, 10_000), (30, 1000), (100, 1000)],
             Piece::BuildEnvironments => &[(30, 100), (100, 10), (300, 1), (1000, 1)],
+            Piece::BuildFlood | Piece::BuildApart => &[(1000, 1), (20_000, 1)],
             Piece::CopySchema => &[(1000, 10), (10_000, 1)],
             Piece::Scale => &[(10_000, 1), (30_000, 1), (100_000, 1), (200_000, 1)],
         }

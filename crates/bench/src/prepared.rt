@@ -4,9 +4,9 @@ ghost use Rattle.cedar_below.specs.Extensions.{extension_types};
 ghost use Rattle.cedar_below.specs.TypeNames.{TypeNamesFit};
 
 use crate::by_hand::{actions, growing_types, standard_types, uid};
-use crate::declared::{applying_to_all, chain, crossing, split, whole};
+use crate::declared::{applying_to_all, chain, crossing, eight_digits, split, whole};
 use crate::graphs::{Graph, Shape, graph};
-use crate::names::{entity_type, numbered};
+use crate::names::{ALIKE, APART, entity_type, numbered};
 use crate::piece::Piece;
 use crate::stop::Stop;
 use crate::types::{
@@ -262,6 +262,8 @@ pub(crate) fn prepare(alloc: Global, piece: Piece, count: usize) -> Result<Prepa
         Piece::Validate => validate(alloc, count),
         Piece::ConvertBack => schema_alone(alloc, OfSchema::ConvertBack, count),
         Piece::BuildEnvironments => build(crossing(alloc, count)?),
+        Piece::BuildFlood => build(eight_digits(alloc, ALIKE, count)?),
+        Piece::BuildApart => build(eight_digits(alloc, APART, count)?),
         Piece::CopySchema => schema_alone(alloc, OfSchema::Copy, count),
         Piece::Scale => build(whole(alloc, count)?),
     }

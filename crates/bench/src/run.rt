@@ -77,8 +77,8 @@ fn time_of_given<C: Clock>(clock: &C, alloc: Global, given: Given) -> Result<u12
     Ok(start.elapsed(clock)?.as_nanos())
 }
 
-/// The nanoseconds of one run of a piece. What is used up is made ready anew for each operation, which
-/// isn't counted.
+/// The nanoseconds of one run of a piece. What is used up is made ready anew for each operation,
+/// which isn't counted.
 fn time_of_run<C: Clock>(
     clock: &C,
     alloc: Global,
@@ -233,8 +233,8 @@ fn stopped<E: Write>(stop: Stop, err: &mut E) -> u8
 /// - 1: what was made ready was refused; `err` has the line `refused`.
 /// - 2: the words give no command; `err` has the line on usage.
 /// - 3: memory ran out; `err` has the line `memory`.
-/// - 4: the clock couldn't be read, or `out` couldn't be written, and `err` has the line `system`; or the
-///   file of earlier figures couldn't be read, of which `err` has a line.
+/// - 4: the clock couldn't be read, or `out` couldn't be written, and `err` has the line `system`;
+///   or the file of earlier figures couldn't be read, of which `err` has a line.
 ///
 /// A failed write to `err` is ignored.
 pub fn run<R: Clock + Files + AllocGlobal, O: Write, E: Write>(

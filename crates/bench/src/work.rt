@@ -106,8 +106,8 @@ impl OfTwo {
 }
 
 impl OfSchema {
-    /// How many environments or declarations there are, or how many attributes and descendants the entity
-    /// types of a copy have.
+    /// How many environments or declarations there are, or how many attributes and descendants the
+    /// entity types of a copy have.
     fn work(self, alloc: Global, schema: &ValidatorSchema) -> Result<usize, Stop> {
         match self {
             OfSchema::Environments => Ok(environments(schema)),
@@ -118,8 +118,9 @@ impl OfSchema {
 }
 
 impl Borrowed {
-    /// Does the work once, and answers what it computed: 1 or 0 for yes or no, the length of a text, or how
-    /// many names were compared, attributes or members are listed, or environments or declarations there are.
+    /// Does the work once, and answers what it computed: 1 or 0 for yes or no, the length of a
+    /// text, or how many names were compared, attributes or members are listed, or environments or
+    /// declarations there are.
     pub(crate) fn work(&self, alloc: Global) -> Result<usize, Stop> {
         match self {
             Borrowed::One(question, ty) => question.work(alloc, ty),
@@ -139,8 +140,8 @@ impl Borrowed {
 }
 
 impl Given {
-    /// Does the work, and answers how many attributes and descendants entity types have, or how often two rows were
-    /// joined.
+    /// Does the work, and answers how many attributes and descendants entity types have, or how
+    /// often two rows were joined.
     pub(crate) fn work(self, alloc: Global) -> Result<usize, Stop> {
         match self {
             Given::Build(fragments) => Ok(entries_of(&built(alloc, fragments)?)),

@@ -19,7 +19,8 @@ core_step layer.String = core_text
 core_step (layer.Set element) = core_set element.value
 core_step layer.EmptySet = core_empty_set
 core_step (layer.Record attrs open_attrs) =
-    core_record (core_fields_from (map (λ entry. (string_bytes entry.0, entry.1)) attrs.entries)) open_attrs
+    core_record (core_fields_from (map (λ entry.
+    (string_bytes entry.0, entry.1)) attrs.entries)) open_attrs
 core_step (layer.Entity ty) = core_entity (type_name ty)
 core_step (layer.Extension name) = core_extension (plain_name name)
 
@@ -46,4 +47,5 @@ result_type function = option_map core_ty_of function.return_type
 -- what the attributes of a core record type stand for
 abbrev pub core_fields_of : BTreeMap (String Global) CoreAttributeType → CoreFields
 core_fields_of attrs =
-    core_fields_from (map (λ entry. (string_bytes entry.0, core_attribute_of entry.1)) attrs.entries)
+    core_fields_from (map (λ entry.
+    (string_bytes entry.0, core_attribute_of entry.1)) attrs.entries)

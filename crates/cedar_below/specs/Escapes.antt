@@ -15,7 +15,8 @@ begins_code digit = not (digit == 0 || (digit == 10 || digit == 13))
 
 -- the value of a digit in hexadecimal, in lower case
 abbrev pub code_digit : ℕ → Option ℕ
-code_digit c = cond (is_in_range 48 57 c) (Some (c - 48)) (cond (is_in_range 97 102 c) (Some (c - 87)) None)
+code_digit c = cond (is_in_range 48 57 c) (Some (c - 48))
+    (cond (is_in_range 97 102 c) (Some (c - 87)) None)
 
 -- a first digit of a number
 abbrev pub first_digit : ℕ → Option Escape
@@ -23,7 +24,8 @@ first_digit digit = cond (begins_code digit) (Some (Code digit)) None
 
 -- a second digit after a first
 abbrev pub second_digit : ℕ → ℕ → Option Escape
-second_digit code digit = cond (nat_lt code 16 && is_control (code * 16 + digit)) (Some (Code (code * 16 + digit))) None
+second_digit code digit = cond (nat_lt code 16 && is_control (code * 16 + digit))
+    (Some (Code (code * 16 + digit))) None
 
 -- the character that a letter stands for behind a backslash, or the `u` of a number
 abbrev pub after_backslash : ℕ → Option Escape
@@ -39,12 +41,14 @@ after_backslash c =
 -- what is read of a quoted id with one character more
 abbrev pub escape_then : Escape → ℕ → Option Escape
 escape_then (Whole last) c =
-    cond (c == 92) (Some Backslash) (cond (c == 34) (Some Closed) (cond (is_control c) None (Some (Whole (Some c)))))
+    cond (c == 92) (Some Backslash)
+    (cond (c == 34) (Some Closed) (cond (is_control c) None (Some (Whole (Some c)))))
 escape_then Backslash c = after_backslash c
 escape_then Unicode c = cond (c == 123) (Some Open) None
 escape_then Open c = option_and_then first_digit (code_digit c)
 escape_then (Code code) c =
-    cond (c == 125) (cond (is_coded code) (Some (Whole (Some code))) None) (option_and_then (second_digit code) (code_digit c))
+    cond (c == 125) (cond (is_coded code) (Some (Whole (Some code))) None)
+    (option_and_then (second_digit code) (code_digit c))
 escape_then Closed c = None
 
 -- the character that is read last, where nothing is begun behind it

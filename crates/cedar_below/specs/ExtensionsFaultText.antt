@@ -7,6 +7,10 @@ use Rattle.cedar_below.specs.Text.{Text}
 
 -- why names can't be those of extension types, as it is printed
 abbrev pub extensions_fault_text : ExtensionsFault → Text
-extensions_fault_text (Qualified name) = codes "the extension type " ++ (name_text (plain_name name) ++ codes " is qualified")
-extensions_fault_text (Repeated name) = codes "the extension type " ++ (name_text (plain_name name) ++ codes " stands twice")
-extensions_fault_text (Primitive name) = codes "the extension type " ++ (name_text (plain_name name) ++ codes " has the name of a core type")
+extensions_fault_text (Qualified name) =
+    codes "the extension type " ++ (name_text (plain_name name) ++ codes " is qualified")
+extensions_fault_text (Repeated name) =
+    codes "the extension type " ++ (name_text (plain_name name) ++ codes " stands twice")
+extensions_fault_text (Primitive name) =
+    codes "the extension type " ++ (name_text (plain_name name)
+    ++ codes " has the name of a core type")

@@ -20,7 +20,8 @@ IsKnown extensions name function = function_named extensions name ≡ Some funct
 -- a function of that name returns values of that extension type
 abbrev pub Returns : Extensions → PlainName → PlainName → Type 0
 Returns extensions name ty =
-    (function : ExtensionFunction) × IsKnown extensions name function × (result_type function ≡ Some (core_extension ty))
+    (function : ExtensionFunction) × IsKnown extensions name function
+    × (result_type function ≡ Some (core_extension ty))
 
 -- an attribute that is there is as it has to be, and a missing one isn't required
 abbrev pub EntryFits : (Tree → Type 0) → Bool → Option Tree → Type 0
@@ -39,25 +40,31 @@ abbrev mutual
   Fits extensions (number_value value) core_long = Unit {0}
   Fits extensions (text_value value) core_text = Unit {0}
   Fits extensions (set_value values) core_empty_set = values ≡ no_tree
-  Fits extensions (set_value values) (core_set ty) = EachTree (λ value. Fits extensions value ty) values
+  Fits extensions (set_value values) (core_set ty) =
+      EachTree (λ value. Fits extensions value ty) values
   Fits extensions (map_value values) (core_record fields open_attrs) =
-      NamesListed open_attrs (entry_names values) (core_names fields) × FieldsFit extensions values fields
+      NamesListed open_attrs (entry_names values) (core_names fields)
+      × FieldsFit extensions values fields
   Fits extensions (uid_value uid) (core_entity ty) = uid.ty ≡ ty
   Fits extensions (call_value function args) (core_extension ty) = Returns extensions function ty
   Fits _ _ _ = ⊥
 
-  -- the listed attributes fit their types where they are there, and those that are required are there
+  -- the listed attributes fit their types where they are there, and those that are required are
+  -- there
   pub FieldsFit : Extensions → Entries → CoreFields → Type 0
   FieldsFit extensions values core_end = Unit {0}
   FieldsFit extensions values (core_field name required ty rest) =
-      EntryFits (λ value. Fits extensions value ty) required (entry_at name values) × FieldsFit extensions values rest
+      EntryFits (λ value. Fits extensions value ty) required (entry_at name values)
+      × FieldsFit extensions values rest
 
 -- the arguments fit the types pairwise, as far as both lists go
 abbrev pub ArgumentsFit : Extensions → Trees → List CoreTy → Type 0
-ArgumentsFit extensions (tree value values) (ty ∷ types) = Fits extensions value ty × ArgumentsFit extensions values types
+ArgumentsFit extensions (tree value values) (ty ∷ types) =
+    Fits extensions value ty × ArgumentsFit extensions values types
 ArgumentsFit _ _ _ = Unit {0}
 
--- a call gives a value of that extension type: a function of that name returns one, and the arguments fit
+-- a call gives a value of that extension type: a function of that name returns one, and the
+-- arguments fit
 abbrev pub Gives : Extensions → PlainName → Trees → PlainName → Type 0
 Gives extensions name args ty =
     (function : ExtensionFunction)

@@ -16,8 +16,8 @@ abbrev pub IsName : PlainName → Type 0
 IsName name = IsIdentifier name.base × All IsIdentifier name.path × ¬ IsReserved name
 
 abbrev mutual
-  -- a tree is a value: its numbers have 64 bits, its texts are UTF-8, its names aren't reserved, and in each map in it
-  -- each text stands once
+  -- a tree is a value: its numbers have 64 bits, its texts are UTF-8, its names aren't reserved,
+  -- and in each map in it each text stands once
   pub IsValue : Tree → Type 0
   IsValue (truth_value value) = Unit {0}
   IsValue (number_value number) = FitsSigned w64 number
@@ -35,4 +35,5 @@ abbrev mutual
   -- the entries are values by text, and each text stands once
   pub AreEntries : Entries → Type 0
   AreEntries no_entry = Unit {0}
-  AreEntries (entry name value rest) = IsText name × IsValue value × AreEntries rest × (¬ Contains (entry_names rest) name)
+  AreEntries (entry name value rest) =
+      IsText name × IsValue value × AreEntries rest × (¬ Contains (entry_names rest) name)

@@ -4,8 +4,8 @@ use Rattle.cedar_below.specs.declared.name_fault.NameFault.TheVariants.{NotAName
 use Rattle.cedar_below.specs.Stops.{StopsAt}
 use Rattle.cedar_below.specs.Text.{Text}
 
--- the fault is one of the text: it stops being of the language at that byte, or it is of the reserved texts, or it names
--- a type of Cedar's own
+-- the fault is one of the text: it stops being of the language at that byte, or it is of the
+-- reserved texts, or it names a type of Cedar's own
 abbrev pub IsNameFault : (Language ReservedText OwnText : Text → Type 0) → Text → NameFault → Type 0
 IsNameFault Language ReservedText OwnText text (NotAName at) = StopsAt Language text at
 IsNameFault Language ReservedText OwnText text Reserved = ReservedText text

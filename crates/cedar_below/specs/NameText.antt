@@ -14,4 +14,5 @@ IsNameText text = (name : PlainName) × IsOfIdentifiers name × (name_text name 
 
 -- some reserved name of identifiers prints as the text
 abbrev pub IsReservedNameText : Text → Type 0
-IsReservedNameText text = (name : PlainName) × IsOfIdentifiers name × IsReserved name × (name_text name ≡ text)
+IsReservedNameText text = (name : PlainName) × IsOfIdentifiers name × IsReserved name
+    × (name_text name ≡ text)

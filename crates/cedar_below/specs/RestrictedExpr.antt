@@ -15,8 +15,10 @@ tree_step (layer.Long value) = number_value value
 tree_step (layer.String value) = text_value (string_bytes value)
 tree_step (layer.EntityUid uid) = uid_value (uid_of uid)
 tree_step (layer.Set elements) = set_value (trees_from elements.items)
-tree_step (layer.Record values) = map_value (entries_from (map (λ entry. (string_bytes entry.0, entry.1)) values.entries))
-tree_step (layer.ExtensionCall function args) = call_value (plain_name function) (trees_from args.items)
+tree_step (layer.Record values) =
+    map_value (entries_from (map (λ entry. (string_bytes entry.0, entry.1)) values.entries))
+tree_step (layer.ExtensionCall function args) =
+    call_value (plain_name function) (trees_from args.items)
 
 -- the value that an expression stands for
 abbrev pub tree_of : RestrictedExpr → Tree
@@ -28,4 +30,5 @@ trees_of exprs = trees_from (map tree_of exprs)
 
 -- the values that a record's expressions stand for, by the attributes' names
 abbrev pub entries_of : BTreeMap (String Global) RestrictedExpr → Entries
-entries_of values = entries_from (map (λ entry. (string_bytes entry.0, tree_of entry.1)) values.entries)
+entries_of values = entries_from
+    (map (λ entry. (string_bytes entry.0, tree_of entry.1)) values.entries)

@@ -5,7 +5,8 @@ use Rattle.cedar_below.specs.PlainUid.{PlainUid}
 use Rattle.cedar_below.specs.Text.{Text}
 
 mutual
-  -- a value as plain data: a truth value, a whole number, a text, a uid, a set, a map by text, or a call of a function
+  -- a value as plain data: a truth value, a whole number, a text, a uid, a set, a map by text, or a
+  -- call of a function
   pub data Tree : Type 0 where
     truth_value : Bool → Tree
     number_value : ℤ → Tree
@@ -38,7 +39,8 @@ entries_from (first ∷ rest) = entry first.0 first.1 (entries_from rest)
 -- the value at a text
 abbrev pub entry_at : Text → Entries → Option Tree
 entry_at name no_entry = None
-entry_at name (entry other value rest) = if bytes_eq name other then Some value else entry_at name rest
+entry_at name (entry other value rest) =
+    if bytes_eq name other then Some value else entry_at name rest
 
 -- the texts at which there is a value
 abbrev pub entry_names : Entries → List Text

@@ -6,7 +6,8 @@ use Rattle.cedar_below.specs.Text.{Text}
 abbrev pub primitive_words : List Text
 primitive_words = codes "Bool" ∷ codes "Long" ∷ codes "String" ∷ []
 
--- the names can be those of extension types: unqualified, distinct, and none of them that of a core type
+-- the names can be those of extension types: unqualified, distinct, and none of them that of a core
+-- type
 pub record TypeNamesFit (names : List PlainName) : Type 0 where
   pub unqualified : All IsUnqualified names
   pub distinct : AllPairs (λ a b. a ≢ b) names

@@ -17,5 +17,7 @@ IsTypeFault before (Memory refused) = ⊤
 
 -- the name, without a location, that stands before `::`, or none where no name does
 abbrev pub IsTypeBefore : Text → Option InternalName → Type 0
-IsTypeBefore before None = (name : PlainName) → IsOfIdentifiers name → before ≢ name_text name ++ codes "::"
-IsTypeBefore before (Some name) = (before ≡ name_text (name_of name) ++ codes "::") × (name_loc name ≡ None)
+IsTypeBefore before None = (name : PlainName) → IsOfIdentifiers name
+    → before ≢ name_text name ++ codes "::"
+IsTypeBefore before (Some name) =
+    (before ≡ name_text (name_of name) ++ codes "::") × (name_loc name ≡ None)

@@ -8,8 +8,8 @@ use Rattle.cedar_below.specs.PlainName.{IsReserved, name_text}
 use Rattle.cedar_below.specs.PlainUid.{PlainUid}
 use Rattle.cedar_below.specs.Text.{Text}
 
--- a character of an id as it is printed: a quote, a backslash and some controls by a letter behind a backslash, any
--- other control by its number in hexadecimal, and all else as it is
+-- a character of an id as it is printed: a quote, a backslash and some controls by a letter behind
+-- a backslash, any other control by its number in hexadecimal, and all else as it is
 abbrev pub escaped : ℕ → Text
 escaped c =
     cond (c == 0) (codes "\\0")
@@ -42,4 +42,5 @@ IsUidText text = (uid : PlainUid) × IsOfIdentifiers uid.ty × IsUtf8 uid.eid ×
 
 -- some uid, whose type is a reserved name of identifiers, prints as the text
 abbrev pub IsReservedUidText : Text → Type 0
-IsReservedUidText text = (uid : PlainUid) × IsOfIdentifiers uid.ty × IsReserved uid.ty × IsUtf8 uid.eid × (uid_text uid ≡ text)
+IsReservedUidText text = (uid : PlainUid) × IsOfIdentifiers uid.ty × IsReserved uid.ty
+    × IsUtf8 uid.eid × (uid_text uid ≡ text)

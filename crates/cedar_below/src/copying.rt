@@ -13,7 +13,9 @@ use std::default::Emptied;
 /// The copies of some items, in their order.
 pub fn copied_items<V: Drop, F: Fn(&V) -> M<V> + Drop>(items: &Vec<V>, copy: F) -> M<Vec<V>>
     requires { F.IsAlwaysCallable copy }
-    ensures { IfOk result (λ copies. HoldsPairwise (λ item other. FnReturnsAt F.Fn copy item (Ok other)) items.now.items copies.items) }
+    ensures { IfOk result (λ copies.
+        HoldsPairwise (λ item other. FnReturnsAt F.Fn copy item
+        (Ok other)) items.now.items copies.items) }
 {
     let mut copies = Vec::new(*items.allocator());
     for item in items {
@@ -25,7 +27,8 @@ pub fn copied_items<V: Drop, F: Fn(&V) -> M<V> + Drop>(items: &Vec<V>, copy: F) 
 /// The copy of what may be there.
 pub fn copied_option<V: Drop, F: Fn(&V) -> M<V> + Drop>(it: &Option<V>, copy: F) -> M<Option<V>>
     requires { F.IsAlwaysCallable copy }
-    ensures { IfOk result (HoldsOfBoth (λ item other. FnReturnsAt F.Fn copy item (Ok other)) it.now) }
+    ensures { IfOk result (HoldsOfBoth (λ item other.
+        FnReturnsAt F.Fn copy item (Ok other)) it.now) }
 {
     match it {
         None => Ok(None),
@@ -43,7 +46,8 @@ pub fn copied_entries<K: Ord + Drop, V: Drop, F: Fn(&K) -> M<K> + Drop, G: Fn(&V
     requires value_callable { G.IsAlwaysCallable copy_value }
     requires ties { (key : K) (answer : Result K Memory) → FnReturnsAt F.Fn copy_key key answer
         → IfOk answer (λ other. K.cmp key other ≡ Equal) }
-    ensures { IfOk result (λ copies. HoldsPairwise (λ entry other. FnReturnsAt F.Fn copy_key entry.0 (Ok other.0)
+    ensures { IfOk result (λ copies.
+        HoldsPairwise (λ entry other. FnReturnsAt F.Fn copy_key entry.0 (Ok other.0)
         × FnReturnsAt G.Fn copy_value entry.1 (Ok other.1)) entries.now.entries copies.entries) }
 {
     let mut copies = BTreeMap::emptied(entries)?;

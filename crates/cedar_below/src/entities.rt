@@ -38,9 +38,11 @@ impl Entities {
     /// Puts an entity in, and gives back the one of the same uid that it takes the place of. Where
     /// memory is wanted nothing changes.
     pub fn insert(&mut self, entity: Entity) -> M<Option<Entity>>
-        ensures replaced { IfOk result (λ replaced. replaced ≡ entity_at self.old (entity_uid entity)) }
+        ensures replaced { IfOk result (λ replaced.
+            replaced ≡ entity_at self.old (entity_uid entity)) }
         ensures inserted { OnOk result (entity_at self.new (entity_uid entity) ≡ Some entity) }
-        ensures others { OnOk result ((uid : PlainUid) → uid ≢ entity_uid entity → entity_at self.new uid ≡ entity_at self.old uid) }
+        ensures others { OnOk result ((uid : PlainUid) → uid ≢ entity_uid entity
+            → entity_at self.new uid ≡ entity_at self.old uid) }
         ensures refused { OnErr result (entities_of self.new ≡ entities_of self.old) }
     {
         let uid = entity.uid().clone()?;

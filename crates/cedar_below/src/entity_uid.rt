@@ -23,7 +23,8 @@ use std::fmt;
 
 /// The uid of an entity: its type, and its id within the type.
 ///
-/// Equality, order and hash ignore the location, and whether the uid is shared. Uids order by type, and then by the id's bytes.
+/// Equality, order and hash ignore the location, and whether the uid is shared. Uids order by type,
+/// and then by the id's bytes.
 #[derive(Debug, Drop)]
 #[derive_where(PartialEq, Eq, PartialOrd, Ord, Hash)]
 pub struct EntityUID {

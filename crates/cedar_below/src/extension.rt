@@ -89,7 +89,8 @@ impl Extensions {
     /// The extensions with these types, and with these functions by name.
     pub fn new(types: Vec<Name>, functions: BTreeMap<Name, ExtensionFunction>) -> Self
         ensures types { extension_types result ≡ map plain_name types.items }
-        ensures functions { (name : PlainName) → function_named result name ≡ at_name functions name }
+        ensures functions { (name : PlainName)
+            → function_named result name ≡ at_name functions name }
     {
         Extensions { types, functions }
     }
@@ -111,7 +112,8 @@ impl Extensions {
         functions: BTreeMap<Name, ExtensionFunction>,
     ) -> Result<Self, ExtensionsFault>
         ensures types { IfOk result (λ it. extension_types it ≡ map plain_name types.items) }
-        ensures functions { IfOk result (λ it. (name : PlainName) → function_named it name ≡ at_name functions name) }
+        ensures functions { IfOk result (λ it.
+            (name : PlainName) → function_named it name ≡ at_name functions name) }
         ensures fit { OnOk result (TypeNamesFit (map plain_name types.items)) }
         ensures fault { IfErr result (IsExtensionsFault (map plain_name types.items)) }
         ensures unfit { OnErr result (¬ TypeNamesFit (map plain_name types.items)) }
@@ -151,7 +153,8 @@ impl Extensions {
         name: &'v Name,
     ) -> Result<&ExtensionFunction, ExtensionFunctionLookupError<'v>>
         ensures known { IsOk result ↔ IsSome (function_named self.now (plain_name name.now)) }
-        ensures function { IfOk result (λ function. function_named self.now (plain_name name.now) ≡ Some function.now) }
+        ensures function { IfOk result (λ function.
+            function_named self.now (plain_name name.now) ≡ Some function.now) }
         ensures name { IfErr result (λ error. error.name.now ≡ name.now) }
     {
         self.functions

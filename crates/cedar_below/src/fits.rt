@@ -26,7 +26,8 @@ fn is_same_type(ty: &EntityType, other: &EntityType) -> bool
 impl ExtensionFunction {
     /// Whether the function returns values of this extension type.
     pub fn returns(&self, ty: &Name) -> bool
-        ensures { IsTrue result ↔ (result_type self.now ≡ Some (core_extension (plain_name ty.now))) }
+        ensures { IsTrue result ↔ (result_type self.now
+            ≡ Some (core_extension (plain_name ty.now))) }
     {
         match &self.return_type {
             Some(CoreSchemaType::Extension { name }) => name.is_same(ty),
@@ -53,7 +54,8 @@ fn names_listed(
     attrs: &BTreeMap<String, CoreAttributeType>,
     open_attrs: bool,
 ) -> bool
-    ensures { IsTrue result ↔ NamesListed open_attrs (entry_names (entries_of values.now)) (core_names (core_fields_of attrs.now)) }
+    ensures { IsTrue result ↔ NamesListed open_attrs (entry_names (entries_of values.now))
+        (core_names (core_fields_of attrs.now)) }
 {
     if open_attrs {
         return true;
@@ -73,7 +75,8 @@ fn fields_fit(
     attrs: &BTreeMap<String, CoreAttributeType>,
     extensions: &Extensions,
 ) -> bool
-    ensures { IsTrue result ↔ FieldsFit extensions.now (entries_of values.now) (core_fields_of attrs.now) }
+    ensures { IsTrue result ↔ FieldsFit extensions.now (entries_of values.now)
+        (core_fields_of attrs.now) }
 {
     for (name, attribute) in attrs {
         let fits = match values.get(name) {
@@ -90,7 +93,8 @@ fn fields_fit(
 /// Whether each of the values fits a core type.
 #[cycle(fits)]
 fn all_fit(values: &[RestrictedExpr], ty: &CoreSchemaType, extensions: &Extensions) -> bool
-    ensures { IsTrue result ↔ EachTree (λ value. Fits extensions.now value (core_ty_of ty.now)) (trees_of values.now) }
+    ensures { IsTrue result ↔ EachTree (λ value.
+        Fits extensions.now value (core_ty_of ty.now)) (trees_of values.now) }
 {
     for value in values {
         if !value.fits(ty, extensions) {
@@ -132,7 +136,8 @@ impl RestrictedExpr {
 
 /// Whether the arguments fit the types pairwise, as far as both lists go.
 fn arguments_fit(args: &[RestrictedExpr], types: &[CoreSchemaType], extensions: &Extensions) -> bool
-    ensures { IsTrue result ↔ ArgumentsFit extensions.now (trees_of args.now) (map core_ty_of types.now) }
+    ensures { IsTrue result ↔ ArgumentsFit extensions.now (trees_of args.now)
+        (map core_ty_of types.now) }
 {
     for (arg, ty) in args.iter().zip(types) {
         if !arg.fits(ty, extensions) {
@@ -146,7 +151,8 @@ impl ExtensionFunction {
     /// Whether a call with these arguments gives a value of this extension type: the function
     /// returns it, and the arguments fit pairwise, as far as both lists go.
     pub fn gives(&self, args: &[RestrictedExpr], ty: &Name, extensions: &Extensions) -> bool
-        ensures { IsTrue result ↔ ((result_type self.now ≡ Some (core_extension (plain_name ty.now)))
+        ensures { IsTrue result ↔ ((result_type self.now
+            ≡ Some (core_extension (plain_name ty.now)))
             × ArgumentsFit extensions.now (trees_of args.now) (argument_types self.now)) }
     {
         self.returns(ty) && arguments_fit(args, &self.arg_types, extensions)

@@ -1,6 +1,6 @@
 //! Values that are owned, or shared.
 
-ghost use Rattle.std.specs.Prelude.{◌≡◌, ◌↔◌, IfOk, IfSome, IsSome, IsTrue, false, true};
+ghost use Rattle.std.specs.Prelude.{◌≡◌, ◌↔◌, IfOk, IfSome, IsSome, IsTrue, None, Some, false, true};
 ghost use Rattle.std.specs.Cmp.{on_equiv, on_per, on_po, on_total};
 ghost use Rattle.cedar_below.specs.Held.{Kept};
 
@@ -75,9 +75,21 @@ impl<T: Drop> Held<T> {
         }
     }
 
+    /// The value, where it has one owner.
+    pub fn into_owned(self) -> Option<T>
+        ensures owned { self.is_shared ≡ false → result ≡ Some self.value }
+        ensures shared { self.is_shared ≡ true → result ≡ None }
+    {
+        match self.form {
+            Form::Owned(value) => Some(value),
+            Form::Shared(_) => None,
+        }
+    }
+
     /// Another owner of a shared value, None where the value has one owner, or want of memory.
     pub fn other_owner(&self) -> M<Option<Self>>
-        ensures value { IfOk result (λ found. IfSome found (λ other. other.value ≡ self.now.value)) }
+        ensures value { IfOk result (λ found.
+            IfSome found (λ other. other.value ≡ self.now.value)) }
         ensures form { IfOk result (λ found. IfSome found (λ other. other.is_shared ≡ true)) }
         ensures shared { IfOk result (λ found. IsSome found ↔ IsTrue self.now.is_shared) }
     {

@@ -9,6 +9,7 @@ pub use entity::Entity;
 pub use entity_type::EntityType;
 pub use entity_uid::EntityUID;
 pub use extension::{ExtensionFunction, ExtensionFunctionLookupError, Extensions, ExtensionsFault};
+pub use held::Held;
 pub use id::Id;
 pub use internal_name::InternalName;
 pub use loc::Loc;

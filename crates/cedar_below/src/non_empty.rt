@@ -30,7 +30,8 @@ fn clone_ids(ids: &Vec<Eid>) -> M<Vec<Eid>>
 impl NonEmpty<Eid> {
     /// Equal ids in the same order.
     pub fn clone(&self) -> M<Self>
-        ensures { IfOk result (λ copy. map eid_text (items_of copy) ≡ map eid_text (items_of self.now)) }
+        ensures { IfOk result (λ copy.
+            map eid_text (items_of copy) ≡ map eid_text (items_of self.now)) }
     {
         Ok(NonEmpty {
             head: self.head.clone()?,

@@ -23,7 +23,8 @@ pub(crate) fn is_core_type_word(text: &str) -> bool
 
 /// Whether a name can be that of an extension type.
 fn is_fit(name: &Name) -> bool
-    ensures { IsTrue result ↔ (IsUnqualified (plain_name name.now) × ¬ Contains primitive_words (plain_name name.now).base) }
+    ensures { IsTrue result ↔ (IsUnqualified (plain_name name.now)
+        × ¬ Contains primitive_words (plain_name name.now).base) }
 {
     name.is_unqualified() && !is_core_type_word(name.basename().as_str())
 }
@@ -31,7 +32,8 @@ fn is_fit(name: &Name) -> bool
 /// Whether each name of the list can be that of an extension type.
 fn are_fit(names: &[Name]) -> bool
     ensures { IsTrue result
-        ↔ All (λ name. IsUnqualified (plain_name name) × ¬ Contains primitive_words (plain_name name).base) names.now }
+        ↔ All (λ name. IsUnqualified (plain_name name)
+        × ¬ Contains primitive_words (plain_name name).base) names.now }
 {
     names.iter().all(|name| is_fit(name))
 }

@@ -23,7 +23,8 @@ impl UnreservedId {
 
     /// The identifier that a text spells, or None where it spells none or the reserved word.
     pub fn new(text: String) -> Option<Self>
-        ensures valid { IsSome result ↔ (IsIdentifier (string_bytes text) × (string_bytes text ≢ reserved_word)) }
+        ensures valid { IsSome result ↔ (IsIdentifier (string_bytes text)
+            × (string_bytes text ≢ reserved_word)) }
         ensures text { IfSome result (λ id. unreserved_id_text id ≡ string_bytes text) }
     {
         let id = Id::new(text)?;
@@ -38,7 +39,8 @@ impl UnreservedId {
     /// at which it stops being one, or the reserved word `__cedar`, or out of memory.
     pub fn from_str(alloc: Global, text: &str) -> Result<Self, NameFault>
         ensures id { IfOk result (λ id. unreserved_id_text id ≡ text.now) }
-        ensures fault { IfErr result (IsNameFault IsIdentifier (λ text. text ≡ reserved_word) (λ _. ⊥) text.now) }
+        ensures fault { IfErr result (IsNameFault IsIdentifier (λ text. text ≡ reserved_word) (λ _.
+            ⊥) text.now) }
     {
         let id = Id::from_str(alloc, text)?;
         if id.is_reserved() {

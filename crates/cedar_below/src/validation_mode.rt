@@ -5,6 +5,7 @@
 pub enum ValidationMode {
     /// Types are related only where they agree in attributes, flags and entity types.
     Strict,
-    /// Types may differ in what is required, in entity types, and in what an open record does not list.
+    /// Types may differ in what is required, in entity types, and in what an open record does not
+    /// list.
     Permissive,
 }

@@ -67,7 +67,8 @@ impl Value {
 
     /// The same value.
     pub fn clone(&self) -> M<Self>
-        ensures { IfOk result (λ copy. IsCopy (tree_of (value_expr self.now)) (tree_of (value_expr copy))) }
+        ensures { IfOk result (λ copy.
+            IsCopy (tree_of (value_expr self.now)) (tree_of (value_expr copy))) }
     {
         Ok(Value::new(self.expr.clone()?))
     }

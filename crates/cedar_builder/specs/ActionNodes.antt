@@ -1,4 +1,5 @@
--- What the private steps promise of actions as nodes of a graph, which stand in a map under their uids.
+-- What the private steps promise of actions as nodes of a graph, which stand in a map under their
+-- uids.
 use Rattle.std.specs.Prelude.{◌≡◌, ◌⊎◌, ◌↔◌, Bool, List, [], Option}
 use Rattle.std.specs.HashMap.{HashMap, get}
 use Rattle.std.specs.HashSet.{contains}
@@ -16,7 +17,8 @@ use Rattle.cedar_builder.specs.ActionSteps.{IsElaboratedKind}
 use Rattle.cedar_elaboration.specs.declared.type_scope.TypeScope.{TypeScope}
 
 -- the action is what a declaration of the uid says alone, and has no descendants
-pub record IsElaboratedAction (scope : TypeScope) (stated : PlainUid) (applies_to : Requests) (it : ValidatorActionId) : Type 0 where
+pub record IsElaboratedAction (scope : TypeScope) (stated : PlainUid) (applies_to : Requests)
+    (it : ValidatorActionId) : Type 0 where
   pub uid : (action_of it).uid ≡ stated
   pub kind : IsElaboratedKind scope applies_to (action_of it).kind
   pub no_descendants : (action_of it).descendants ≡ []
@@ -40,18 +42,22 @@ IsAbove = IsEdgeIn (uid_eq.ghosts).eq
 
 -- actions are the same but for their descendants and locations
 abbrev pub SameAction : ValidatorActionId → ValidatorActionId → Type 0
-SameAction before after = ((action_of before).uid ≡ (action_of after).uid) × ((action_of before).kind ≡ (action_of after).kind)
+SameAction before after = ((action_of before).uid ≡ (action_of after).uid)
+    × ((action_of before).kind ≡ (action_of after).kind)
 
 -- what stands at a key before and after are such actions, or none
 abbrev pub AreTheSame : Option ValidatorActionId → Option ValidatorActionId → Type 0
 AreTheSame = AreAlike SameAction
 
 module _ {S : Type 0} where
-  -- after as before, but for descendants, which are now those that chains of edges lead to; and no chain is a cycle
-  pub record AreLinked (edges : List (EntityUID × EntityUID)) (before after : HashMap EntityUID ValidatorActionId S) :
+  -- after as before, but for descendants, which are now those that chains of edges lead to; and no
+  -- chain is a cycle
+  pub record AreLinked (edges : List (EntityUID × EntityUID))
+      (before after : HashMap EntityUID ValidatorActionId S) :
       Type 0 where
     pub same : (key : EntityUID) → AreTheSame (node_at before key) (node_at after key)
-    pub linked : (upper lower : EntityUID) → LeadsTo after upper lower ↔ Chain (IsAbove edges) upper lower
+    pub linked : (upper lower : EntityUID)
+        → LeadsTo after upper lower ↔ Chain (IsAbove edges) upper lower
     pub acyclic : (key : EntityUID) → ¬ Chain (IsAbove edges) key key
 
 -- why edges are refused: a chain of them is a cycle; or memory ran out

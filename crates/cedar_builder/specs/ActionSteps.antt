@@ -1,4 +1,5 @@
--- What the private steps promise of declarations: those of one uid together, their parents, and what is elaborated.
+-- What the private steps promise of declarations: those of one uid together, their parents, and
+-- what is elaborated.
 use Rattle.std.specs.Prelude.{Bool, true, false, ◌≡◌, ◌⊎◌, ◌↔◌, ◌∷◌, [], List, Contains, map}
 use Rattle.std.specs.BTreeMap.{BTreeMap}
 use Rattle.std.specs.List.{flat_map}
@@ -46,7 +47,8 @@ reference_to_action uid = record { id = uid.eid; ty = reference_to_one Entity ui
 
 -- the names are just those that the references are to
 abbrev pub AreNamed : List Reference → List PlainName → Type 0
-AreNamed references names = (name : PlainName) → Contains names name ↔ Contains references (reference_to_one Entity name)
+AreNamed references names = (name : PlainName)
+    → Contains names name ↔ Contains references (reference_to_one Entity name)
 
 -- the kind is the one that is declared, over a scope
 abbrev pub IsElaboratedKind : TypeScope → Requests → ActionKind → Type 0
@@ -54,23 +56,28 @@ IsElaboratedKind scope = IsActionKindOver AreNamed (ElaboratesAs scope)
 
 -- the context is elaborated as a record type
 abbrev pub HasRecord : TypeScope → Requests → Type 0
-HasRecord scope (requests principals resources context) = (ty : Ty) × ElaboratesAs scope context ty × IsRecordType ty
+HasRecord scope (requests principals resources context) =
+    (ty : Ty) × ElaboratesAs scope context ty × IsRecordType ty
 HasRecord scope elsewhere = Unit {0}
 
--- what counts in the requests has no open record, its extension types are known, the context is a record type, and the
--- principals and the resources are among these entity types
-pub record AreSoundRequests (scope : TypeScope) (types : List PlainName) (applies_to : Requests) : Type 0 where
+-- what counts in the requests has no open record, its extension types are known, the context is a
+-- record type, and the principals and the resources are among these entity types
+pub record AreSoundRequests (scope : TypeScope) (types : List PlainName)
+    (applies_to : Requests) : Type 0 where
   pub closed : (expr : Expr) → CountsInRequests applies_to expr → ¬ HasOpenRecord expr
   pub extensions : (expr : Expr) → CountsInRequests applies_to expr → CoversExtensions scope expr
   pub record_context : HasRecord scope applies_to
-  pub entity_types : (name : PlainName) → IsPrincipalOrResource applies_to (reference_to_one Entity name) → Contains types name
+  pub entity_types : (name : PlainName)
+      → IsPrincipalOrResource applies_to (reference_to_one Entity name) → Contains types name
 
 -- the context is elaborated as a type that is no record type
 abbrev pub HasNoRecord : TypeScope → Requests → Type 0
-HasNoRecord scope (requests principals resources context) = (ty : Ty) × ElaboratesAs scope context ty × ¬ IsRecordType ty
+HasNoRecord scope (requests principals resources context) =
+    (ty : Ty) × ElaboratesAs scope context ty × ¬ IsRecordType ty
 HasNoRecord scope elsewhere = ⊥
 
--- why the name of a principal or a resource is refused: it is reserved, or none of these entity types has it
+-- why the name of a principal or a resource is refused: it is reserved, or none of these entity
+-- types has it
 abbrev pub IsNameFault : List PlainName → PlainName → Fault → Type 0
 IsNameFault types name fault = ((fault ≡ reserved_name name) × IsReserved name)
     ⊎ ((fault ≡ undeclared_entity_types (name ∷ [])) × ¬ Contains types name)
@@ -78,15 +85,17 @@ IsNameFault types name fault = ((fault ≡ reserved_name name) × IsReserved nam
 -- why references to principals or resources are refused: the name of one is, or memory ran out
 abbrev pub IsRequestTypeFault : List PlainName → List Reference → Fault → Type 0
 IsRequestTypeFault types references fault = (fault ≡ out_of_memory)
-    ⊎ ((name : PlainName) × Contains references (reference_to_one Entity name) × IsNameFault types name fault)
+    ⊎ ((name : PlainName) × Contains references (reference_to_one Entity name)
+    × IsNameFault types name fault)
 
--- why the requests of an action are refused: what counts in them is, the context is no record type, or the name of a
--- principal or a resource is refused; or memory ran out
+-- why the requests of an action are refused: what counts in them is, the context is no record type,
+-- or the name of a principal or a resource is refused; or memory ran out
 abbrev pub IsRequestsFault : TypeScope → List PlainName → PlainUid → Requests → Fault → Type 0
 IsRequestsFault scope types uid applies_to fault = (fault ≡ out_of_memory)
     ⊎ (((expr : Expr) × CountsInRequests applies_to expr × IsRefusal scope expr fault)
     ⊎ (((fault ≡ context_not_record uid) × HasNoRecord scope applies_to)
-    ⊎ ((name : PlainName) × IsPrincipalOrResource applies_to (reference_to_one Entity name) × IsNameFault types name fault)))
+    ⊎ ((name : PlainName) × IsPrincipalOrResource applies_to (reference_to_one Entity name)
+    × IsNameFault types name fault)))
 
 -- the declaration of an action is its definition: it isn't external (RFC 116)
 abbrev pub is_action_definition : Requests → Bool

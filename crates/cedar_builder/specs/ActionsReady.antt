@@ -22,9 +22,10 @@ use Rattle.cedar_builder.specs.ActionSteps.{names_in}
 use Rattle.cedar_elaboration.specs.Scope.{Covers, extensions_in_scope}
 use Rattle.cedar_elaboration.specs.declared.type_scope.TypeScope.{TypeScope}
 
--- the declared actions and the entity types are those of the bag; its references to entity types resolve, and its
--- parents of actions name actions; enough is known of what it defines, with the extension types that it is over; no
--- common type has two definitions; and no entity type and no type of actions has a reserved name
+-- the declared actions and the entity types are those of the bag; its references to entity types
+-- resolve, and its parents of actions name actions; enough is known of what it defines, with the
+-- extension types that it is over; no common type has two definitions; and no entity type and no
+-- type of actions has a reserved name
 pub record AreActionsOf (bag : Bag) (given : Extensions)
     (declared : List (EntityUID × ActionFragment InternalName EntityType))
     (types : BTreeMap EntityType ValidatorEntityType) (scope : TypeScope) : Type 0 where
@@ -36,6 +37,8 @@ pub record AreActionsOf (bag : Bag) (given : Extensions)
       → (upper : PlainUid) × NamesAction (action_uids bag) reference upper
   pub knows : (expr : Expr) → IsCounted bag expr → Covers (definitions bag given) scope expr
   pub extensions : extensions_in_scope scope ≡ extension_types given
-  pub one_definition : (name : PlainName) (body other : Expr) → Contains (definitions bag given).common (name, body)
+  pub one_definition : (name : PlainName) (body other : Expr)
+      → Contains (definitions bag given).common (name, body)
       → Contains (definitions bag given).common (name, other) → body ≡ other
-  pub unreserved : (name : PlainName) → Contains (definitions bag given).entities name → ¬ IsReserved name
+  pub unreserved : (name : PlainName) → Contains (definitions bag given).entities name
+      → ¬ IsReserved name

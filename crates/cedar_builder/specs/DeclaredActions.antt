@@ -10,7 +10,8 @@ use Rattle.cedar_declarations.specs.Bag.{Bag, declared_actions}
 use Rattle.cedar_declarations.specs.DeclaredSchema.{IsDeclaredAction}
 
 -- each entry is what the bag declares of its uid, and each declared uid has an entry
-pub record AreDeclaredActions (bag : Bag) (extensions : Extensions) (entries : List (EntityUID × ValidatorActionId)) :
+pub record AreDeclaredActions (bag : Bag) (extensions : Extensions)
+    (entries : List (EntityUID × ValidatorActionId)) :
     Type 0 where
   pub each : (uid : EntityUID) (it : ValidatorActionId) → Contains entries (uid, it)
       → IsDeclaredAction bag extensions (plain_action_entry (uid, it))

@@ -10,7 +10,8 @@ use Rattle.cedar_schema_elements.specs.ValidatorEntityType.{plain_entry}
 use Rattle.cedar_schema_elements.specs.declared.entity_type.ValidatorEntityType.{ValidatorEntityType}
 
 -- each entry is what the bag declares of its name, and each declared name has an entry
-pub record AreDeclaredEntityTypes (bag : Bag) (extensions : Extensions) (entries : List (EntityType × ValidatorEntityType)) :
+pub record AreDeclaredEntityTypes (bag : Bag) (extensions : Extensions)
+    (entries : List (EntityType × ValidatorEntityType)) :
     Type 0 where
   pub each : (ty : EntityType) (it : ValidatorEntityType) → Contains entries (ty, it)
       → IsDeclaredEntityType bag extensions (plain_entry (ty, it))

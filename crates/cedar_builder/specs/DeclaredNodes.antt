@@ -1,5 +1,5 @@
--- What the private steps promise of what is declared, entity types and actions alike: as nodes of a graph, which stand in a
--- map under their names.
+-- What the private steps promise of what is declared, entity types and actions alike: as nodes of a
+-- graph, which stand in a map under their names.
 use Rattle.std.specs.Prelude.{◌≡◌, ◌⊎◌, ◌↔◌, ◌∷◌, [], Bool, true, false, List, Option, None, Some, IsSome, Contains, map, if◌then◌else◌}
 use Rattle.std.specs.HashMap.{HashMap, get}
 use Rattle.std.specs.List.{flat_map}
@@ -19,18 +19,22 @@ module _ {Name Body : Type 0} (is_definition : Body → Bool) where
   -- what declarations say of a name: what its definition says, or that it is declared and has none
   abbrev pub SaysIf : Bool → List (Name × Body) → Name → Body → Type 0
   SaysIf true entries name body = Contains (flat_map definition_in entries) (name, body)
-  SaysIf false entries name body = Contains (map (λ it. it.0) entries) name × ¬ Contains (defined_in entries) name
+  SaysIf false entries name body =
+      Contains (map (λ it. it.0) entries) name × ¬ Contains (defined_in entries) name
 
   abbrev pub SaysTogether : List (Name × Body) → Name → Body → Type 0
   SaysTogether entries name body = SaysIf (is_definition body) entries name body
 
   -- why declarations are refused: some one is, or a name has two definitions; or memory ran out
-  abbrev pub IsCollectingFault : {K : Type 0} → (K → Name) → (K → Body → Fault → Type 0) → (Name → Fault) → List (Name × Body) → Fault → Type 0
+  abbrev pub IsCollectingFault : {K : Type 0} → (K → Name) → (K → Body → Fault → Type 0)
+      → (Name → Fault) → List (Name × Body) → Fault → Type 0
   IsCollectingFault {K = K} key_name IsBodyFault duplicate entries fault = (fault ≡ out_of_memory)
-      ⊎ (((key : K) × (body : Body) × Contains entries (key_name key, body) × IsBodyFault key body fault)
+      ⊎ (((key : K) × (body : Body) × Contains entries (key_name key, body)
+      × IsBodyFault key body fault)
       ⊎ ((name : Name) × (fault ≡ duplicate name) × Twice (defined_in entries) name))
 
-module _ {Name Body Node : Type 0} (is_definition : Body → Bool) (IsExternal : Node → Type 0) (node_name : Node → Name)
+module _ {Name Body Node : Type 0} (is_definition : Body → Bool) (IsExternal : Node → Type 0)
+    (node_name : Node → Name)
     (Gives : Body → Node → Type 0) where
   -- the node is what the declarations of the name say together, and external where none defines it
   pub record IsCollected (entries : List (Name × Body)) (stated : Name) (it : Node) : Type 0 where
@@ -51,15 +55,17 @@ module _ {Node : Type 0} (IsExternal : Node → Type 0) where
   IsDefinedAt None = ⊥
   IsDefinedAt (Some it) = ¬ IsExternal it
 
-  -- what stands at the name of a node before and after it is put there: an external one changes nothing where one
-  -- stands, and any other replaces an external one
+  -- what stands at the name of a node before and after it is put there: an external one changes
+  -- nothing where one stands, and any other replaces an external one
   abbrev pub IsPut : Node → Option Node → Option Node → Type 0
   IsPut it None after = after ≡ Some it
-  IsPut it (Some old) after = (IsExternal it × (after ≡ Some old)) ⊎ ((¬ IsExternal it) × IsExternal old × (after ≡ Some it))
+  IsPut it (Some old) after = (IsExternal it × (after ≡ Some old))
+      ⊎ ((¬ IsExternal it) × IsExternal old × (after ≡ Some it))
 
 -- each key was written where the name of its node was
 abbrev pub AreLocated : {K Node : Type 0} → (K → Node → Type 0) → List (K × Node) → Type 0
-AreLocated {K = K} {Node = Node} IsLocatedAs entries = (entry : K × Node) → Contains entries entry → IsLocatedAs entry.0 entry.1
+AreLocated {K = K} {Node = Node} IsLocatedAs entries = (entry : K × Node) → Contains entries entry
+    → IsLocatedAs entry.0 entry.1
 
 module _ {K Node S : Type 0} (eq : K → K → Bool) (has_edge : Node → K → Bool) where
   -- no node has edges, and one stands at the upper end of each edge
@@ -72,14 +78,19 @@ abbrev pub named : {K D Name Body : Type 0} → (K → Name) → (D → Body) �
 named key_name body_of it = (key_name it.0, body_of it.1)
 
 -- each name with each of its parents
-abbrev pub parents_in : {Name Reference : Type 0} → List (Name × List Reference) → List (Name × Reference)
+abbrev pub parents_in : {Name Reference : Type 0} → List (Name × List Reference)
+    → List (Name × Reference)
 parents_in entries = flat_map (λ it. map (λ reference. (it.0, reference)) it.1) entries
 
--- an edge from a parent to what has it, as plain data: the name of the lower one, with a reference to the upper one alone
-abbrev pub plain_edge : {K Name Reference : Type 0} → (K → Name) → (Name → Reference) → K × K → Name × Reference
+-- an edge from a parent to what has it, as plain data: the name of the lower one, with a reference
+-- to the upper one alone
+abbrev pub plain_edge : {K Name Reference : Type 0} → (K → Name) → (Name → Reference) → K × K
+    → Name × Reference
 plain_edge key_name reference_to edge = (key_name edge.1, reference_to (key_name edge.0))
 
 -- why parents are refused: some one is, or memory ran out
-abbrev pub IsParentFault : {Name Reference : Type 0} → (Reference → Fault → Type 0) → List (Name × Reference) → Fault → Type 0
+abbrev pub IsParentFault : {Name Reference : Type 0} → (Reference → Fault → Type 0)
+    → List (Name × Reference) → Fault → Type 0
 IsParentFault {Name = Name} {Reference = Reference} Refuses parents fault = (fault ≡ out_of_memory)
-    ⊎ ((name : Name) × (reference : Reference) × Contains parents (name, reference) × Refuses reference fault)
+    ⊎ ((name : Name) × (reference : Reference) × Contains parents (name, reference)
+    × Refuses reference fault)

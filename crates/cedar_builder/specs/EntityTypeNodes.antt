@@ -1,4 +1,5 @@
--- What the private steps promise of entity types as nodes of a graph, which stand in a map under their names.
+-- What the private steps promise of entity types as nodes of a graph, which stand in a map under
+-- their names.
 use Rattle.std.specs.Prelude.{◌≡◌, ◌⊎◌, ◌↔◌, Bool, List, [], ◌∷◌, Option, None, Some, IsSome, Contains}
 use Rattle.std.specs.HashMap.{HashMap, get}
 use Rattle.std.specs.HashSet.{contains}
@@ -28,7 +29,8 @@ IsExternalAt None = ⊥
 IsExternalAt (Some it) = (entity_type_of it).kind ≡ external_kind
 
 -- the entity type is what a declaration of the name says alone, and has no descendants
-pub record IsElaboratedEntity (scope : TypeScope) (stated : PlainName) (body : EntityBody) (it : ValidatorEntityType) : Type 0 where
+pub record IsElaboratedEntity (scope : TypeScope) (stated : PlainName) (body : EntityBody)
+    (it : ValidatorEntityType) : Type 0 where
   pub name : (entity_type_of it).name ≡ stated
   pub kind : IsElaboratedKind scope body (entity_type_of it).kind
   pub no_descendants : descendant_names it ≡ []
@@ -39,7 +41,8 @@ has_descendant it lower = contains (entity_type_eq.ghosts).eq it.descendants low
 
 module _ {S : Type 0} where
   -- what stands in the map at a key
-  abbrev pub node_at : HashMap EntityType ValidatorEntityType S → EntityType → Option ValidatorEntityType
+  abbrev pub node_at : HashMap EntityType ValidatorEntityType S → EntityType
+      → Option ValidatorEntityType
   node_at nodes key = get (entity_type_eq.ghosts).eq nodes key
 
   -- the node at the first key has the second among its descendants
@@ -60,35 +63,49 @@ AreTheSame = AreAlike SameType
 
 module _ {S : Type 0} where
   -- the upper entity type stands in the map, and the lower isn't enumerated
-  pub record IsEdgeSound (nodes : HashMap EntityType ValidatorEntityType S) (lower upper : EntityType) : Type 0 where
+  pub record IsEdgeSound (nodes : HashMap EntityType ValidatorEntityType S)
+      (lower upper : EntityType) : Type 0 where
     pub stands : IsSome (node_at nodes upper)
     pub not_enumerated : ¬ IsEnumeratedAt (node_at nodes lower)
 
-  -- why an edge is refused: the upper entity type doesn't stand in the map, or the lower is enumerated
-  abbrev pub IsEdgeFault : HashMap EntityType ValidatorEntityType S → EntityType → EntityType → Fault → Type 0
+  -- why an edge is refused: the upper entity type doesn't stand in the map, or the lower is
+  -- enumerated
+  abbrev pub IsEdgeFault : HashMap EntityType ValidatorEntityType S → EntityType → EntityType
+      → Fault → Type 0
   IsEdgeFault nodes lower upper fault =
       ((fault ≡ undeclared_entity_types (type_name upper ∷ [])) × (node_at nodes upper ≡ None))
-      ⊎ ((fault ≡ enumerated_below (type_name lower) (type_name upper)) × IsEnumeratedAt (node_at nodes lower))
+      ⊎ ((fault ≡ enumerated_below (type_name lower) (type_name upper))
+      × IsEnumeratedAt (node_at nodes lower))
 
 -- the fault is that the one entity type is external and stands below the other, which is enumerated
 abbrev pub IsLinkFault : EntityType → EntityType → Fault → Type 0
-IsLinkFault lower upper fault = fault ≡ external_below_enumerated (type_name lower) (type_name upper)
+IsLinkFault lower upper fault =
+    fault ≡ external_below_enumerated (type_name lower) (type_name upper)
 
 module _ {S : Type 0} where
-  -- after as before, but for descendants, which are now those that chains of edges lead to; each edge leads from an
-  -- entity type that isn't enumerated to one that stands in the map, and no external one stands below an enumerated one
-  pub record AreLinked (edges : List (EntityType × EntityType)) (before after : HashMap EntityType ValidatorEntityType S) :
+  -- after as before, but for descendants, which are now those that chains of edges lead to; each
+  -- edge leads from an entity type that isn't enumerated to one that stands in the map, and no
+  -- external one stands below an enumerated one
+  pub record AreLinked (edges : List (EntityType × EntityType))
+      (before after : HashMap EntityType ValidatorEntityType S) :
       Type 0 where
     pub same : (key : EntityType) → AreTheSame (node_at before key) (node_at after key)
-    pub linked : (upper lower : EntityType) → LeadsTo after upper lower ↔ Chain (IsAbove edges) upper lower
-    pub uppers : (upper lower : EntityType) → IsAbove edges upper lower → IsSome (node_at before upper)
-    pub lowers : (upper lower : EntityType) → IsAbove edges upper lower → ¬ IsEnumeratedAt (node_at before lower)
+    pub linked : (upper lower : EntityType)
+        → LeadsTo after upper lower ↔ Chain (IsAbove edges) upper lower
+    pub uppers : (upper lower : EntityType) → IsAbove edges upper lower
+        → IsSome (node_at before upper)
+    pub lowers : (upper lower : EntityType) → IsAbove edges upper lower
+        → ¬ IsEnumeratedAt (node_at before lower)
     pub external_above : (upper lower : EntityType) → Chain (IsAbove edges) upper lower
         → IsEnumeratedAt (node_at before upper) → ¬ IsExternalAt (node_at before lower)
 
-  -- why edges are refused: some one is, or an external entity type stands below an enumerated one; or memory ran out
-  abbrev pub IsLinkingFault : List (EntityType × EntityType) → HashMap EntityType ValidatorEntityType S → Fault → Type 0
+  -- why edges are refused: some one is, or an external entity type stands below an enumerated one;
+  -- or memory ran out
+  abbrev pub IsLinkingFault : List (EntityType × EntityType)
+      → HashMap EntityType ValidatorEntityType S → Fault → Type 0
   IsLinkingFault edges nodes fault = (fault ≡ out_of_memory)
-      ⊎ (((edge : EntityType × EntityType) × Contains edges edge × IsEdgeFault nodes edge.1 edge.0 fault)
-      ⊎ ((upper lower : EntityType) × Chain (IsAbove edges) upper lower × IsEnumeratedAt (node_at nodes upper)
+      ⊎ (((edge : EntityType × EntityType) × Contains edges edge
+      × IsEdgeFault nodes edge.1 edge.0 fault)
+      ⊎ ((upper lower : EntityType) × Chain (IsAbove edges) upper lower
+      × IsEnumeratedAt (node_at nodes upper)
       × IsExternalAt (node_at nodes lower) × IsLinkFault lower upper fault))

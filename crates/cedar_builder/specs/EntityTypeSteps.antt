@@ -1,4 +1,5 @@
--- What the private steps promise of declarations: those of one name together, their parents, and what is elaborated.
+-- What the private steps promise of declarations: those of one name together, their parents, and
+-- what is elaborated.
 use Rattle.std.specs.Prelude.{Bool, true, false, ◌≡◌, ◌⊎◌, List, Option, map}
 use Rattle.cedar_below.specs.Lists.{HoldsOfBoth}
 use Rattle.cedar_below.specs.PlainName.{PlainName}
@@ -30,10 +31,12 @@ IsElaboratedKind scope = IsKindOver (ElaboratesAs scope)
 
 -- the shape is elaborated as a record type
 abbrev pub HasRecord : TypeScope → EntityBody → Type 0
-HasRecord scope (standard parents shape tags) = (fields : Fields) × ElaboratesAs scope shape (record_of fields ClosedAttributes)
+HasRecord scope (standard parents shape tags) =
+    (fields : Fields) × ElaboratesAs scope shape (record_of fields ClosedAttributes)
 HasRecord scope _ = Unit {0}
 
--- what counts in the declaration has no open record, its extension types are known, and the shape is a record type
+-- what counts in the declaration has no open record, its extension types are known, and the shape
+-- is a record type
 pub record IsSoundBody (scope : TypeScope) (body : EntityBody) : Type 0 where
   pub closed : (expr : Expr) → CountsInEntity body expr → ¬ HasOpenRecord expr
   pub extensions : (expr : Expr) → CountsInEntity body expr → CoversExtensions scope expr
@@ -41,10 +44,12 @@ pub record IsSoundBody (scope : TypeScope) (body : EntityBody) : Type 0 where
 
 -- the shape is elaborated as a type that is no record type
 abbrev pub HasNoRecord : TypeScope → EntityBody → Type 0
-HasNoRecord scope (standard parents shape tags) = (ty : Ty) × ElaboratesAs scope shape ty × ¬ IsRecordType ty
+HasNoRecord scope (standard parents shape tags) =
+    (ty : Ty) × ElaboratesAs scope shape ty × ¬ IsRecordType ty
 HasNoRecord scope _ = ⊥
 
--- why what is declared of a name is refused: what counts in it is, or its shape is no record type; or memory ran out
+-- why what is declared of a name is refused: what counts in it is, or its shape is no record type;
+-- or memory ran out
 abbrev pub IsBodyFault : TypeScope → PlainName → EntityBody → Fault → Type 0
 IsBodyFault scope name body fault = (fault ≡ out_of_memory)
     ⊎ (((expr : Expr) × CountsInEntity body expr × IsRefusal scope expr fault)

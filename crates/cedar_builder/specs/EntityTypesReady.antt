@@ -15,16 +15,19 @@ use Rattle.cedar_resolution.specs.Collected.{collected_entities}
 use Rattle.cedar_elaboration.specs.Scope.{Covers, extensions_in_scope}
 use Rattle.cedar_elaboration.specs.declared.type_scope.TypeScope.{TypeScope}
 
--- the declared entity types are those of the bag; its references to entity types resolve; enough is known of what it
--- defines, with the extension types that it is over; no common type has two definitions; and no entity type and no type
--- of actions has a reserved name
-pub record IsReady (bag : Bag) (given : Extensions) (declared : List (EntityType × EntityTypeFragment InternalName))
+-- the declared entity types are those of the bag; its references to entity types resolve; enough is
+-- known of what it defines, with the extension types that it is over; no common type has two
+-- definitions; and no entity type and no type of actions has a reserved name
+pub record IsReady (bag : Bag) (given : Extensions)
+    (declared : List (EntityType × EntityTypeFragment InternalName))
     (scope : TypeScope) : Type 0 where
   pub entities : collected_entities declared ≡ declared_entities bag
   pub placed : (reference : Reference) → IsAtEntityTypePosition bag reference
       → (name : PlainName) × ResolvesTo (defined_names bag given) reference name
   pub knows : (expr : Expr) → IsCounted bag expr → Covers (definitions bag given) scope expr
   pub extensions : extensions_in_scope scope ≡ extension_types given
-  pub one_definition : (name : PlainName) (body other : Expr) → Contains (definitions bag given).common (name, body)
+  pub one_definition : (name : PlainName) (body other : Expr)
+      → Contains (definitions bag given).common (name, body)
       → Contains (definitions bag given).common (name, other) → body ≡ other
-  pub unreserved : (name : PlainName) → Contains (definitions bag given).entities name → ¬ IsReserved name
+  pub unreserved : (name : PlainName) → Contains (definitions bag given).entities name
+      → ¬ IsReserved name

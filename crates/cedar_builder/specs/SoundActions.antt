@@ -19,17 +19,22 @@ use Rattle.cedar_names.specs.Expr.{Expr}
 use Rattle.cedar_names.specs.Reference.{Reference}
 use Rattle.cedar_elaboration.specs.Scope.{extension_name}
 
--- no action has two definitions, and none is a descendant of itself; contexts are record types; what counts has no open
--- record, and its extension types are handed in; principals and resources are declared entity types
+-- no action has two definitions, and none is a descendant of itself; contexts are record types;
+-- what counts has no open record, and its extension types are handed in; principals and resources
+-- are declared entity types
 pub record ActionsAreSound (bag : Bag) (extensions : Extensions) : Type 0 where
   pub once : (uid : PlainUid) → ¬ Twice (map (λ it. it.0) (defined_actions bag)) uid
   pub no_cycle : (uid : PlainUid) → ¬ IsDescendantAction bag uid uid
   pub records : (uid : PlainUid) → ¬ IsFault bag extensions (context_not_record uid)
-  pub closed : (uid : PlainUid) (body : ActionBody) (expr : Expr) → Contains (declared_actions bag) (uid, body)
+  pub closed : (uid : PlainUid) (body : ActionBody) (expr : Expr)
+      → Contains (declared_actions bag) (uid, body)
       → CountsInRequests body.applies_to expr → ¬ HasOpenRecord expr
-  pub extension_types : (uid : PlainUid) (body : ActionBody) (expr : Expr) → Contains (declared_actions bag) (uid, body)
+  pub extension_types : (uid : PlainUid) (body : ActionBody) (expr : Expr)
+      → Contains (declared_actions bag) (uid, body)
       → CountsInRequests body.applies_to expr → (word : Text) → MentionsExtension expr word
       → Contains (extension_types extensions) (extension_name word)
   pub entity_types : (uid : PlainUid) (body : ActionBody) (reference : Reference) (name : PlainName)
-      → Contains (declared_actions bag) (uid, body) → IsPrincipalOrResource body.applies_to reference
-      → ResolvesTo (defined_names bag extensions) reference name → Contains (map (λ it. it.0) (declared_entities bag)) name
+      → Contains (declared_actions bag) (uid, body)
+      → IsPrincipalOrResource body.applies_to reference
+      → ResolvesTo (defined_names bag extensions) reference name
+      → Contains (map (λ it. it.0) (declared_entities bag)) name

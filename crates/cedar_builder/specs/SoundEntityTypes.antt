@@ -17,18 +17,23 @@ use Rattle.cedar_names.specs.Expr.{Expr}
 use Rattle.cedar_names.specs.Reference.{Reference}
 use Rattle.cedar_elaboration.specs.Scope.{extension_name}
 
--- no entity type has two definitions; shapes are record types; what counts has no open record, and its extension types
--- are handed in; parents are declared entity types; no external entity type stands below an enumerated one, and no
--- enumerated one below any
+-- no entity type has two definitions; shapes are record types; what counts has no open record, and
+-- its extension types are handed in; parents are declared entity types; no external entity type
+-- stands below an enumerated one, and no enumerated one below any
 pub record EntityTypesAreSound (bag : Bag) (extensions : Extensions) : Type 0 where
   pub once : (name : PlainName) → ¬ Twice (map (λ it. it.0) (defined_entities bag)) name
   pub records : (name : PlainName) → ¬ IsFault bag extensions (shape_not_record name)
-  pub closed : (name : PlainName) (body : EntityBody) (expr : Expr) → Contains (declared_entities bag) (name, body)
+  pub closed : (name : PlainName) (body : EntityBody) (expr : Expr)
+      → Contains (declared_entities bag) (name, body)
       → CountsInEntity body expr → ¬ HasOpenRecord expr
-  pub extension_types : (name : PlainName) (body : EntityBody) (expr : Expr) → Contains (declared_entities bag) (name, body)
+  pub extension_types : (name : PlainName) (body : EntityBody) (expr : Expr)
+      → Contains (declared_entities bag) (name, body)
       → CountsInEntity body expr → (word : Text) → MentionsExtension expr word
       → Contains (extension_types extensions) (extension_name word)
   pub parents : (name upper : PlainName) (reference : Reference) → IsParent bag name reference
-      → ResolvesTo (defined_names bag extensions) reference upper → Contains (map (λ it. it.0) (declared_entities bag)) upper
-  pub external_above : (lower upper : PlainName) → ¬ IsFault bag extensions (external_below_enumerated lower upper)
-  pub enumerated_alone : (lower upper : PlainName) → ¬ IsFault bag extensions (enumerated_below lower upper)
+      → ResolvesTo (defined_names bag extensions) reference upper
+      → Contains (map (λ it. it.0) (declared_entities bag)) upper
+  pub external_above : (lower upper : PlainName)
+      → ¬ IsFault bag extensions (external_below_enumerated lower upper)
+  pub enumerated_alone : (lower upper : PlainName)
+      → ¬ IsFault bag extensions (enumerated_below lower upper)

@@ -44,7 +44,8 @@ pub fn actions(
         → AreDeclaredActions bag extensions actions.entries) }
     ensures located { IfOk result (λ actions. AreLocatedAsKeys actions.entries) }
     ensures sound { OnOk result ((bag : Bag) (extensions : Extensions)
-        → AreActionsOf bag extensions declared.items entity_types.now scope.now → ActionsAreSound bag extensions) }
+        → AreActionsOf bag extensions declared.items entity_types.now scope.now
+        → ActionsAreSound bag extensions) }
     ensures fault { IfErr result (λ error. (bag : Bag) (extensions : Extensions)
         → AreActionsOf bag extensions declared.items entity_types.now scope.now
         → (fault_of error ≡ out_of_memory) ⊎ IsFault bag extensions (fault_of error)) }

@@ -47,7 +47,8 @@ impl HasParents<EntityUID> for ActionFragment<InternalName, EntityType> {
     ghost reference_of = { fragment_parent ActionEntityType resolved_action_type };
 
     ghost parents_of = { λ fragment.
-        (action_fragment_body Full resolved_reference ActionEntityType resolved_action_type fragment).parents };
+        (action_fragment_body Full resolved_reference ActionEntityType resolved_action_type
+        fragment).parents };
 
     ghost Refuses = { λ reference fault. ⊥ };
 
@@ -73,11 +74,13 @@ impl<'a, 't> DeclaredNode<EntityUID, ActionScope<'a, 't>> for ValidatorActionId 
 
     ghost is_definition = { is_action_definition };
 
-    ghost Gives = { λ scope body node. IsElaboratedAction scope.types.now (action_of node).uid body node };
+    ghost Gives = { λ scope body node.
+        IsElaboratedAction scope.types.now (action_of node).uid body node };
 
     ghost IsSound = { λ scope. AreSoundRequests scope.types.now (names_in scope.entity_types.now) };
 
-    ghost IsBodyFault = { λ scope key. IsRequestsFault scope.types.now (names_in scope.entity_types.now) (uid_of key) };
+    ghost IsBodyFault = { λ scope key.
+        IsRequestsFault scope.types.now (names_in scope.entity_types.now) (uid_of key) };
 
     fn declared(
         alloc: Global,

@@ -42,14 +42,16 @@ fn context_type(
     context: &json_schema::Type<InternalName>,
     scope: &TypeScope,
 ) -> Result<Type, SchemaError>
-    ensures elaborates { IfOk result (λ elaborated. ElaboratesAs scope.now (resolved_expr context.now) (ty_of elaborated)) }
+    ensures elaborates { IfOk result (λ elaborated.
+        ElaboratesAs scope.now (resolved_expr context.now) (ty_of elaborated)) }
     ensures is_record { IfOk result (λ elaborated. IsRecordType (ty_of elaborated)) }
     ensures closed { OnOk result (¬ HasOpenRecord (resolved_expr context.now)) }
     ensures extensions { OnOk result (CoversExtensions scope.now (resolved_expr context.now)) }
     ensures fault { IfErr result (λ error. (fault_of error ≡ out_of_memory)
         ⊎ (IsRefusal scope.now (resolved_expr context.now) (fault_of error)
         ⊎ ((fault_of error ≡ context_not_record (uid_of uid.now))
-        × ((ty : Ty) × ElaboratesAs scope.now (resolved_expr context.now) ty × ¬ IsRecordType ty)))) }
+        × ((ty : Ty) × ElaboratesAs scope.now (resolved_expr context.now) ty
+        × ¬ IsRecordType ty)))) }
 {
     let elaborated = elaborate(alloc, context, scope)?;
     if is_record(&elaborated) {
@@ -68,11 +70,13 @@ fn elaborated_definition(
     scope: &TypeScope,
 ) -> Result<ValidatorActionId, SchemaError>
     ensures elaborates { IfOk result (λ action.
-        IsElaboratedAction scope.now (uid_of uid) (fragment_requests Full resolved_reference (Some requests.now)) action) }
+        IsElaboratedAction scope.now (uid_of uid)
+        (fragment_requests Full resolved_reference (Some requests.now)) action) }
     ensures loc { IfOk result (λ action. action_loc action ≡ loc) }
     ensures sound { OnOk result (AreSoundRequests scope.now (names_in entity_types.now)
         (fragment_requests Full resolved_reference (Some requests.now))) }
-    ensures fault { IfErr result (λ error. IsRequestsFault scope.now (names_in entity_types.now) (uid_of uid)
+    ensures fault { IfErr result (λ error.
+        IsRequestsFault scope.now (names_in entity_types.now) (uid_of uid)
         (fragment_requests Full resolved_reference (Some requests.now)) (fault_of error)) }
 {
     let context = context_type(alloc, &uid, &requests.context, scope)?;
@@ -99,11 +103,13 @@ pub(crate) fn elaborated_action(
     scope: &TypeScope,
 ) -> Result<ValidatorActionId, SchemaError>
     ensures elaborates { IfOk result (λ action.
-        IsElaboratedAction scope.now (uid_of uid) (fragment_requests Full resolved_reference fragment.now.requests) action) }
+        IsElaboratedAction scope.now (uid_of uid)
+        (fragment_requests Full resolved_reference fragment.now.requests) action) }
     ensures loc { IfOk result (λ action. action_loc action ≡ fragment.now.loc) }
     ensures sound { OnOk result (AreSoundRequests scope.now (names_in entity_types.now)
         (fragment_requests Full resolved_reference fragment.now.requests)) }
-    ensures fault { IfErr result (λ error. IsRequestsFault scope.now (names_in entity_types.now) (uid_of uid)
+    ensures fault { IfErr result (λ error.
+        IsRequestsFault scope.now (names_in entity_types.now) (uid_of uid)
         (fragment_requests Full resolved_reference fragment.now.requests) (fault_of error)) }
 {
     match &fragment.requests {

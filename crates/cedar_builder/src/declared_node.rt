@@ -41,9 +41,11 @@ pub(crate) trait DeclaredNode<K: Ord + Hash, S>: SchemaNode<K> {
     ) -> Result<Self, SchemaError>
         ensures name { IfOk result (λ node. Self.node_name node ≡ Self.key_name name) }
         ensures gives { IfOk result (λ node. Gives scope.now (body_of fragment) node) }
-        ensures external { IfOk result (λ node. Self.IsExternal node ↔ (is_definition (body_of fragment) ≡ false)) }
+        ensures external { IfOk result (λ node.
+            Self.IsExternal node ↔ (is_definition (body_of fragment) ≡ false)) }
         ensures sound { OnOk result (IsSound scope.now (body_of fragment)) }
-        ensures fault { IfErr result (λ error. IsBodyFault scope.now name (body_of fragment) (fault_of error)) };
+        ensures fault { IfErr result (λ error.
+            IsBodyFault scope.now name (body_of fragment) (fault_of error)) };
 }
 
 /// Puts a node under its name. An external one changes nothing where one stands; any other
@@ -52,13 +54,16 @@ fn put_node<K: Ord + Hash + Drop, V: SchemaNode<K> + Drop>(
     nodes: &mut HashMap<K, V>,
     node: V,
 ) -> Result<(), SchemaError>
-    ensures other { OnOk result ((key : K) → V.key_name key ≢ V.node_name node → get K.eq nodes.new key ≡ get K.eq nodes.old key) }
+    ensures other { OnOk result ((key : K) → V.key_name key ≢ V.node_name node
+        → get K.eq nodes.new key ≡ get K.eq nodes.old key) }
     ensures put { OnOk result ((key : K) → V.key_name key ≡ V.node_name node
         → IsPut V.IsExternal node (get K.eq nodes.old key) (get K.eq nodes.new key)) }
-    ensures located { OnOk result (AreLocated V.IsLocatedAs nodes.old.entries → AreLocated V.IsLocatedAs nodes.new.entries) }
+    ensures located { OnOk result (AreLocated V.IsLocatedAs nodes.old.entries
+        → AreLocated V.IsLocatedAs nodes.new.entries) }
     ensures fault { IfErr result (λ error. (fault_of error ≡ out_of_memory)
         ⊎ ((fault_of error ≡ V.duplicate_fault (V.node_name node)) × (¬ V.IsExternal node)
-        × ((key : K) × (V.key_name key ≡ V.node_name node) × IsDefinedAt V.IsExternal (get K.eq nodes.old key)))) }
+        × ((key : K) × (V.key_name key ≡ V.node_name node)
+        × IsDefinedAt V.IsExternal (get K.eq nodes.old key)))) }
 {
     if let Some(old) = nodes.get(node.name()) {
         if node.is_external() {
@@ -82,14 +87,18 @@ pub(crate) fn collected_nodes<K: Ord + Hash + Drop, S, V: DeclaredNode<K, S> + D
     declared: Vec<(K, V::Fragment)>,
     scope: &S,
 ) -> Result<HashMap<K, V>, SchemaError>
-    ensures collected { IfOk result (λ nodes. (key : K) → IsCollectedAt V.is_definition V.IsExternal V.node_name (V.Gives scope.now)
+    ensures collected { IfOk result (λ nodes.
+        (key : K) → IsCollectedAt V.is_definition V.IsExternal V.node_name (V.Gives scope.now)
         (map (named V.key_name V.body_of) declared.items) (V.key_name key) (get K.eq nodes key)) }
     ensures once { OnOk result ((name : V.Name)
-        → ¬ Twice (defined_in V.is_definition (map (named V.key_name V.body_of) declared.items)) name) }
+        → ¬ Twice (defined_in V.is_definition
+        (map (named V.key_name V.body_of) declared.items)) name) }
     ensures sound { OnOk result ((name : V.Name) (body : V.Body)
-        → Contains (map (named V.key_name V.body_of) declared.items) (name, body) → V.IsSound scope.now body) }
+        → Contains (map (named V.key_name V.body_of) declared.items) (name, body)
+        → V.IsSound scope.now body) }
     ensures located { IfOk result (λ nodes. AreLocated V.IsLocatedAs nodes.entries) }
-    ensures fault { IfErr result (λ error. IsCollectingFault V.is_definition V.key_name (V.IsBodyFault scope.now) V.duplicate_fault
+    ensures fault { IfErr result (λ error.
+        IsCollectingFault V.is_definition V.key_name (V.IsBodyFault scope.now) V.duplicate_fault
         (map (named V.key_name V.body_of) declared.items) (fault_of error)) }
 {
     let mut nodes = HashMap::new(alloc);

@@ -23,9 +23,10 @@ use cedar_schema_elements::ValidatorEntityType;
 use std::alloc::Global;
 use std::collections::BTreeMap;
 
-/// The entity types of a schema, each with all its descendants: what the definition of a name says, or
-/// an external one where there are only external declarations of it. A name may have one definition and
-/// any number of external declarations beside it, and the parents of all of them count.
+/// The entity types of a schema, each with all its descendants: what the definition of a name says,
+/// or an external one where there are only external declarations of it. A name may have one
+/// definition and any number of external declarations beside it, and the parents of all of them
+/// count.
 ///
 /// It errs where a name has two definitions, a shape is no record type, a shape or a type of tags
 /// can't be elaborated, a parent is no declared entity type or has a reserved name, an enumerated
@@ -37,7 +38,8 @@ pub fn entity_types(
     scope: &TypeScope,
 ) -> Result<BTreeMap<EntityType, ValidatorEntityType>, SchemaError>
     ensures declared { IfOk result (λ types. (bag : Bag) (extensions : Extensions)
-        → IsReady bag extensions declared.items scope.now → AreDeclaredEntityTypes bag extensions types.entries) }
+        → IsReady bag extensions declared.items scope.now
+        → AreDeclaredEntityTypes bag extensions types.entries) }
     ensures located { IfOk result (λ types. AreLocatedAsKeys types.entries) }
     ensures sound { OnOk result ((bag : Bag) (extensions : Extensions)
         → IsReady bag extensions declared.items scope.now → EntityTypesAreSound bag extensions) }

@@ -40,7 +40,9 @@ fn check_edge(
     upper: &EntityType,
 ) -> Result<(), SchemaError>
     ensures sound { OnOk result (IsEdgeSound nodes.now lower.now upper.now) }
-    ensures fault { IfErr result (λ error. (fault_of error ≡ out_of_memory) ⊎ IsEdgeFault nodes.now lower.now upper.now (fault_of error)) }
+    ensures fault { IfErr result (λ error.
+        (fault_of error ≡ out_of_memory)
+        ⊎ IsEdgeFault nodes.now lower.now upper.now (fault_of error)) }
 {
     if !nodes.contains_key(upper) {
         return Err(SchemaError::UndeclaredEntityTypes(NonEmpty {
@@ -56,9 +58,11 @@ fn check_edge(
 
 /// Checks each edge.
 pub(crate) fn check_edges(alloc: Global, nodes: &Nodes, edges: &[Edge]) -> Result<(), SchemaError>
-    ensures sound { OnOk result ((edge : Key × Key) → Contains edges.now edge → IsEdgeSound nodes.now edge.1 edge.0) }
+    ensures sound { OnOk result ((edge : Key × Key) → Contains edges.now edge
+        → IsEdgeSound nodes.now edge.1 edge.0) }
     ensures fault { IfErr result (λ error. (fault_of error ≡ out_of_memory)
-        ⊎ ((edge : Key × Key) × Contains edges.now edge × IsEdgeFault nodes.now edge.1 edge.0 (fault_of error))) }
+        ⊎ ((edge : Key × Key) × Contains edges.now edge
+        × IsEdgeFault nodes.now edge.1 edge.0 (fault_of error))) }
 {
     for edge in edges {
         check_edge(alloc, nodes, &edge.1, &edge.0)?;
@@ -72,9 +76,11 @@ fn check_below(
     upper: &EntityType,
     descendants: &HashSet<EntityType>,
 ) -> Result<(), SchemaError>
-    ensures sound { OnOk result ((lower : Key) → Contains descendants.now.keys lower → ¬ IsExternalAt (node_at nodes.now lower)) }
+    ensures sound { OnOk result ((lower : Key) → Contains descendants.now.keys lower
+        → ¬ IsExternalAt (node_at nodes.now lower)) }
     ensures fault { IfErr result (λ error. (fault_of error ≡ out_of_memory)
-        ⊎ ((lower : Key) × Contains descendants.now.keys lower × IsExternalAt (node_at nodes.now lower)
+        ⊎ ((lower : Key) × Contains descendants.now.keys lower
+        × IsExternalAt (node_at nodes.now lower)
         × IsLinkFault lower upper.now (fault_of error))) }
 {
     for lower in descendants {
@@ -87,10 +93,12 @@ fn check_below(
 
 /// Checks the descendants of each enumerated entity type.
 pub(crate) fn check_descendants(nodes: &Nodes) -> Result<(), SchemaError>
-    ensures sound { OnOk result ((upper lower : Key) → LeadsTo nodes.now upper lower → IsEnumeratedAt (node_at nodes.now upper)
+    ensures sound { OnOk result ((upper lower : Key) → LeadsTo nodes.now upper lower
+        → IsEnumeratedAt (node_at nodes.now upper)
         → ¬ IsExternalAt (node_at nodes.now lower)) }
     ensures fault { IfErr result (λ error. (fault_of error ≡ out_of_memory)
-        ⊎ ((upper lower : Key) × LeadsTo nodes.now upper lower × IsEnumeratedAt (node_at nodes.now upper)
+        ⊎ ((upper lower : Key) × LeadsTo nodes.now upper lower
+        × IsEnumeratedAt (node_at nodes.now upper)
         × IsExternalAt (node_at nodes.now lower) × IsLinkFault lower upper (fault_of error))) }
 {
     for (name, ty) in nodes {

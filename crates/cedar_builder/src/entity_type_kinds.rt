@@ -36,7 +36,9 @@ fn shape_attributes(
     shape: &json_schema::Type<InternalName>,
     scope: &TypeScope,
 ) -> Result<Attributes, SchemaError>
-    ensures elaborates { IfOk result (λ elaborated. ElaboratesAs scope.now (resolved_expr shape.now) (record_of (fields_of elaborated) OpenTag.ClosedAttributes)) }
+    ensures elaborates { IfOk result (λ elaborated.
+        ElaboratesAs scope.now (resolved_expr shape.now)
+        (record_of (fields_of elaborated) OpenTag.ClosedAttributes)) }
     ensures closed { OnOk result (¬ HasOpenRecord (resolved_expr shape.now)) }
     ensures extensions { OnOk result (CoversExtensions scope.now (resolved_expr shape.now)) }
     ensures fault { IfErr result (λ error. (fault_of error ≡ out_of_memory)
@@ -57,11 +59,17 @@ fn tags_type(
     tags: &Option<json_schema::Type<InternalName>>,
     scope: &TypeScope,
 ) -> Result<Option<Type>, SchemaError>
-    ensures elaborates { IfOk result (λ elaborated. AreElaboratedTags scope.now (option_map resolved_expr tags.now) (option_map ty_of elaborated)) }
-    ensures closed { OnOk result ((expr : Expr) → option_map resolved_expr tags.now ≡ Some expr → ¬ HasOpenRecord expr) }
-    ensures extensions { OnOk result ((expr : Expr) → option_map resolved_expr tags.now ≡ Some expr → CoversExtensions scope.now expr) }
+    ensures elaborates { IfOk result (λ elaborated.
+        AreElaboratedTags scope.now (option_map resolved_expr tags.now)
+        (option_map ty_of elaborated)) }
+    ensures closed { OnOk result ((expr : Expr) → option_map resolved_expr tags.now ≡ Some expr
+        → ¬ HasOpenRecord expr) }
+    ensures extensions { OnOk result
+        ((expr : Expr) → option_map resolved_expr tags.now ≡ Some expr
+        → CoversExtensions scope.now expr) }
     ensures fault { IfErr result (λ error. (fault_of error ≡ out_of_memory)
-        ⊎ ((expr : Expr) × (option_map resolved_expr tags.now ≡ Some expr) × IsRefusal scope.now expr (fault_of error))) }
+        ⊎ ((expr : Expr) × (option_map resolved_expr tags.now ≡ Some expr)
+        × IsRefusal scope.now expr (fault_of error))) }
 {
     match tags {
         None => Ok(None),
@@ -69,7 +77,8 @@ fn tags_type(
     }
 }
 
-/// The standard entity type of a name with this shape and this type of tags, as yet without descendants.
+/// The standard entity type of a name with this shape and this type of tags, as yet without
+/// descendants.
 fn standard_type(
     alloc: Global,
     name: EntityType,
@@ -77,12 +86,15 @@ fn standard_type(
     tags: &Option<json_schema::Type<InternalName>>,
     scope: &TypeScope,
 ) -> Result<ValidatorEntityType, SchemaError>
-    ensures elaborates { IfOk result (λ ty. (parents : List Reference) → IsElaboratedEntity scope.now (type_name name)
+    ensures elaborates { IfOk result (λ ty.
+        (parents : List Reference) → IsElaboratedEntity scope.now (type_name name)
         (standard parents (resolved_expr shape.now) (option_map resolved_expr tags.now)) ty) }
     ensures sound { OnOk result ((parents : List Reference) → IsSoundBody scope.now
         (standard parents (resolved_expr shape.now) (option_map resolved_expr tags.now))) }
-    ensures fault { IfErr result (λ error. (parents : List Reference) → IsBodyFault scope.now (type_name name)
-        (standard parents (resolved_expr shape.now) (option_map resolved_expr tags.now)) (fault_of error)) }
+    ensures fault { IfErr result (λ error.
+        (parents : List Reference) → IsBodyFault scope.now (type_name name)
+        (standard parents (resolved_expr shape.now) (option_map resolved_expr tags.now))
+        (fault_of error)) }
 {
     let loc = name.loc();
     let attributes = shape_attributes(alloc, &name, shape, scope)?;
@@ -100,10 +112,13 @@ pub(crate) fn elaborated_type(
     scope: &TypeScope,
 ) -> Result<ValidatorEntityType, SchemaError>
     ensures elaborates { IfOk result (λ ty.
-        IsElaboratedEntity scope.now (type_name name) (fragment_body Full resolved_reference fragment) ty) }
-    ensures sound { OnOk result (IsSoundBody scope.now (fragment_body Full resolved_reference fragment)) }
+        IsElaboratedEntity scope.now (type_name name)
+        (fragment_body Full resolved_reference fragment) ty) }
+    ensures sound { OnOk result (IsSoundBody scope.now
+        (fragment_body Full resolved_reference fragment)) }
     ensures fault { IfErr result (λ error.
-        IsBodyFault scope.now (type_name name) (fragment_body Full resolved_reference fragment) (fault_of error)) }
+        IsBodyFault scope.now (type_name name) (fragment_body Full resolved_reference fragment)
+        (fault_of error)) }
 {
     let loc = name.loc();
     match fragment {

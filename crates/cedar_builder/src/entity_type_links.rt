@@ -26,8 +26,10 @@ pub(crate) fn linked_nodes(
     mut nodes: Nodes,
     edges: Vec<Edge>,
 ) -> Result<Nodes, SchemaError>
-    ensures linked { IfOk result (λ linked. ((upper lower : Key) → ¬ LeadsTo nodes upper lower) → AreLinked edges.items nodes linked) }
-    ensures located { IfOk result (λ linked. AreLocatedAsKeys nodes.entries → AreLocatedAsKeys linked.entries) }
+    ensures linked { IfOk result (λ linked.
+        ((upper lower : Key) → ¬ LeadsTo nodes upper lower) → AreLinked edges.items nodes linked) }
+    ensures located { IfOk result (λ linked.
+        AreLocatedAsKeys nodes.entries → AreLocatedAsKeys linked.entries) }
     ensures fault { IfErr result (λ error. ((upper lower : Key) → ¬ LeadsTo nodes upper lower)
         → IsLinkingFault edges.items nodes (fault_of error)) }
 {

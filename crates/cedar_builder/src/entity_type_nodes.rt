@@ -40,9 +40,11 @@ impl HasParents<EntityType> for EntityTypeFragment<InternalName> {
 
     ghost reference_of = { resolved_reference Entity };
 
-    ghost parents_of = { λ fragment. entity_parents (fragment_body Full resolved_reference fragment) };
+    ghost parents_of = { λ fragment.
+        entity_parents (fragment_body Full resolved_reference fragment) };
 
-    ghost Refuses = { λ reference fault. (name : PlainName) × (fault ≡ reserved_name name) × IsReserved name
+    ghost Refuses = { λ reference fault. (name : PlainName) × (fault ≡ reserved_name name)
+        × IsReserved name
         × (reference ≡ reference_to_one Entity name) };
 
     fn parents(&self) -> &[InternalName] {
@@ -67,7 +69,8 @@ impl<'a> DeclaredNode<EntityType, TypeScope<'a>> for ValidatorEntityType {
 
     ghost is_definition = { is_entity_definition };
 
-    ghost Gives = { λ scope body node. IsElaboratedEntity scope (entity_type_of node).name body node };
+    ghost Gives = { λ scope body node.
+        IsElaboratedEntity scope (entity_type_of node).name body node };
 
     ghost IsSound = { IsSoundBody };
 

@@ -55,7 +55,8 @@ fn add_parents<K: Drop, D: HasParents<K>>(
         ≡ map (plain_edge D.key_name D.reference_to) edges.old.items
         ++ map (λ reference. (D.key_name lower.now, reference)) (D.parents_of declaration.now)) }
     ensures fault { IfErr result (λ error.
-        IsParentFault D.Refuses (map (λ reference. (D.key_name lower.now, reference)) (D.parents_of declaration.now)) (fault_of error)) }
+        IsParentFault D.Refuses (map (λ reference.
+        (D.key_name lower.now, reference)) (D.parents_of declaration.now)) (fault_of error)) }
 {
     for parent in declaration.parents() {
         let upper = D::parent_key(parent)?;
@@ -72,7 +73,8 @@ pub(crate) fn parent_edges<K: Drop, D: HasParents<K>>(
     ensures edges { IfOk result (λ edges. map (plain_edge D.key_name D.reference_to) edges.items
         ≡ parents_in (map (named D.key_name D.parents_of) declared.now)) }
     ensures fault { IfErr result (λ error.
-        IsParentFault D.Refuses (parents_in (map (named D.key_name D.parents_of) declared.now)) (fault_of error)) }
+        IsParentFault D.Refuses (parents_in (map (named D.key_name D.parents_of) declared.now))
+        (fault_of error)) }
 {
     let mut edges = Vec::new(alloc);
     for item in declared {

@@ -47,7 +47,9 @@ pub(crate) fn declared_types(
     ensures names { IfOk result (λ types. map type_name types.items ≡ map name_of names.now) }
     ensures declared { OnOk result ((name : PlainName) → Contains (map name_of names.now) name
         → Contains (names_in entity_types.now) name) }
-    ensures fault { IfErr result (λ error. IsRequestTypeFault (names_in entity_types.now) (map (resolved_reference Entity) names.now) (fault_of error)) }
+    ensures fault { IfErr result (λ error.
+        IsRequestTypeFault (names_in entity_types.now) (map (resolved_reference Entity) names.now)
+        (fault_of error)) }
 {
     let mut types = Vec::new(alloc);
     for name in names {

@@ -15,7 +15,8 @@ IsValueOf extensions ty value = IsValue value × Has extensions value ty
 abbrev pub IsCounterexample : Extensions → Ty → Ty → Tree → Type 0
 IsCounterexample extensions a b value = IsValueOf extensions a value × ¬ Has extensions value b
 
--- what is found for two types: nothing if the first is below the second, and else a value that separates them
+-- what is found for two types: nothing if the first is below the second, and else a value that
+-- separates them
 abbrev pub IsCounterexampleAnswer : Extensions → Ty → Ty → Option Tree → Type 0
 IsCounterexampleAnswer extensions a b None = Below Permissive a b
 IsCounterexampleAnswer extensions a b (Some value) = IsCounterexample extensions a b value

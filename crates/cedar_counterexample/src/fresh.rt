@@ -26,7 +26,8 @@ fn underscores(alloc: Global, count: usize) -> M<String>
 
 /// The length of the longest name of an attribute, or 0 where there is none.
 fn longest_name(attrs: &Attributes) -> usize
-    ensures { (name : Text) → Contains (field_names (fields_of attrs.now)) name → length name ≤ result }
+    ensures { (name : Text) → Contains (field_names (fields_of attrs.now)) name
+        → length name ≤ result }
 {
     let mut longest = 0;
     for name in attrs.keys() {
@@ -61,7 +62,8 @@ pub(crate) fn type_of_length(alloc: Global, count: usize) -> M<EntityType>
 
 /// A name that no attribute has.
 pub(crate) fn fresh_name(alloc: Global, attrs: &Attributes) -> M<String>
-    ensures { IfOk result (λ name. ¬ Contains (field_names (fields_of attrs.now)) (string_bytes name)) }
+    ensures { IfOk result (λ name.
+        ¬ Contains (field_names (fields_of attrs.now)) (string_bytes name)) }
 {
     underscores(alloc, longest_name(attrs))
 }

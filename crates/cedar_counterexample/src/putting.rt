@@ -14,8 +14,10 @@ pub(crate) fn put(
     name: String,
     value: RestrictedExpr,
 ) -> M<()>
-    ensures entries { OnOk result (values.new.entries ≡ insert_entry string_cmp values.old.entries name value) }
-    ensures put { OnOk result (IsPut (string_bytes name) (tree_of value) (entries_of values.old) (entries_of values.new)) }
+    ensures entries { OnOk result (values.new.entries
+        ≡ insert_entry string_cmp values.old.entries name value) }
+    ensures put { OnOk result (IsPut (string_bytes name) (tree_of value) (entries_of values.old)
+        (entries_of values.new)) }
 {
     let _old = values.insert(name, value)?;
     Ok(())

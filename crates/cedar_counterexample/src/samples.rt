@@ -29,7 +29,8 @@ pub(crate) fn entity_of(alloc: Global, ty: EntityType) -> RestrictedExpr
 
 /// An entity of a kind.
 fn sample_entity(alloc: Global, kind: &EntityKind) -> M<RestrictedExpr>
-    ensures { IfOk result (λ sample. (extensions : Extensions) → IsValueOf extensions (kind_ty kind.now) (tree_of sample)) }
+    ensures { IfOk result (λ sample.
+        (extensions : Extensions) → IsValueOf extensions (kind_ty kind.now) (tree_of sample)) }
 {
     match kind {
         EntityKind::AnyEntity => Ok(entity_of(alloc, type_of_length(alloc, 0)?)),
@@ -50,7 +51,8 @@ pub(crate) fn fill(
     samples: &[Value],
 ) -> M<BTreeMap<String, RestrictedExpr>>
     requires { AreStatedWith extensions.now (value_trees samples.now) (fields_of attrs.now) }
-    ensures { IfOk result (λ whole. IsFilled extensions.now (fields_of attrs.now) (entries_of start) (entries_of whole)) }
+    ensures { IfOk result (λ whole.
+        IsFilled extensions.now (fields_of attrs.now) (entries_of start) (entries_of whole)) }
 {
     let mut values = start;
     for (name, attribute) in attrs.iter() {

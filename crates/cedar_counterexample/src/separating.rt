@@ -53,7 +53,8 @@ fn set_of_one(alloc: Global, value: RestrictedExpr) -> M<RestrictedExpr>
 
 /// One value under a name.
 fn alone(alloc: Global, name: String, value: RestrictedExpr) -> M<Values>
-    ensures { IfOk result (λ values. entries_of values ≡ entry (string_bytes name) (tree_of value) no_entry) }
+    ensures { IfOk result (λ values.
+        entries_of values ≡ entry (string_bytes name) (tree_of value) no_entry) }
 {
     let mut values = BTreeMap::new(alloc);
     put(&mut values, name, value)?;
@@ -62,7 +63,8 @@ fn alone(alloc: Global, name: String, value: RestrictedExpr) -> M<Values>
 
 /// Whether each name of the one record's attributes is one of the other's.
 fn lists_all(lower: &Attributes, upper: &Attributes) -> bool
-    ensures { IsTrue result ↔ Included (field_names (fields_of lower.now)) (field_names (fields_of upper.now)) }
+    ensures { IsTrue result ↔ Included (field_names (fields_of lower.now))
+        (field_names (fields_of upper.now)) }
 {
     for name in lower.keys() {
         if upper.get_attr(name).is_none() {
@@ -82,7 +84,8 @@ fn separating_names(
     upper: &Attributes,
 ) -> M<Option<Values>>
     requires { FieldsBelow Permissive (fields_of lower.now) (fields_of upper.now) }
-    ensures { IfOk result (λ found. (extensions : Extensions) → IsRecordStart extensions (fields_of lower.now) openness
+    ensures { IfOk result (λ found.
+        (extensions : Extensions) → IsRecordStart extensions (fields_of lower.now) openness
         (fields_of upper.now) ClosedAttributes (option_map entries_of found)) }
 {
     if !lists_all(lower, upper) {
@@ -109,7 +112,8 @@ fn separating_attribute(
 ) -> M<Option<Values>>
     requires first { AreStatedWith extensions.now (value_trees samples.now) (fields_of lower.now) }
     requires second { AreStatedWith extensions.now (value_trees samples.now) (fields_of upper.now) }
-    ensures { IfOk result (λ found. IsAttributeStart extensions.now (fields_of lower.now) (fields_of upper.now)
+    ensures { IfOk result (λ found.
+        IsAttributeStart extensions.now (fields_of lower.now) (fields_of upper.now)
         (option_map entries_of found)) }
 {
     for (name, attribute) in upper.iter() {
@@ -170,7 +174,8 @@ fn separating_record(
 ) -> M<Option<RestrictedExpr>>
     requires first { AreStatedWith extensions.now (value_trees samples.now) (fields_of lower.now) }
     requires second { AreStatedWith extensions.now (value_trees samples.now) (fields_of upper.now) }
-    ensures { IfOk result (λ found. IsCounterexampleAnswer extensions.now (record_of (fields_of lower.now) openness)
+    ensures { IfOk result (λ found.
+        IsCounterexampleAnswer extensions.now (record_of (fields_of lower.now) openness)
         (record_of (fields_of upper.now) upper_openness) (option_map tree_of found)) }
 {
     let found = separating_start(
@@ -203,7 +208,8 @@ fn separating_set(
 ) -> M<Option<RestrictedExpr>>
     requires first { IsStatedWith extensions.now (value_trees samples.now) (ty_of lower.now) }
     requires second { IsStatedWith extensions.now (value_trees samples.now) (ty_of upper.now) }
-    ensures { IfOk result (λ found. IsCounterexampleAnswer extensions.now (set_of (ty_of lower.now)) (set_of (ty_of upper.now))
+    ensures { IfOk result (λ found.
+        IsCounterexampleAnswer extensions.now (set_of (ty_of lower.now)) (set_of (ty_of upper.now))
         (option_map tree_of found)) }
 {
     match separating_expr(alloc, lower, upper, extensions, samples)? {
@@ -214,8 +220,8 @@ fn separating_set(
 
 /// An expression of a value that the one type has and the other hasn't, if there is one.
 ///
-/// It goes down both types together, and what it finds on the way down is all that it builds on the way
-/// up, with samples of the other attributes of the records on that way.
+/// It goes down both types together, and what it finds on the way down is all that it builds on the
+/// way up, with samples of the other attributes of the records on that way.
 #[cycle(separating)]
 fn separating_expr(
     alloc: Global,
@@ -226,7 +232,9 @@ fn separating_expr(
 ) -> M<Option<RestrictedExpr>>
     requires first { IsStatedWith extensions.now (value_trees samples.now) (ty_of a.now) }
     requires second { IsStatedWith extensions.now (value_trees samples.now) (ty_of b.now) }
-    ensures { IfOk result (λ found. IsCounterexampleAnswer extensions.now (ty_of a.now) (ty_of b.now) (option_map tree_of found)) }
+    ensures { IfOk result (λ found.
+        IsCounterexampleAnswer extensions.now (ty_of a.now) (ty_of b.now)
+        (option_map tree_of found)) }
 {
     match (a, b) {
         (Type::Bool(lower), Type::Bool(upper)) => {
@@ -278,10 +286,10 @@ fn separating_expr(
 
 /// A value that the one type has and the other hasn't, if there is one.
 ///
-/// There is one exactly where the first type isn't below the second in permissive mode. Both types have to
-/// be stated with the samples (`Type::is_stated`): then subtyping is inclusion of values. The value has no
-/// part that it doesn't need for being one of the first type, apart from what tells it from those of the
-/// second. Out of memory is the only refusal.
+/// There is one exactly where the first type isn't below the second in permissive mode. Both types
+/// have to be stated with the samples (`Type::is_stated`): then subtyping is inclusion of values.
+/// The value has no part that it doesn't need for being one of the first type, apart from what
+/// tells it from those of the second. Out of memory is the only refusal.
 pub fn separating_value(
     alloc: Global,
     a: &Type,
@@ -291,10 +299,13 @@ pub fn separating_value(
 ) -> M<Option<Value>>
     requires first { IsStatedWith extensions.now (value_trees samples.now) (ty_of a.now) }
     requires second { IsStatedWith extensions.now (value_trees samples.now) (ty_of b.now) }
-    ensures none { IfOk result (λ found. (found ≡ None) ↔ Below Permissive (ty_of a.now) (ty_of b.now)) }
+    ensures none { IfOk result (λ found.
+        (found ≡ None) ↔ Below Permissive (ty_of a.now) (ty_of b.now)) }
     ensures real { IfOk result (λ found. IfSome found (λ value. IsValue (value_tree value))) }
-    ensures has { IfOk result (λ found. IfSome found (λ value. Has extensions.now (value_tree value) (ty_of a.now))) }
-    ensures lacks { IfOk result (λ found. IfSome found (λ value. ¬ Has extensions.now (value_tree value) (ty_of b.now))) }
+    ensures has { IfOk result (λ found.
+        IfSome found (λ value. Has extensions.now (value_tree value) (ty_of a.now))) }
+    ensures lacks { IfOk result (λ found.
+        IfSome found (λ value. ¬ Has extensions.now (value_tree value) (ty_of b.now))) }
 {
     match separating_expr(alloc, a, b, extensions, samples)? {
         Some(expr) => Ok(Some(Value::new(expr))),

@@ -56,7 +56,8 @@ pub(crate) fn separating_entity(
     upper: &EntityKind,
 ) -> M<Option<RestrictedExpr>>
     ensures { IfOk result (λ found. (extensions : Extensions)
-        → IsCounterexampleAnswer extensions (kind_ty lower.now) (kind_ty upper.now) (option_map tree_of found)) }
+        → IsCounterexampleAnswer extensions (kind_ty lower.now) (kind_ty upper.now)
+        (option_map tree_of found)) }
 {
     match (lower, upper) {
         (_, EntityKind::AnyEntity) => Ok(None),

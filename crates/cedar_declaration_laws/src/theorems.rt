@@ -47,8 +47,9 @@ pub fn declared_types_have_the_declared_values()
     ensures { DeclaredTypesHaveTheDeclaredValues }
 {}
 
-/// Bags that say the same, name by name, are ill-formed both or neither, and declare the same schemas,
-/// whatever the split into declarations, and the order and repeats of parents, principals and resources.
+/// Bags that say the same, name by name, are ill-formed both or neither, and declare the same
+/// schemas, whatever the split into declarations, and the order and repeats of parents, principals
+/// and resources.
 pub fn same_bags_declare_the_same()
     ensures { SameBagsDeclareTheSame }
 {}
@@ -71,8 +72,8 @@ pub fn declared_schemas_are_valid()
     ensures closed { DeclaredSchemasAreClosed }
 {}
 
-/// The types of attributes, tags and contexts of the schema that a bag declares are clean: the any-set stands
-/// nowhere in them.
+/// The types of attributes, tags and contexts of the schema that a bag declares are clean: the
+/// any-set stands nowhere in them.
 pub fn declared_types_are_clean()
     ensures { DeclaredTypesAreClean }
 {}
@@ -82,14 +83,14 @@ pub fn raw_references_fit_their_positions()
     ensures { (fragments : List (Fragment RawName)) → PositionsFit (raw_bag fragments) }
 {}
 
-/// The environments of the schema that a bag declares, where it isn't ill-formed, are the declared ones:
-/// for each action that is defined each pair of a principal and a resource, with the context.
+/// The environments of the schema that a bag declares, where it isn't ill-formed, are the declared
+/// ones: for each action that is defined each pair of a principal and a resource, with the context.
 pub fn environments_are_declared()
     ensures { EnvironmentsAreDeclared }
 {}
 
-/// Where each reference of a bag is replaced by the one to the name alone that it resolves to, the bag
-/// has the same faults as before, and declares the same schemas.
+/// Where each reference of a bag is replaced by the one to the name alone that it resolves to, the
+/// bag has the same faults as before, and declares the same schemas.
 pub fn resolution_changes_nothing()
     ensures { ResolutionChangesNothing }
 {}

@@ -12,18 +12,22 @@ IsDefinedKind external_action = ⊥
 
 -- the schema has a defined action of the uid
 abbrev pub DefinesAction : PlainSchema → PlainUid → Type 0
-DefinesAction schema uid = (it : SchemaAction) × Contains schema.actions (uid, it) × IsDefinedKind it.kind
+DefinesAction schema uid = (it : SchemaAction) × Contains schema.actions (uid, it)
+    × IsDefinedKind it.kind
 
--- the entity is that of a defined action of the schema: without attributes and tags, and just below the actions that
--- list it among their descendants
+-- the entity is that of a defined action of the schema: without attributes and tags, and just below
+-- the actions that list it among their descendants
 pub record IsEntityOfAction (schema : PlainSchema) (it : ActionEntity) : Type 0 where
   pub defined : DefinesAction schema it.uid
   pub attributes : it.attributes ≡ no_entry
   pub tags : it.tags ≡ no_entry
-  pub ancestors : (upper : PlainUid) → Contains it.ancestors upper ↔ ListsDescendantAction schema it.uid upper
+  pub ancestors : (upper : PlainUid)
+      → Contains it.ancestors upper ↔ ListsDescendantAction schema it.uid upper
 
 -- the entities of actions that the schema holds are those of its defined actions, each once
 pub record AreActionEntities (schema : PlainSchema) : Type 0 where
-  pub entities : (it : ActionEntity) → Contains schema.action_entities it → IsEntityOfAction schema it
-  pub each : (uid : PlainUid) → DefinesAction schema uid → Contains (map (λ it. it.uid) schema.action_entities) uid
+  pub entities : (it : ActionEntity) → Contains schema.action_entities it
+      → IsEntityOfAction schema it
+  pub each : (uid : PlainUid) → DefinesAction schema uid
+      → Contains (map (λ it. it.uid) schema.action_entities) uid
   pub in_order : IsStrictlySortedBy uid_cmp (map (λ it. it.uid) schema.action_entities)

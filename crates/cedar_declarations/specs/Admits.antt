@@ -17,9 +17,10 @@ member_names no_member = []
 member_names (member name required expr rest) = name ∷ member_names rest
 
 mutual
-  -- the expression admits the value: each admits its own kind of value, a record no attribute that it doesn't list, an
-  -- entity type each uid of it, an extension type the calls that give a value of it, and a common type whatever its
-  -- definition admits; a name that is both is taken as the common type (RFC 24)
+  -- the expression admits the value: each admits its own kind of value, a record no attribute that
+  -- it doesn't list, an entity type each uid of it, an extension type the calls that give a value
+  -- of it, and a common type whatever its definition admits; a name that is both is taken as the
+  -- common type (RFC 24)
   pub data Admits (defined : Defined) (extensions : Extensions) : Tree → Expr → Type 0 where
     admits_text : (it : Text) → Admits defined extensions (text_value it) text_expr
     admits_long : (it : ℤ) → Admits defined extensions (number_value it) long_expr
@@ -27,10 +28,13 @@ mutual
     admits_set : {values : Trees} {element : Expr} → AdmitsEach defined extensions values element
         → Admits defined extensions (set_value values) (set_expr element)
     admits_record : {values : Entries} {members : Members} {additional : Bool}
-        → Included (entry_names values) (member_names members) → AdmitsMembers defined extensions values members
+        → Included (entry_names values) (member_names members)
+        → AdmitsMembers defined extensions values members
         → Admits defined extensions (map_value values) (record_expr members additional)
-    admits_entity : (uid : PlainUid) (reference : Reference) → ResolvesTo (names_of defined) reference uid.ty
-        → IsEntity (names_of defined) reference.kind uid.ty → ((body : Expr) → ¬ IsCommon defined reference.kind uid.ty body)
+    admits_entity : (uid : PlainUid) (reference : Reference)
+        → ResolvesTo (names_of defined) reference uid.ty
+        → IsEntity (names_of defined) reference.kind uid.ty
+        → ((body : Expr) → ¬ IsCommon defined reference.kind uid.ty body)
         → Admits defined extensions (uid_value uid) (named reference)
     admits_common : {value : Tree} (reference : Reference) (name : PlainName) (body : Expr)
         → ResolvesTo (names_of defined) reference name → IsCommon defined reference.kind name body
@@ -42,16 +46,21 @@ mutual
   -- the expression admits each value
   pub data AdmitsEach (defined : Defined) (extensions : Extensions) : Trees → Expr → Type 0 where
     admits_none : {expr : Expr} → AdmitsEach defined extensions no_tree expr
-    admits_first : {value : Tree} {values : Trees} {expr : Expr} → Admits defined extensions value expr
-        → AdmitsEach defined extensions values expr → AdmitsEach defined extensions (tree value values) expr
+    admits_first : {value : Tree} {values : Trees} {expr : Expr}
+        → Admits defined extensions value expr
+        → AdmitsEach defined extensions values expr
+        → AdmitsEach defined extensions (tree value values) expr
 
   -- the listed attributes are admitted where they are there, and those that are required are there
-  pub data AdmitsMembers (defined : Defined) (extensions : Extensions) : Entries → Members → Type 0 where
+  pub data AdmitsMembers (defined : Defined) (extensions : Extensions) : Entries → Members
+      → Type 0 where
     admits_no_member : {values : Entries} → AdmitsMembers defined extensions values no_member
-    admits_missing : {values : Entries} {name : Text} {expr : Expr} {rest : Members} → entry_at name values ≡ None
+    admits_missing : {values : Entries} {name : Text} {expr : Expr} {rest : Members}
+        → entry_at name values ≡ None
         → AdmitsMembers defined extensions values rest
         → AdmitsMembers defined extensions values (member name false expr rest)
-    admits_there : {values : Entries} {name : Text} {required : Bool} {expr : Expr} {rest : Members} (value : Tree)
+    admits_there : {values : Entries} {name : Text} {required : Bool} {expr : Expr} {rest : Members}
+        (value : Tree)
         → entry_at name values ≡ Some value → Admits defined extensions value expr
         → AdmitsMembers defined extensions values rest
         → AdmitsMembers defined extensions values (member name required expr rest)

@@ -23,7 +23,8 @@ Bag = List Declaration
 abbrev pub declared_name : Declaration → PlainName
 declared_name it = name_within it.namespace it.id
 
--- the uid of an action that is declared: its type is `Action` in the namespace (the Cedar reference on schemas)
+-- the uid of an action that is declared: its type is `Action` in the namespace (the Cedar reference
+-- on schemas)
 abbrev pub declared_uid : Declaration → PlainUid
 declared_uid it = record { ty = name_within it.namespace action_word; eid = it.id }
 
@@ -56,13 +57,15 @@ declared_actions bag = flat_map (λ it. action_in (declared_uid it) it.body) bag
 
 -- the names of the types that are declared, common and entity
 abbrev pub declared_types : Bag → List PlainName
-declared_types bag = map (λ it. it.0) (declared_common bag) ++ map (λ it. it.0) (declared_entities bag)
+declared_types bag = map (λ it. it.0) (declared_common bag)
+    ++ map (λ it. it.0) (declared_entities bag)
 
 -- the uids of the actions that are declared
 abbrev pub action_uids : Bag → List PlainUid
 action_uids bag = map (λ it. it.0) (declared_actions bag)
 
--- the built-in base names with what they stand for: the primitive types, and the extension types that were handed in
+-- the built-in base names with what they stand for: the primitive types, and the extension types
+-- that were handed in
 abbrev pub built_in_types : Extensions → List (Text × Expr)
 built_in_types extensions =
     (codes "Bool", truth_expr) ∷ (codes "Long", long_expr) ∷ (codes "String", text_expr)
@@ -82,15 +85,19 @@ built_ins extensions = map (λ it. (built_in_name it.0, it.1)) (built_in_types e
 
 -- a type of this base name is declared in the empty namespace
 abbrev pub is_declared_here : Bag → Text → Bool
-is_declared_here bag word = list_any (λ name. is_eq (name_cmp (alias_name word) name)) (declared_types bag)
+is_declared_here bag word = list_any (λ name.
+    is_eq (name_cmp (alias_name word) name)) (declared_types bag)
 
--- the aliases: the built-in types under their base names alone, but for those of which a type is declared in the empty
--- namespace (RFC 24)
+-- the aliases: the built-in types under their base names alone, but for those of which a type is
+-- declared in the empty namespace (RFC 24)
 abbrev pub aliases : Bag → Extensions → List (PlainName × Expr)
-aliases bag extensions = map (λ it. (alias_name it.0, it.1)) (filter (λ it. not (is_declared_here bag it.0)) (built_in_types extensions))
+aliases bag extensions = map (λ it.
+    (alias_name it.0, it.1)) (filter (λ it.
+    not (is_declared_here bag it.0)) (built_in_types extensions))
 
--- what a bag defines: the common types that are declared, the built-in ones and the aliases, each with its definition;
--- the entity types that are declared, and the types of the declared actions; and the declared actions
+-- what a bag defines: the common types that are declared, the built-in ones and the aliases, each
+-- with its definition; the entity types that are declared, and the types of the declared actions;
+-- and the declared actions
 abbrev pub definitions : Bag → Extensions → Defined
 definitions bag extensions = record {
   common = declared_common bag ++ built_ins extensions ++ aliases bag extensions;

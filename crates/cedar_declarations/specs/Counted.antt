@@ -8,7 +8,8 @@ use Rattle.cedar_names.specs.declared.json_schema.reference_type.ReferenceType.T
 use Rattle.cedar_declarations.specs.Bag.{Bag}
 use Rattle.cedar_declarations.specs.Mentions.{Refers}
 
--- the expression counts in what is declared of an entity type: it is the shape, or the type of the tags (RFC 82)
+-- the expression counts in what is declared of an entity type: it is the shape, or the type of the
+-- tags (RFC 82)
 abbrev pub CountsInEntity : EntityBody → Expr → Type 0
 CountsInEntity (standard parents shape tags) expr = (shape ≡ expr) ⊎ (tags ≡ Some expr)
 CountsInEntity _ expr = ⊥
@@ -18,7 +19,8 @@ abbrev pub CountsInRequests : Requests → Expr → Type 0
 CountsInRequests (requests principals resources context) expr = context ≡ expr
 CountsInRequests elsewhere expr = ⊥
 
--- the expression counts in what is declared: the definition of a common type, and what isn't external otherwise (RFC 116)
+-- the expression counts in what is declared: the definition of a common type, and what isn't
+-- external otherwise (RFC 116)
 abbrev pub CountsIn : Body → Expr → Type 0
 CountsIn (common_type definition) expr = definition ≡ expr
 CountsIn (entity_type body) expr = CountsInEntity body expr
@@ -32,12 +34,13 @@ entity_parents (external parents) = parents
 
 -- the reference is to a principal or a resource of the requests
 abbrev pub IsPrincipalOrResource : Requests → Reference → Type 0
-IsPrincipalOrResource (requests principals resources context) reference = Contains principals reference
+IsPrincipalOrResource (requests principals resources context) reference =
+    Contains principals reference
     ⊎ Contains resources reference
 IsPrincipalOrResource elsewhere reference = ⊥
 
--- the reference has to name an entity type: it is to a parent of an entity type, external ones too, or to a principal
--- or a resource of an action that isn't external
+-- the reference has to name an entity type: it is to a parent of an entity type, external ones too,
+-- or to a principal or a resource of an action that isn't external
 abbrev pub IsEntityTypePosition : Body → Reference → Type 0
 IsEntityTypePosition (common_type definition) reference = ⊥
 IsEntityTypePosition (entity_type body) reference = Contains (entity_parents body) reference
@@ -49,12 +52,16 @@ IsCounted bag expr = (it : Declaration) × Contains bag it × CountsIn it.body e
 
 -- the reference stands at a position of some declaration of the bag that has to name an entity type
 abbrev pub IsAtEntityTypePosition : Bag → Reference → Type 0
-IsAtEntityTypePosition bag reference = (it : Declaration) × Contains bag it × IsEntityTypePosition it.body reference
+IsAtEntityTypePosition bag reference =
+    (it : Declaration) × Contains bag it × IsEntityTypePosition it.body reference
 
--- the reference has to name something: it stands in an expression that counts, or at the position of an entity type
+-- the reference has to name something: it stands in an expression that counts, or at the position
+-- of an entity type
 abbrev pub HasToResolve : Bag → Reference → Type 0
-HasToResolve bag reference = ((expr : Expr) × IsCounted bag expr × Refers expr reference) ⊎ IsAtEntityTypePosition bag reference
+HasToResolve bag reference = ((expr : Expr) × IsCounted bag expr × Refers expr reference)
+    ⊎ IsAtEntityTypePosition bag reference
 
 -- the references at the positions of entity types are to entity types, as a fragment writes them
 abbrev pub PositionsFit : Bag → Type 0
-PositionsFit bag = (reference : Reference) → IsAtEntityTypePosition bag reference → reference.kind ≡ Entity
+PositionsFit bag = (reference : Reference) → IsAtEntityTypePosition bag reference
+    → reference.kind ≡ Entity

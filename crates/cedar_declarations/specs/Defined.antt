@@ -19,6 +19,7 @@ names_of defined = record {
   actions = defined.actions;
 }
 
--- the name is that of a common type which a reference of the kind may name, and this is its definition
+-- the name is that of a common type which a reference of the kind may name, and this is its
+-- definition
 abbrev pub IsCommon : Defined → ReferenceType → PlainName → Expr → Type 0
 IsCommon defined kind name body = MayNameCommon kind × Contains defined.common (name, body)

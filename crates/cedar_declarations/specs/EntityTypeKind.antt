@@ -4,8 +4,8 @@ use Rattle.cedar_type_rules.specs.Ty.{Ty, Fields, end}
 use Rattle.cedar_type_rules.specs.declared.open_tag.OpenTag.{OpenTag}
 use Rattle.cedar_type_rules.specs.declared.open_tag.OpenTag.TheVariants.{ClosedAttributes}
 
--- how an entity type is declared: by its attributes and the type of its tags (RFC 82), by its choices (RFC 53), or
--- elsewhere (RFC 116)
+-- how an entity type is declared: by its attributes and the type of its tags (RFC 82), by its
+-- choices (RFC 53), or elsewhere (RFC 116)
 pub data EntityTypeKind : Type 0 where
   standard_kind : Fields → OpenTag → Option Ty → EntityTypeKind
   enumerated_kind : List Text → EntityTypeKind

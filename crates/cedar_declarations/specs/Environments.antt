@@ -11,15 +11,16 @@ use Rattle.cedar_declarations.specs.Together.{defined_actions}
 use Rattle.cedar_names.specs.ActionBody.{Requests, requests, elsewhere}
 use Rattle.cedar_type_rules.specs.Ty.{Ty}
 
--- the types of a request: those of the principal and of the resource, the action, and the type of the context
+-- the types of a request: those of the principal and of the resource, the action, and the type of
+-- the context
 pub record Environment : Type 0 where
   pub principal : PlainName
   pub action : PlainUid
   pub resource : PlainName
   pub context : Ty
 
--- the environment is of requests that a kind of action is for: one of its principals with one of its resources, and its
--- context
+-- the environment is of requests that a kind of action is for: one of its principals with one of
+-- its resources, and its context
 abbrev pub IsRequestOf : ActionKind → Environment → Type 0
 IsRequestOf (defined_action principals resources context) it =
     Contains principals it.principal × Contains resources it.resource × (context ≡ it.context)
@@ -28,18 +29,20 @@ IsRequestOf external_action it = ⊥
 -- the environment is one of the schema: it is of requests that its action is for
 abbrev pub IsEnvironmentOf : PlainSchema → Environment → Type 0
 IsEnvironmentOf schema it =
-    (action : SchemaAction) × Contains schema.actions (it.action, action) × IsRequestOf action.kind it
+    (action : SchemaAction) × Contains schema.actions (it.action, action)
+    × IsRequestOf action.kind it
 
 -- the environments are just those of the schema, each once
 pub record AreEnvironmentsOf (schema : PlainSchema) (environments : List Environment) : Type 0 where
   pub each : (it : Environment) → Contains environments it ↔ IsEnvironmentOf schema it
   pub once : AllPairs (λ it other. it ≢ other) environments
 
--- the environment is of requests that are declared: one of the principals with one of the resources, and the context
--- (the Cedar reference on schemas)
+-- the environment is of requests that are declared: one of the principals with one of the
+-- resources, and the context (the Cedar reference on schemas)
 abbrev pub IsDeclaredRequest : Defined → Requests → Environment → Type 0
 IsDeclaredRequest defined (requests principals resources context) it =
-    IsNamedBy (names_of defined) principals it.principal × IsNamedBy (names_of defined) resources it.resource
+    IsNamedBy (names_of defined) principals it.principal
+    × IsNamedBy (names_of defined) resources it.resource
     × ElaboratesTo defined context it.context
 IsDeclaredRequest defined elsewhere it = ⊥
 

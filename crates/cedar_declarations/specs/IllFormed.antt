@@ -27,7 +27,8 @@ use Rattle.cedar_declarations.specs.ElaboratesTo.{IsNoRecord}
 -- an action of this id is declared with attributes in the namespace
 abbrev pub HasAttributes : Bag → Option PlainName → Text → Type 0
 HasAttributes bag namespace id =
-    (body : ActionBody) × Contains bag (record { namespace = namespace; id = id; body = action body })
+    (body : ActionBody) × Contains bag
+    (record { namespace = namespace; id = id; body = action body })
     × (body.has_attributes ≡ true)
 
 -- an action is declared with a parent of this id and type that names nothing
@@ -40,21 +41,25 @@ HasUnknownParent bag carried =
 abbrev pub RefersToCommon : Defined → PlainName → PlainName → Type 0
 RefersToCommon defined name other =
     (definition : Expr) × (reference : Reference) × (body : Expr)
-    × Contains defined.common (name, definition) × Refers definition reference × ResolvesTo (names_of defined) reference other
+    × Contains defined.common (name, definition) × Refers definition reference
+    × ResolvesTo (names_of defined) reference other
     × IsCommon defined reference.kind other body
 
 -- the refusal names a fault of the bag, over the extensions that are handed in
 abbrev pub IsFault : Bag → Extensions → Fault → Type 0
--- in one namespace each of these ids, in order, is that of an action with attributes (the Cedar reference on schemas)
+-- in one namespace each of these ids, in order, is that of an action with attributes (the Cedar
+-- reference on schemas)
 IsFault bag extensions (action_attributes ids) =
     (ids ≢ []) × IsStrictlySortedBy text_cmp ids × (namespace : Option PlainName)
     × ((id : Text) → Contains ids id → HasAttributes bag namespace id)
 -- a record type that admits further attributes counts (the Cedar reference on schemas)
 IsFault bag extensions open_record = (expr : Expr) × IsCounted bag expr × HasOpenRecord expr
--- each of these is an action's type that stands where an entity type has to (the Cedar reference on schemas)
+-- each of these is an action's type that stands where an entity type has to (the Cedar reference on
+-- schemas)
 IsFault bag extensions (undeclared_entity_types names) =
     (names ≢ [])
-    × ((name : PlainName) → Contains names name → IsActionType name × (reference : Reference) × IsAtEntityTypePosition bag reference
+    × ((name : PlainName) → Contains names name
+    → IsActionType name × (reference : Reference) × IsAtEntityTypePosition bag reference
     × ResolvesTo (defined_names bag extensions) reference name)
 -- each of these has to name something and doesn't (RFC 24)
 IsFault bag extensions (type_not_defined references) =
@@ -63,27 +68,37 @@ IsFault bag extensions (type_not_defined references) =
     × IsUnresolved (defined_names bag extensions) reference)
 -- each of these is a parent of an action and names nothing (the Cedar reference on schemas)
 IsFault bag extensions (action_not_defined actions) =
-    (actions ≢ []) × ((carried : Text × Option Reference) → Contains actions carried → HasUnknownParent bag carried)
--- a type is declared in the empty namespace, and one of the same base name in another that isn't reserved (RFC 70)
+    (actions ≢ []) × ((carried : Text × Option Reference) → Contains actions carried
+    → HasUnknownParent bag carried)
+-- a type is declared in the empty namespace, and one of the same base name in another that isn't
+-- reserved (RFC 70)
 IsFault bag extensions (type_shadowing plain qualified) =
-    Contains (declared_types bag) plain × Contains (declared_types bag) qualified × ShadowsType plain qualified
+    Contains (declared_types bag) plain × Contains (declared_types bag) qualified
+    × ShadowsType plain qualified
 -- an action is declared in the empty namespace, and one of the same id in another (RFC 70)
 IsFault bag extensions (action_shadowing plain qualified) =
-    Contains (action_uids bag) plain × Contains (action_uids bag) qualified × ShadowsAction plain qualified
+    Contains (action_uids bag) plain × Contains (action_uids bag) qualified
+    × ShadowsAction plain qualified
 -- these have two definitions; a common type also if it is built in (the Cedar reference on schemas)
-IsFault bag extensions (duplicate_entity_type name) = Twice (map (λ it. it.0) (defined_entities bag)) name
-IsFault bag extensions (duplicate_common_type name) = Twice (map (λ it. it.0) (declared_common bag ++ built_ins extensions)) name
+IsFault bag extensions (duplicate_entity_type name) =
+    Twice (map (λ it. it.0) (defined_entities bag)) name
+IsFault bag extensions (duplicate_common_type name) =
+    Twice (map (λ it. it.0) (declared_common bag ++ built_ins extensions)) name
 IsFault bag extensions (duplicate_action uid) = Twice (map (λ it. it.0) (defined_actions bag)) uid
 -- these are on a cycle (the Cedar reference on schemas)
 IsFault bag extensions (action_cycle uid) = IsDescendantAction bag uid uid
-IsFault bag extensions (common_type_cycle name) = Chain (RefersToCommon (definitions bag extensions)) name name
+IsFault bag extensions (common_type_cycle name) =
+    Chain (RefersToCommon (definitions bag extensions)) name name
 -- an entity type is declared with the base name of actions' types (the Cedar reference on schemas)
-IsFault bag extensions (action_entity_type name) = (body : EntityBody) × Contains (declared_entities bag) (name, body)
+IsFault bag extensions (action_entity_type name) =
+    (body : EntityBody) × Contains (declared_entities bag) (name, body)
     × IsActionType name
--- a shape or a context is elaborated as a type that is no record type (the Cedar reference on schemas)
+-- a shape or a context is elaborated as a type that is no record type (the Cedar reference on
+-- schemas)
 IsFault bag extensions (shape_not_record name) =
     (parents : List Reference) × (shape : Expr) × (tags : Option Expr)
-    × Contains (declared_entities bag) (name, standard parents shape tags) × IsNoRecord (definitions bag extensions) shape
+    × Contains (declared_entities bag) (name, standard parents shape tags)
+    × IsNoRecord (definitions bag extensions) shape
 IsFault bag extensions (context_not_record uid) =
     (principals : List Reference) × (resources : List Reference) × (context : Expr)
     × Contains (defined_actions bag) (uid, requests principals resources context)
@@ -92,13 +107,16 @@ IsFault bag extensions (context_not_record uid) =
 IsFault bag extensions (unknown_extension_type name) =
     (expr : Expr) × IsCounted bag expr × MentionsExtension expr name.base × IsUnqualified name
     × ¬ Contains (extension_types extensions) name
--- an entity type or an action is declared in a reserved namespace; of an action the name is that of its type (RFC 52)
+-- an entity type or an action is declared in a reserved namespace; of an action the name is that of
+-- its type (RFC 52)
 IsFault bag extensions (reserved_name name) =
-    (Contains (map (λ it. it.0) (declared_entities bag)) name ⊎ Contains (map (λ uid. uid.ty) (action_uids bag)) name)
+    (Contains (map (λ it. it.0) (declared_entities bag)) name
+    ⊎ Contains (map (λ uid. uid.ty) (action_uids bag)) name)
     × Contains name.path reserved_word
 -- an external entity type is a descendant of an enumerated one (RFC 53 and RFC 116)
 IsFault bag extensions (external_below_enumerated lower upper) =
-    (choices : List Text) × IsExternalType bag lower × Contains (declared_entities bag) (upper, enumerated choices)
+    (choices : List Text) × IsExternalType bag lower
+    × Contains (declared_entities bag) (upper, enumerated choices)
     × IsDescendant bag extensions lower upper
 -- an enumerated entity type has a parent, by an external declaration (RFC 53 and RFC 116)
 IsFault bag extensions (enumerated_below lower upper) =

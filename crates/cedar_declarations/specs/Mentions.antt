@@ -17,7 +17,8 @@ abbrev mutual
   -- the same of some attribute of a record
   pub MembersHaveOpenRecord : Members → Type 0
   MembersHaveOpenRecord no_member = ⊥
-  MembersHaveOpenRecord (member name required expr rest) = HasOpenRecord expr ⊎ MembersHaveOpenRecord rest
+  MembersHaveOpenRecord (member name required expr rest) =
+      HasOpenRecord expr ⊎ MembersHaveOpenRecord rest
 
 abbrev mutual
   -- the reference stands in the expression
@@ -33,7 +34,8 @@ abbrev mutual
   -- the same of some attribute of a record
   pub MembersRefer : Members → Reference → Type 0
   MembersRefer no_member reference = ⊥
-  MembersRefer (member name required expr rest) reference = Refers expr reference ⊎ MembersRefer rest reference
+  MembersRefer (member name required expr rest) reference =
+      Refers expr reference ⊎ MembersRefer rest reference
 
 abbrev mutual
   -- the extension type of that base name stands in the expression

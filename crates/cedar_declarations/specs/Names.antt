@@ -6,7 +6,8 @@ use Rattle.cedar_names.specs.declared.json_schema.reference_type.ReferenceType.{
 use Rattle.cedar_names.specs.declared.json_schema.reference_type.ReferenceType.TheVariants.{Common, Entity, CommonOrEntity}
 use Rattle.cedar_declarations.specs.Occurrences.{IsFirst}
 
--- what references can name: the names of common types, those of entity types, and the uids of actions
+-- what references can name: the names of common types, those of entity types, and the uids of
+-- actions
 pub record Names : Type 0 where
   pub common : List PlainName
   pub entities : List PlainName
@@ -30,21 +31,26 @@ IsEntity names kind name = MayNameEntity kind × Contains names.entities name
 
 -- a reference of the kind may name what is defined under that name
 abbrev pub IsDefined : Names → ReferenceType → PlainName → Type 0
-IsDefined names kind name = (MayNameCommon kind × Contains names.common name) ⊎ IsEntity names kind name
+IsDefined names kind name = (MayNameCommon kind × Contains names.common name)
+    ⊎ IsEntity names kind name
 
--- the reference resolves to the name: the first of its possibilities that is defined in a kind that it permits (RFC 24)
+-- the reference resolves to the name: the first of its possibilities that is defined in a kind that
+-- it permits (RFC 24)
 abbrev pub ResolvesTo : Names → Reference → PlainName → Type 0
-ResolvesTo names reference name = IsFirst (IsDefined names reference.kind) reference.possibilities name
+ResolvesTo names reference name =
+    IsFirst (IsDefined names reference.kind) reference.possibilities name
 
 -- no possibility of the reference is defined in a kind that it permits (RFC 24)
 abbrev pub IsUnresolved : Names → Reference → Type 0
-IsUnresolved names reference = (name : PlainName) → Contains reference.possibilities name → ¬ IsDefined names reference.kind name
+IsUnresolved names reference = (name : PlainName) → Contains reference.possibilities name
+    → ¬ IsDefined names reference.kind name
 
--- of some actions the reference names that of the uid: of the names that its type may stand for the first under which
--- its id is that of one of them (the Cedar reference on schemas)
+-- of some actions the reference names that of the uid: of the names that its type may stand for the
+-- first under which its id is that of one of them (the Cedar reference on schemas)
 abbrev pub NamesAction : List PlainUid → ActionReference → PlainUid → Type 0
 NamesAction actions reference uid =
-    IsFirst (λ ty. Contains actions (record { ty = ty; eid = reference.id })) reference.ty.possibilities
+    IsFirst (λ ty. Contains actions
+    (record { ty = ty; eid = reference.id })) reference.ty.possibilities
     uid.ty × (uid.eid ≡ reference.id)
 
 -- of some actions the reference names none

@@ -11,8 +11,8 @@ pub record SchemaEntityType : Type 0 where
   pub kind : EntityTypeKind
   pub descendants : List PlainName
 
--- the requests that an action of a schema is for: their principals and resources, in some order, and their context; an
--- external action has none of its own
+-- the requests that an action of a schema is for: their principals and resources, in some order,
+-- and their context; an external action has none of its own
 pub data ActionKind : Type 0 where
   defined_action : List PlainName → List PlainName → Ty → ActionKind
   external_action : ActionKind
@@ -23,14 +23,16 @@ pub record SchemaAction : Type 0 where
   pub kind : ActionKind
   pub descendants : List PlainUid
 
--- the entity of an action: its uid, its attributes and tags, and the uids of its ancestors in some order
+-- the entity of an action: its uid, its attributes and tags, and the uids of its ancestors in some
+-- order
 pub record ActionEntity : Type 0 where
   pub uid : PlainUid
   pub attributes : Entries
   pub tags : Entries
   pub ancestors : List PlainUid
 
--- a schema as plain data: its entity types and its actions, each under its name, and the entities of its actions
+-- a schema as plain data: its entity types and its actions, each under its name, and the entities
+-- of its actions
 pub record PlainSchema : Type 0 where
   pub entity_types : List (PlainName × SchemaEntityType)
   pub actions : List (PlainUid × SchemaAction)

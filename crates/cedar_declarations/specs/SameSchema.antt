@@ -13,8 +13,10 @@ pub record SameEntityType (it other : PlainName × SchemaEntityType) : Type 0 wh
 
 -- two actions are for the same requests
 abbrev pub SameActionKind : ActionKind → ActionKind → Type 0
-SameActionKind (defined_action principals resources context) (defined_action other_principals other_resources other_context) =
-    SameItems principals other_principals × SameItems resources other_resources × (context ≡ other_context)
+SameActionKind (defined_action principals resources context)
+    (defined_action other_principals other_resources other_context) =
+    SameItems principals other_principals × SameItems resources other_resources
+    × (context ≡ other_context)
 SameActionKind external_action external_action = Unit {0}
 SameActionKind _ _ = ⊥
 

@@ -37,11 +37,15 @@ context_or_shape_fault (context_or_shape.ActionContext uid) = context_not_record
 -- a refusal as plain data
 abbrev pub fault_of : SchemaError → Fault
 fault_of (error.UnsupportedFeature it) = feature_fault it
-fault_of (error.UndeclaredEntityTypes types) = undeclared_entity_types (map type_name (items_of types))
-fault_of (error.TypeNotDefined it) = type_not_defined (map conditional_reference (items_of it.undefined_types))
-fault_of (error.ActionNotDefined actions) = action_not_defined (map carried_action (items_of actions))
+fault_of (error.UndeclaredEntityTypes types) =
+    undeclared_entity_types (map type_name (items_of types))
+fault_of (error.TypeNotDefined it) =
+    type_not_defined (map conditional_reference (items_of it.undefined_types))
+fault_of (error.ActionNotDefined actions) =
+    action_not_defined (map carried_action (items_of actions))
 fault_of (error.TypeShadowing plain qualified) = type_shadowing (name_of plain) (name_of qualified)
-fault_of (error.ActionShadowing plain qualified) = action_shadowing (uid_of plain) (uid_of qualified)
+fault_of (error.ActionShadowing plain qualified) =
+    action_shadowing (uid_of plain) (uid_of qualified)
 fault_of (error.DuplicateEntityType ty) = duplicate_entity_type (type_name ty)
 fault_of (error.DuplicateCommonType name) = duplicate_common_type (name_of name)
 fault_of (error.DuplicateAction uid) = duplicate_action (uid_of uid)
@@ -51,8 +55,10 @@ fault_of (error.ActionEntityTypeDeclared name) = action_entity_type (name_of nam
 fault_of (error.ContextOrShapeNotRecord it) = context_or_shape_fault it
 fault_of (error.UnknownExtensionType name) = unknown_extension_type (plain_name name)
 fault_of (error.ReservedName name) = reserved_name (name_of name)
-fault_of (error.ExternalWithEnumAncestor lower upper) = external_below_enumerated (type_name lower) (type_name upper)
-fault_of (error.EnumEntityInHierarchy lower upper) = enumerated_below (type_name lower) (type_name upper)
+fault_of (error.ExternalWithEnumAncestor lower upper) =
+    external_below_enumerated (type_name lower) (type_name upper)
+fault_of (error.EnumEntityInHierarchy lower upper) =
+    enumerated_below (type_name lower) (type_name upper)
 fault_of (error.UndeclaredActionsDescendant uid) = undeclared_action_descendant (uid_of uid)
 fault_of (error.InvalidActionType uid) = invalid_action_type (uid_of uid)
 fault_of error.CommonTypeInvariantViolation = common_type_left
@@ -61,5 +67,6 @@ fault_of (error.Memory refused) = out_of_memory
 
 -- why a reference is not resolved, as plain data
 abbrev pub qualify_fault : QualifyError → Fault
-qualify_fault (qualify.TypeNotDefined it) = type_not_defined (map conditional_reference (items_of it.undefined_types))
+qualify_fault (qualify.TypeNotDefined it) =
+    type_not_defined (map conditional_reference (items_of it.undefined_types))
 qualify_fault (qualify.Memory refused) = out_of_memory

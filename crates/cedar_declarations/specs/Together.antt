@@ -28,7 +28,8 @@ action_definition_in uid applies_to = (uid, applies_to) ∷ []
 
 -- the definitions of actions, each with the requests that it is for
 abbrev pub defined_actions : Bag → List (PlainUid × Requests)
-defined_actions bag = flat_map (λ it. action_definition_in it.0 it.1.applies_to) (declared_actions bag)
+defined_actions bag = flat_map (λ it.
+    action_definition_in it.0 it.1.applies_to) (declared_actions bag)
 
 -- the entity type is external: it is declared, and has no definition
 abbrev pub IsExternalType : Bag → PlainName → Type 0
@@ -37,9 +38,11 @@ IsExternalType bag name = Contains (map (λ it. it.0) (declared_entities bag)) n
 
 -- the action is external: it is declared, and has no definition
 abbrev pub IsExternalAction : Bag → PlainUid → Type 0
-IsExternalAction bag uid = Contains (action_uids bag) uid × ¬ Contains (map (λ it. it.0) (defined_actions bag)) uid
+IsExternalAction bag uid = Contains (action_uids bag) uid
+    × ¬ Contains (map (λ it. it.0) (defined_actions bag)) uid
 
--- what declarations of entity types say together of one, parents aside: what its definition says, or that it is external
+-- what declarations of entity types say together of one, parents aside: what its definition says,
+-- or that it is external
 abbrev pub EntitiesSay : List (PlainName × EntityBody) → PlainName → EntityBody → Type 0
 EntitiesSay entries name (external parents) = Contains (map (λ it. it.0) entries) name
     × ¬ Contains (map (λ it. it.0) (entity_definitions entries)) name
@@ -49,8 +52,8 @@ EntitiesSay entries name body = Contains (entity_definitions entries) (name, bod
 abbrev pub EntitySays : Bag → PlainName → EntityBody → Type 0
 EntitySays bag = EntitiesSay (declared_entities bag)
 
--- what the declarations of an action say together, parents aside: the requests that its definition is for, or that it is
--- external
+-- what the declarations of an action say together, parents aside: the requests that its definition
+-- is for, or that it is external
 abbrev pub ActionSays : Bag → PlainUid → Requests → Type 0
 ActionSays bag uid elsewhere = IsExternalAction bag uid
 ActionSays bag uid applies_to = Contains (defined_actions bag) (uid, applies_to)
@@ -58,9 +61,11 @@ ActionSays bag uid applies_to = Contains (defined_actions bag) (uid, applies_to)
 -- some declaration of the entity type has the parent
 abbrev pub IsParent : Bag → PlainName → Reference → Type 0
 IsParent bag name reference =
-    (body : EntityBody) × Contains (declared_entities bag) (name, body) × Contains (entity_parents body) reference
+    (body : EntityBody) × Contains (declared_entities bag) (name, body)
+    × Contains (entity_parents body) reference
 
 -- some declaration of the action has the parent
 abbrev pub IsActionParent : Bag → PlainUid → ActionReference → Type 0
 IsActionParent bag uid reference =
-    (body : ActionBody) × Contains (declared_actions bag) (uid, body) × Contains body.parents reference
+    (body : ActionBody) × Contains (declared_actions bag) (uid, body)
+    × Contains body.parents reference

@@ -13,7 +13,8 @@ abbrev mutual
   -- the entity type stands in the type of some attribute
   pub FieldsMentionEntity : Fields → PlainName → Type 0
   FieldsMentionEntity end name = ⊥
-  FieldsMentionEntity (field text required ty rest) name = MentionsEntity ty name ⊎ FieldsMentionEntity rest name
+  FieldsMentionEntity (field text required ty rest) name =
+      MentionsEntity ty name ⊎ FieldsMentionEntity rest name
 
 abbrev mutual
   -- the extension type stands in the type

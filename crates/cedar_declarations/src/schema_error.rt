@@ -79,8 +79,8 @@ pub enum SchemaError {
     /// The extension type is named where it counts and wasn't handed in (the Cedar reference on
     /// schemas).
     UnknownExtensionType(Name),
-    /// An entity type or an action is declared in a reserved namespace, or a principal or a resource
-    /// resolves to a reserved name; of an action this is the name of its type (RFC 52).
+    /// An entity type or an action is declared in a reserved namespace, or a principal or a
+    /// resource resolves to a reserved name; of an action this is the name of its type (RFC 52).
     ReservedName(InternalName),
     /// The first entity type is external and has the second, an enumerated one, among its ancestors
     /// (RFC 53 and RFC 116).
@@ -175,7 +175,8 @@ fn write_other_actions<W: fmt::Write>(
     f: &mut fmt::Formatter<W>,
 ) -> fmt::Result
     ensures { WritesOnOk W.write_str_gives f.old result
-        (each_after (codes ", or as ") (map (λ it. action_reference_text it.0 it.1) (map carried_action actions.now))) f.new }
+        (each_after (codes ", or as ")
+        (map (λ it. action_reference_text it.0 it.1) (map carried_action actions.now))) f.new }
 {
     for action in actions {
         write!(f, ", or as {action}")?;
@@ -197,7 +198,8 @@ fn write_undeclared_actions<W: fmt::Write>(
 
 /// Writes that a shape or a context is no record type.
 fn write_no_record<W: fmt::Write>(place: &ContextOrShape, f: &mut fmt::Formatter<W>) -> fmt::Result
-    ensures { WritesOnOk W.write_str_gives f.old result (fault_text (context_or_shape_fault place.now)) f.new }
+    ensures { WritesOnOk W.write_str_gives f.old result
+        (fault_text (context_or_shape_fault place.now)) f.new }
 {
     match place {
         ContextOrShape::EntityTypeShape(ty) => {

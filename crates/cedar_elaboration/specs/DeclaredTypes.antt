@@ -14,18 +14,23 @@ use Rattle.cedar_type_rules.specs.Ty.{Ty}
 use Rattle.cedar_elaboration.specs.Scope.{HoldsElaborated, set_names}
 use Rattle.cedar_resolution.specs.Collected.{collected_common}
 
--- the common types are those that the bag declares, over full names, and then the built-in ones and its aliases; the names are
--- those of the entity types that it defines, none of them reserved; and names of extension types fit
-pub record AreTypesOf (bag : Bag) (extensions : Extensions) (common_types built_in_types : List (InternalName × «Type» InternalName))
+-- the common types are those that the bag declares, over full names, and then the built-in ones and
+-- its aliases; the names are those of the entity types that it defines, none of them reserved; and
+-- names of extension types fit
+pub record AreTypesOf (bag : Bag) (extensions : Extensions)
+    (common_types built_in_types : List (InternalName × «Type» InternalName))
     (entity_names : BTreeSet InternalName) : Type 0 where
   pub common : collected_common common_types ≡ declared_common bag
   pub built_in : collected_common built_in_types ≡ built_ins extensions ++ aliases bag extensions
   pub names : SameItems (definitions bag extensions).entities (set_names entity_names)
-  pub unreserved : (name : PlainName) → Contains (definitions bag extensions).entities name → ¬ IsReserved name
+  pub unreserved : (name : PlainName) → Contains (definitions bag extensions).entities name
+      → ¬ IsReserved name
   pub fit : TypeNamesFit (extension_types extensions)
 
--- each common type that the bag defines stands among the types, and each of these is what the one of its name is
--- elaborated as
-pub record AreElaborated (bag : Bag) (extensions : Extensions) (types : List (PlainName × Ty)) : Type 0 where
-  pub each : (it : PlainName × Expr) → Contains (definitions bag extensions).common it → Contains (map (λ each. each.0) types) it.0
+-- each common type that the bag defines stands among the types, and each of these is what the one
+-- of its name is elaborated as
+pub record AreElaborated (bag : Bag) (extensions : Extensions)
+    (types : List (PlainName × Ty)) : Type 0 where
+  pub each : (it : PlainName × Expr) → Contains (definitions bag extensions).common it
+      → Contains (map (λ each. each.0) types) it.0
   pub elaborated : HoldsElaborated (definitions bag extensions) types

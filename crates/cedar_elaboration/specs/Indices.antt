@@ -33,9 +33,11 @@ indexed_names indices = map (λ entry. (name_of entry.0, entry.1)) indices.entri
 -- each of the names has an index, and what has an index is the name at that index
 pub record AreIndices (names : List PlainName) (indices : List (PlainName × ℕ)) : Type 0 where
   pub each : Included names (map (λ it. it.0) indices)
-  pub sound : (name : PlainName) (item_index : ℕ) → Contains indices (name, item_index) → slice_get names item_index ≡ Some name
+  pub sound : (name : PlainName) (item_index : ℕ) → Contains indices (name, item_index)
+      → slice_get names item_index ≡ Some name
 
--- the reference is to one name alone, which may be that of a common type and is that of the one at the index
+-- the reference is to one name alone, which may be that of a common type and is that of the one at
+-- the index
 abbrev pub NamesIndex : List (PlainName × ℕ) → Reference → ℕ → Type 0
 NamesIndex indices reference item_index =
     MayNameCommon reference.kind × (name : PlainName) × (reference.possibilities ≡ name ∷ [])
@@ -46,7 +48,9 @@ pub record AddsIndices (indices : List (PlainName × ℕ)) (Refers : Reference �
     (before after : List ℕ) : Type 0 where
   pub kept : Included before after
   pub only : (item_index : ℕ) → Contains after item_index
-      → Contains before item_index ⊎ ((reference : Reference) × Refers reference × NamesIndex indices reference item_index)
-  pub each : (reference : Reference) → Refers reference → MayNameCommon reference.kind → (name : PlainName)
+      → Contains before item_index ⊎ ((reference : Reference) × Refers reference
+      × NamesIndex indices reference item_index)
+  pub each : (reference : Reference) → Refers reference → MayNameCommon reference.kind
+      → (name : PlainName)
       → Contains reference.possibilities name → Contains (map (λ it. it.0) indices) name
       → (item_index : ℕ) × Contains indices (name, item_index) × Contains after item_index

@@ -11,19 +11,23 @@ use Rattle.cedar_names.specs.Expr.{Expr}
 use Rattle.cedar_names.specs.Reference.{Reference}
 use Rattle.cedar_elaboration.specs.Indices.{defined_over, item_names}
 
--- the indices are just those of the items, and each comes after those of the common types that its item refers to
+-- the indices are just those of the items, and each comes after those of the common types that its
+-- item refers to
 pub record IsElaborationOrder (items : List (PlainName × Expr)) (order : List ℕ) : Type 0 where
   pub indices : (item_index : ℕ) → Contains order item_index ↔ (item_index < length items)
-  pub after : (before rest : List ℕ) (item_index : ℕ) (item : PlainName × Expr) → order ≡ before ++ item_index ∷ rest
+  pub after : (before rest : List ℕ) (item_index : ℕ) (item : PlainName × Expr)
+      → order ≡ before ++ item_index ∷ rest
       → slice_get items item_index ≡ Some item → (reference : Reference) → Refers item.1 reference
       → MayNameCommon reference.kind
-      → (name : PlainName) → Contains reference.possibilities name → Contains (item_names items) name
+      → (name : PlainName) → Contains reference.possibilities name
+      → Contains (item_names items) name
       → (to : ℕ) × Contains before to × (slice_get (item_names items) to ≡ Some name)
 
 -- no common type is on a cycle, whatever entity types there are
 abbrev pub HasNoCycle : List (PlainName × Expr) → Type 0
 HasNoCycle items =
-    (entities : List PlainName) (name : PlainName) → ¬ Chain (RefersToCommon (defined_over items entities)) name name
+    (entities : List PlainName) (name : PlainName)
+    → ¬ Chain (RefersToCommon (defined_over items entities)) name name
 
 -- why common types have no order: a name stands twice, or it is on a cycle; or memory ran out
 abbrev pub IsOrderFault : List (PlainName × Expr) → Fault → Type 0

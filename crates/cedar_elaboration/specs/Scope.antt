@@ -44,8 +44,8 @@ HoldsReferred defined types expr =
     → Contains reference.possibilities name → IsCommon defined reference.kind name body
     → Contains (map (λ it. it.0) types) name
 
--- of what is defined enough is known for the expression: the entity types, and each common type that it may name with
--- what this is elaborated as
+-- of what is defined enough is known for the expression: the entity types, and each common type
+-- that it may name with what this is elaborated as
 pub record Covers (defined : Defined) (scope : TypeScope) (expr : Expr) : Type 0 where
   pub entities : SameItems defined.entities (set_names scope.entities.now)
   pub elaborated : HoldsElaborated defined (elaborated_types scope.common.now)
@@ -57,15 +57,18 @@ extensions_in_scope scope = extension_types scope.extensions.now
 
 -- whatever is defined, if enough of it is known for the expression, this is elaborated as the type
 abbrev pub ElaboratesAs : TypeScope → Expr → Ty → Type 0
-ElaboratesAs scope expr ty = (defined : Defined) → Covers defined scope expr → ElaboratesTo defined expr ty
+ElaboratesAs scope expr ty = (defined : Defined) → Covers defined scope expr
+    → ElaboratesTo defined expr ty
 
 -- whatever is defined, if enough of it is known for the expression, each reference in this resolves
 abbrev pub ResolvesEach : TypeScope → Expr → Type 0
 ResolvesEach scope expr =
-    (defined : Defined) → Covers defined scope expr → (reference : Reference) → Refers expr reference
+    (defined : Defined) → Covers defined scope expr → (reference : Reference)
+    → Refers expr reference
     → (name : PlainName) × ResolvesTo (names_of defined) reference name
 
 -- each extension type that stands in the expression is known
 abbrev pub CoversExtensions : TypeScope → Expr → Type 0
 CoversExtensions scope expr =
-    (word : Text) → MentionsExtension expr word → Contains (extensions_in_scope scope) (extension_name word)
+    (word : Text) → MentionsExtension expr word
+    → Contains (extensions_in_scope scope) (extension_name word)

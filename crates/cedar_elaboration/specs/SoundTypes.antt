@@ -11,10 +11,12 @@ use Rattle.cedar_declarations.specs.Mentions.{HasOpenRecord, MentionsExtension}
 use Rattle.cedar_names.specs.Expr.{Expr}
 use Rattle.cedar_elaboration.specs.Scope.{extension_name}
 
--- no common type is declared twice or is on a cycle, none has an open record, and each extension type in one is known
+-- no common type is declared twice or is on a cycle, none has an open record, and each extension
+-- type in one is known
 pub record CommonTypesAreSound (bag : Bag) (extensions : Extensions) : Type 0 where
   pub once : (name : PlainName) → ¬ IsFault bag extensions (duplicate_common_type name)
   pub no_cycle : (name : PlainName) → ¬ IsFault bag extensions (common_type_cycle name)
   pub closed : (it : PlainName × Expr) → Contains (declared_common bag) it → ¬ HasOpenRecord it.1
-  pub known : (it : PlainName × Expr) → Contains (declared_common bag) it → (word : Text) → MentionsExtension it.1 word
+  pub known : (it : PlainName × Expr) → Contains (declared_common bag) it → (word : Text)
+      → MentionsExtension it.1 word
       → Contains (extension_types extensions) (extension_name word)

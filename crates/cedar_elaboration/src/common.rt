@@ -36,10 +36,16 @@ fn elaborate_in_order(
     extensions: &Extensions,
 ) -> Result<BTreeMap<InternalName, Type>, SchemaError>
     requires { IsElaborationOrder (collected_common declared.now) order.now }
-    ensures holds { IfOk result (λ types. HoldsElaborated (defined_by declared.now entities.now) (elaborated_types types)) }
-    ensures each { IfOk result (λ types. Included (item_names (collected_common declared.now)) (map (λ it. it.0) (elaborated_types types))) }
-    ensures sound { OnOk result (AreSound (defined_by declared.now entities.now) (extension_types extensions.now)) }
-    ensures fault { IfErr result (λ error. IsCommonFault (defined_by declared.now entities.now) (extension_types extensions.now) (fault_of error)) }
+    ensures holds { IfOk result (λ types.
+        HoldsElaborated (defined_by declared.now entities.now) (elaborated_types types)) }
+    ensures each { IfOk result (λ types.
+        Included (item_names (collected_common declared.now))
+        (map (λ it. it.0) (elaborated_types types))) }
+    ensures sound { OnOk result (AreSound (defined_by declared.now entities.now)
+        (extension_types extensions.now)) }
+    ensures fault { IfErr result (λ error.
+        IsCommonFault (defined_by declared.now entities.now) (extension_types extensions.now)
+        (fault_of error)) }
 {
     let mut common = BTreeMap::new(alloc);
     for item_index in order {
@@ -69,14 +75,24 @@ pub fn common_types(
     extensions: &Extensions,
 ) -> Result<BTreeMap<InternalName, Type>, SchemaError>
     ensures names { IfOk result (λ types.
-        SameItems (map (λ it. it.0) (elaborated_types types)) (item_names (collected_common declared.now))) }
-    ensures holds { IfOk result (λ types. HoldsElaborated (defined_by declared.now entities.now) (elaborated_types types)) }
-    ensures elaborates { IfOk result (λ types. (name : PlainName) (expr : Expr) → Contains (collected_common declared.now) (name, expr)
-        → (ty : Ty) × Contains (elaborated_types types) (name, ty) × ElaboratesTo (defined_by declared.now entities.now) expr ty) }
-    ensures once { OnOk result ((name : PlainName) → ¬ Twice (item_names (collected_common declared.now)) name) }
-    ensures no_cycle { OnOk result ((name : PlainName) → ¬ Chain (RefersToCommon (defined_by declared.now entities.now)) name name) }
-    ensures sound { OnOk result (AreSound (defined_by declared.now entities.now) (extension_types extensions.now)) }
-    ensures fault { IfErr result (λ error. IsCommonFault (defined_by declared.now entities.now) (extension_types extensions.now) (fault_of error)) }
+        SameItems (map (λ it. it.0) (elaborated_types types))
+        (item_names (collected_common declared.now))) }
+    ensures holds { IfOk result (λ types.
+        HoldsElaborated (defined_by declared.now entities.now) (elaborated_types types)) }
+    ensures elaborates { IfOk result (λ types.
+        (name : PlainName) (expr : Expr) → Contains (collected_common declared.now) (name, expr)
+        → (ty : Ty) × Contains (elaborated_types types) (name, ty)
+        × ElaboratesTo (defined_by declared.now entities.now) expr ty) }
+    ensures once { OnOk result ((name : PlainName)
+        → ¬ Twice (item_names (collected_common declared.now)) name) }
+    ensures no_cycle { OnOk result
+        ((name : PlainName) → ¬ Chain (RefersToCommon
+        (defined_by declared.now entities.now)) name name) }
+    ensures sound { OnOk result (AreSound (defined_by declared.now entities.now)
+        (extension_types extensions.now)) }
+    ensures fault { IfErr result (λ error.
+        IsCommonFault (defined_by declared.now entities.now) (extension_types extensions.now)
+        (fault_of error)) }
 {
     let order = elaboration_order(alloc, declared)?;
     elaborate_in_order(alloc, declared, &order, entities, extensions)

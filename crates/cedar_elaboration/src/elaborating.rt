@@ -24,7 +24,8 @@ use std::rc::Rc;
 
 /// The refusal of a reference that resolves to nothing.
 fn undefined_type(alloc: Global, name: &InternalName, kind: ReferenceType) -> M<SchemaError>
-    ensures { IfOk result (λ error. fault_of error ≡ type_not_defined (resolved_reference kind name.now ∷ [])) }
+    ensures { IfOk result (λ error.
+        fault_of error ≡ type_not_defined (resolved_reference kind name.now ∷ [])) }
 {
     let reference = ConditionalName::unconditional(alloc, name.clone()?, kind);
     Ok(SchemaError::TypeNotDefined(TypeNotDefinedError {
@@ -43,8 +44,10 @@ fn elaborate_reference(
     kind: ReferenceType,
     scope: &TypeScope,
 ) -> Result<Type, SchemaError>
-    ensures elaborates { IfOk result (λ elaborated. ElaboratesAs scope.now (named (resolved_reference kind name.now)) (ty_of elaborated)) }
-    ensures fault { IfErr result (λ error. IsRefusal scope.now (named (resolved_reference kind name.now)) (fault_of error)) }
+    ensures elaborates { IfOk result (λ elaborated.
+        ElaboratesAs scope.now (named (resolved_reference kind name.now)) (ty_of elaborated)) }
+    ensures fault { IfErr result (λ error.
+        IsRefusal scope.now (named (resolved_reference kind name.now)) (fault_of error)) }
 {
     if let Some(ty) = scope.common_type(name, kind)? {
         return Ok(ty);
@@ -62,10 +65,12 @@ fn elaborate_type(
     ty: &json_schema::Type<InternalName>,
     scope: &TypeScope,
 ) -> Result<Type, SchemaError>
-    ensures elaborates { IfOk result (λ elaborated. ElaboratesAs scope.now (resolved_expr ty.now) (ty_of elaborated)) }
+    ensures elaborates { IfOk result (λ elaborated.
+        ElaboratesAs scope.now (resolved_expr ty.now) (ty_of elaborated)) }
     ensures closed { OnOk result (¬ HasOpenRecord (resolved_expr ty.now)) }
     ensures extensions { OnOk result (CoversExtensions scope.now (resolved_expr ty.now)) }
-    ensures fault { IfErr result (λ error. IsRefusal scope.now (resolved_expr ty.now) (fault_of error)) }
+    ensures fault { IfErr result (λ error.
+        IsRefusal scope.now (resolved_expr ty.now) (fault_of error)) }
 {
     match ty {
         json_schema::Type::Plain { ty, .. } => elaborate_variant(alloc, ty, scope),
@@ -82,10 +87,12 @@ fn elaborate_variant(
     ty: &TypeVariant<InternalName>,
     scope: &TypeScope,
 ) -> Result<Type, SchemaError>
-    ensures elaborates { IfOk result (λ elaborated. ElaboratesAs scope.now (resolved_variant ty.now) (ty_of elaborated)) }
+    ensures elaborates { IfOk result (λ elaborated.
+        ElaboratesAs scope.now (resolved_variant ty.now) (ty_of elaborated)) }
     ensures closed { OnOk result (¬ HasOpenRecord (resolved_variant ty.now)) }
     ensures extensions { OnOk result (CoversExtensions scope.now (resolved_variant ty.now)) }
-    ensures fault { IfErr result (λ error. IsRefusal scope.now (resolved_variant ty.now) (fault_of error)) }
+    ensures fault { IfErr result (λ error.
+        IsRefusal scope.now (resolved_variant ty.now) (fault_of error)) }
 {
     match ty {
         TypeVariant::String => Ok(Type::primitive_string()),
@@ -116,10 +123,14 @@ fn elaborate_attributes(
     record_type: &RecordType<InternalName>,
     scope: &TypeScope,
 ) -> Result<Attributes, SchemaError>
-    ensures elaborates { IfOk result (λ elaborated. ElaboratesAs scope.now (resolved_record record_type.now) (record_of (fields_of elaborated) OpenTag.ClosedAttributes)) }
+    ensures elaborates { IfOk result (λ elaborated.
+        ElaboratesAs scope.now (resolved_record record_type.now)
+        (record_of (fields_of elaborated) OpenTag.ClosedAttributes)) }
     ensures closed { OnOk result (¬ HasOpenRecord (resolved_record record_type.now)) }
-    ensures extensions { OnOk result (CoversExtensions scope.now (resolved_record record_type.now)) }
-    ensures fault { IfErr result (λ error. IsRefusal scope.now (resolved_record record_type.now) (fault_of error)) }
+    ensures extensions { OnOk result
+        (CoversExtensions scope.now (resolved_record record_type.now)) }
+    ensures fault { IfErr result (λ error.
+        IsRefusal scope.now (resolved_record record_type.now) (fault_of error)) }
 {
     if record_type.additional_attributes {
         return Err(SchemaError::UnsupportedFeature(UnsupportedFeature::OpenRecordsAndEntities));
@@ -146,11 +157,13 @@ pub fn elaborate(
     ty: &json_schema::Type<InternalName>,
     scope: &TypeScope,
 ) -> Result<Type, SchemaError>
-    ensures elaborates { IfOk result (λ elaborated. ElaboratesAs scope.now (resolved_expr ty.now) (ty_of elaborated)) }
+    ensures elaborates { IfOk result (λ elaborated.
+        ElaboratesAs scope.now (resolved_expr ty.now) (ty_of elaborated)) }
     ensures closed { OnOk result (¬ HasOpenRecord (resolved_expr ty.now)) }
     ensures extensions { OnOk result (CoversExtensions scope.now (resolved_expr ty.now)) }
     ensures resolved { OnOk result (ResolvesEach scope.now (resolved_expr ty.now)) }
-    ensures fault { IfErr result (λ error. IsRefusal scope.now (resolved_expr ty.now) (fault_of error)) }
+    ensures fault { IfErr result (λ error.
+        IsRefusal scope.now (resolved_expr ty.now) (fault_of error)) }
 {
     elaborate_type(alloc, ty, scope)
 }

@@ -22,8 +22,10 @@ pub(crate) type Indices = BTreeMap<InternalName, usize>;
 
 /// The index of each common type. A name that stands twice is refused.
 pub(crate) fn name_indices(alloc: Global, declared: &[CommonType]) -> Result<Indices, SchemaError>
-    ensures indices { IfOk result (λ indices. AreIndices (item_names (collected_common declared.now)) (indexed_names indices)) }
-    ensures once { OnOk result ((name : PlainName) → ¬ Twice (item_names (collected_common declared.now)) name) }
+    ensures indices { IfOk result (λ indices.
+        AreIndices (item_names (collected_common declared.now)) (indexed_names indices)) }
+    ensures once { OnOk result ((name : PlainName)
+        → ¬ Twice (item_names (collected_common declared.now)) name) }
     ensures fault { IfErr result (λ error. (fault_of error ≡ out_of_memory)
         ⊎ ((name : PlainName) × (fault_of error ≡ duplicate_common_type name)
         × Twice (item_names (collected_common declared.now)) name)) }

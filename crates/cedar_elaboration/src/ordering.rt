@@ -18,7 +18,9 @@ use std::alloc::Global;
 
 /// For each common type the indices of those that it refers to.
 fn all_targets(alloc: Global, declared: &[CommonType], indices: &Indices) -> M<Vec<Vec<usize>>>
-    ensures { IfOk result (λ targets. HoldsPairwise (λ it found. AddsIndices (indexed_names indices.now) (Refers it.1) [] found.items)
+    ensures { IfOk result (λ targets.
+        HoldsPairwise (λ it found. AddsIndices (indexed_names indices.now) (Refers it.1)
+        [] found.items)
         (collected_common declared.now) targets.items) }
 {
     let mut targets = Vec::new(alloc);
@@ -34,10 +36,13 @@ pub(crate) fn elaboration_order(
     alloc: Global,
     declared: &[CommonType],
 ) -> Result<Vec<usize>, SchemaError>
-    ensures order { IfOk result (λ order. IsElaborationOrder (collected_common declared.now) order.items) }
-    ensures once { OnOk result ((name : PlainName) → ¬ Twice (item_names (collected_common declared.now)) name) }
+    ensures order { IfOk result (λ order.
+        IsElaborationOrder (collected_common declared.now) order.items) }
+    ensures once { OnOk result ((name : PlainName)
+        → ¬ Twice (item_names (collected_common declared.now)) name) }
     ensures no_cycle { OnOk result (HasNoCycle (collected_common declared.now)) }
-    ensures fault { IfErr result (λ error. IsOrderFault (collected_common declared.now) (fault_of error)) }
+    ensures fault { IfErr result (λ error.
+        IsOrderFault (collected_common declared.now) (fault_of error)) }
 {
     let indices = name_indices(alloc, declared)?;
     let targets = all_targets(alloc, declared, &indices)?;

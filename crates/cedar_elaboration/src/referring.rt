@@ -24,7 +24,8 @@ fn add_index(
     indices: &Indices,
     found: &mut Vec<usize>,
 ) -> M<()>
-    ensures { OnOk result (AddsIndices (indexed_names indices.now) (Refers (named (resolved_reference kind name.now))) found.old.items found.new.items) }
+    ensures { OnOk result (AddsIndices (indexed_names indices.now)
+        (Refers (named (resolved_reference kind name.now))) found.old.items found.new.items) }
 {
     if !may_name_common(kind) {
         return Ok(());
@@ -42,7 +43,8 @@ fn add_indices(
     indices: &Indices,
     found: &mut Vec<usize>,
 ) -> M<()>
-    ensures { OnOk result (AddsIndices (indexed_names indices.now) (Refers (resolved_expr ty.now)) found.old.items found.new.items) }
+    ensures { OnOk result (AddsIndices (indexed_names indices.now)
+        (Refers (resolved_expr ty.now)) found.old.items found.new.items) }
 {
     match ty {
         json_schema::Type::Plain { ty, .. } => add_variant_indices(ty, indices, found),
@@ -59,7 +61,8 @@ fn add_variant_indices(
     indices: &Indices,
     found: &mut Vec<usize>,
 ) -> M<()>
-    ensures { OnOk result (AddsIndices (indexed_names indices.now) (Refers (resolved_variant ty.now)) found.old.items found.new.items) }
+    ensures { OnOk result (AddsIndices (indexed_names indices.now)
+        (Refers (resolved_variant ty.now)) found.old.items found.new.items) }
 {
     match ty {
         TypeVariant::Set { element } => add_indices(element, indices, found),
@@ -82,7 +85,8 @@ fn add_record_indices(
     indices: &Indices,
     found: &mut Vec<usize>,
 ) -> M<()>
-    ensures { OnOk result (AddsIndices (indexed_names indices.now) (Refers (resolved_record record_type.now)) found.old.items found.new.items) }
+    ensures { OnOk result (AddsIndices (indexed_names indices.now)
+        (Refers (resolved_record record_type.now)) found.old.items found.new.items) }
 {
     for (_, attribute) in &record_type.attributes {
         add_indices(&attribute.ty, indices, found)?;
@@ -96,7 +100,8 @@ pub(crate) fn referred_indices(
     ty: &json_schema::Type<InternalName>,
     indices: &Indices,
 ) -> M<Vec<usize>>
-    ensures { IfOk result (λ found. AddsIndices (indexed_names indices.now) (Refers (resolved_expr ty.now)) [] found.items) }
+    ensures { IfOk result (λ found.
+        AddsIndices (indexed_names indices.now) (Refers (resolved_expr ty.now)) [] found.items) }
 {
     let mut found = Vec::new(alloc);
     add_indices(ty, indices, &mut found)?;

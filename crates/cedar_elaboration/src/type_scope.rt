@@ -54,8 +54,10 @@ impl TypeScope<'_> {
     /// and there is one.
     pub(crate) fn common_type(&self, name: &InternalName, kind: ReferenceType) -> M<Option<Type>>
         ensures { IfOk result (λ found. MatchOption found
-            (MayNameCommon kind → ¬ Contains (map (λ it. it.0) (elaborated_types self.now.common.now)) (name_of name.now))
-            (λ ty. MayNameCommon kind × Contains (elaborated_types self.now.common.now) (name_of name.now, ty_of ty))) }
+            (MayNameCommon kind → ¬ Contains
+            (map (λ it. it.0) (elaborated_types self.now.common.now)) (name_of name.now))
+            (λ ty. MayNameCommon kind × Contains (elaborated_types self.now.common.now)
+            (name_of name.now, ty_of ty))) }
     {
         if !may_name_common(kind) {
             return Ok(None);
@@ -66,8 +68,8 @@ impl TypeScope<'_> {
         }
     }
 
-    /// The type of the entities of an entity type of a name, if a reference of the kind may name one
-    /// and there is one. A reserved name is refused.
+    /// The type of the entities of an entity type of a name, if a reference of the kind may name
+    /// one and there is one. A reserved name is refused.
     pub(crate) fn entity_type(
         &self,
         alloc: Global,
@@ -76,11 +78,13 @@ impl TypeScope<'_> {
     ) -> Result<Option<Type>, SchemaError>
         ensures found { IfOk result (λ found. MatchOption found
             (MayNameEntity kind → ¬ Contains (set_names self.now.entities.now) (name_of name.now))
-            (λ ty. MayNameEntity kind × Contains (set_names self.now.entities.now) (name_of name.now)
+            (λ ty. MayNameEntity kind × Contains (set_names self.now.entities.now)
+            (name_of name.now)
             × (ty_of ty ≡ union_of (name_of name.now ∷ [])))) }
         ensures fault { IfErr result (λ error. (fault_of error ≡ out_of_memory)
             ⊎ ((fault_of error ≡ reserved_name (name_of name.now)) × MayNameEntity kind
-            × Contains (set_names self.now.entities.now) (name_of name.now) × IsReserved (name_of name.now))) }
+            × Contains (set_names self.now.entities.now) (name_of name.now)
+            × IsReserved (name_of name.now))) }
     {
         if !may_name_entity(kind) {
             return Ok(None);
@@ -100,11 +104,15 @@ impl TypeScope<'_> {
         alloc: Global,
         name: &UnreservedId,
     ) -> Result<Type, SchemaError>
-        ensures ty { IfOk result (λ ty. ty_of ty ≡ extension_of (extension_name (unreserved_id_text name.now))) }
-        ensures known { OnOk result (Contains (extensions_in_scope self.now) (extension_name (unreserved_id_text name.now))) }
+        ensures ty { IfOk result (λ ty.
+            ty_of ty ≡ extension_of (extension_name (unreserved_id_text name.now))) }
+        ensures known { OnOk result (Contains (extensions_in_scope self.now)
+            (extension_name (unreserved_id_text name.now))) }
         ensures fault { IfErr result (λ error. (fault_of error ≡ out_of_memory)
-            ⊎ ((fault_of error ≡ unknown_extension_type (extension_name (unreserved_id_text name.now)))
-            × ¬ Contains (extensions_in_scope self.now) (extension_name (unreserved_id_text name.now)))) }
+            ⊎ ((fault_of error ≡ unknown_extension_type
+            (extension_name (unreserved_id_text name.now)))
+            × ¬ Contains (extensions_in_scope self.now)
+            (extension_name (unreserved_id_text name.now)))) }
     {
         let name = InternalName::new(name.clone()?.into_id(), Vec::new(alloc), None);
         match Name::new(name) {

@@ -19,14 +19,16 @@ module _ (N : Type 0) (refer : ReferenceType → N → Reference) where
   abbrev pub fragment_requests : Option (ActionRequests N) → Requests
   fragment_requests None = elsewhere
   fragment_requests (Some it) =
-      requests (map (refer Entity) it.principals.items) (map (refer Entity) it.resources.items) (type_expr N refer it.context)
+      requests (map (refer Entity) it.principals.items) (map (refer Entity) it.resources.items)
+      (type_expr N refer it.context)
 
   -- a parent of an action
   abbrev pub fragment_parent : ActionParent N → ActionReference
   fragment_parent it = record { id = string_bytes it.id; ty = refer Entity it.ty }
 
 -- over names of some form, and names of the types of actions of another
-module _ (N : Type 0) (refer : ReferenceType → N → Reference) (A : Type 0) (refer_action : ReferenceType → A → Reference) where
+module _ (N : Type 0) (refer : ReferenceType → N → Reference) (A : Type 0)
+    (refer_action : ReferenceType → A → Reference) where
   -- what is declared of an action, which has no attributes
   abbrev pub action_fragment_body : ActionFragment N A → ActionBody
   action_fragment_body it = record {
@@ -37,7 +39,8 @@ module _ (N : Type 0) (refer : ReferenceType → N → Reference) (A : Type 0) (
 
   -- the declaration of an action
   abbrev pub action_fragment_declaration : ActionDef N A → Declaration
-  action_fragment_declaration def = declared_action (uid_of def.uid) (action (action_fragment_body def.fragment))
+  action_fragment_declaration def =
+      declared_action (uid_of def.uid) (action (action_fragment_body def.fragment))
 
   -- the declarations of the actions
   abbrev pub action_fragment_declarations : ActionsDef N A → List Declaration

@@ -25,15 +25,18 @@ use Rattle.cedar_names.specs.declared.json_schema.reference_type.ReferenceType.{
 -- the declarations of each definition of a fragment, one bag for each in order, be it empty
 abbrev pub declarations_pairwise : (N : Type 0) (refer : ReferenceType → N → Reference) (A : Type 0)
     (refer_action : ReferenceType → A → Reference) → ValidatorSchemaFragment N A → List Bag
-declarations_pairwise N refer A refer_action it = map (definition_declarations N refer A refer_action) (fragment_definitions N A it)
+declarations_pairwise N refer A refer_action it =
+    map (definition_declarations N refer A refer_action) (fragment_definitions N A it)
 
 -- the same of a fragment over conditional names
 abbrev pub conditional_pairwise : ValidatorSchemaFragment ConditionalName ConditionalName → List Bag
-conditional_pairwise = declarations_pairwise ConditionalName positional_reference ConditionalName positional_reference
+conditional_pairwise =
+    declarations_pairwise ConditionalName positional_reference ConditionalName positional_reference
 
 -- the same of a fragment over full names
 abbrev pub resolved_in_turn : ValidatorSchemaFragment InternalName EntityType → List Bag
-resolved_in_turn = declarations_pairwise InternalName resolved_reference EntityType resolved_action_type
+resolved_in_turn =
+    declarations_pairwise InternalName resolved_reference EntityType resolved_action_type
 
 -- the declarations of a definition of a fragment as it is written
 abbrev pub entry_declarations : Option Name × NamespaceDefinition RawName → Bag
@@ -43,7 +46,8 @@ entry_declarations entry = raw_declarations (option_map plain_name entry.0) entr
 abbrev pub raw_pairwise : Fragment RawName → List Bag
 raw_pairwise fragment = map entry_declarations fragment.0.entries
 
--- a namespace: its name with where it was written, None being the empty namespace, and where it was defined
+-- a namespace: its name with where it was written, None being the empty namespace, and where it was
+-- defined
 pub record LocatedNamespace : Type 0 where
   pub name : Option LocatedName
   pub def_loc : Option Loc
@@ -57,14 +61,15 @@ module _ (N A : Type 0) where
   abbrev pub located_namespaces : ValidatorSchemaFragment N A → List LocatedNamespace
   located_namespaces it = map located_namespace (fragment_definitions N A it)
 
--- the locations in what each definition of a fragment declares, but for those in the names of references, one list for
--- each in order
+-- the locations in what each definition of a fragment declares, but for those in the names of
+-- references, one list for each in order
 abbrev pub locs_pairwise : (N A : Type 0) → ValidatorSchemaFragment N A → List Locs
 locs_pairwise N A it = map (definition_locs N no_locs A no_locs) (fragment_definitions N A it)
 
 -- the namespace of a definition of a fragment as it is written
 abbrev pub entry_namespace : Option Name × NamespaceDefinition RawName → LocatedNamespace
-entry_namespace entry = record { name = option_map located_plain_name entry.0; def_loc = entry.1.loc }
+entry_namespace entry = record
+    { name = option_map located_plain_name entry.0; def_loc = entry.1.loc }
 
 -- the namespaces of the definitions of a fragment as it is written, one for each in order
 abbrev pub raw_located_namespaces : Fragment RawName → List LocatedNamespace

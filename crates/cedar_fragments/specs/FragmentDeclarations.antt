@@ -19,11 +19,14 @@ use Rattle.cedar_names.specs.declared.json_schema.conditional_name.ConditionalNa
 use Rattle.cedar_names.specs.declared.json_schema.reference_type.ReferenceType.{ReferenceType}
 
 -- over names of some form, and names of the types of actions of another
-module _ (N : Type 0) (refer : ReferenceType → N → Reference) (A : Type 0) (refer_action : ReferenceType → A → Reference) where
-  -- the declarations of a namespace's definition: its common types, its entity types and its actions
+module _ (N : Type 0) (refer : ReferenceType → N → Reference) (A : Type 0)
+    (refer_action : ReferenceType → A → Reference) where
+  -- the declarations of a namespace's definition: its common types, its entity types and its
+  -- actions
   abbrev pub definition_declarations : ValidatorNamespaceDef N A → Bag
   definition_declarations it =
-      common_type_declarations N refer it.common_types ++ entity_type_declarations N refer it.entity_types
+      common_type_declarations N refer it.common_types
+      ++ entity_type_declarations N refer it.entity_types
       ++ action_fragment_declarations N refer A refer_action it.actions
 
   -- the declarations of a fragment: those of its definitions in turn
@@ -36,11 +39,14 @@ definition_namespace N A it = option_map name_of it.namespace
 
 -- the declarations of a definition over conditional names
 abbrev pub conditional_definition : ValidatorNamespaceDef ConditionalName ConditionalName → Bag
-conditional_definition = definition_declarations ConditionalName positional_reference ConditionalName positional_reference
+conditional_definition =
+    definition_declarations ConditionalName positional_reference ConditionalName
+    positional_reference
 
 -- the declarations of a fragment over conditional names
 abbrev pub conditional_fragment : ValidatorSchemaFragment ConditionalName ConditionalName → Bag
-conditional_fragment = fragment_declarations ConditionalName positional_reference ConditionalName positional_reference
+conditional_fragment =
+    fragment_declarations ConditionalName positional_reference ConditionalName positional_reference
 
 -- the bag of declarations of some fragments over conditional names
 abbrev pub conditional_bag : List (ValidatorSchemaFragment ConditionalName ConditionalName) → Bag
@@ -52,8 +58,10 @@ resolved_action_type kind ty = reference_to_one kind (type_name ty)
 
 -- the declarations of a definition over full names
 abbrev pub resolved_definition : ValidatorNamespaceDef InternalName EntityType → Bag
-resolved_definition = definition_declarations InternalName resolved_reference EntityType resolved_action_type
+resolved_definition =
+    definition_declarations InternalName resolved_reference EntityType resolved_action_type
 
 -- the declarations of a fragment over full names
 abbrev pub resolved_fragment : ValidatorSchemaFragment InternalName EntityType → Bag
-resolved_fragment = fragment_declarations InternalName resolved_reference EntityType resolved_action_type
+resolved_fragment =
+    fragment_declarations InternalName resolved_reference EntityType resolved_action_type

@@ -9,11 +9,12 @@ use Rattle.cedar_names.specs.declared.json_schema.fragment.Fragment.{Fragment}
 use Rattle.cedar_names.specs.declared.json_schema.fragment.NamespaceDefinition.{NamespaceDefinition}
 use Rattle.cedar_names.specs.declared.json_schema.raw_name.RawName.{RawName}
 
--- where the refusal names actions with attributes, there is a definition in the fragments of which it names all such
--- actions, and no others
+-- where the refusal names actions with attributes, there is a definition in the fragments of which
+-- it names all such actions, and no others
 abbrev pub NamesAllOfADefinition : List (Fragment RawName) → Fault → Type 0
 NamesAllOfADefinition fragments (action_attributes ids) =
     (fragment : Fragment RawName) × (entry : Option Name × NamespaceDefinition RawName)
     × Contains fragments fragment × Contains fragment.0.entries entry
-    × NamesAllWithAttributes (entry_declarations entry) (option_map plain_name entry.0) (action_attributes ids)
+    × NamesAllWithAttributes (entry_declarations entry) (option_map plain_name entry.0)
+    (action_attributes ids)
 NamesAllOfADefinition fragments _ = Unit {0}

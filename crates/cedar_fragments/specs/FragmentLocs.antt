@@ -38,7 +38,8 @@ module _ (N : Type 0) (locs : N → Locs) where
   tags_locs None = []
   tags_locs (Some ty) = type_locs N locs ty
 
-  -- the locations in what is declared of an entity type: those in the attributes, in the parents and in the tags
+  -- the locations in what is declared of an entity type: those in the attributes, in the parents
+  -- and in the tags
   abbrev pub entity_fragment_locs : EntityTypeFragment N → Locs
   entity_fragment_locs (variant.Standard attributes parents tags) =
       type_locs N locs attributes.0 ++ flat_map locs parents.items ++ tags_locs tags
@@ -53,22 +54,28 @@ module _ (N : Type 0) (locs : N → Locs) where
   abbrev pub entity_types_locs : EntityTypesDef N → Locs
   entity_types_locs it = flat_map entity_type_locs it.defs.items
 
-  -- the locations in the requests that an action is for: those in the principals, in the resources and in the context
+  -- the locations in the requests that an action is for: those in the principals, in the resources
+  -- and in the context
   abbrev pub requests_locs : Option (ActionRequests N) → Locs
   requests_locs None = []
-  requests_locs (Some it) = flat_map locs it.principals.items ++ flat_map locs it.resources.items ++ type_locs N locs it.context
+  requests_locs (Some it) = flat_map locs it.principals.items ++ flat_map locs it.resources.items
+      ++ type_locs N locs it.context
 
-  -- the locations in a parent of an action: that of the reference, then those in the name of its type
+  -- the locations in a parent of an action: that of the reference, then those in the name of its
+  -- type
   abbrev pub parent_locs : ActionParent N → Locs
   parent_locs it = it.loc ∷ locs it.ty
 
 -- over names of some form, and names of the types of actions of another
 module _ (N : Type 0) (locs : N → Locs) (A : Type 0) (action_locs : A → Locs) where
-  -- the locations in what is declared of an action: that of its name, then those in the requests and in the parents
+  -- the locations in what is declared of an action: that of its name, then those in the requests
+  -- and in the parents
   abbrev pub action_fragment_locs : ActionFragment N A → Locs
-  action_fragment_locs it = it.loc ∷ requests_locs N locs it.requests ++ flat_map (parent_locs A action_locs) it.parents.items
+  action_fragment_locs it = it.loc ∷ requests_locs N locs it.requests
+      ++ flat_map (parent_locs A action_locs) it.parents.items
 
-  -- the locations in an action: that of the declaration, that of the type in its uid, then those in what is declared
+  -- the locations in an action: that of the declaration, that of the type in its uid, then those in
+  -- what is declared
   abbrev pub action_def_locs : ActionDef N A → Locs
   action_def_locs def = uid_loc def.uid ∷ uid_type_loc def.uid ∷ action_fragment_locs def.fragment
 
@@ -76,10 +83,12 @@ module _ (N : Type 0) (locs : N → Locs) (A : Type 0) (action_locs : A → Locs
   abbrev pub actions_locs : ActionsDef N A → Locs
   actions_locs it = flat_map action_def_locs it.defs.items
 
-  -- the locations in what a definition of a namespace declares: its common types, its entity types and its actions
+  -- the locations in what a definition of a namespace declares: its common types, its entity types
+  -- and its actions
   abbrev pub definition_locs : ValidatorNamespaceDef N A → Locs
   definition_locs it =
-      common_types_locs N locs it.common_types ++ entity_types_locs N locs it.entity_types ++ actions_locs it.actions
+      common_types_locs N locs it.common_types ++ entity_types_locs N locs it.entity_types
+      ++ actions_locs it.actions
 
   -- the locations in what the definitions of a fragment declare, in turn
   abbrev pub fragment_locs : ValidatorSchemaFragment N A → Locs

@@ -10,10 +10,13 @@ use Rattle.cedar_names.specs.declared.json_schema.conditional_name.ConditionalNa
 use Rattle.cedar_names.specs.declared.json_schema.type_of.Type.{«Type»}
 
 -- what a common type of the id declares in a namespace, None being the empty one
-abbrev pub given_common_type : Option PlainName → UnreservedId × «Type» ConditionalName → Declaration
+abbrev pub given_common_type : Option PlainName → UnreservedId × «Type» ConditionalName
+    → Declaration
 given_common_type namespace entry =
-    declared_as (name_within namespace (unreserved_id_text entry.0)) (common_type (positional_expr entry.1))
+    declared_as (name_within namespace (unreserved_id_text entry.0))
+    (common_type (positional_expr entry.1))
 
 -- what some common types declare in a namespace, in their order
-abbrev pub given_common_types : Option PlainName → List (UnreservedId × «Type» ConditionalName) → List Declaration
+abbrev pub given_common_types : Option PlainName → List (UnreservedId × «Type» ConditionalName)
+    → List Declaration
 given_common_types namespace = map (given_common_type namespace)

@@ -37,7 +37,8 @@ uids_of_actions N A it = map (λ def. uid_of def.uid) it.defs.items
 
 -- over names of some form, and names of the types of actions of another
 module _ (N A : Type 0) where
-  -- the names that a definition itself declares: no types of actions, no built-in types and no aliases
+  -- the names that a definition itself declares: no types of actions, no built-in types and no
+  -- aliases
   abbrev pub definition_names : ValidatorNamespaceDef N A → Names
   definition_names it = record {
     common = common_type_names N it.common_types;
@@ -67,7 +68,8 @@ module _ (N A : Type 0) where
 
 -- a list has the items of one list and those of another, and no others
 abbrev pub HasAlso : {P : Type 0} → List P → List P → List P → Type 0
-HasAlso {P = P} after before more = (item : P) → Contains after item ↔ (Contains before item ⊎ Contains more item)
+HasAlso {P = P} after before more = (item : P)
+    → Contains after item ↔ (Contains before item ⊎ Contains more item)
 
 -- names are those of some others and also some more
 pub record HoldsAlso (after before more : Names) : Type 0 where
@@ -81,7 +83,8 @@ pub record HoldsJust (held names : Names) : Type 0 where
   pub entities : SameItems held.entities names.entities
   pub actions : SameItems held.actions names.actions
 
--- names are just those that the declarations of a bag give: of common types, of entity types, and the uids of actions
+-- names are just those that the declarations of a bag give: of common types, of entity types, and
+-- the uids of actions
 pub record AreTheDeclaredNames (names : Names) (bag : Bag) : Type 0 where
   pub common : names.common ≡ map (λ it. it.0) (declared_common bag)
   pub entities : names.entities ≡ map (λ it. it.0) (declared_entities bag)

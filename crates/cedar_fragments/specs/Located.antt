@@ -42,7 +42,8 @@ located_name name = record { name = name_of name; loc = name_loc name }
 abbrev pub located_plain_name : Name → LocatedName
 located_plain_name name = record { name = plain_name name; loc = plain_loc name }
 
--- the namespace of a definition at a location; the empty namespace, which has no name, isn't among these
+-- the namespace of a definition at a location; the empty namespace, which has no name, isn't among
+-- these
 abbrev pub named_namespace : Option LocatedName → Option Loc → List DefinedNamespace
 named_namespace None loc = []
 named_namespace (Some at) loc = record { name = at.name; name_loc = at.loc; def_loc = loc } ∷ []
@@ -97,22 +98,29 @@ module _ (N A : Type 0) where
   named_namespaces it = flat_map definition_namespaces (fragment_definitions it)
 
 -- the full names of common types that are written in a namespace, each with where it was declared
-abbrev pub written_common_names : Option PlainName → List (CommonTypeId × CommonType RawName) → List LocatedName
+abbrev pub written_common_names : Option PlainName → List (CommonTypeId × CommonType RawName)
+    → List LocatedName
 written_common_names namespace entries =
-    map (λ entry. record { name = name_within namespace (common_type_text entry.0); loc = entry.1.loc }) entries
+    map (λ entry. record {
+      name = name_within namespace (common_type_text entry.0);
+      loc = entry.1.loc;
+    }) entries
 
 -- the same of a definition of a fragment
 abbrev pub entry_common_names : Option Name × NamespaceDefinition RawName → List LocatedName
-entry_common_names entry = written_common_names (option_map plain_name entry.0) entry.1.common_types.entries
+entry_common_names entry = written_common_names
+    (option_map plain_name entry.0) entry.1.common_types.entries
 
 -- the namespace of a definition of a fragment, if it has a name
 abbrev pub entry_namespaces : Option Name × NamespaceDefinition RawName → List DefinedNamespace
 entry_namespaces entry = named_namespace (option_map located_plain_name entry.0) entry.1.loc
 
--- the full names of the common types of a fragment as it is written, each with where it was declared
+-- the full names of the common types of a fragment as it is written, each with where it was
+-- declared
 abbrev pub raw_common_names : Fragment RawName → List LocatedName
 raw_common_names fragment = flat_map entry_common_names fragment.0.entries
 
--- the namespaces that a fragment as it is written defines and that have a name, one for each definition
+-- the namespaces that a fragment as it is written defines and that have a name, one for each
+-- definition
 abbrev pub raw_namespaces : Fragment RawName → List DefinedNamespace
 raw_namespaces fragment = flat_map entry_namespaces fragment.0.entries

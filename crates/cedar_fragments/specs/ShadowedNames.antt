@@ -13,18 +13,21 @@ type_names names = names.common ++ names.entities
 -- the refusal names two of the names, of which the first would shadow the second
 abbrev pub IsShadowing : Names → Fault → Type 0
 IsShadowing names (type_shadowing plain qualified) =
-    Contains (type_names names) plain × Contains (type_names names) qualified × ShadowsType plain qualified
+    Contains (type_names names) plain × Contains (type_names names) qualified
+    × ShadowsType plain qualified
 IsShadowing names (action_shadowing plain qualified) =
     Contains names.actions plain × Contains names.actions qualified × ShadowsAction plain qualified
 IsShadowing names _ = ⊥
 
 -- no type would shadow another
 abbrev pub NoTypeShadows : List PlainName → List PlainName → Type 0
-NoTypeShadows types others = (plain qualified : PlainName) → Contains types plain → Contains others qualified → ¬ ShadowsType plain qualified
+NoTypeShadows types others = (plain qualified : PlainName) → Contains types plain
+    → Contains others qualified → ¬ ShadowsType plain qualified
 
 -- no action would shadow another
 abbrev pub NoActionShadows : List PlainUid → Type 0
-NoActionShadows actions = (plain qualified : PlainUid) → Contains actions plain → Contains actions qualified → ¬ ShadowsAction plain qualified
+NoActionShadows actions = (plain qualified : PlainUid) → Contains actions plain
+    → Contains actions qualified → ¬ ShadowsAction plain qualified
 
 -- the uid is one of some, has an unqualified type, and has the id
 abbrev pub IsPlainAction : List PlainUid → Text → PlainUid → Type 0

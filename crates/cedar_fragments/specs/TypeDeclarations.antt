@@ -22,7 +22,8 @@ use Rattle.cedar_names.specs.declared.json_schema.reference_type.ReferenceType.T
 module _ (N : Type 0) (refer : ReferenceType → N → Reference) where
   -- the declaration of a common type
   abbrev pub common_type_declaration : CommonTypeDef N → Declaration
-  common_type_declaration def = declared_as (name_of def.name) (common_type (type_expr N refer def.ty))
+  common_type_declaration def = declared_as (name_of def.name)
+      (common_type (type_expr N refer def.ty))
 
   -- the declarations of the common types
   abbrev pub common_type_declarations : CommonTypeDefs N → List Declaration
@@ -31,13 +32,15 @@ module _ (N : Type 0) (refer : ReferenceType → N → Reference) where
   -- what is declared of an entity type
   abbrev pub fragment_body : EntityTypeFragment N → EntityBody
   fragment_body (variant.Standard attributes parents tags) =
-      standard (map (refer Entity) parents.items) (type_expr N refer attributes.0) (option_map (type_expr N refer) tags)
+      standard (map (refer Entity) parents.items) (type_expr N refer attributes.0)
+      (option_map (type_expr N refer) tags)
   fragment_body (variant.Enum choices) = enumerated (map eid_text (items_of choices))
   fragment_body (variant.External parents) = external (map (refer Entity) parents.items)
 
   -- the declaration of an entity type
   abbrev pub entity_type_declaration : EntityTypeDef N → Declaration
-  entity_type_declaration def = declared_as (type_name def.name) (entity_type (fragment_body def.fragment))
+  entity_type_declaration def = declared_as (type_name def.name)
+      (entity_type (fragment_body def.fragment))
 
   -- the declarations of the entity types
   abbrev pub entity_type_declarations : EntityTypesDef N → List Declaration

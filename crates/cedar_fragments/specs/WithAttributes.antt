@@ -14,4 +14,5 @@ id_where false id = []
 
 -- the ids of the actions among some that are written with attributes
 abbrev pub with_attributes : List (String Global × ActionType RawName) → List Text
-with_attributes entries = flat_map (λ entry. id_where (is_some entry.1.attributes) (string_bytes entry.0)) entries
+with_attributes entries = flat_map (λ entry.
+    id_where (is_some entry.1.attributes) (string_bytes entry.0)) entries

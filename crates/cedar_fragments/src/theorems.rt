@@ -24,7 +24,8 @@ use cedar_names::json_schema::{ConditionalName, FragmentName};
 pub fn names_are_those_of_the_bag<N, A>()
     ensures { (refer : ReferenceType → N → Reference) (refer_action : ReferenceType → A → Reference)
         (fragments : List (ValidatorSchemaFragment N A))
-        → AreTheDeclaredNames (declared_names N A fragments) (flat_map (fragment_declarations N refer A refer_action) fragments) }
+        → AreTheDeclaredNames (declared_names N A fragments)
+        (flat_map (fragment_declarations N refer A refer_action) fragments) }
 {}
 
 /// No fault of what fragments declare is one that a definition gives cause for by itself, whatever
@@ -39,27 +40,34 @@ pub fn fragments_have_no_definition_fault<N, A>()
 /// The references of fragments over conditional names fit their positions: each at the place of an
 /// entity type refers to one.
 pub fn references_fit_their_positions()
-    ensures { (fragments : List (ValidatorSchemaFragment Conditional Conditional)) → PositionsFit (conditional_bag fragments) }
+    ensures { (fragments : List (ValidatorSchemaFragment Conditional Conditional))
+        → PositionsFit (conditional_bag fragments) }
 {}
 
-/// Alike names refer to the same, as bags and types read them: conditional names, of the kinds that they
-/// say themselves or that their places permit, full names, and the types of actions.
+/// Alike names refer to the same, as bags and types read them: conditional names, of the kinds that
+/// they say themselves or that their places permit, full names, and the types of actions.
 pub fn alike_names_refer_to_the_same()
     ensures own { RefersAlike Conditional ⟦<ConditionalName as FragmentName>⟧.is_alike own_reference }
-    ensures placed { RefersAlike Conditional ⟦<ConditionalName as FragmentName>⟧.is_alike positional_reference }
+    ensures placed { RefersAlike Conditional ⟦<ConditionalName as FragmentName>⟧.is_alike
+        positional_reference }
     ensures resolved { RefersAlike Full ⟦<InternalName as FragmentName>⟧.is_alike resolved_reference }
-    ensures action_types { RefersAlike ActionEntityType ⟦<EntityType as FragmentName>⟧.is_alike resolved_action_type }
+    ensures action_types { RefersAlike ActionEntityType ⟦<EntityType as FragmentName>⟧.is_alike
+        resolved_action_type }
 {}
 
 /// A fragment that declares the same as another whatever alike names refer to, as a copy does, has
 /// the same bag, before names are resolved and after.
 pub fn copies_have_the_same_bag()
     ensures conditional { (fragment copy : ValidatorSchemaFragment Conditional Conditional)
-        → DeclaresSame Conditional ⟦<ConditionalName as FragmentName>⟧.is_alike Conditional ⟦<ConditionalName as FragmentName>⟧.is_alike
-        (λ (refer : ReferenceType → Conditional → Reference). fragment_declarations Conditional refer Conditional) fragment copy
+        → DeclaresSame Conditional ⟦<ConditionalName as FragmentName>⟧.is_alike Conditional
+        ⟦<ConditionalName as FragmentName>⟧.is_alike
+        (λ (refer : ReferenceType → Conditional → Reference).
+        fragment_declarations Conditional refer Conditional) fragment copy
         → conditional_fragment copy ≡ conditional_fragment fragment }
     ensures resolved { (fragment copy : ValidatorSchemaFragment Full ActionEntityType)
-        → DeclaresSame Full ⟦<InternalName as FragmentName>⟧.is_alike ActionEntityType ⟦<EntityType as FragmentName>⟧.is_alike
-        (λ (refer : ReferenceType → Full → Reference). fragment_declarations Full refer ActionEntityType) fragment copy
+        → DeclaresSame Full ⟦<InternalName as FragmentName>⟧.is_alike ActionEntityType
+        ⟦<EntityType as FragmentName>⟧.is_alike
+        (λ (refer : ReferenceType → Full → Reference).
+        fragment_declarations Full refer ActionEntityType) fragment copy
         → resolved_fragment copy ≡ resolved_fragment fragment }
 {}

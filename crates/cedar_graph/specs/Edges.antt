@@ -15,7 +15,8 @@ module _ {K V S : Type 0} (eq : K → K → Bool) (has_edge : V → K → Bool) 
 
 -- one of the edges goes from the first key to the second
 abbrev pub IsEdgeIn : {K : Type 0} → (K → K → Bool) → List (K × K) → K → K → Type 0
-IsEdgeIn {K = K} eq edges from to = (edge : K × K) × Contains edges edge × IsTrue (eq edge.0 from) × IsTrue (eq edge.1 to)
+IsEdgeIn {K = K} eq edges from to =
+    (edge : K × K) × Contains edges edge × IsTrue (eq edge.0 from) × IsTrue (eq edge.1 to)
 
 module _ {V : Type 0} (is_alike : V → V → Type 0) where
   -- what stands at a key before and after: two nodes that are alike but for edges, or none

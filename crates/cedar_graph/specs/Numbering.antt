@@ -10,26 +10,33 @@ module _ {K : Type 0} (eq : K → K → Bool) where
   IsNumbered names key number = IsSomeAnd (slice_get names number) (λ name. IsTrue (eq key name))
 
 module _ {K : Type 0} (eq : K → K → Bool) where
-  -- the map finds, at each key, the number at which a name that is equal to it stands, and nothing else
+  -- the map finds, at each key, the number at which a name that is equal to it stands, and nothing
+  -- else
   abbrev pub AreNumbers : {S : Type 0} → List K → HashMap K ℕ S → Type 0
-  AreNumbers names numbers = (key : K) (number : ℕ) → (get eq numbers key ≡ Some number) ↔ IsNumbered eq names key number
+  AreNumbers names numbers = (key : K) (number : ℕ)
+      → (get eq numbers key ≡ Some number) ↔ IsNumbered eq names key number
 
   -- each key that has a number keeps it
   abbrev pub KeepsNumbers : List K → List K → Type 0
-  KeepsNumbers old new = (key : K) (number : ℕ) → IsNumbered eq old key number → IsNumbered eq new key number
+  KeepsNumbers old new = (key : K) (number : ℕ) → IsNumbered eq old key number
+      → IsNumbered eq new key number
 
 module _ {K : Type 0} (eq : K → K → Bool) where
   -- the numbers are those of the keys that pass the test
   pub record AreNumbersOf (names : List K) (test : K → Bool) (numbers : List ℕ) : Type 0 where
-    pub sound : (number : ℕ) → Contains numbers number → (key : K) × IsNumbered eq names key number × IsTrue (test key)
-    pub complete : (key : K) → IsTrue (test key) → (number : ℕ) × IsNumbered eq names key number × Contains numbers number
+    pub sound : (number : ℕ) → Contains numbers number
+        → (key : K) × IsNumbered eq names key number × IsTrue (test key)
+    pub complete : (key : K) → IsTrue (test key)
+        → (number : ℕ) × IsNumbered eq names key number × Contains numbers number
 
 module _ {K : Type 0} (eq : K → K → Bool) where
   -- the number of the key stands in the row
   abbrev pub StandsInRow : List K → List ℕ → K → Type 0
-  StandsInRow names row key = (number : ℕ) × IsTrue (has_bit row number) × IsNumbered eq names key number
+  StandsInRow names row key = (number : ℕ) × IsTrue (has_bit row number)
+      × IsNumbered eq names key number
 
 module _ {K : Type 0} (eq : K → K → Bool) where
   -- the number of the second key stands in the row of the first
   abbrev pub RowHas : {Z : Type 0} → List K → List (Vec ℕ Z) → K → K → Type 0
-  RowHas names rows from to = (number : ℕ) × IsNumbered eq names from number × StandsInRow eq names (items_at rows number) to
+  RowHas names rows from to = (number : ℕ) × IsNumbered eq names from number
+      × StandsInRow eq names (items_at rows number) to

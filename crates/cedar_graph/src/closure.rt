@@ -37,15 +37,21 @@ fn closed_names<K: Eq + Hash + Drop, V: TCNode<K>>(
     ensures few { IfOk result (λ closed. vec_len closed.rows ≤ vec_len closed.names) }
     ensures wide { IfOk result (λ closed. (i : ℕ) → i < vec_len closed.rows
         → i < 64 * length (items_at closed.rows.items i)) }
-    ensures small { IfOk result (λ closed. (i : ℕ) → length (items_at closed.rows.items i) ≤ 2 ^ 58) }
-    ensures within { IfOk result (λ closed. (i j : ℕ) → InRow closed.rows.items i j → j < vec_len closed.names) }
-    ensures single { IfOk result (λ closed. (key : K) (i j : ℕ) → IsNumbered K.eq closed.names.items key i
+    ensures small { IfOk result (λ closed.
+        (i : ℕ) → length (items_at closed.rows.items i) ≤ 2 ^ 58) }
+    ensures within { IfOk result (λ closed.
+        (i j : ℕ) → InRow closed.rows.items i j → j < vec_len closed.names) }
+    ensures single { IfOk result (λ closed.
+        (key : K) (i j : ℕ) → IsNumbered K.eq closed.names.items key i
         → IsNumbered K.eq closed.names.items key j → i ≡ j) }
-    ensures sound { IfOk result (λ closed. (from to : K) → RowHas K.eq closed.names.items closed.rows.items from to
+    ensures sound { IfOk result (λ closed.
+        (from to : K) → RowHas K.eq closed.names.items closed.rows.items from to
         → Reaches K.eq V.has_edge nodes.now from to) }
-    ensures complete { IfOk result (λ closed. (from to : K) → Reaches K.eq V.has_edge nodes.now from to
+    ensures complete { IfOk result (λ closed.
+        (from to : K) → Reaches K.eq V.has_edge nodes.now from to
         → RowHas K.eq closed.names.items closed.rows.items from to) }
-    ensures count { IfOk result (λ closed. closed.joins ≤ hash_map_len nodes.now * hash_map_len nodes.now) }
+    ensures count { IfOk result (λ closed.
+        closed.joins ≤ hash_map_len nodes.now * hash_map_len nodes.now) }
 {
     let mut numbering = numbered_keys::<K, V>(alloc, nodes)?;
     let targets = all_targets(alloc, nodes, &mut numbering)?;
@@ -69,14 +75,16 @@ pub fn compute_tc_counted<K: Eq + Hash + Drop, V: TCNode<K>>(
     enforce_dag: bool,
 ) -> Result<u128, TcError<K>>
     ensures keys { keys nodes.new ≡ keys nodes.old }
-    ensures alike { (key : K) → AreAlike V.is_alike (get K.eq nodes.old key) (get K.eq nodes.new key) }
+    ensures alike { (key : K) → AreAlike V.is_alike (get K.eq nodes.old key)
+        (get K.eq nodes.new key) }
     ensures old_stay { (from to : K) → HasEdge K.eq V.has_edge nodes.old from to
         → HasEdge K.eq V.has_edge nodes.new from to }
     ensures sound { (from to : K) → HasEdge K.eq V.has_edge nodes.new from to
         → Reaches K.eq V.has_edge nodes.old from to }
     ensures complete { OnOk result ((from to : K) → Reaches K.eq V.has_edge nodes.old from to
         → HasEdge K.eq V.has_edge nodes.new from to) }
-    ensures acyclic { OnOk result (IsTrue enforce_dag → (key : K) → ¬ Reaches K.eq V.has_edge nodes.old key key) }
+    ensures acyclic { OnOk result (IsTrue enforce_dag → (key : K)
+        → ¬ Reaches K.eq V.has_edge nodes.old key key) }
     ensures fault { IfErr result (IsRefusal (Reaches K.eq V.has_edge nodes.old) enforce_dag) }
     ensures count { IfOk result (λ joins. joins ≤ hash_map_len nodes.old * hash_map_len nodes.old) }
 {
@@ -109,14 +117,16 @@ pub fn compute_tc<K: Eq + Hash + Drop, V: TCNode<K>>(
     enforce_dag: bool,
 ) -> Result<(), TcError<K>>
     ensures keys { keys nodes.new ≡ keys nodes.old }
-    ensures alike { (key : K) → AreAlike V.is_alike (get K.eq nodes.old key) (get K.eq nodes.new key) }
+    ensures alike { (key : K) → AreAlike V.is_alike (get K.eq nodes.old key)
+        (get K.eq nodes.new key) }
     ensures old_stay { (from to : K) → HasEdge K.eq V.has_edge nodes.old from to
         → HasEdge K.eq V.has_edge nodes.new from to }
     ensures sound { (from to : K) → HasEdge K.eq V.has_edge nodes.new from to
         → Reaches K.eq V.has_edge nodes.old from to }
     ensures complete { OnOk result ((from to : K) → Reaches K.eq V.has_edge nodes.old from to
         → HasEdge K.eq V.has_edge nodes.new from to) }
-    ensures acyclic { OnOk result (IsTrue enforce_dag → (key : K) → ¬ Reaches K.eq V.has_edge nodes.old key key) }
+    ensures acyclic { OnOk result (IsTrue enforce_dag → (key : K)
+        → ¬ Reaches K.eq V.has_edge nodes.old key key) }
     ensures fault { IfErr result (IsRefusal (Reaches K.eq V.has_edge nodes.old) enforce_dag) }
 {
     compute_tc_counted(alloc, nodes, enforce_dag)?;

@@ -23,11 +23,14 @@ pub(crate) struct Numbering<K: Eq + Hash> {
 fn add_number<K: Eq + Hash + Drop, V: TCNode<K>>(numbering: &mut Numbering<K>, key: &K) -> M<usize>
     requires numbers { AreNumbers K.eq numbering.old.names.items numbering.old.numbers }
     requires absent { get K.eq numbering.old.numbers key.now ≡ None }
-    ensures numbers { OnOk result (AreNumbers K.eq numbering.new.names.items numbering.new.numbers) }
+    ensures numbers { OnOk result
+        (AreNumbers K.eq numbering.new.names.items numbering.new.numbers) }
     ensures len { OnOk result (vec_len numbering.new.names ≡ vec_len numbering.old.names + 1) }
-    ensures kept { OnOk result (KeepsNumbers K.eq numbering.old.names.items numbering.new.names.items) }
+    ensures kept { OnOk result
+        (KeepsNumbers K.eq numbering.old.names.items numbering.new.names.items) }
     ensures number { IfOk result (λ number. number ≡ vec_len numbering.old.names) }
-    ensures numbered { IfOk result (λ number. IsNumbered K.eq numbering.new.names.items key.now number) }
+    ensures numbered { IfOk result (λ number.
+        IsNumbered K.eq numbering.new.names.items key.now number) }
 {
     let number = numbering.names.len();
     let name = V::copy_key(key)?;
@@ -43,9 +46,12 @@ pub(crate) fn number_of<K: Eq + Hash + Drop, V: TCNode<K>>(
     key: &K,
 ) -> M<usize>
     requires { AreNumbers K.eq numbering.old.names.items numbering.old.numbers }
-    ensures numbers { OnOk result (AreNumbers K.eq numbering.new.names.items numbering.new.numbers) }
-    ensures kept { OnOk result (KeepsNumbers K.eq numbering.old.names.items numbering.new.names.items) }
-    ensures numbered { IfOk result (λ number. IsNumbered K.eq numbering.new.names.items key.now number) }
+    ensures numbers { OnOk result
+        (AreNumbers K.eq numbering.new.names.items numbering.new.numbers) }
+    ensures kept { OnOk result
+        (KeepsNumbers K.eq numbering.old.names.items numbering.new.names.items) }
+    ensures numbered { IfOk result (λ number.
+        IsNumbered K.eq numbering.new.names.items key.now number) }
 {
     match numbering.numbers.get(key) {
         Some(number) => Ok(*number),
@@ -58,11 +64,13 @@ pub(crate) fn numbered_keys<K: Eq + Hash + Drop, V: TCNode<K>>(
     alloc: Global,
     nodes: &HashMap<K, V>,
 ) -> M<Numbering<K>>
-    ensures numbers { IfOk result (λ numbering. AreNumbers K.eq numbering.names.items numbering.numbers) }
+    ensures numbers { IfOk result (λ numbering.
+        AreNumbers K.eq numbering.names.items numbering.numbers) }
     ensures unique { IsUnique K.eq nodes.now }
     ensures len { IfOk result (λ numbering. vec_len numbering.names ≡ hash_map_len nodes.now) }
     ensures in_order { IfOk result (λ numbering. (i : ℕ)
-        → IfSome (slice_get (keys nodes.now) i) (λ key. IsNumbered K.eq numbering.names.items key i)) }
+        → IfSome (slice_get (keys nodes.now) i) (λ key.
+        IsNumbered K.eq numbering.names.items key i)) }
 {
     let mut numbering = Numbering {
         names: Vec::new(alloc),

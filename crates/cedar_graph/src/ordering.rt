@@ -48,7 +48,8 @@ fn enter_all(steps: &mut Vec<Step>, numbers: &[usize]) -> M<()>
 
 /// Steps that enter each number below the bound.
 fn enter_below(alloc: Global, bound: usize) -> M<Vec<Step>>
-    ensures each { IfOk result (λ steps. (number : ℕ) → number < bound → Contains steps.items (Enter number)) }
+    ensures each { IfOk result (λ steps.
+        (number : ℕ) → number < bound → Contains steps.items (Enter number)) }
     ensures only { IfOk result (λ steps. (number : ℕ) → ¬ Contains steps.items (Leave number)) }
 {
     let mut steps = Vec::new(alloc);

@@ -16,8 +16,10 @@ use std::hash::Hash;
 
 /// Adds an edge to the key if there is none yet.
 fn add_edge<K: Eq + Hash + Drop, V: TCNode<K>>(node: &mut V, name: &K) -> M<()>
-    ensures grows { GrowsBy V.has_edge V.is_alike node.old node.new (λ to. IsTrue (K.eq to name.now)) }
-    ensures complete { OnOk result ((to : K) → IsTrue (K.eq to name.now) → IsTrue (V.has_edge node.new to)) }
+    ensures grows { GrowsBy V.has_edge V.is_alike node.old node.new (λ to.
+        IsTrue (K.eq to name.now)) }
+    ensures complete { OnOk result
+        ((to : K) → IsTrue (K.eq to name.now) → IsTrue (V.has_edge node.new to)) }
 {
     if !node.has_edge_to(name) {
         node.add_edge_to(V::copy_key(name)?)?;
@@ -35,8 +37,10 @@ fn add_word<K: Eq + Hash + Drop, V: TCNode<K>>(
     requires in_row { word < length row.now }
     requires small { length row.now ≤ 2 ^ 58 }
     requires within { (number : ℕ) → IsTrue (has_bit row.now number) → number < vec_len names.now }
-    ensures grows { GrowsBy V.has_edge V.is_alike node.old node.new (StandsInRow K.eq names.now.items row.now) }
-    ensures complete { OnOk result ((number : ℕ) (to : K) → word * 64 ≤ number → number < word * 64 + 64
+    ensures grows { GrowsBy V.has_edge V.is_alike node.old node.new
+        (StandsInRow K.eq names.now.items row.now) }
+    ensures complete { OnOk result
+        ((number : ℕ) (to : K) → word * 64 ≤ number → number < word * 64 + 64
         → IsTrue (has_bit row.now number) → IsNumbered K.eq names.now.items to number
         → IsTrue (V.has_edge node.new to)) }
 {
@@ -53,7 +57,8 @@ fn add_word<K: Eq + Hash + Drop, V: TCNode<K>>(
 fn add_edges<K: Eq + Hash + Drop, V: TCNode<K>>(node: &mut V, row: &[u64], names: &Vec<K>) -> M<()>
     requires small { length row.now ≤ 2 ^ 58 }
     requires within { (number : ℕ) → IsTrue (has_bit row.now number) → number < vec_len names.now }
-    ensures grows { GrowsBy V.has_edge V.is_alike node.old node.new (StandsInRow K.eq names.now.items row.now) }
+    ensures grows { GrowsBy V.has_edge V.is_alike node.old node.new
+        (StandsInRow K.eq names.now.items row.now) }
     ensures complete { OnOk result ((to : K) → StandsInRow K.eq names.now.items row.now to
         → IsTrue (V.has_edge node.new to)) }
 {
@@ -75,9 +80,11 @@ fn add_row_edges<K: Eq + Hash + Drop, V: TCNode<K>>(
     requires small { length row.now ≤ 2 ^ 58 }
     requires within { (number : ℕ) → IsTrue (has_bit row.now number) → number < vec_len names.now }
     ensures keys { keys nodes.new ≡ keys nodes.old }
-    ensures grows { (key : K) → GrowsAt V.has_edge V.is_alike (get K.eq nodes.old key) (get K.eq nodes.new key)
+    ensures grows { (key : K) → GrowsAt V.has_edge V.is_alike (get K.eq nodes.old key)
+        (get K.eq nodes.new key)
         (λ to. IsTrue (K.eq name.now key) × StandsInRow K.eq names.now.items row.now to) }
-    ensures complete { OnOk result ((key to : K) → IsTrue (K.eq name.now key) → ContainsKey K.eq nodes.old key
+    ensures complete { OnOk result
+        ((key to : K) → IsTrue (K.eq name.now key) → ContainsKey K.eq nodes.old key
         → StandsInRow K.eq names.now.items row.now to → HasEdge K.eq V.has_edge nodes.new key to) }
 {
     match nodes.get_mut(name) {
@@ -96,7 +103,8 @@ pub(crate) fn add_all_row_edges<K: Eq + Hash + Drop, V: TCNode<K>>(
     requires few { vec_len rows.now ≤ vec_len names.now }
     requires within { (i j : ℕ) → InRow rows.now.items i j → j < vec_len names.now }
     ensures keys { keys nodes.new ≡ keys nodes.old }
-    ensures grows { (key : K) → GrowsAt V.has_edge V.is_alike (get K.eq nodes.old key) (get K.eq nodes.new key)
+    ensures grows { (key : K) → GrowsAt V.has_edge V.is_alike (get K.eq nodes.old key)
+        (get K.eq nodes.new key)
         (RowHas K.eq names.now.items rows.now.items key) }
     ensures complete { OnOk result ((key to : K) → RowHas K.eq names.now.items rows.now.items key to
         → ContainsKey K.eq nodes.old key → HasEdge K.eq V.has_edge nodes.new key to) }

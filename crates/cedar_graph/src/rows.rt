@@ -32,7 +32,8 @@ pub(crate) fn remove(row: &mut [u64], number: usize)
 /// Puts the numbers of the other row into the row, a word at a time.
 pub(crate) fn join(row: &mut [u64], other: &[u64])
     requires { length row.old ≡ length other.now }
-    ensures { (number : ℕ) → has_bit row.new number ≡ (has_bit row.old number || has_bit other.now number) }
+    ensures { (number : ℕ) → has_bit row.new number
+        ≡ (has_bit row.old number || has_bit other.now number) }
 {
     for i in 0..row.len() {
         row[i] |= other[i];
@@ -46,7 +47,8 @@ pub(crate) fn first_common(row: &[u64], other: &[u64]) -> Option<usize>
     ensures bound { IfSome result (λ number. number < 64 * length row.now) }
     ensures in_row { IfSome result (λ number. has_bit row.now number ≡ true) }
     ensures in_other { IfSome result (λ number. has_bit other.now number ≡ true) }
-    ensures none { IfNone result ((number : ℕ) → has_bit row.now number ≡ true → has_bit other.now number ≡ false) }
+    ensures none { IfNone result ((number : ℕ) → has_bit row.now number ≡ true
+        → has_bit other.now number ≡ false) }
 {
     for i in 0..row.len() {
         let common = row[i] & other[i];

@@ -19,8 +19,10 @@ fn targets_of<K: Eq + Hash + Drop, V: TCNode<K>>(
     numbering: &mut Numbering<K>,
 ) -> M<Vec<usize>>
     requires { AreNumbers K.eq numbering.old.names.items numbering.old.numbers }
-    ensures numbers { OnOk result (AreNumbers K.eq numbering.new.names.items numbering.new.numbers) }
-    ensures kept { OnOk result (KeepsNumbers K.eq numbering.old.names.items numbering.new.names.items) }
+    ensures numbers { OnOk result
+        (AreNumbers K.eq numbering.new.names.items numbering.new.numbers) }
+    ensures kept { OnOk result
+        (KeepsNumbers K.eq numbering.old.names.items numbering.new.names.items) }
     ensures targets { IfOk result (λ targets. AreNumbersOf K.eq numbering.new.names.items
         (V.has_edge node.now) targets.items) }
 {
@@ -38,12 +40,15 @@ pub(crate) fn all_targets<K: Eq + Hash + Drop, V: TCNode<K>>(
     numbering: &mut Numbering<K>,
 ) -> M<Vec<Vec<usize>>>
     requires { AreNumbers K.eq numbering.old.names.items numbering.old.numbers }
-    ensures numbers { OnOk result (AreNumbers K.eq numbering.new.names.items numbering.new.numbers) }
-    ensures kept { OnOk result (KeepsNumbers K.eq numbering.old.names.items numbering.new.names.items) }
+    ensures numbers { OnOk result
+        (AreNumbers K.eq numbering.new.names.items numbering.new.numbers) }
+    ensures kept { OnOk result
+        (KeepsNumbers K.eq numbering.old.names.items numbering.new.names.items) }
     ensures len { IfOk result (λ targets. vec_len targets ≡ hash_map_len nodes.now) }
     ensures targets { IfOk result (λ targets. (i : ℕ)
         → IfSome (slice_get (values nodes.now) i)
-        (λ node. AreNumbersOf K.eq numbering.new.names.items (V.has_edge node) (items_at targets.items i))) }
+        (λ node. AreNumbersOf K.eq numbering.new.names.items (V.has_edge node)
+        (items_at targets.items i))) }
 {
     let mut targets = Vec::new(alloc);
     for node in nodes.values() {

@@ -9,8 +9,8 @@ use std::hash::Hash;
 
 /// A node with edges to keys.
 ///
-/// The ghost members are what contracts speak of: which keys a node has an edge to, its own key, and
-/// when two nodes are alike but for their edges.
+/// The ghost members are what contracts speak of: which keys a node has an edge to, its own key,
+/// and when two nodes are alike but for their edges.
 pub trait TCNode<K: Eq + Hash> {
     ghost has_edge: { Self → K → Bool };
 
@@ -31,7 +31,8 @@ pub trait TCNode<K: Eq + Hash> {
     fn add_edge_to(&mut self, key: K) -> M<()>
         ensures added { OnOk result ((other : K) → has_edge self.new other
             ≡ (K.eq key other || has_edge self.old other)) }
-        ensures err { OnErr result ((other : K) → has_edge self.new other ≡ has_edge self.old other) }
+        ensures err { OnErr result ((other : K)
+            → has_edge self.new other ≡ has_edge self.old other) }
         ensures alike { is_alike self.old self.new };
 
     /// The keys that the node has an edge to.
@@ -47,7 +48,8 @@ pub trait TCNode<K: Eq + Hash> {
         ensures edges { (other : K) → has_edge self.new other ≡ has_edge self.old other }
         ensures alike { is_alike self.old self.new };
 
-    ghost edges_respect_eq: { (node : Self) (a b : K) → IsTrue (K.eq a b) → has_edge node a ≡ has_edge node b };
+    ghost edges_respect_eq: { (node : Self) (a b : K) → IsTrue (K.eq a b)
+        → has_edge node a ≡ has_edge node b };
 
     ghost alike_itself: { (node : Self) → is_alike node node };
 

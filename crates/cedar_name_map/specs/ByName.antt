@@ -15,7 +15,8 @@ abbrev pub AreSortedByName : {V : Type 0} → List (String Global × V) → Type
 AreSortedByName entries = IsStrictlySortedBy text_cmp (entry_texts entries)
 
 -- in just one way
-pub AreSortedByName-prop : {V : Type 0} (entries : List (String Global × V)) → IsProp (AreSortedByName entries)
+pub AreSortedByName-prop : {V : Type 0} (entries : List (String Global × V))
+    → IsProp (AreSortedByName entries)
 AreSortedByName-prop entries = IsStrictlySortedBy-prop text_cmp (entry_texts entries)
 
 -- the value of the first pair with that name, if there is one

@@ -22,9 +22,13 @@ pub struct ByName<V> {
 }
 
 impl<V: PartialEq> PartialEq for ByName<V> {
-    ghost eq = { λ m n. pointwise (λ p q. string_eq p.0 q.0 && V.eq p.1 q.1) m.entries.items n.entries.items };
+    ghost eq = { λ m n. pointwise (λ p q.
+        string_eq p.0 q.0 && V.eq p.1 q.1) m.entries.items n.entries.items };
 
-    ghost laws = { on_per (λ m. m.entries.items) (lists_per (and_per (on_per (λ p. string_bytes p.0) (partial_equiv_from_equiv nat_list_eq_equiv)) (on_per (λ p. p.1) V.laws))) };
+    ghost laws = { on_per (λ m. m.entries.items)
+        (lists_per (and_per (on_per (λ p.
+        string_bytes p.0) (partial_equiv_from_equiv nat_list_eq_equiv))
+        (on_per (λ p. p.1) V.laws))) };
 
     fn eq(&self, other: &ByName<V>) -> bool {
         self.entries == other.entries
@@ -32,13 +36,19 @@ impl<V: PartialEq> PartialEq for ByName<V> {
 }
 
 impl<V: Eq> Eq for ByName<V> {
-    ghost laws = { on_equiv (λ m. m.entries.items) (lists_equiv (and_equiv (on_equiv (λ p. string_bytes p.0) nat_list_eq_equiv) (on_equiv (λ p. p.1) V.Eq.laws))) };
+    ghost laws = { on_equiv (λ m. m.entries.items)
+        (lists_equiv (and_equiv (on_equiv (λ p. string_bytes p.0) nat_list_eq_equiv)
+        (on_equiv (λ p. p.1) V.Eq.laws))) };
 }
 
 impl<V: PartialOrd> PartialOrd for ByName<V> {
-    ghost partial_cmp = { λ m n. slice_partial_cmp (λ p q. partial_ordering_then (Some (string_cmp p.0 q.0)) (V.partial_cmp p.1 q.1)) m.entries.items n.entries.items };
+    ghost partial_cmp = { λ m n. slice_partial_cmp (λ p q.
+        partial_ordering_then (Some (string_cmp p.0 q.0))
+        (V.partial_cmp p.1 q.1)) m.entries.items n.entries.items };
 
-    ghost laws = { on_po (λ m. m.entries.items) (lists_po (then_po (on_po (λ p. string_bytes p.0) texts_po) (on_po (λ p. p.1) V.PartialOrd.laws))) };
+    ghost laws = { on_po (λ m. m.entries.items)
+        (lists_po (then_po (on_po (λ p. string_bytes p.0) texts_po)
+        (on_po (λ p. p.1) V.PartialOrd.laws))) };
 
     fn partial_cmp(&self, other: &ByName<V>) -> Option<Ordering> {
         self.entries.partial_cmp(&other.entries)
@@ -46,15 +56,23 @@ impl<V: PartialOrd> PartialOrd for ByName<V> {
 }
 
 impl<V: Ord> Ord for ByName<V> {
-    ghost cmp = { λ m n. slice_cmp (λ p q. ordering_then (string_cmp p.0 q.0) (V.cmp p.1 q.1)) m.entries.items n.entries.items };
+    ghost cmp = { λ m n. slice_cmp (λ p q.
+        ordering_then (string_cmp p.0 q.0) (V.cmp p.1 q.1)) m.entries.items n.entries.items };
 
-    ghost total = { on_total (λ m. m.entries.items) (lists_total (then_total (on_total (λ p. string_bytes p.0) nat_list_cmp_total) (on_total (λ p. p.1) V.total))) };
+    ghost total = { on_total (λ m.
+        m.entries.items) (lists_total (then_total
+        (on_total (λ p. string_bytes p.0) nat_list_cmp_total) (on_total (λ p. p.1) V.total))) };
 
-    ghost matches_partial_cmp = { λ x y. lists_agrees (then_agrees (λ p q. refl) (λ p q. V.matches_partial_cmp p.1 q.1)) x.entries.items y.entries.items };
+    ghost matches_partial_cmp = { λ x y.
+        lists_agrees (then_agrees (λ p q. refl) (λ p q.
+        V.matches_partial_cmp p.1 q.1)) x.entries.items y.entries.items };
 
     ghost matches_eq = { λ x y.
         let V' = V.cmp in
-        lists_ties (λ p q. ordering_then (string_cmp p.0 q.0) (V' p.1 q.1)) (λ p q. both_tied _ _ (string_cmp p.0 q.0) (V' p.1 q.1) (texts_ties (string_bytes p.0) (string_bytes q.0)) (V.matches_eq p.1 q.1)) x.entries.items y.entries.items };
+        lists_ties (λ p q. ordering_then (string_cmp p.0 q.0) (V' p.1 q.1)) (λ p q.
+        both_tied _ _ (string_cmp p.0 q.0) (V' p.1 q.1)
+        (texts_ties (string_bytes p.0) (string_bytes q.0))
+        (V.matches_eq p.1 q.1)) x.entries.items y.entries.items };
 
     fn cmp(&self, other: &ByName<V>) -> Ordering {
         self.entries.cmp(&other.entries)
@@ -62,9 +80,14 @@ impl<V: Ord> Ord for ByName<V> {
 }
 
 impl<V: Hash> Hash for ByName<V> {
-    ghost hash_input = { λ m. fed.slice (λ p. fed.str (string_bytes p.0) ++ V.hash_input p.1) m.entries.items };
+    ghost hash_input = { λ m. fed.slice (λ p.
+        fed.str (string_bytes p.0) ++ V.hash_input p.1) m.entries.items };
 
-    ghost respects_eq = { (on_Alike (λ m. m.entries.items) (items_Alike (and-Alike (on_Alike (λ p. p.0) {E = string_eq} {F = λ s. fed.str (string_bytes s)} (record { fed = Prim.search (hashing, rules) })) (on_Alike (λ p. p.1) (record { fed = V.respects_eq }))))).fed };
+    ghost respects_eq = { (on_Alike (λ m.
+        m.entries.items) (items_Alike (and-Alike
+        (on_Alike (λ p. p.0) {E = string_eq} {F = λ s. fed.str (string_bytes s)}
+        (record { fed = Prim.search (hashing, rules) }))
+        (on_Alike (λ p. p.1) (record { fed = V.respects_eq }))))).fed };
 
     fn hash<H: Hasher>(&self, state: &mut H) {
         self.entries.hash(state);
@@ -87,7 +110,8 @@ impl<V> ByName<V> {
     pub fn from_entries(entries: Vec<(String, V)>) -> M<ByName<V>>
     where
         V: Drop,
-        ensures { IfOk result (λ all. (name : Text) → value_at name (entries_by_name all) ≡ last_named name (with_texts entries.items)) }
+        ensures { IfOk result (λ all. (name : Text)
+            → value_at name (entries_by_name all) ≡ last_named name (with_texts entries.items)) }
     {
         let mut entries = entries;
         entries.reverse();
@@ -135,11 +159,13 @@ impl<V> ByName<V> {
     /// The first place, from one on, whose name isn't below the given one.
     pub fn seek(&self, from: usize, name: &str) -> usize
         ensures from { from ≤ result }
-        ensures within { from ≤ length (entries_by_name self.now) → result ≤ length (entries_by_name self.now) }
+        ensures within { from ≤ length (entries_by_name self.now)
+            → result ≤ length (entries_by_name self.now) }
         ensures passed { (i : ℕ) (d : String Global × V) → from ≤ i → i < result
             → text_cmp (string_bytes (get_or (entries_by_name self.now) i d).0) name.now ≡ Less }
         ensures stays { (d : String Global × V) → result < length (entries_by_name self.now)
-            → text_cmp (string_bytes (get_or (entries_by_name self.now) result d).0) name.now ≢ Less }
+            → text_cmp (string_bytes (get_or (entries_by_name self.now) result d).0) name.now
+            ≢ Less }
     {
         let entries = self.entries.as_slice();
         let mut at = from;
@@ -152,7 +178,8 @@ impl<V> ByName<V> {
     /// Whether a name is at a place.
     pub fn is_at(&self, place: usize, name: &str) -> bool
         ensures { IsTrue result ↔ ((place < length (entries_by_name self.now))
-            × ((d : String Global × V) → string_bytes (get_or (entries_by_name self.now) place d).0 ≡ name.now)) }
+            × ((d : String Global × V) → string_bytes (get_or (entries_by_name self.now) place d).0
+            ≡ name.now)) }
     {
         let entries = self.entries.as_slice();
         place < entries.len() && entries[place].0.as_str() == name

@@ -12,13 +12,14 @@ use Rattle.cedar_names.specs.declared.json_schema.action_type.ApplySpec.{ApplySp
 use Rattle.cedar_names.specs.declared.json_schema.reference_type.ReferenceType.{ReferenceType}
 use Rattle.cedar_names.specs.declared.json_schema.reference_type.ReferenceType.TheVariants.{Entity}
 
--- the requests that an action is for: those with one of the principals and one of the resources, and the context; or,
--- of an external action, whatever its definition says elsewhere
+-- the requests that an action is for: those with one of the principals and one of the resources,
+-- and the context; or, of an external action, whatever its definition says elsewhere
 pub data Requests : Type 0 where
   requests : List Reference → List Reference → Expr → Requests
   elsewhere : Requests
 
--- what is declared of an action: whether it is written with attributes, its parents, and the requests that it is for
+-- what is declared of an action: whether it is written with attributes, its parents, and the
+-- requests that it is for
 pub record ActionBody : Type 0 where
   pub has_attributes : Bool
   pub parents : List ActionReference
@@ -28,7 +29,8 @@ pub record ActionBody : Type 0 where
 abbrev pub plain_action_type : PlainName
 plain_action_type = record { base = action_word; path = [] }
 
--- declarations over names of some form in a namespace, where it is given what a name refers to at a place of each kind
+-- declarations over names of some form in a namespace, where it is given what a name refers to at a
+-- place of each kind
 module _ (N : Type 0) (refer : ReferenceType → N → Reference) (namespace : Option PlainName) where
   -- what the type of a parent refers to
   abbrev pub parent_type : Option N → Reference
@@ -44,12 +46,13 @@ module _ (N : Type 0) (refer : ReferenceType → N → Reference) (namespace : O
   parent_actions None = []
   parent_actions (Some parents) = map parent_action parents.items
 
-  -- the requests that an action is for; where none are written it is for none, and its context is the closed record
-  -- without attributes
+  -- the requests that an action is for; where none are written it is for none, and its context is
+  -- the closed record without attributes
   abbrev pub applies_to : Option (ApplySpec N) → Requests
   applies_to None = requests [] [] (record_expr no_member false)
   applies_to (Some it) =
-      requests (map (refer Entity) it.principal_types.items) (map (refer Entity) it.resource_types.items)
+      requests (map (refer Entity) it.principal_types.items)
+      (map (refer Entity) it.resource_types.items)
       (type_expr N refer it.context.0)
 
   -- the requests that a declaration gives by whether it is external

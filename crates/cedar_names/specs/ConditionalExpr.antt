@@ -10,12 +10,13 @@ use Rattle.cedar_names.specs.declared.json_schema.type_of.RecordType.{RecordType
 use Rattle.cedar_names.specs.declared.json_schema.type_of.TypeOfAttribute.{TypeOfAttribute}
 use Rattle.cedar_names.specs.declared.json_schema.type_of.TypeVariant.{TypeVariant}
 
--- what a conditional name refers to, at whatever position: its possibilities, of the kinds that it says itself
+-- what a conditional name refers to, at whatever position: its possibilities, of the kinds that it
+-- says itself
 abbrev pub own_reference : ReferenceType → ConditionalName → Reference
 own_reference kind name = conditional_reference name
 
--- what a conditional name would refer to at a position of the kind: its possibilities, of the kinds that the position
--- permits
+-- what a conditional name would refer to at a position of the kind: its possibilities, of the kinds
+-- that the position permits
 abbrev pub positional_reference : ReferenceType → ConditionalName → Reference
 positional_reference kind name = record { possibilities = possibilities_of name; kind = kind }
 
@@ -51,7 +52,7 @@ positional_record = record_type_expr ConditionalName positional_reference
 abbrev pub positional_attribute : TypeOfAttribute ConditionalName → Bool × Expr
 positional_attribute = flag_and_expr ConditionalName positional_reference
 
--- the references fit their positions: the type stands for the same, whether each reference is of the kind that it says
--- itself or of the kind that its position permits
+-- the references fit their positions: the type stands for the same, whether each reference is of
+-- the kind that it says itself or of the kind that its position permits
 abbrev pub ReferencesFit : «Type» ConditionalName → Type 0
 ReferencesFit it = positional_expr it ≡ conditional_expr it

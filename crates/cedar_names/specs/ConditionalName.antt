@@ -6,7 +6,8 @@ use Rattle.cedar_names.specs.declared.json_schema.reference_type.ReferenceType.{
 use Rattle.cedar_names.specs.PossibleNames.{names_of, locs_of}
 use Rattle.cedar_names.specs.Reference.{Reference}
 
--- the names that a reference may stand for, the first to be tried first; their locations are no part of them
+-- the names that a reference may stand for, the first to be tried first; their locations are no
+-- part of them
 abbrev pub possibilities_of : ConditionalName → List PlainName
 possibilities_of name = names_of name.possibilities
 
@@ -24,4 +25,5 @@ last_possibility name = slice_get (possibilities_of name) (length (possibilities
 
 -- a reference with its possibilities as plain data
 abbrev pub conditional_reference : ConditionalName → Reference
-conditional_reference name = record { possibilities = possibilities_of name; kind = reference_type_of name }
+conditional_reference name = record
+    { possibilities = possibilities_of name; kind = reference_type_of name }

@@ -21,7 +21,8 @@ pub record AlikeRaw (it copy : RawName) : Type 0 where
   pub name : raw_name copy ≡ raw_name it
   pub loc : raw_loc copy ≡ raw_loc it
 
--- a conditional name is like another: it has the same possibilities at the same locations, and the same reference type
+-- a conditional name is like another: it has the same possibilities at the same locations, and the
+-- same reference type
 pub record AlikeConditional (name copy : ConditionalName) : Type 0 where
   pub possibilities : possibilities_of copy ≡ possibilities_of name
   pub locs : possibility_locs copy ≡ possibility_locs name
@@ -49,22 +50,27 @@ module _ (N : Type 0) (alike : N → N → Type 0) where
 
   -- nor does what a name refers to, at a place of whatever kind
   abbrev pub RefersAlike : (ReferenceType → N → Reference) → Type 0
-  RefersAlike refer = (kind : ReferenceType) (name copy : N) → alike name copy → refer kind copy ≡ refer kind name
+  RefersAlike refer = (kind : ReferenceType) (name copy : N) → alike name copy
+      → refer kind copy ≡ refer kind name
 
-  -- a type is a copy of another: it stands for the same, and the same locations stand in it, whatever alike names both
-  -- refer to and are located at
+  -- a type is a copy of another: it stands for the same, and the same locations stand in it,
+  -- whatever alike names both refer to and are located at
   abbrev pub IsTypeCopy : «Type» N → «Type» N → Type 0
-  IsTypeCopy it copy = ShowsSame RefersAlike (type_expr N) it copy × ShowsSame LocatesAlike (type_locs N) it copy
+  IsTypeCopy it copy = ShowsSame RefersAlike (type_expr N) it copy
+      × ShowsSame LocatesAlike (type_locs N) it copy
 
   -- the same of a type variant
   abbrev pub IsVariantCopy : TypeVariant N → TypeVariant N → Type 0
-  IsVariantCopy it copy = ShowsSame RefersAlike (variant_expr N) it copy × ShowsSame LocatesAlike (variant_locs N) it copy
+  IsVariantCopy it copy = ShowsSame RefersAlike (variant_expr N) it copy
+      × ShowsSame LocatesAlike (variant_locs N) it copy
 
   -- the same of a record type
   abbrev pub IsRecordCopy : RecordType N → RecordType N → Type 0
-  IsRecordCopy it copy = ShowsSame RefersAlike (record_type_expr N) it copy × ShowsSame LocatesAlike (record_locs N) it copy
+  IsRecordCopy it copy = ShowsSame RefersAlike (record_type_expr N) it copy
+      × ShowsSame LocatesAlike (record_locs N) it copy
 
   -- the same of an attribute
   abbrev pub IsAttributeCopy : TypeOfAttribute N → TypeOfAttribute N → Type 0
   IsAttributeCopy it copy =
-      ShowsSame RefersAlike (flag_and_expr N) it copy × ShowsSame LocatesAlike (attribute_locs N) it copy
+      ShowsSame RefersAlike (flag_and_expr N) it copy
+      × ShowsSame LocatesAlike (attribute_locs N) it copy

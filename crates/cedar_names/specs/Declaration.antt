@@ -36,7 +36,8 @@ pub record Declaration : Type 0 where
   pub id : Text
   pub body : Body
 
--- declarations over names of some form in a namespace, where it is given what a name refers to at a place of each kind
+-- declarations over names of some form in a namespace, where it is given what a name refers to at a
+-- place of each kind
 module _ (N : Type 0) (refer : ReferenceType → N → Reference) (namespace : Option PlainName) where
   -- the declarations of some common types
   abbrev pub common_declarations : List (CommonTypeId × CommonType N) → List Declaration
@@ -65,10 +66,12 @@ module _ (N : Type 0) (refer : ReferenceType → N → Reference) (namespace : O
         body = action (action_body N refer namespace entry.1);
       }) entries
 
-  -- the declarations of a namespace's definition: its common types, its entity types and its actions
+  -- the declarations of a namespace's definition: its common types, its entity types and its
+  -- actions
   abbrev pub declarations : NamespaceDefinition N → List Declaration
   declarations it =
-      common_declarations it.common_types.entries ++ entity_declarations it.entity_types.entries ++ action_declarations it.actions.entries
+      common_declarations it.common_types.entries ++ entity_declarations it.entity_types.entries
+      ++ action_declarations it.actions.entries
 
 -- the declarations of a definition that is written in the namespace
 abbrev pub raw_declarations : Option PlainName → NamespaceDefinition RawName → List Declaration
@@ -76,7 +79,8 @@ raw_declarations namespace = declarations RawName (raw_reference namespace) name
 
 -- the declarations of a fragment whose names are as they were written
 abbrev pub raw_fragment : Fragment RawName → List Declaration
-raw_fragment fragment = flat_map (λ entry. raw_declarations (option_map plain_name entry.0) entry.1) fragment.0.entries
+raw_fragment fragment = flat_map (λ entry.
+    raw_declarations (option_map plain_name entry.0) entry.1) fragment.0.entries
 
 -- the bag of declarations of some fragments whose names are as they were written
 abbrev pub raw_bag : List (Fragment RawName) → List Declaration

@@ -26,10 +26,13 @@ use Rattle.cedar_names.specs.declared.json_schema.fragment.CommonType.{CommonTyp
 use Rattle.cedar_names.specs.declared.json_schema.fragment.Fragment.{Fragment}
 use Rattle.cedar_names.specs.declared.json_schema.fragment.NamespaceDefinition.{NamespaceDefinition}
 
--- the entries of a map are copies of those of another in turn, where it is given when keys and when values are
-abbrev pub AreEntriesCopied : {K V : Type 0} → (K → K → Type 0) → (V → V → Type 0) → BTreeMap K V → BTreeMap K V → Type 0
+-- the entries of a map are copies of those of another in turn, where it is given when keys and when
+-- values are
+abbrev pub AreEntriesCopied : {K V : Type 0} → (K → K → Type 0) → (V → V → Type 0) → BTreeMap K V
+    → BTreeMap K V → Type 0
 AreEntriesCopied IsKeyCopy IsCopy it copy =
-    HoldsPairwise (λ entry other. IsKeyCopy entry.0 other.0 × IsCopy entry.1 other.1) it.entries copy.entries
+    HoldsPairwise (λ entry other. IsKeyCopy entry.0 other.0
+    × IsCopy entry.1 other.1) it.entries copy.entries
 
 -- a text is the same as another
 abbrev pub IsTextCopy : String Global → String Global → Type 0
@@ -49,7 +52,8 @@ IsCommonIdCopy it copy = common_type_text copy ≡ common_type_text it
 
 -- the name of a namespace is the same as another, at the same location
 abbrev pub IsNamespaceCopy : Option Name → Option Name → Type 0
-IsNamespaceCopy = HoldsOfBoth (λ it copy. (plain_name copy ≡ plain_name it) × (plain_loc copy ≡ plain_loc it))
+IsNamespaceCopy = HoldsOfBoth (λ it copy.
+    (plain_name copy ≡ plain_name it) × (plain_loc copy ≡ plain_loc it))
 
 -- declarations over names of some form, where it is given when one name is like another
 module _ (N : Type 0) (alike : N → N → Type 0) where
@@ -67,16 +71,19 @@ module _ (N : Type 0) (alike : N → N → Type 0) where
   -- what is declared by kind is a copy: of a standard entity type, or the same choices
   abbrev pub IsKindCopy : EntityTypeKind N → EntityTypeKind N → Type 0
   IsKindCopy (kind.Standard it) (kind.Standard copy) = IsStandardCopy it copy
-  IsKindCopy (kind.Enum choices) (kind.Enum copies) = map eid_text (items_of copies) ≡ map eid_text (items_of choices)
+  IsKindCopy (kind.Enum choices) (kind.Enum copies) =
+      map eid_text (items_of copies) ≡ map eid_text (items_of choices)
   IsKindCopy _ _ = ⊥
 
-  -- an entity type is a copy of another: its kind is, it is external where the other is, at the same location
+  -- an entity type is a copy of another: its kind is, it is external where the other is, at the
+  -- same location
   pub record IsEntityTypeCopy (it copy : EntityType N) : Type 0 where
     pub kind : IsKindCopy it.kind copy.kind
     pub external : copy.external ≡ it.external
     pub loc : copy.loc ≡ it.loc
 
-  -- a reference to an action is a copy of another: the same id, a type that is alike, at the same location
+  -- a reference to an action is a copy of another: the same id, a type that is alike, at the same
+  -- location
   pub record IsActionReferenceCopy (it copy : ActionEntityUID N) : Type 0 where
     pub id : IsTextCopy it.id copy.id
     pub ty : HoldsOfBoth alike it.ty copy.ty
@@ -90,16 +97,19 @@ module _ (N : Type 0) (alike : N → N → Type 0) where
 
   -- an action is a copy of another: all of its parts are, at the same locations
   pub record IsActionTypeCopy (it copy : ActionType N) : Type 0 where
-    pub attributes : HoldsOfBoth (AreEntriesCopied IsTextCopy IsValueCopy) it.attributes copy.attributes
+    pub attributes : HoldsOfBoth
+        (AreEntriesCopied IsTextCopy IsValueCopy) it.attributes copy.attributes
     pub applies_to : HoldsOfBoth IsApplySpecCopy it.applies_to copy.applies_to
-    pub member_of : HoldsOfBoth (λ groups copies. HoldsPairwise IsActionReferenceCopy groups.items copies.items) it.member_of copy.member_of
+    pub member_of : HoldsOfBoth (λ groups copies.
+        HoldsPairwise IsActionReferenceCopy groups.items copies.items) it.member_of copy.member_of
     pub external : copy.external ≡ it.external
     pub loc : copy.loc ≡ it.loc
     pub defn_loc : copy.defn_loc ≡ it.defn_loc
 
   -- the declarations of a namespace are copies, each under its name, at the same location
   pub record IsDefinitionCopy (it copy : NamespaceDefinition N) : Type 0 where
-    pub common_types : AreEntriesCopied IsCommonIdCopy IsCommonTypeCopy it.common_types copy.common_types
+    pub common_types : AreEntriesCopied IsCommonIdCopy IsCommonTypeCopy it.common_types
+        copy.common_types
     pub entity_types : AreEntriesCopied IsIdCopy IsEntityTypeCopy it.entity_types copy.entity_types
     pub actions : AreEntriesCopied IsTextCopy IsActionTypeCopy it.actions copy.actions
     pub loc : copy.loc ≡ it.loc

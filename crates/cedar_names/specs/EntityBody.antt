@@ -14,21 +14,23 @@ use Rattle.cedar_names.specs.declared.json_schema.raw_name.RawName.{RawName}
 use Rattle.cedar_names.specs.declared.json_schema.reference_type.ReferenceType.{ReferenceType}
 use Rattle.cedar_names.specs.declared.json_schema.reference_type.ReferenceType.TheVariants.{Entity}
 
--- what is declared of an entity type: its parents, its shape and the type of its tags, or its choices, or of an
--- external one its parents alone
+-- what is declared of an entity type: its parents, its shape and the type of its tags, or its
+-- choices, or of an external one its parents alone
 pub data EntityBody : Type 0 where
   standard : List Reference → Expr → Option Expr → EntityBody
   enumerated : List Text → EntityBody
   external : List Reference → EntityBody
 
--- declarations over names of some form, where it is given what a name refers to at a place of each kind
+-- declarations over names of some form, where it is given what a name refers to at a place of each
+-- kind
 module _ (N : Type 0) (refer : ReferenceType → N → Reference) where
   -- what a declaration says by its kind and by whether it is external; external choices are ignored
   abbrev pub kind_body : EntityTypeKind N → Bool → EntityBody
   kind_body (variant.Standard it) false = standard (map (refer Entity) it.member_of_types.items)
       (type_expr N refer it.shape.0) (option_map (type_expr N refer) it.tags)
   kind_body (variant.Standard it) true = external (map (refer Entity) it.member_of_types.items)
-  kind_body (variant.Enum choices) false = enumerated (map eid_text (choices.head ∷ choices.tail.items))
+  kind_body (variant.Enum choices) false =
+      enumerated (map eid_text (choices.head ∷ choices.tail.items))
   kind_body (variant.Enum choices) true = external []
 
   -- what a declaration of an entity type says

@@ -39,19 +39,23 @@ module _ (N : Type 0) where
   -- how many sets and records stand in one another in a type
   abbrev pub type_nesting : «Type» N → ℕ
   type_nesting =
-      fold-Type N ℕ ℕ ℕ ℕ type_nesting_step variant_nesting_step record_nesting_step attribute_nesting_step
+      fold-Type N ℕ ℕ ℕ ℕ type_nesting_step variant_nesting_step record_nesting_step
+      attribute_nesting_step
 
   -- the same of a type variant
   abbrev pub variant_nesting : TypeVariant N → ℕ
   variant_nesting =
-      fold-TypeVariant N ℕ ℕ ℕ ℕ type_nesting_step variant_nesting_step record_nesting_step attribute_nesting_step
+      fold-TypeVariant N ℕ ℕ ℕ ℕ type_nesting_step variant_nesting_step record_nesting_step
+      attribute_nesting_step
 
   -- the same of the attributes of a record type
   abbrev pub record_nesting : RecordType N → ℕ
   record_nesting =
-      fold-RecordType N ℕ ℕ ℕ ℕ type_nesting_step variant_nesting_step record_nesting_step attribute_nesting_step
+      fold-RecordType N ℕ ℕ ℕ ℕ type_nesting_step variant_nesting_step record_nesting_step
+      attribute_nesting_step
 
   -- the same of an attribute
   abbrev pub attribute_nesting : TypeOfAttribute N → ℕ
   attribute_nesting =
-      fold-TypeOfAttribute N ℕ ℕ ℕ ℕ type_nesting_step variant_nesting_step record_nesting_step attribute_nesting_step
+      fold-TypeOfAttribute N ℕ ℕ ℕ ℕ type_nesting_step variant_nesting_step record_nesting_step
+      attribute_nesting_step

@@ -9,5 +9,7 @@ use Rattle.cedar_names.specs.declared.json_schema.raw_name.RawName.{RawName}
 use Rattle.cedar_names.specs.declared.json_schema.type_of.TypeOfAttribute.{TypeOfAttribute}
 
 -- pairs of a name and an attribute that is written in a namespace, as plain data
-abbrev pub plain_members : Option PlainName → List (String Global × TypeOfAttribute RawName) → List (Text × (Bool × Expr))
-plain_members namespace entries = map (λ entry. (string_bytes entry.0, raw_attribute namespace entry.1)) entries
+abbrev pub plain_members : Option PlainName → List (String Global × TypeOfAttribute RawName)
+    → List (Text × (Bool × Expr))
+plain_members namespace entries =
+    map (λ entry. (string_bytes entry.0, raw_attribute namespace entry.1)) entries

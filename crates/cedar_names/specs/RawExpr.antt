@@ -28,6 +28,7 @@ module _ (namespace : Option PlainName) where
   abbrev pub raw_record : RecordType RawName → Expr
   raw_record = record_type_expr RawName raw_reference
 
-  -- what an attribute stands for that is written in the namespace: whether it is required, and its type
+  -- what an attribute stands for that is written in the namespace: whether it is required, and its
+  -- type
   abbrev pub raw_attribute : TypeOfAttribute RawName → Bool × Expr
   raw_attribute = flag_and_expr RawName raw_reference

@@ -3,8 +3,8 @@ use Rattle.cedar_below.specs.PlainName.{PlainName}
 use Rattle.cedar_below.specs.Text.{Text}
 use Rattle.cedar_names.specs.declared.json_schema.reference_type.ReferenceType.{ReferenceType}
 
--- a reference to a type: the names that it may stand for, the first to be tried first, and the kinds of definition that
--- it may name
+-- a reference to a type: the names that it may stand for, the first to be tried first, and the
+-- kinds of definition that it may name
 pub record Reference : Type 0 where
   pub possibilities : List PlainName
   pub kind : ReferenceType
@@ -23,10 +23,11 @@ path_within (Some namespace) = namespace.path ++ namespace.base ∷ []
 abbrev pub name_within : Option PlainName → Text → PlainName
 name_within namespace id = record { base = id; path = path_within namespace }
 
--- the names that a base name after a path may stand for in a namespace: without a path the name in the namespace and
--- then the name itself, with one itself alone
+-- the names that a base name after a path may stand for in a namespace: without a path the name in
+-- the namespace and then the name itself, with one itself alone
 abbrev pub names_within : PlainName → Text → List Text → List PlainName
-names_within namespace base [] = name_within (Some namespace) base ∷ record { base = base; path = [] } ∷ []
+names_within namespace base [] =
+    name_within (Some namespace) base ∷ record { base = base; path = [] } ∷ []
 names_within namespace base (part ∷ path) = record { base = base; path = part ∷ path } ∷ []
 
 -- the names that a written name may stand for; in the empty namespace itself alone
@@ -36,10 +37,11 @@ possible_names (Some namespace) name = names_within namespace name.base name.pat
 
 -- a written name as a reference
 abbrev pub reference_to : Option PlainName → ReferenceType → PlainName → Reference
-reference_to namespace kind name = record { possibilities = possible_names namespace name; kind = kind }
+reference_to namespace kind name =
+    record { possibilities = possible_names namespace name; kind = kind }
 
--- a base name after a path as the name in full of what is declared under it in a namespace: without a path the name in
--- the namespace, with one itself
+-- a base name after a path as the name in full of what is declared under it in a namespace: without
+-- a path the name in the namespace, with one itself
 abbrev pub qualified_within : PlainName → Text → List Text → PlainName
 qualified_within namespace base [] = name_within (Some namespace) base
 qualified_within namespace base (part ∷ path) = record { base = base; path = part ∷ path }

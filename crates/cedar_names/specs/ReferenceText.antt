@@ -24,13 +24,15 @@ possibilities_text names = joined (codes " or ") (map name_text names)
 -- a reference that names nothing as it is printed: with what was looked for
 abbrev pub undeclared_text : Reference → Text
 undeclared_text reference =
-    codes "no " ++ (reference_kind_text reference.kind ++ (codes " is declared as " ++ possibilities_text reference.possibilities))
+    codes "no " ++ (reference_kind_text reference.kind
+    ++ (codes " is declared as " ++ possibilities_text reference.possibilities))
 
 -- references that name nothing as they are printed: one after another
 abbrev pub undeclared_types_text : List Reference → Text
 undeclared_types_text references = joined (codes ", ") (map undeclared_text references)
 
--- the names that an action's type may stand for as they are printed behind its id, or that no type was written
+-- the names that an action's type may stand for as they are printed behind its id, or that no type
+-- was written
 abbrev pub written_type_text : Option Reference → Text
 written_type_text None = codes " of no written type"
 written_type_text (Some ty) = codes " of type " ++ possibilities_text ty.possibilities
@@ -41,5 +43,6 @@ action_reference_text id ty = quoted_text id ++ written_type_text ty
 
 -- why a reference is not resolved, as it is printed
 abbrev pub qualify_text : QualifyError → Text
-qualify_text (qualify.TypeNotDefined it) = undeclared_types_text (map conditional_reference (items_of it.undefined_types))
+qualify_text (qualify.TypeNotDefined it) =
+    undeclared_types_text (map conditional_reference (items_of it.undefined_types))
 qualify_text (qualify.Memory refused) = codes "out of memory"

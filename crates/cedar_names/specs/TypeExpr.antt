@@ -30,7 +30,8 @@ module _ (N : Type 0) (refer : ReferenceType → N → Reference) where
 
   -- one record type, with what its attributes stand for in their places
   abbrev pub record_step : layer.RecordType-F N Expr Expr Expr (Bool × Expr) → Expr
-  record_step it = record_expr (members_from (map (λ entry. (string_bytes entry.0, entry.1)) it.attributes.entries))
+  record_step it = record_expr (members_from
+      (map (λ entry. (string_bytes entry.0, entry.1)) it.attributes.entries))
       it.additional_attributes
 
   -- one attribute, with what its type stands for in its place
@@ -39,16 +40,20 @@ module _ (N : Type 0) (refer : ReferenceType → N → Reference) where
 
   -- what a type stands for
   abbrev pub type_expr : «Type» N → Expr
-  type_expr = fold-Type N Expr Expr Expr (Bool × Expr) type_step variant_step record_step attribute_step
+  type_expr = fold-Type N Expr Expr Expr
+      (Bool × Expr) type_step variant_step record_step attribute_step
 
   -- what a type variant stands for
   abbrev pub variant_expr : TypeVariant N → Expr
-  variant_expr = fold-TypeVariant N Expr Expr Expr (Bool × Expr) type_step variant_step record_step attribute_step
+  variant_expr = fold-TypeVariant N Expr Expr Expr
+      (Bool × Expr) type_step variant_step record_step attribute_step
 
   -- what a record type stands for
   abbrev pub record_type_expr : RecordType N → Expr
-  record_type_expr = fold-RecordType N Expr Expr Expr (Bool × Expr) type_step variant_step record_step attribute_step
+  record_type_expr = fold-RecordType N Expr Expr Expr
+      (Bool × Expr) type_step variant_step record_step attribute_step
 
   -- what an attribute stands for: whether it is required, and its type
   abbrev pub flag_and_expr : TypeOfAttribute N → Bool × Expr
-  flag_and_expr = fold-TypeOfAttribute N Expr Expr Expr (Bool × Expr) type_step variant_step record_step attribute_step
+  flag_and_expr = fold-TypeOfAttribute N Expr Expr Expr
+      (Bool × Expr) type_step variant_step record_step attribute_step

@@ -13,7 +13,8 @@ Locs = List (Option Loc)
 
 -- types over names of some form, where it is given which locations stand in a name
 module _ (N : Type 0) (locs : N → Locs) where
-  -- one layer of a type, with the locations in its parts in their places: its own, then those in the type or the name
+  -- one layer of a type, with the locations in its parts in their places: its own, then those in
+  -- the type or the name
   abbrev pub type_locs_step : layer.Type-F N Locs Locs Locs Locs → Locs
   type_locs_step (layer.Plain ty loc) = loc ∷ ty
   type_locs_step (layer.CommonTypeRef name loc) = loc ∷ locs name
@@ -39,16 +40,24 @@ module _ (N : Type 0) (locs : N → Locs) where
 
   -- the locations in a type
   abbrev pub type_locs : «Type» N → Locs
-  type_locs = fold-Type N Locs Locs Locs Locs type_locs_step variant_locs_step record_locs_step attribute_locs_step
+  type_locs =
+      fold-Type N Locs Locs Locs Locs type_locs_step variant_locs_step record_locs_step
+      attribute_locs_step
 
   -- the locations in a type variant
   abbrev pub variant_locs : TypeVariant N → Locs
-  variant_locs = fold-TypeVariant N Locs Locs Locs Locs type_locs_step variant_locs_step record_locs_step attribute_locs_step
+  variant_locs =
+      fold-TypeVariant N Locs Locs Locs Locs type_locs_step variant_locs_step record_locs_step
+      attribute_locs_step
 
   -- the locations in a record type
   abbrev pub record_locs : RecordType N → Locs
-  record_locs = fold-RecordType N Locs Locs Locs Locs type_locs_step variant_locs_step record_locs_step attribute_locs_step
+  record_locs =
+      fold-RecordType N Locs Locs Locs Locs type_locs_step variant_locs_step record_locs_step
+      attribute_locs_step
 
   -- the locations in an attribute
   abbrev pub attribute_locs : TypeOfAttribute N → Locs
-  attribute_locs = fold-TypeOfAttribute N Locs Locs Locs Locs type_locs_step variant_locs_step record_locs_step attribute_locs_step
+  attribute_locs =
+      fold-TypeOfAttribute N Locs Locs Locs Locs type_locs_step variant_locs_step record_locs_step
+      attribute_locs_step

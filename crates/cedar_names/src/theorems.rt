@@ -34,7 +34,8 @@ pub fn raw_names_compare_by_name()
 /// ignoring locations.
 pub fn conditional_names_compare_by_possibilities()
     ensures equality { (a b : ConditionalName) → IsTrue (⟦<ConditionalName as PartialEq>⟧.eq a b)
-        ↔ ((possibilities_of a ≡ possibilities_of b) × (reference_type_of a ≡ reference_type_of b)) }
+        ↔ ((possibilities_of a ≡ possibilities_of b)
+        × (reference_type_of a ≡ reference_type_of b)) }
     ensures hash { (a b : ConditionalName) → possibilities_of a ≡ possibilities_of b
         → reference_type_of a ≡ reference_type_of b
         → ⟦<ConditionalName as Hash>⟧.hash_input a ≡ ⟦<ConditionalName as Hash>⟧.hash_input b }
@@ -42,5 +43,6 @@ pub fn conditional_names_compare_by_possibilities()
 
 /// The hash of a reference type is fed the variant: unlike reference types feed unlike first items.
 pub fn reference_types_feed_their_variant()
-    ensures { FeedsVariantFirst (λ (kind : ReferenceType). kind) ⟦<ReferenceType as Hash>⟧.hash_input }
+    ensures { FeedsVariantFirst (λ (kind : ReferenceType).
+        kind) ⟦<ReferenceType as Hash>⟧.hash_input }
 {}

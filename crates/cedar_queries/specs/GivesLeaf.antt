@@ -12,9 +12,10 @@ use Rattle.cedar_types.specs.declared.types.Type.{«Type»}
 abbrev pub pending_types : TypeIterator → List Ty
 pending_types it = shown_types it.pending.items
 
--- one step over the leaves of some types, to the types that are yet to be gone over: one leaf, with all others left; or
--- the end, where there are none; or out of memory, after which nothing is left
+-- one step over the leaves of some types, to the types that are yet to be gone over: one leaf, with
+-- all others left; or the end, where there are none; or out of memory, after which nothing is left
 abbrev pub GivesLeaf : List Ty → Option (Result (Bor «Type») Memory) → List Ty → Type 0
 GivesLeaf before None after = (leaves_of before ≡ []) × (after ≡ [])
-GivesLeaf before (Some (Ok ty)) after = IsPermutation (leaves_of before) (ty_of ty.now ∷ leaves_of after)
+GivesLeaf before (Some (Ok ty)) after =
+    IsPermutation (leaves_of before) (ty_of ty.now ∷ leaves_of after)
 GivesLeaf before (Some (Err refused)) after = after ≡ []

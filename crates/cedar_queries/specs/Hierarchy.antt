@@ -24,11 +24,14 @@ types_above name types = keys_where (λ it. has_name it.descendants name) types
 
 -- the names of the descendants of an entity type; of one that isn't there none
 abbrev pub descendants_of : PlainName → List (PlainName × SchemaEntityType) → List PlainName
-descendants_of name types = unwrap_or (option_map (λ it. it.descendants) (lookup (λ other. is_eq (name_cmp name other)) types)) []
+descendants_of name types = unwrap_or
+    (option_map (λ it. it.descendants) (lookup (λ other. is_eq (name_cmp name other)) types)) []
 
 -- the uids of the descendants of an action; of one that isn't there none
 abbrev pub action_descendants : PlainUid → List (PlainUid × SchemaAction) → List PlainUid
-action_descendants uid actions = unwrap_or (option_map (λ it. it.descendants) (lookup (λ other. is_eq (uid_cmp uid other)) actions)) []
+action_descendants uid actions =
+    unwrap_or (option_map (λ it. it.descendants)
+    (lookup (λ other. is_eq (uid_cmp uid other)) actions)) []
 
 -- the uids of the actions that have descendants
 abbrev pub groups : List (PlainUid × SchemaAction) → List PlainUid
@@ -42,11 +45,14 @@ HasBelow upper lower it = (it.0.ty ≡ upper) × Any (λ below. below.ty ≡ low
 abbrev pub HasActionBelow : List (PlainUid × SchemaAction) → PlainName → PlainName → Type 0
 HasActionBelow actions upper lower = Any (HasBelow upper lower) actions
 
--- entities of the one type may stand below entities of the other, or be among them: they are the same, or the one is a
--- descendant of the other, or some action of the other type has a descendant of the one
-abbrev pub MayBeIn : List (PlainName × SchemaEntityType) → List (PlainUid × SchemaAction) → PlainName → PlainName → Type 0
+-- entities of the one type may stand below entities of the other, or be among them: they are the
+-- same, or the one is a descendant of the other, or some action of the other type has a descendant
+-- of the one
+abbrev pub MayBeIn : List (PlainName × SchemaEntityType) → List (PlainUid × SchemaAction)
+    → PlainName → PlainName → Type 0
 MayBeIn types actions lower upper =
-    (lower ≡ upper) ⊎ (Contains (descendants_of upper types) lower ⊎ HasActionBelow actions upper lower)
+    (lower ≡ upper) ⊎ (Contains (descendants_of upper types) lower
+    ⊎ HasActionBelow actions upper lower)
 
 -- the name is that of an entity type of the schema, or of a type of actions
 abbrev pub IsKnownType : List (PlainName × SchemaEntityType) → PlainName → Type 0

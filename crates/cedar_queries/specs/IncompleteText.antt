@@ -17,10 +17,12 @@ external_type_text name = codes "; the entity type " ++ (name_text name ++ codes
 abbrev pub external_action_text : PlainUid → Text
 external_action_text uid = codes "; the action " ++ (uid_text uid ++ codes " is external")
 
--- that a schema is incomplete, as it is printed: with all its external entity types and then all its external actions
+-- that a schema is incomplete, as it is printed: with all its external entity types and then all
+-- its external actions
 abbrev pub incomplete_text : List PlainName → List PlainUid → Text
 incomplete_text types actions =
-    codes "the schema is incomplete" ++ (flat_map external_type_text types ++ flat_map external_action_text actions)
+    codes "the schema is incomplete"
+    ++ (flat_map external_type_text types ++ flat_map external_action_text actions)
 
 -- why a schema wasn't found complete, as it is printed
 abbrev pub complete_error_text : CompleteError → Text

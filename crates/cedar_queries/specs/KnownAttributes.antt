@@ -23,14 +23,15 @@ declared_fields types name = option_map_or (λ it. kind_fields it.kind) (type_at
 abbrev pub open_record : List (PlainName × SchemaEntityType) → PlainName → Ty
 open_record types name = record_of (declared_fields types name) OpenAttributes
 
--- the attributes are known of entities of each of these types: the join in permissive mode, in turn, of what each
--- declares, as open records
+-- the attributes are known of entities of each of these types: the join in permissive mode, in
+-- turn, of what each declares, as open records
 abbrev pub AreKnownOfAll : List (PlainName × SchemaEntityType) → List PlainName → Fields → Type 0
 AreKnownOfAll types members known =
-    IsReduceAnswer Permissive never (map (open_record types) members) (Ok (record_of known OpenAttributes))
+    IsReduceAnswer Permissive never (map (open_record types) members)
+    (Ok (record_of known OpenAttributes))
 
--- the attributes are those of a type: a record's own, those that are known of the members of a union, and of every other
--- type none
+-- the attributes are those of a type: a record's own, those that are known of the members of a
+-- union, and of every other type none
 abbrev pub AreAttributesOf : List (PlainName × SchemaEntityType) → Ty → Fields → Type 0
 AreAttributesOf types (record_of fields openness) known = known ≡ fields
 AreAttributesOf types (union_of members) known = AreKnownOfAll types members known

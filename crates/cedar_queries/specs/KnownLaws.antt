@@ -1,4 +1,5 @@
--- What is known of the attributes of a union, where the types of what its members declare are clean.
+-- What is known of the attributes of a union, where the types of what its members declare are
+-- clean.
 use Rattle.std.specs.Prelude.{◌≡◌, ◌↔◌, Bool, Contains, IsTrue, List}
 use Rattle.cedar_below.specs.Lists.{Included}
 use Rattle.cedar_below.specs.PlainName.{PlainName}
@@ -12,11 +13,14 @@ use Rattle.cedar_type_rules.specs.Clean.{AreClean, IsClean}
 use Rattle.cedar_type_rules.specs.Fields.{IsSortedByName, field_names}
 use Rattle.cedar_type_rules.specs.Ty.{Ty, Fields}
 
--- each of the entity types declares the attribute, with a type that is below the bound in permissive mode
-abbrev pub AllDeclareBelow : List (PlainName × SchemaEntityType) → List PlainName → Text → Ty → Type 0
+-- each of the entity types declares the attribute, with a type that is below the bound in
+-- permissive mode
+abbrev pub AllDeclareBelow : List (PlainName × SchemaEntityType) → List PlainName → Text → Ty
+    → Type 0
 AllDeclareBelow types members name bound =
     (member : PlainName) → Contains members member
-    → (required : Bool) × (own : Ty) × HasField (declared_fields types member) name required own × Below Permissive own bound
+    → (required : Bool) × (own : Ty) × HasField (declared_fields types member) name required own
+    × Below Permissive own bound
 
 -- a clean bound of the types with which the entity types declare the attribute
 abbrev pub IsCommonBound : List (PlainName × SchemaEntityType) → List PlainName → Text → Ty → Type 0
@@ -28,10 +32,13 @@ AllRequire types members name =
     (member : PlainName) (required : Bool) (own : Ty) → Contains members member
     → HasField (declared_fields types member) name required own → IsTrue required
 
--- the known attributes are just those that all of the entity types declare with types that have a clean common bound, each
--- with the least of these bounds, and required exactly where all of them require it
-pub record AreExactlyKnown (types : List (PlainName × SchemaEntityType)) (members : List PlainName) (known : Fields) : Type 0 where
-  pub names : (name : Text) → Contains (field_names known) name ↔ (bound : Ty) × IsCommonBound types members name bound
+-- the known attributes are just those that all of the entity types declare with types that have a
+-- clean common bound, each with the least of these bounds, and required exactly where all of them
+-- require it
+pub record AreExactlyKnown (types : List (PlainName × SchemaEntityType)) (members : List PlainName)
+    (known : Fields) : Type 0 where
+  pub names : (name : Text) → Contains (field_names known) name
+      ↔ (bound : Ty) × IsCommonBound types members name bound
   pub least : (name : Text) (required : Bool) (ty : Ty) → HasField known name required ty
       → IsLeast Permissive (IsCommonBound types members name) ty
   pub required : (name : Text) (required : Bool) (ty : Ty) → HasField known name required ty
@@ -53,11 +60,15 @@ AttributesAreUnique =
 abbrev pub KnownAttributesAreCommon : Type 0
 KnownAttributesAreCommon =
     (types : List (PlainName × SchemaEntityType)) (members : List PlainName) (known : Fields)
-    → AreCleanTypes types members → AreKnownOfAll types members known → AreExactlyKnown types members known
+    → AreCleanTypes types members → AreKnownOfAll types members known
+    → AreExactlyKnown types members known
 
--- a law: a larger union knows only what a smaller part of it knows, with types above and flags no stronger
+-- a law: a larger union knows only what a smaller part of it knows, with types above and flags no
+-- stronger
 abbrev pub LargerUnionsKnowLess : Type 0
 LargerUnionsKnowLess =
-    (types : List (PlainName × SchemaEntityType)) (part members : List PlainName) (less more : Fields)
-    → Included part members → AreCleanTypes types members → AreKnownOfAll types members less → AreKnownOfAll types part more
+    (types : List (PlainName × SchemaEntityType)) (part members : List PlainName)
+    (less more : Fields)
+    → Included part members → AreCleanTypes types members → AreKnownOfAll types members less
+    → AreKnownOfAll types part more
     → FieldsBelow Permissive more less

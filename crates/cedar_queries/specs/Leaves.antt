@@ -12,7 +12,8 @@ use Rattle.cedar_types.specs.Meaning.{ty_of}
 use Rattle.cedar_types.specs.declared.types.Type.{«Type»}
 
 abbrev mutual
-  -- the leaves of a type, from left to right: whatever stands in it that is neither a record nor a set of elements of a type
+  -- the leaves of a type, from left to right: whatever stands in it that is neither a record nor a
+  -- set of elements of a type
   pub leaves : Ty → List Ty
   leaves (set_of ty) = leaves ty
   leaves (record_of fields openness) = leaves_of_fields fields
@@ -34,14 +35,17 @@ field_types (field name required ty rest) = ty ∷ field_types rest
 
 -- the types of the attributes of some entity types, and of the tags
 abbrev pub entity_type_types : List (PlainName × SchemaEntityType) → List Ty
-entity_type_types types = flat_map (λ entry. field_types (kind_fields entry.1.kind) ++ option_to_list (kind_tags entry.1.kind)) types
+entity_type_types types = flat_map (λ entry.
+    field_types (kind_fields entry.1.kind) ++ option_to_list (kind_tags entry.1.kind)) types
 
 -- the types of the contexts of some actions
 abbrev pub context_types : List (PlainUid × SchemaAction) → List Ty
 context_types actions = flat_map (λ entry. option_to_list (kind_context entry.1.kind)) actions
 
--- the leaves of a schema's types: of the attributes and tags of its entity types, and of the contexts of its actions
-abbrev pub schema_leaves : List (PlainName × SchemaEntityType) → List (PlainUid × SchemaAction) → List Ty
+-- the leaves of a schema's types: of the attributes and tags of its entity types, and of the
+-- contexts of its actions
+abbrev pub schema_leaves : List (PlainName × SchemaEntityType) → List (PlainUid × SchemaAction)
+    → List Ty
 schema_leaves types actions = leaves_of (entity_type_types types ++ context_types actions)
 
 -- a leaf is neither a record nor a set of elements of a type

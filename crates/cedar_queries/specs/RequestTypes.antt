@@ -31,4 +31,5 @@ all_resources actions = flat_map (λ it. kind_resources it.1.kind) actions
 -- the uids of the actions that are for requests of this principal with this resource
 abbrev pub actions_for : PlainName → PlainName → List (PlainUid × SchemaAction) → List PlainUid
 actions_for principal resource actions =
-    keys_where (λ it. has_name (kind_principals it.kind) principal && has_name (kind_resources it.kind) resource) actions
+    keys_where (λ it. has_name (kind_principals it.kind) principal
+    && has_name (kind_resources it.kind) resource) actions

@@ -39,8 +39,10 @@ pub data Unresolved : Type 0 where
   unresolved_action : ValidatorActionId → Unresolved
 
 -- the external entity types, and then the external actions
-abbrev pub unresolved : List (EntityType × ValidatorEntityType) → List (EntityUID × ValidatorActionId) → List Unresolved
-unresolved types actions = map unresolved_type (external_types types) ++ map unresolved_action (external_actions actions)
+abbrev pub unresolved : List (EntityType × ValidatorEntityType)
+    → List (EntityUID × ValidatorActionId) → List Unresolved
+unresolved types actions = map unresolved_type (external_types types)
+    ++ map unresolved_action (external_actions actions)
 
 -- the declaration that is lent
 abbrev pub lent_declaration : UnresolvedDeclaration → Unresolved

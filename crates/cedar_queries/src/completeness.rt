@@ -31,8 +31,8 @@ pub struct IncompleteSchemaError {
     pub entity_types: Vec<EntityType>,
     /// The external actions, in order.
     pub actions: Vec<EntityUID>,
-    /// Where the first of the entity types, or else the first of the actions, was declared, if that is
-    /// known.
+    /// Where the first of the entity types, or else the first of the actions, was declared, if that
+    /// is known.
     pub loc: Option<Loc>,
 }
 
@@ -40,7 +40,8 @@ impl Error for IncompleteSchemaError {}
 
 /// Writes of each entity type that it is external, with `; ` before it.
 fn write_types<W: fmt::Write>(types: &[EntityType], f: &mut fmt::Formatter<W>) -> fmt::Result
-    ensures { WritesOnOk W.write_str_gives f.old result (flat_map external_type_text (map type_name types.now)) f.new }
+    ensures { WritesOnOk W.write_str_gives f.old result
+        (flat_map external_type_text (map type_name types.now)) f.new }
 {
     for ty in types {
         write!(f, "; the entity type {ty} is external")?;
@@ -50,7 +51,8 @@ fn write_types<W: fmt::Write>(types: &[EntityType], f: &mut fmt::Formatter<W>) -
 
 /// Writes of each action that it is external, with `; ` before it.
 fn write_actions<W: fmt::Write>(actions: &[EntityUID], f: &mut fmt::Formatter<W>) -> fmt::Result
-    ensures { WritesOnOk W.write_str_gives f.old result (flat_map external_action_text (map uid_of actions.now)) f.new }
+    ensures { WritesOnOk W.write_str_gives f.old result
+        (flat_map external_action_text (map uid_of actions.now)) f.new }
 {
     for uid in actions {
         write!(f, "; the action {uid} is external")?;
@@ -59,9 +61,12 @@ fn write_actions<W: fmt::Write>(actions: &[EntityUID], f: &mut fmt::Formatter<W>
 }
 
 /// Prints all external entity types and then all external actions, in order, as
-/// `the schema is incomplete; the entity type U is external; the action Action::"view" is external`.
+/// `the schema is incomplete; the entity type U is external; the action Action::"view" is
+/// external`.
 impl fmt::Display for IncompleteSchemaError {
-    ghost output = { λ error. Some (incomplete_text (map type_name error.entity_types.items) (map uid_of error.actions.items)) };
+    ghost output = { λ error. Some
+        (incomplete_text (map type_name error.entity_types.items)
+        (map uid_of error.actions.items)) };
 
     fn fmt<W: fmt::Write>(&self, f: &mut fmt::Formatter<W>) -> fmt::Result {
         f.write_str("the schema is incomplete")?;
@@ -122,7 +127,8 @@ fn selected_names<K: Ord + Hash, V: SchemaNode<K>, T: Test<V>>(
 
 /// The same references in the order of what they refer to.
 fn in_order<'a, T: Ord>(references: Vec<&'a T>) -> M<Vec<&'a T>>
-    ensures permutation { IfOk result (λ sorted. IsPermutation references.entry.items sorted.items) }
+    ensures permutation { IfOk result (λ sorted.
+        IsPermutation references.entry.items sorted.items) }
     ensures sorted { IfOk result (λ sorted. IsSorted (λ a b. T.cmp a.now b.now) sorted.items) }
 {
     let alloc = *references.allocator();
@@ -136,7 +142,8 @@ fn names_in_order<K: Ord + Hash + Drop, V: SchemaNode<K>, T: Test<V>>(
     test: T,
 ) -> M<Vec<K>>
     ensures names { IfOk result (λ names. IsPermutation
-        (map V.node_name (values_where (T.holds test) nodes.now.entries)) (map V.key_name names.items)) }
+        (map V.node_name (values_where (T.holds test) nodes.now.entries))
+        (map V.key_name names.items)) }
     ensures sorted { IfOk result (λ names. IsSorted V.name_order (map V.key_name names.items)) }
 {
     let mut names = Vec::new(alloc);
@@ -156,8 +163,8 @@ fn first_loc(types: &EntityTypes, actions: &Actions) -> Option<Loc>
     }
 }
 
-/// That nothing is declared elsewhere; else the error carries what is, in order, with the location of
-/// the first. Or out of memory.
+/// That nothing is declared elsewhere; else the error carries what is, in order, with the location
+/// of the first. Or out of memory.
 pub fn check_complete(
     alloc: Global,
     types: &EntityTypes,

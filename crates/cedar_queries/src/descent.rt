@@ -34,11 +34,13 @@ pub fn is_known_entity_type(types: &EntityTypes, name: &EntityType) -> bool
     types.contains_key(name) || name.is_action()
 }
 
-/// The names of the entity types that have this one among their descendants, in order, each once; None
-/// where there is no entity type of this name.
+/// The names of the entity types that have this one among their descendants, in order, each once;
+/// None where there is no entity type of this name.
 pub fn ancestors<'a>(types: &'a EntityTypes, ty: &'a EntityType) -> Option<Ancestors<'a>>
-    ensures known { IsSome result ↔ Contains (map (λ it. it.0) (map plain_entry types.now.entries)) (type_name ty.now) }
-    ensures names { IfSome result (λ above. map type_name above ≡ types_above (type_name ty.now) (map plain_entry types.now.entries)) }
+    ensures known { IsSome result ↔ Contains (map (λ it. it.0) (map plain_entry types.now.entries))
+        (type_name ty.now) }
+    ensures names { IfSome result (λ above.
+        map type_name above ≡ types_above (type_name ty.now) (map plain_entry types.now.entries)) }
 {
     if !types.contains_key(ty) {
         return None;
@@ -77,8 +79,11 @@ pub fn entity_types_in<'a>(
     ty: &'a EntityType,
 ) -> M<Vec<&'a EntityType>>
     ensures names { IfOk result (λ names. map (λ name. type_name name.now) names.items
-        ≡ descendants_of (type_name ty.now) (map plain_entry types.now.entries) ++ type_name ty.now ∷ []) }
-    ensures once { IfOk result (λ _. AllPairs (λ a b. a ≢ b) (descendants_of (type_name ty.now) (map plain_entry types.now.entries))) }
+        ≡ descendants_of (type_name ty.now) (map plain_entry types.now.entries)
+        ++ type_name ty.now ∷ []) }
+    ensures once { IfOk result (λ _.
+        AllPairs (λ a b. a ≢ b) (descendants_of (type_name ty.now)
+        (map plain_entry types.now.entries))) }
 {
     let mut names = Vec::new(alloc);
     if let Some(entity_type) = types.get(ty) {
@@ -95,7 +100,8 @@ fn add_actions_in<'a>(
     action: &'a ValidatorActionId,
 ) -> M<()>
     ensures { OnOk result (map (λ it. uid_of it.now) uids.new.items
-        ≡ map (λ it. uid_of it.now) uids.old.items ++ (action_of action.now).descendants ++ uid_of uid.now ∷ []) }
+        ≡ map (λ it. uid_of it.now) uids.old.items ++ (action_of action.now).descendants
+        ++ uid_of uid.now ∷ []) }
 {
     for descendant in action.descendants() {
         uids.push(descendant)?;
@@ -113,9 +119,11 @@ pub fn actions_in_set<'a>(
     uids: &'a [EntityUID],
 ) -> M<Option<Vec<&'a EntityUID>>>
     ensures known { IfOk result (λ answer. IsSome answer
-        ↔ All (λ uid. Contains (map (λ it. it.0) (map plain_action_entry actions.now.entries)) (uid_of uid)) uids.now) }
+        ↔ All (λ uid. Contains (map (λ it. it.0) (map plain_action_entry actions.now.entries))
+        (uid_of uid)) uids.now) }
     ensures uids { IfOk result (λ answer. IfSome answer (λ all. map (λ it. uid_of it.now) all.items
-        ≡ flat_map (λ uid. action_descendants (uid_of uid) (map plain_action_entry actions.now.entries) ++ uid_of uid ∷ []) uids.now)) }
+        ≡ flat_map (λ uid. action_descendants (uid_of uid)
+        (map plain_action_entry actions.now.entries) ++ uid_of uid ∷ []) uids.now)) }
 {
     let mut all = Vec::new(alloc);
     for uid in uids {
@@ -129,7 +137,8 @@ pub fn actions_in_set<'a>(
 
 /// Whether an action has a descendant of the type.
 fn has_descendant_of(action: &ValidatorActionId, ty: &EntityType) -> bool
-    ensures { IsTrue result ↔ Any (λ below. below.ty ≡ type_name ty.now) (action_of action.now).descendants }
+    ensures { IsTrue result ↔ Any (λ below.
+        below.ty ≡ type_name ty.now) (action_of action.now).descendants }
 {
     for below in action.descendants() {
         if below.entity_type() == ty {
@@ -141,7 +150,8 @@ fn has_descendant_of(action: &ValidatorActionId, ty: &EntityType) -> bool
 
 /// Whether some action of the one type has a descendant of the other.
 fn has_action_below(actions: &Actions, upper: &EntityType, lower: &EntityType) -> bool
-    ensures { IsTrue result ↔ HasActionBelow (map plain_action_entry actions.now.entries) (type_name upper.now) (type_name lower.now) }
+    ensures { IsTrue result ↔ HasActionBelow (map plain_action_entry actions.now.entries)
+        (type_name upper.now) (type_name lower.now) }
 {
     for (uid, action) in actions {
         if uid.entity_type() == upper && has_descendant_of(action, lower) {
@@ -153,7 +163,9 @@ fn has_action_below(actions: &Actions, upper: &EntityType, lower: &EntityType) -
 
 /// Whether the one entity type is a descendant of the other.
 fn is_descendant(types: &EntityTypes, lower: &EntityType, upper: &EntityType) -> bool
-    ensures { IsTrue result ↔ Contains (descendants_of (type_name upper.now) (map plain_entry types.now.entries)) (type_name lower.now) }
+    ensures { IsTrue result ↔ Contains
+        (descendants_of (type_name upper.now) (map plain_entry types.now.entries))
+        (type_name lower.now) }
 {
     match types.get(upper) {
         Some(ty) => ty.has_descendant_entity_type(lower),
@@ -163,7 +175,8 @@ fn is_descendant(types: &EntityTypes, lower: &EntityType, upper: &EntityType) ->
 
 /// Whether entities of the one type may be among or below those of the other.
 fn may_be_in(types: &EntityTypes, actions: &Actions, lower: &EntityType, upper: &EntityType) -> bool
-    ensures { IsTrue result ↔ MayBeIn (map plain_entry types.now.entries) (map plain_action_entry actions.now.entries)
+    ensures { IsTrue result ↔ MayBeIn (map plain_entry types.now.entries)
+        (map plain_action_entry actions.now.entries)
         (type_name lower.now) (type_name upper.now) }
 {
     if lower == upper || is_descendant(types, lower, upper) {
@@ -180,7 +193,8 @@ fn may_be_in_any(
     uppers: &[EntityType],
 ) -> bool
     ensures { IsTrue result ↔ Any (λ upper. MayBeIn (map plain_entry types.now.entries)
-        (map plain_action_entry actions.now.entries) (type_name lower.now) (type_name upper)) uppers.now }
+        (map plain_action_entry actions.now.entries) (type_name lower.now)
+        (type_name upper)) uppers.now }
 {
     for upper in uppers {
         if may_be_in(types, actions, lower, upper) {
@@ -190,16 +204,19 @@ fn may_be_in_any(
     false
 }
 
-/// Whether entities of some of the one types may be among or below those of some of the others: one of
-/// the first is one of the second, or a descendant of it, or the type of a descendant of an action of it.
+/// Whether entities of some of the one types may be among or below those of some of the others: one
+/// of the first is one of the second, or a descendant of it, or the type of a descendant of an
+/// action of it.
 pub fn any_descendent_of(
     types: &EntityTypes,
     actions: &Actions,
     lowers: &[EntityType],
     uppers: &[EntityType],
 ) -> bool
-    ensures { IsTrue result ↔ Any (λ lower. Any (λ upper. MayBeIn (map plain_entry types.now.entries)
-        (map plain_action_entry actions.now.entries) (type_name lower) (type_name upper)) uppers.now) lowers.now }
+    ensures { IsTrue result ↔ Any (λ lower.
+        Any (λ upper. MayBeIn (map plain_entry types.now.entries)
+        (map plain_action_entry actions.now.entries) (type_name lower)
+        (type_name upper)) uppers.now) lowers.now }
 {
     for lower in lowers {
         if may_be_in_any(types, actions, lower, uppers) {

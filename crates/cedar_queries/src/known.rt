@@ -22,7 +22,8 @@ type EntityTypes = BTreeMap<EntityType, ValidatorEntityType>;
 
 /// The attributes that an entity type declares; one that isn't there declares none.
 fn declared_attributes(alloc: Global, types: &EntityTypes, ty: &EntityType) -> M<Attributes>
-    ensures { IfOk result (λ attrs. fields_of attrs ≡ declared_fields (map plain_entry types.now.entries) (type_name ty.now)) }
+    ensures { IfOk result (λ attrs.
+        fields_of attrs ≡ declared_fields (map plain_entry types.now.entries) (type_name ty.now)) }
 {
     match types.get(ty) {
         Some(entity_type) => entity_type.attributes().clone(),
@@ -71,7 +72,8 @@ fn attributes_of(ty: Type) -> Attributes
 
 /// The attributes that are known of entities of each type of a union, without locations.
 fn joined_attributes(alloc: Global, types: &EntityTypes, lub: &EntityLUB) -> M<Attributes>
-    ensures { IfOk result (λ attrs. AreKnownOfAll (map plain_entry types.now.entries) (lub_names lub.now) (fields_of attrs)) }
+    ensures { IfOk result (λ attrs.
+        AreKnownOfAll (map plain_entry types.now.entries) (lub_names lub.now) (fields_of attrs)) }
 {
     // That the union has members is known from their iterator.
     let _members = lub.iter();
@@ -88,7 +90,8 @@ fn joined_attributes(alloc: Global, types: &EntityTypes, lub: &EntityLUB) -> M<A
 /// mode, without locations; of entities of any type none is known. An entity type that the schema
 /// lacks counts as one without attributes. Out of memory is the only refusal.
 pub fn known_attributes(alloc: Global, types: &EntityTypes, kind: &EntityKind) -> M<Attributes>
-    ensures { IfOk result (λ attrs. AreAttributesOf (map plain_entry types.now.entries) (kind_ty kind.now) (fields_of attrs)) }
+    ensures { IfOk result (λ attrs.
+        AreAttributesOf (map plain_entry types.now.entries) (kind_ty kind.now) (fields_of attrs)) }
 {
     let EntityKind::Entity(lub) = kind else {
         return Attributes::empty(alloc);
@@ -102,7 +105,8 @@ pub fn known_attributes(alloc: Global, types: &EntityTypes, kind: &EntityKind) -
 /// The attributes of a type: a record's own, those that are known of a kind of entities, and of
 /// every other type none. Out of memory is the only refusal.
 pub fn all_attributes(alloc: Global, types: &EntityTypes, ty: &Type) -> M<Attributes>
-    ensures { IfOk result (λ attrs. AreAttributesOf (map plain_entry types.now.entries) (ty_of ty.now) (fields_of attrs)) }
+    ensures { IfOk result (λ attrs.
+        AreAttributesOf (map plain_entry types.now.entries) (ty_of ty.now) (fields_of attrs)) }
 {
     match ty {
         Type::Record { attrs, .. } => attrs.clone(),

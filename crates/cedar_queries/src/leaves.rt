@@ -34,7 +34,8 @@ pub struct TypeIterator<'a> {
 
 /// Adds the types of some attributes.
 fn add_attributes<'a>(pending: &mut Vec<&'a Type>, attributes: &'a Attributes) -> M<()>
-    ensures { IfOk result (λ _. shown_types pending.new.items ≡ shown_types pending.old.items ++ field_types (fields_of attributes.now)) }
+    ensures { IfOk result (λ _. shown_types pending.new.items
+        ≡ shown_types pending.old.items ++ field_types (fields_of attributes.now)) }
 {
     for (_, attribute) in attributes.iter() {
         pending.push(&attribute.attr_type)?;
@@ -45,7 +46,8 @@ fn add_attributes<'a>(pending: &mut Vec<&'a Type>, attributes: &'a Attributes) -
 /// Adds the types right inside a type, and tells whether it isn't a leaf.
 fn add_inner<'a>(pending: &mut Vec<&'a Type>, ty: &'a Type) -> M<bool>
     ensures { IfOk result (λ has_parts. MatchBool has_parts
-        (¬ IsLeaf (ty_of ty.now) × (shown_types pending.new.items ≡ shown_types pending.old.items ++ inner_types (ty_of ty.now)))
+        (¬ IsLeaf (ty_of ty.now) × (shown_types pending.new.items
+        ≡ shown_types pending.old.items ++ inner_types (ty_of ty.now)))
         (IsLeaf (ty_of ty.now) × (shown_types pending.new.items ≡ shown_types pending.old.items))) }
 {
     match ty {
@@ -104,7 +106,8 @@ fn add_entity_types<'a>(pending: &mut Vec<&'a Type>, types: &'a EntityTypes) -> 
 /// Adds the types of the contexts of actions.
 fn add_contexts<'a>(pending: &mut Vec<&'a Type>, actions: &'a Actions) -> M<()>
     ensures { IfOk result (λ _. shown_types pending.new.items
-        ≡ shown_types pending.old.items ++ context_types (map plain_action_entry actions.now.entries)) }
+        ≡ shown_types pending.old.items
+        ++ context_types (map plain_action_entry actions.now.entries)) }
 {
     for action in actions.values() {
         if let Some(context) = action.context() {
@@ -122,7 +125,8 @@ pub fn leaf_types<'a>(
     actions: &'a Actions,
 ) -> M<TypeIterator<'a>>
     ensures { IfOk result (λ it. IsPermutation
-        (schema_leaves (map plain_entry types.now.entries) (map plain_action_entry actions.now.entries)) (leaves_of (pending_types it))) }
+        (schema_leaves (map plain_entry types.now.entries)
+        (map plain_action_entry actions.now.entries)) (leaves_of (pending_types it))) }
 {
     let mut pending = Vec::new(alloc);
     add_entity_types(&mut pending, types)?;

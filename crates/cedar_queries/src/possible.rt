@@ -32,7 +32,8 @@ pub fn lookup_attribute_type(
     ty: &Type,
     name: &str,
 ) -> M<Option<AttributeType>>
-    ensures { IfOk result (λ found. (known : Fields) × AreAttributesOf (map plain_entry types.now.entries) (ty_of ty.now) known
+    ensures { IfOk result (λ found.
+        (known : Fields) × AreAttributesOf (map plain_entry types.now.entries) (ty_of ty.now) known
         × (option_map attribute_of found ≡ field_at name.now known)) }
 {
     let attrs = all_attributes(alloc, types, ty)?;
@@ -51,14 +52,16 @@ fn is_open(openness: OpenTag) -> bool
 
 /// Whether entities of a type of this openness may have attributes that aren't declared.
 fn is_open_type(member: &EntityType, openness: OpenTag) -> bool
-    ensures { IsTrue result ↔ (¬ IsActionType (type_name member.now) × (openness ≡ OpenAttributes)) }
+    ensures { IsTrue result ↔ (¬ IsActionType (type_name member.now)
+        × (openness ≡ OpenAttributes)) }
 {
     !member.is_action() && is_open(openness)
 }
 
 /// Whether entities of a type may have the attribute.
 fn member_may_have(types: &EntityTypes, name: &str, member: &EntityType) -> bool
-    ensures { IsTrue result ↔ MemberMayHave (map plain_entry types.now.entries) name.now (type_name member.now) }
+    ensures { IsTrue result ↔ MemberMayHave (map plain_entry types.now.entries) name.now
+        (type_name member.now) }
 {
     match types.get(member) {
         Some(ty) => is_open_type(member, ty.open_attributes()) || ty.attr(name).is_some(),
@@ -68,7 +71,8 @@ fn member_may_have(types: &EntityTypes, name: &str, member: &EntityType) -> bool
 
 /// Whether entities of some type of a union may have the attribute.
 fn any_may_have(types: &EntityTypes, name: &str, lub: &EntityLUB) -> bool
-    ensures { IsTrue result ↔ Any (MemberMayHave (map plain_entry types.now.entries) name.now) (lub_names lub.now) }
+    ensures { IsTrue result ↔ Any (MemberMayHave (map plain_entry types.now.entries) name.now)
+        (lub_names lub.now) }
 {
     for member in lub.iter() {
         if member_may_have(types, name, member) {
@@ -78,12 +82,13 @@ fn any_may_have(types: &EntityTypes, name: &str, lub: &EntityLUB) -> bool
     false
 }
 
-/// Whether values of a type may have the attribute. `Never` and entities of any type may; entities of a
-/// union, where some member declares it, or may have attributes that it doesn't declare: it is no type of
-/// actions, and is open or not declared at all; a record, where it lists the attribute or is open; and of
-/// every other type no value.
+/// Whether values of a type may have the attribute. `Never` and entities of any type may; entities
+/// of a union, where some member declares it, or may have attributes that it doesn't declare: it is
+/// no type of actions, and is open or not declared at all; a record, where it lists the attribute
+/// or is open; and of every other type no value.
 pub fn may_have_attr(types: &EntityTypes, ty: &Type, name: &str) -> bool
-    ensures { IsTrue result ↔ MayHaveAttribute (map plain_entry types.now.entries) (ty_of ty.now) name.now }
+    ensures { IsTrue result ↔ MayHaveAttribute (map plain_entry types.now.entries)
+        (ty_of ty.now) name.now }
 {
     match ty {
         Type::Never | Type::Entity(EntityKind::AnyEntity) => true,
@@ -108,7 +113,8 @@ fn has_tags(types: &EntityTypes, ty: &EntityType) -> bool
 
 /// Whether entities of some type of a union have tags.
 fn any_has_tags(types: &EntityTypes, lub: &EntityLUB) -> bool
-    ensures { IsTrue result ↔ Any (HasTags (map plain_entry types.now.entries)) (lub_names lub.now) }
+    ensures { IsTrue result ↔ Any (HasTags (map plain_entry types.now.entries))
+        (lub_names lub.now) }
 {
     for member in lub.iter() {
         if has_tags(types, member) {
@@ -118,8 +124,8 @@ fn any_has_tags(types: &EntityTypes, lub: &EntityLUB) -> bool
     false
 }
 
-/// Whether values of a type may have tags: of a union, where some member is declared with tags; of every
-/// other type it isn't known that they haven't.
+/// Whether values of a type may have tags: of a union, where some member is declared with tags; of
+/// every other type it isn't known that they haven't.
 pub fn may_have_tags(types: &EntityTypes, ty: &Type) -> bool
     ensures { IsTrue result ↔ MayHaveTags (map plain_entry types.now.entries) (ty_of ty.now) }
 {
@@ -131,7 +137,8 @@ pub fn may_have_tags(types: &EntityTypes, ty: &Type) -> bool
 
 /// Whether each type of a union is declared.
 fn all_declared(types: &EntityTypes, lub: &EntityLUB) -> bool
-    ensures { IsTrue result ↔ All (IsDeclared (map plain_entry types.now.entries)) (lub_names lub.now) }
+    ensures { IsTrue result ↔ All (IsDeclared (map plain_entry types.now.entries))
+        (lub_names lub.now) }
 {
     for member in lub.iter() {
         if !types.contains_key(member) {
@@ -141,7 +148,8 @@ fn all_declared(types: &EntityTypes, lub: &EntityLUB) -> bool
     true
 }
 
-/// Whether the entity types of a union are all declared; of every other type there is none that isn't.
+/// Whether the entity types of a union are all declared; of every other type there is none that
+/// isn't.
 pub fn has_declared_entity_types(types: &EntityTypes, ty: &Type) -> bool
     ensures { IsTrue result ↔ AreDeclaredTypes (map plain_entry types.now.entries) (ty_of ty.now) }
 {
@@ -157,7 +165,8 @@ pub fn is_known_uid(
     actions: &BTreeMap<EntityUID, ValidatorActionId>,
     uid: &EntityUID,
 ) -> bool
-    ensures { IsTrue result ↔ IsKnownUid (map plain_entry types.now.entries) (map plain_action_entry actions.now.entries) (uid_of uid.now) }
+    ensures { IsTrue result ↔ IsKnownUid (map plain_entry types.now.entries)
+        (map plain_action_entry actions.now.entries) (uid_of uid.now) }
 {
     if uid.entity_type().is_action() {
         actions.contains_key(uid)

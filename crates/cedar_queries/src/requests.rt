@@ -52,7 +52,8 @@ impl<'a> Model for ApplicableTypes<'a> {
 
     ghost Value = { List PlainName };
 
-    ghost view = { λ a. map type_name (unwrap_or a.current []) ++ flat_map (λ it. types_in_role a.role (action_of it).kind) a.rest };
+    ghost view = { λ a. map type_name (unwrap_or a.current [])
+        ++ flat_map (λ it. types_in_role a.role (action_of it).kind) a.rest };
 }
 
 /// The types that an action has in a role, each once.
@@ -110,8 +111,8 @@ pub fn resources(actions: &Actions) -> ApplicableTypes<'_>
     }
 }
 
-/// The types of the principals of the requests of an action, each once; of an external one none. None
-/// where there is no action of this uid.
+/// The types of the principals of the requests of an action, each once; of an external one none.
+/// None where there is no action of this uid.
 pub fn principals_for_action<'a>(
     actions: &'a Actions,
     uid: &EntityUID,
@@ -123,8 +124,8 @@ pub fn principals_for_action<'a>(
     Some(actions.get(uid)?.principals())
 }
 
-/// The types of the resources of the requests of an action, each once; of an external one none. None
-/// where there is no action of this uid.
+/// The types of the resources of the requests of an action, each once; of an external one none.
+/// None where there is no action of this uid.
 pub fn resources_for_action<'a>(
     actions: &'a Actions,
     uid: &EntityUID,
@@ -136,17 +137,19 @@ pub fn resources_for_action<'a>(
     Some(actions.get(uid)?.resources())
 }
 
-/// The type of the context of an action's requests. None where there is no action of this uid, or it is
-/// external.
+/// The type of the context of an action's requests. None where there is no action of this uid, or
+/// it is external.
 pub fn context_type<'a>(actions: &'a Actions, uid: &EntityUID) -> Option<&'a Type>
-    ensures { option_map ty_of (option_copied result) ≡ context_at (uid_of uid.now) (map plain_action_entry actions.now.entries) }
+    ensures { option_map ty_of (option_copied result)
+        ≡ context_at (uid_of uid.now) (map plain_action_entry actions.now.entries) }
 {
     actions.get(uid)?.context()
 }
 
 /// Whether there is an action of this uid.
 pub fn is_known_action_id(actions: &Actions, uid: &EntityUID) -> bool
-    ensures { IsTrue result ↔ Contains (map (λ it. it.0) (map plain_action_entry actions.now.entries)) (uid_of uid.now) }
+    ensures { IsTrue result ↔ Contains
+        (map (λ it. it.0) (map plain_action_entry actions.now.entries)) (uid_of uid.now) }
 {
     actions.contains_key(uid)
 }

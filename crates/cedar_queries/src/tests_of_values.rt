@@ -45,7 +45,8 @@ pub struct ForRequest<'a> {
 }
 
 impl<'a> Test<ValidatorActionId> for ForRequest<'a> {
-    ghost holds = { λ test it. has_name (kind_principals (action_of it).kind) (type_name test.principal.now)
+    ghost holds = { λ test it. has_name (kind_principals (action_of it).kind)
+        (type_name test.principal.now)
         && has_name (kind_resources (action_of it).kind) (type_name test.resource.now) };
 
     fn passes(&self, action: &ValidatorActionId) -> bool {

@@ -20,7 +20,8 @@ pub enum UnresolvedDeclaration<'a> {
     Action(&'a ValidatorActionId),
 }
 
-/// The external declarations that are left: the entity types in order, and then the actions in order.
+/// The external declarations that are left: the entity types in order, and then the actions in
+/// order.
 #[derive(Drop)]
 pub struct UnresolvedDeclarations<'a> {
     types: SelectedValues<'a, EntityType, ValidatorEntityType, IsExternal>,

@@ -20,6 +20,8 @@ named_types types = map (λ it. (id_text it.0, resolved_expr it.1)) types
 abbrev pub is_taken : List PlainName → Text → Bool
 is_taken names word = list_any (λ name. is_eq (name_cmp (alias_name word) name)) names
 
--- of some built-in types the aliases beside types of these names: those whose base name isn't taken, under it alone
+-- of some built-in types the aliases beside types of these names: those whose base name isn't
+-- taken, under it alone
 abbrev pub free_aliases : List PlainName → List (Text × Expr) → List (PlainName × Expr)
-free_aliases names types = map (λ it. (alias_name it.0, it.1)) (filter (λ it. not (is_taken names it.0)) types)
+free_aliases names types = map (λ it.
+    (alias_name it.0, it.1)) (filter (λ it. not (is_taken names it.0)) types)

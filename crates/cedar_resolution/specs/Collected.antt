@@ -27,20 +27,29 @@ abbrev pub collected_common : List (InternalName × «Type» InternalName) → L
 collected_common = map (λ it. (name_of it.0, resolved_expr it.1))
 
 -- what some entity types stand for: each full name with what is declared of it
-abbrev pub collected_entities : List (EntityType × EntityTypeFragment InternalName) → List (PlainName × EntityBody)
-collected_entities = map (λ it. (type_name it.0, fragment_body InternalName resolved_reference it.1))
+abbrev pub collected_entities : List (EntityType × EntityTypeFragment InternalName)
+    → List (PlainName × EntityBody)
+collected_entities = map (λ it.
+    (type_name it.0, fragment_body InternalName resolved_reference it.1))
 
 -- what some actions stand for: each uid with what is declared of it
-abbrev pub collected_actions : List (EntityUID × ActionFragment InternalName EntityType) → List (PlainUid × ActionBody)
-collected_actions = map (λ it. (uid_of it.0, action_fragment_body InternalName resolved_reference EntityType resolved_action_type it.1))
+abbrev pub collected_actions : List (EntityUID × ActionFragment InternalName EntityType)
+    → List (PlainUid × ActionBody)
+collected_actions = map (λ it. (
+  uid_of it.0,
+  action_fragment_body InternalName resolved_reference EntityType resolved_action_type it.1,
+))
 
 -- the bag of declarations of some fragments over full names
 abbrev pub resolved_bag : List (ValidatorSchemaFragment InternalName EntityType) → Bag
 resolved_bag fragments = flat_map resolved_fragment fragments
 
--- what is collected after is what was collected before, and then what a bag declares: common types, entity types and
--- actions
+-- what is collected after is what was collected before, and then what a bag declares: common types,
+-- entity types and actions
 pub record CollectsAlso (before : Declarations) (bag : Bag) (after : Declarations) : Type 0 where
-  pub common : collected_common after.common_types.items ≡ collected_common before.common_types.items ++ declared_common bag
-  pub entities : collected_entities after.entity_types.items ≡ collected_entities before.entity_types.items ++ declared_entities bag
-  pub actions : collected_actions after.actions.items ≡ collected_actions before.actions.items ++ declared_actions bag
+  pub common : collected_common after.common_types.items
+      ≡ collected_common before.common_types.items ++ declared_common bag
+  pub entities : collected_entities after.entity_types.items
+      ≡ collected_entities before.entity_types.items ++ declared_entities bag
+  pub actions : collected_actions after.actions.items
+      ≡ collected_actions before.actions.items ++ declared_actions bag

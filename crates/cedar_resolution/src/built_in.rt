@@ -68,7 +68,9 @@ fn built_in_type_name(alloc: Global, word: &Id) -> M<InternalName>
 
 /// Built-in types under their full names.
 fn built_ins(alloc: Global, types: Vec<BuiltInType>) -> M<Vec<CommonType>>
-    ensures { IfOk result (λ named. collected_common named.items ≡ map (λ it. (built_in_name it.0, it.1)) (named_types types.items)) }
+    ensures { IfOk result (λ named.
+        collected_common named.items ≡ map (λ it.
+        (built_in_name it.0, it.1)) (named_types types.items)) }
 {
     let mut named = Vec::new(alloc);
     for (word, ty) in types {
@@ -92,7 +94,8 @@ fn add_free(
     is_free: bool,
 ) -> M<()>
     ensures { OnOk result (collected_common named.new.items
-        ≡ (if is_free then collected_common named.old.items ++ (name_of name, resolved_expr ty) ∷ [] else collected_common named.old.items)) }
+        ≡ (if is_free then collected_common named.old.items
+        ++ (name_of name, resolved_expr ty) ∷ [] else collected_common named.old.items)) }
 {
     if is_free {
         named.push((name, ty))?;
@@ -123,7 +126,8 @@ pub(crate) fn built_in_common_types(
     extensions: &Extensions,
 ) -> M<Vec<CommonType>>
     ensures { IfOk result (λ types. collected_common types.items
-        ≡ built_ins extensions.now ++ free_aliases (type_names (held_names declared.now)) (built_in_types extensions.now)) }
+        ≡ built_ins extensions.now ++ free_aliases (type_names (held_names declared.now))
+        (built_in_types extensions.now)) }
 {
     let mut types = built_ins(alloc, built_in_types(alloc, extensions)?)?;
     let mut aliases = aliases(alloc, built_in_types(alloc, extensions)?, declared)?;

@@ -25,7 +25,8 @@ fn add_common_types(
     defs: CommonTypeDefs<InternalName>,
 ) -> M<Vec<(InternalName, Type<InternalName>)>>
     ensures { IfOk result (λ it. collected_common it.items
-        ≡ collected_common common_types.items ++ declared_common (common_type_declarations Full resolved_reference defs)) }
+        ≡ collected_common common_types.items
+        ++ declared_common (common_type_declarations Full resolved_reference defs)) }
 {
     let mut common_types = common_types;
     for def in defs.into_defs() {
@@ -41,7 +42,8 @@ fn add_entity_types(
     defs: EntityTypesDef<InternalName>,
 ) -> M<Vec<(EntityType, EntityTypeFragment<InternalName>)>>
     ensures { IfOk result (λ it. collected_entities it.items
-        ≡ collected_entities entity_types.items ++ declared_entities (entity_type_declarations Full resolved_reference defs)) }
+        ≡ collected_entities entity_types.items
+        ++ declared_entities (entity_type_declarations Full resolved_reference defs)) }
 {
     let mut entity_types = entity_types;
     for def in defs.into_defs() {
@@ -57,7 +59,9 @@ fn add_actions(
     defs: ActionsDef<InternalName, EntityType>,
 ) -> M<Vec<(EntityUID, ActionFragment<InternalName, EntityType>)>>
     ensures { IfOk result (λ it. collected_actions it.items ≡ collected_actions actions.items
-        ++ declared_actions (action_fragment_declarations Full resolved_reference ActionEntityType resolved_action_type defs)) }
+        ++ declared_actions
+        (action_fragment_declarations Full resolved_reference ActionEntityType resolved_action_type
+        defs)) }
 {
     let mut actions = actions;
     for def in defs.into_defs() {
@@ -137,9 +141,15 @@ pub fn collect_declarations(
     alloc: Global,
     fragments: Vec<ValidatorSchemaFragment<InternalName, EntityType>>,
 ) -> M<Declarations>
-    ensures common { IfOk result (λ declared. collected_common declared.common_types.items ≡ declared_common (resolved_bag fragments.items)) }
-    ensures entities { IfOk result (λ declared. collected_entities declared.entity_types.items ≡ declared_entities (resolved_bag fragments.items)) }
-    ensures actions { IfOk result (λ declared. collected_actions declared.actions.items ≡ declared_actions (resolved_bag fragments.items)) }
+    ensures common { IfOk result (λ declared.
+        collected_common declared.common_types.items
+        ≡ declared_common (resolved_bag fragments.items)) }
+    ensures entities { IfOk result (λ declared.
+        collected_entities declared.entity_types.items
+        ≡ declared_entities (resolved_bag fragments.items)) }
+    ensures actions { IfOk result (λ declared.
+        collected_actions declared.actions.items
+        ≡ declared_actions (resolved_bag fragments.items)) }
 {
     add_fragments(none(alloc), fragments)
 }

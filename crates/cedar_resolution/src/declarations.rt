@@ -4,8 +4,8 @@ use cedar_below::{EntityType, EntityUID, InternalName};
 use cedar_fragments::namespace::{ActionFragment, EntityTypeFragment};
 use cedar_names::json_schema::Type;
 
-/// What fragments declare, over full names: the common types, the entity types and the actions, each
-/// under its full name, in the order of the fragments.
+/// What fragments declare, over full names: the common types, the entity types and the actions,
+/// each under its full name, in the order of the fragments.
 #[derive(Debug, Drop)]
 pub struct Declarations {
     /// The common types, each with the type that it is defined as.

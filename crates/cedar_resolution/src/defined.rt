@@ -22,9 +22,13 @@ use std::alloc::Global;
 
 /// The same names, and among those of common types also those of some types.
 fn with_common_types(defs: AllDefs, types: &[CommonType]) -> M<AllDefs>
-    ensures common { IfOk result (λ after. HasAlso (held_names after).common (held_names defs).common (map (λ it. name_of it.0) types.now)) }
-    ensures entities_stay { IfOk result (λ after. (held_names after).entities ≡ (held_names defs).entities) }
-    ensures actions_stay { IfOk result (λ after. (held_names after).actions ≡ (held_names defs).actions) }
+    ensures common { IfOk result (λ after.
+        HasAlso (held_names after).common (held_names defs).common
+        (map (λ it. name_of it.0) types.now)) }
+    ensures entities_stay { IfOk result (λ after.
+        (held_names after).entities ≡ (held_names defs).entities) }
+    ensures actions_stay { IfOk result (λ after.
+        (held_names after).actions ≡ (held_names defs).actions) }
 {
     let mut defs = defs;
     for it in types {
@@ -55,13 +59,17 @@ pub(crate) fn defined_names(
     fragments: &[ValidatorSchemaFragment<ConditionalName, ConditionalName>],
     extensions: &Extensions,
 ) -> Result<DefinedNames, SchemaError>
-    ensures names { IfOk result (λ defined. HoldsJust (held_names defined.defs) (defined_names (conditional_bag fragments.now) extensions.now)) }
+    ensures names { IfOk result (λ defined.
+        HoldsJust (held_names defined.defs)
+        (defined_names (conditional_bag fragments.now) extensions.now)) }
     ensures built_in { IfOk result (λ defined. collected_common defined.built_in.items
         ≡ built_ins extensions.now ++ aliases (conditional_bag fragments.now) extensions.now) }
     ensures no_type_shadows { OnOk result ((plain qualified : PlainName)
-        → ¬ IsFault (conditional_bag fragments.now) extensions.now (type_shadowing plain qualified)) }
+        → ¬ IsFault (conditional_bag fragments.now) extensions.now
+        (type_shadowing plain qualified)) }
     ensures no_action_shadows { OnOk result ((plain qualified : PlainUid)
-        → ¬ IsFault (conditional_bag fragments.now) extensions.now (action_shadowing plain qualified)) }
+        → ¬ IsFault (conditional_bag fragments.now) extensions.now
+        (action_shadowing plain qualified)) }
     ensures fault { IfErr result (λ error. (fault_of error ≡ out_of_memory)
         ⊎ IsFault (conditional_bag fragments.now) extensions.now (fault_of error)) }
 {

@@ -28,9 +28,12 @@ fn qualify_fragments(
     fragments: Vec<ValidatorSchemaFragment<ConditionalName, ConditionalName>>,
     defs: &AllDefs,
 ) -> Result<Vec<ValidatorSchemaFragment<InternalName, EntityType>>, SchemaError>
-    ensures resolved { IfOk result (λ resolved. ResolvesBag (held_names defs.now) (conditional_bag fragments.items)
+    ensures resolved { IfOk result (λ resolved.
+        ResolvesBag (held_names defs.now) (conditional_bag fragments.items)
         (flat_map resolved_fragment resolved.items)) }
-    ensures fault { IfErr result (λ error. IsUnresolvableBag (held_names defs.now) (conditional_bag fragments.items) (fault_of error)) }
+    ensures fault { IfErr result (λ error.
+        IsUnresolvableBag (held_names defs.now) (conditional_bag fragments.items)
+        (fault_of error)) }
 {
     let mut qualified = Vec::new(alloc);
     for fragment in fragments {
@@ -66,16 +69,20 @@ pub fn resolve_fragments(
     fragments: Vec<ValidatorSchemaFragment<ConditionalName, ConditionalName>>,
     extensions: &Extensions,
 ) -> Result<Resolved, SchemaError>
-    ensures resolved { IfOk result (λ resolved. ResolvesBag (defined_names (conditional_bag fragments.items) extensions.now)
+    ensures resolved { IfOk result (λ resolved.
+        ResolvesBag (defined_names (conditional_bag fragments.items) extensions.now)
         (conditional_bag fragments.items) (flat_map resolved_fragment resolved.fragments.items)) }
     ensures names { IfOk result (λ resolved.
-        HoldsJust (held_names resolved.defs) (defined_names (conditional_bag fragments.items) extensions.now)) }
+        HoldsJust (held_names resolved.defs)
+        (defined_names (conditional_bag fragments.items) extensions.now)) }
     ensures built_in { IfOk result (λ resolved. collected_common resolved.built_in.items
         ≡ built_ins extensions.now ++ aliases (conditional_bag fragments.items) extensions.now) }
     ensures no_type_shadows { OnOk result ((plain qualified : PlainName)
-        → ¬ IsFault (conditional_bag fragments.items) extensions.now (type_shadowing plain qualified)) }
+        → ¬ IsFault (conditional_bag fragments.items) extensions.now
+        (type_shadowing plain qualified)) }
     ensures no_action_shadows { OnOk result ((plain qualified : PlainUid)
-        → ¬ IsFault (conditional_bag fragments.items) extensions.now (action_shadowing plain qualified)) }
+        → ¬ IsFault (conditional_bag fragments.items) extensions.now
+        (action_shadowing plain qualified)) }
     ensures fault { IfErr result (λ error. (fault_of error ≡ out_of_memory)
         ⊎ IsFault (conditional_bag fragments.items) extensions.now (fault_of error)) }
 {

@@ -1,5 +1,5 @@
 -- What closes the same schema is the same schema.
-use Rattle.std.proofs.Common.{List, [], ◌∷◌, refl, sym, subst, ◌∙◌}
+use Rattle.std.proofs.Common.{List, refl, sym, subst, ◌∙◌}
 use Rattle.cedar_below.specs.Lists.{HoldsPairwise}
 use Rattle.cedar_below.specs.PlainName.{PlainName}
 use Rattle.cedar_below.specs.PlainUid.{PlainUid}
@@ -7,18 +7,16 @@ use Rattle.cedar_declarations.specs.ClosedSchema.{ClosesAction, ClosesSchema, Cl
 use Rattle.cedar_declarations.specs.PlainSchema.{ActionKind, PlainSchema, SchemaAction, SchemaEntityType, defined_action, external_action}
 use Rattle.cedar_declarations.specs.SameSchema.{SameAction, SameActionKind, SameEntityType, SameSchema}
 use Rattle.cedar_declaration_laws.proofs.SameEntities.{same_entities}
+use Rattle.cedar_declarations.proofs.TurnLemmas.{turn_back}
+use Rattle.cedar_validation.proofs.Pairwise.{pairwise_joined}
 
 -- what holds between the items of two pairs of lists gives what holds between the last of both
-pairwise : {A B C : Type 0} (R : A → B → Type 0) (S : A → C → Type 0) (T : B → C → Type 0)
+pairwise_apart : {A B C : Type 0} (R : A → B → Type 0) (S : A → C → Type 0) (T : B → C → Type 0)
     → ((x : A) (y : B) (z : C) → R x y → S x z → T y z) → (xs : List A) (ys : List B) (zs : List C)
     → HoldsPairwise R xs ys → HoldsPairwise S xs zs → HoldsPairwise T ys zs
-pairwise R S T step [] [] [] first second = tt
-pairwise R S T step [] [] (z ∷ zs) first second = absurd second
-pairwise R S T step [] (y ∷ ys) zs first second = absurd first
-pairwise R S T step (x ∷ xs) [] zs first second = absurd first
-pairwise R S T step (x ∷ xs) (y ∷ ys) [] first second = absurd second
-pairwise R S T step (x ∷ xs) (y ∷ ys) (z ∷ zs) first second =
-    (step x y z first.0 second.0, pairwise R S T step xs ys zs first.1 second.1)
+pairwise_apart R S T step xs ys zs first second =
+    pairwise_joined (λ y x. R x y) S T (λ y x z. step x y z) ys xs zs
+    (turn_back R (λ y x. R x y) (λ x y is. is) xs ys first) second
 
 -- a kind of actions is the same as itself
 kind_itself : (kind : ActionKind) → SameActionKind kind kind
@@ -55,11 +53,11 @@ module _ (schema closed other : PlainSchema) (first : ClosesSchema schema closed
   -- so are the schemas
   pub closed_same : SameSchema closed other
   closed_same =
-      let actions = pairwise (ClosesAction schema) (ClosesAction schema) SameAction actions_same schema.actions closed.actions
+      let actions = pairwise_apart (ClosesAction schema) (ClosesAction schema) SameAction actions_same schema.actions closed.actions
       other.actions first.actions second.actions in
       record {
         entity_types =
-            pairwise (ClosesType schema) (ClosesType schema) SameEntityType types_same schema.entity_types closed.entity_types
+            pairwise_apart (ClosesType schema) (ClosesType schema) SameEntityType types_same schema.entity_types closed.entity_types
             other.entity_types first.entity_types second.entity_types;
         actions = actions;
         action_entities = same_entities closed other first.action_entities second.action_entities actions;

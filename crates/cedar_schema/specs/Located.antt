@@ -20,20 +20,26 @@ common_entries it = it.common_types.items
 abbrev pub namespace_entries : Located → List (InternalName × LocatedNamespace)
 namespace_entries it = it.namespaces.entries
 
--- what is shown where common types of these names are declared and these namespaces are defined: of the common types those
--- whose declaration has a location and whose base name is none of a primitive type, in order; of the namespaces each name
--- once, with the locations of its last definition, and that of the built-in types
-pub record Shows (names : List LocatedName) (defined : List DefinedNamespace) (it : Located) : Type 0 where
+-- what is shown where common types of these names are declared and these namespaces are defined: of
+-- the common types those whose declaration has a location and whose base name is none of a
+-- primitive type, in order; of the namespaces each name once, with the locations of its last
+-- definition, and that of the built-in types
+pub record Shows (names : List LocatedName) (defined : List DefinedNamespace)
+    (it : Located) : Type 0 where
   pub common_types : map shown_name (common_entries it) ≡ map with_base (filter is_shown names)
   pub namespaces : HoldsNamespaces (built_in_namespace ∷ defined) it.namespaces
 
--- what is shown of fragments over conditional names, and where the types of the common types were written
-pub record ShowsFragments (fragments : List (ValidatorSchemaFragment ConditionalName ConditionalName)) (it : Located) : Type 0 where
+-- what is shown of fragments over conditional names, and where the types of the common types were
+-- written
+pub record ShowsFragments (fragments : List
+    (ValidatorSchemaFragment ConditionalName ConditionalName)) (it : Located) : Type 0 where
   pub shown : Shows (flat_map (fragment_common_names ConditionalName ConditionalName) fragments)
       (flat_map (named_namespaces ConditionalName ConditionalName) fragments) it
   pub types : map shown_common_type (common_entries it)
-      ≡ common_types_to_show ConditionalName (flat_map (fragment_common_types ConditionalName ConditionalName) fragments)
+      ≡ common_types_to_show ConditionalName
+      (flat_map (fragment_common_types ConditionalName ConditionalName) fragments)
 
 -- what is shown of fragments as they are written
 abbrev pub ShowsWritten : List (Fragment RawName) → Located → Type 0
-ShowsWritten fragments = Shows (flat_map raw_common_names fragments) (flat_map raw_namespaces fragments)
+ShowsWritten fragments = Shows (flat_map raw_common_names fragments)
+    (flat_map raw_namespaces fragments)

@@ -14,15 +14,18 @@ use Rattle.cedar_declarations.specs.Together.{IsActionParent}
 use Rattle.cedar_names.specs.Expr.{Expr}
 use Rattle.cedar_names.specs.Reference.{Reference, ActionReference}
 
--- what has to name something in the bag does, nothing in it shadows another, its entity types have these names, these are the
--- built-in types and its aliases, and names of extension types fit
-pub record IsResolvedOver (bag : Bag) (given : Extensions) (names : Names) (built_in_types : List (PlainName × Expr)) : Type 0 where
+-- what has to name something in the bag does, nothing in it shadows another, its entity types have
+-- these names, these are the built-in types and its aliases, and names of extension types fit
+pub record IsResolvedOver (bag : Bag) (given : Extensions) (names : Names)
+    (built_in_types : List (PlainName × Expr)) : Type 0 where
   pub resolves : (reference : Reference) → HasToResolve bag reference
       → (name : PlainName) × ResolvesTo (defined_names bag given) reference name
   pub parents : (uid : PlainUid) (parent : ActionReference) → IsActionParent bag uid parent
       → (upper : PlainUid) × NamesAction (action_uids bag) parent upper
-  pub types_shadow : (plain qualified : PlainName) → ¬ IsFault bag given (type_shadowing plain qualified)
-  pub actions_shadow : (plain qualified : PlainUid) → ¬ IsFault bag given (action_shadowing plain qualified)
+  pub types_shadow : (plain qualified : PlainName)
+      → ¬ IsFault bag given (type_shadowing plain qualified)
+  pub actions_shadow : (plain qualified : PlainUid)
+      → ¬ IsFault bag given (action_shadowing plain qualified)
   pub entities : SameItems (definitions bag given).entities names.entities
   pub built_in : built_in_types ≡ built_ins given ++ aliases bag given
   pub fit : TypeNamesFit (extension_types given)

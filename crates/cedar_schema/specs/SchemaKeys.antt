@@ -7,7 +7,8 @@ use Rattle.cedar_schema_elements.specs.ValidatorEntityType as entity_type
 use Rattle.cedar_schema_elements.specs.declared.entity_type.ValidatorEntityType.{ValidatorEntityType}
 
 -- each key was written where the name of its entity type was, or the uid of its action
-pub record AreKeysLocated (types : List (EntityType × ValidatorEntityType)) (actions : List (EntityUID × ValidatorActionId)) :
+pub record AreKeysLocated (types : List (EntityType × ValidatorEntityType))
+    (actions : List (EntityUID × ValidatorActionId)) :
     Type 0 where
   pub of_types : entity_type.AreLocatedAsKeys types
   pub of_actions : action.AreLocatedAsKeys actions

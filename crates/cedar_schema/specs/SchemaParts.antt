@@ -8,4 +8,5 @@ use Rattle.cedar_schema.specs.declared.building.SchemaParts.{SchemaParts}
 -- what a schema holds, as plain data
 abbrev pub parts_schema : SchemaParts → PlainSchema
 parts_schema parts =
-    schema_with (map plain_entry parts.entity_types.entries) parts.actions.entries (entities_of parts.action_entities)
+    schema_with (map plain_entry parts.entity_types.entries) parts.actions.entries
+    (entities_of parts.action_entities)

@@ -13,7 +13,8 @@ use Rattle.cedar_fragments.specs.declared.namespace.fragment.ValidatorSchemaFrag
 use Rattle.cedar_schema.specs.TypeLocations.{location_of_type}
 use Rattle.cedar_schema.specs.declared.located_common_type.LocatedCommonType.{LocatedCommonType}
 
--- a common type as a schema shows it: its base name, its full name with where it was declared, and where its type was written
+-- a common type as a schema shows it: its base name, its full name with where it was declared, and
+-- where its type was written
 pub record ShownCommonType : Type 0 where
   pub base : Text
   pub at : LocatedName
@@ -35,7 +36,8 @@ shown_name it = ((shown_common_type it).base, (shown_common_type it).at)
 abbrev pub with_base : LocatedName → Text × LocatedName
 with_base it = (it.name.base, it)
 
--- a common type is shown if it is known where it was declared and its base name is none of a primitive type
+-- a common type is shown if it is known where it was declared and its base name is none of a
+-- primitive type
 abbrev pub is_shown : LocatedName → Bool
 is_shown it = is_some it.loc && not (list_any (bytes_eq it.name.base) primitive_words)
 
@@ -50,7 +52,8 @@ module _ (N : Type 0) where
 
   -- those of some common types that are shown, in order
   abbrev pub common_types_to_show : List (CommonTypeDef N) → List ShownCommonType
-  common_types_to_show defs = map declared_common_type (filter (λ def. is_shown (located_name def.name)) defs)
+  common_types_to_show defs = map declared_common_type
+      (filter (λ def. is_shown (located_name def.name)) defs)
 
 module _ (N A : Type 0) where
   -- those of a fragment

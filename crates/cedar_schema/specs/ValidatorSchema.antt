@@ -34,7 +34,8 @@ action_of_uid schema uid = get_by (λ key. uid_cmp uid (uid_of key)) schema.acti
 -- what a schema stands for
 abbrev pub schema_of : ValidatorSchema → PlainSchema
 schema_of schema =
-    schema_with (map plain_entry schema.entity_types.entries) schema.action_ids.entries (entities_of schema.action_entities)
+    schema_with (map plain_entry schema.entity_types.entries) schema.action_ids.entries
+    (entities_of schema.action_entities)
 
 -- what a schema shows of its fragments
 abbrev pub located_of : ValidatorSchema → Located

@@ -36,8 +36,8 @@ use cedar_schema_elements::{ValidatorActionId, ValidatorEntityType, action_entit
 use std::alloc::Global;
 use std::collections::BTreeMap;
 
-/// What a schema holds: its entity types and its actions, each under its name, and the entities of its
-/// actions.
+/// What a schema holds: its entity types and its actions, each under its name, and the entities of
+/// its actions.
 #[derive(Debug, Drop)]
 pub(crate) struct SchemaParts {
     /// The entity types, each with all its descendants.
@@ -74,14 +74,22 @@ fn build_resolved(
     located: Located,
     extensions: &Extensions,
 ) -> Result<SchemaParts, SchemaError>
-    ensures declared { IfOk result (λ parts. IsResolvedOver (resolved_bag fragments.items) extensions.now (held_names defs.now) (collected_common built_in.items)
+    ensures declared { IfOk result (λ parts.
+        IsResolvedOver (resolved_bag fragments.items) extensions.now (held_names defs.now)
+        (collected_common built_in.items)
         → IsDeclaredSchema (resolved_bag fragments.items) extensions.now (parts_schema parts)) }
     ensures located { IfOk result (λ parts. parts.located ≡ located) }
-    ensures keys { IfOk result (λ parts. AreKeysLocated parts.entity_types.entries parts.actions.entries) }
-    ensures well_formed { OnOk result (IsResolvedOver (resolved_bag fragments.items) extensions.now (held_names defs.now) (collected_common built_in.items)
+    ensures keys { IfOk result (λ parts.
+        AreKeysLocated parts.entity_types.entries parts.actions.entries) }
+    ensures well_formed { OnOk result
+        (IsResolvedOver (resolved_bag fragments.items) extensions.now (held_names defs.now)
+        (collected_common built_in.items)
         → ¬ IsIllFormed (resolved_bag fragments.items) extensions.now) }
-    ensures fault { IfErr result (λ error. IsResolvedOver (resolved_bag fragments.items) extensions.now (held_names defs.now) (collected_common built_in.items)
-        → (fault_of error ≡ out_of_memory) ⊎ IsFault (resolved_bag fragments.items) extensions.now (fault_of error)) }
+    ensures fault { IfErr result (λ error.
+        IsResolvedOver (resolved_bag fragments.items) extensions.now (held_names defs.now)
+        (collected_common built_in.items)
+        → (fault_of error ≡ out_of_memory)
+        ⊎ IsFault (resolved_bag fragments.items) extensions.now (fault_of error)) }
 {
     let Declarations {
         common_types,
@@ -119,9 +127,11 @@ pub(crate) fn build(
     extensions: &Extensions,
 ) -> Result<SchemaParts, SchemaError>
     requires { TypeNamesFit (extension_types extensions.now) }
-    ensures built { IsBuiltFrom (conditional_bag fragments.items) extensions.now (result_map_both parts_schema fault_of result) }
+    ensures built { IsBuiltFrom (conditional_bag fragments.items) extensions.now
+        (result_map_both parts_schema fault_of result) }
     ensures located { IfOk result (λ parts. ShowsFragments fragments.items parts.located) }
-    ensures keys { IfOk result (λ parts. AreKeysLocated parts.entity_types.entries parts.actions.entries) }
+    ensures keys { IfOk result (λ parts.
+        AreKeysLocated parts.entity_types.entries parts.actions.entries) }
 {
     let located = located_in(alloc, &fragments)?;
     let Resolved {

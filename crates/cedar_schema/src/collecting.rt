@@ -17,7 +17,8 @@ use std::alloc::Global;
 use std::collections::{BTreeMap, btree_map};
 use std::slice;
 
-/// What a schema shows of its fragments: common types and namespaces, with where these were written.
+/// What a schema shows of its fragments: common types and namespaces, with where these were
+/// written.
 #[derive(Debug, Drop)]
 pub struct Located {
     common_types: Vec<LocatedCommonType>,
@@ -54,8 +55,11 @@ impl Located {
     /// refusal.
     pub fn clone(&self) -> M<Self>
         ensures common_types { IfOk result (λ copy.
-            map shown_common_type (common_entries copy) ≡ map shown_common_type (common_entries self.now)) }
-        ensures namespaces { IfOk result (λ copy. map shown_entry (namespace_entries copy) ≡ map shown_entry (namespace_entries self.now)) }
+            map shown_common_type (common_entries copy)
+            ≡ map shown_common_type (common_entries self.now)) }
+        ensures namespaces { IfOk result (λ copy.
+            map shown_entry (namespace_entries copy)
+            ≡ map shown_entry (namespace_entries self.now)) }
     {
         Ok(Located {
             common_types: copied_items(&self.common_types, LocatedCommonType::clone)?,
@@ -70,9 +74,9 @@ impl Located {
 
 /// What a schema shows of fragments.
 ///
-/// Its common types are those whose declaration has a location and whose base name is none of `Bool`,
-/// `Long` and `String`, in order. Its namespaces are those of the definitions, the empty one left out,
-/// and `__cedar`, where the built-in types are. Out of memory is the only refusal.
+/// Its common types are those whose declaration has a location and whose base name is none of
+/// `Bool`, `Long` and `String`, in order. Its namespaces are those of the definitions, the empty
+/// one left out, and `__cedar`, where the built-in types are. Out of memory is the only refusal.
 pub fn located_in(
     alloc: Global,
     fragments: &[ValidatorSchemaFragment<ConditionalName, ConditionalName>],

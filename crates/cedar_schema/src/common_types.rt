@@ -22,8 +22,8 @@ fn names_primitive(text: &str) -> bool
     text == "Bool" || text == "Long" || text == "String"
 }
 
-/// Whether a common type of this name is shown: it is known where it was declared, and its base name is
-/// none of a primitive type.
+/// Whether a common type of this name is shown: it is known where it was declared, and its base
+/// name is none of a primitive type.
 fn is_to_be_shown(name: &InternalName) -> bool
     ensures { result ≡ is_shown (located_name name.now) }
 {
@@ -55,7 +55,8 @@ fn with_definitions(
     definitions: &[ValidatorNamespaceDef<ConditionalName, ConditionalName>],
 ) -> M<Vec<LocatedCommonType>>
     ensures { IfOk result (λ it. map shown_common_type it.items ≡ map shown_common_type shown.items
-        ++ common_types_to_show Conditional (flat_map (definition_common_types Conditional Conditional) definitions.now)) }
+        ++ common_types_to_show Conditional
+        (flat_map (definition_common_types Conditional Conditional) definitions.now)) }
 {
     let mut shown = shown;
     for definition in definitions {
@@ -70,7 +71,8 @@ pub(crate) fn located_common_types(
     fragments: &[ValidatorSchemaFragment<ConditionalName, ConditionalName>],
 ) -> M<Vec<LocatedCommonType>>
     ensures { IfOk result (λ it. map shown_common_type it.items
-        ≡ common_types_to_show Conditional (flat_map (fragment_common_types Conditional Conditional) fragments.now)) }
+        ≡ common_types_to_show Conditional
+        (flat_map (fragment_common_types Conditional Conditional) fragments.now)) }
 {
     let mut shown = Vec::new(alloc);
     for fragment in fragments {

@@ -26,7 +26,8 @@ impl ValidatorSchema {
     /// last can be. `Memory` is that memory ran out.
     pub fn to_json_schema(&self, alloc: Global) -> Result<Fragment<RawName>, WriteBackFault>
         ensures writable { OnOk result (IsWritable (schema_of self.now)) }
-        ensures written { IfOk result (λ fragment. IsConvertedBack (schema_of self.now) (raw_fragment fragment)) }
+        ensures written { IfOk result (λ fragment.
+            IsConvertedBack (schema_of self.now) (raw_fragment fragment)) }
         ensures definitions { IfOk result (λ fragment. AreProper fragment.0.entries) }
         ensures refusal { IfErr result (Refuses (¬ IsWritable (schema_of self.now))) }
     {

@@ -13,18 +13,18 @@ impl ValidatorSchema {
     ghost use Rattle.cedar_schema.specs.Located.{common_entries, namespace_entries};
     ghost use Rattle.cedar_schema.specs.ValidatorSchema.{located_of};
 
-    /// The common types of the fragments, with where they were declared, in the order of the fragments:
-    /// those whose declaration has a location and whose base name is none of `Bool`, `Long` and `String`.
-    /// A schema that was put together without fragments has none.
+    /// The common types of the fragments, with where they were declared, in the order of the
+    /// fragments: those whose declaration has a location and whose base name is none of `Bool`,
+    /// `Long` and `String`. A schema that was put together without fragments has none.
     pub fn common_types(&self) -> slice::Iter<'_, LocatedCommonType>
         ensures { iter_rest result ≡ common_entries (located_of self.now) }
     {
         self.located.common_types()
     }
 
-    /// The namespaces of the fragments that have a name, each once and in the order of their names, with
-    /// where they were defined; `__cedar`, where the built-in types are, is among them. A schema that was
-    /// put together without fragments has none.
+    /// The namespaces of the fragments that have a name, each once and in the order of their names,
+    /// with where they were defined; `__cedar`, where the built-in types are, is among them. A
+    /// schema that was put together without fragments has none.
     pub fn namespaces(&self) -> btree_map::Values<'_, InternalName, LocatedNamespace>
         ensures { result ≡ map (λ entry. entry.1) (namespace_entries (located_of self.now)) }
     {

@@ -56,7 +56,8 @@ impl LocatedCommonType {
     /// An equal common type with the same locations. Out of memory is the only refusal.
     pub fn clone(&self) -> M<Self>
         ensures name { IfOk result (λ copy. string_bytes copy.name ≡ string_bytes self.now.name) }
-        ensures full_name { IfOk result (λ copy. name_of copy.full_name ≡ name_of self.now.full_name) }
+        ensures full_name { IfOk result (λ copy.
+            name_of copy.full_name ≡ name_of self.now.full_name) }
         ensures name_loc { IfOk result (λ copy. copy.name_loc ≡ self.now.name_loc) }
         ensures type_loc { IfOk result (λ copy. copy.type_loc ≡ self.now.type_loc) }
     {

@@ -14,7 +14,8 @@ pub struct LocatedNamespace {
     /// Where the name was written, if that is known.
     #[derive_where(skip(EqHashOrd))]
     pub name_loc: Option<Loc>,
-    /// Where the namespace was defined, if that is known: of several definitions, where the last was.
+    /// Where the namespace was defined, if that is known: of several definitions, where the last
+    /// was.
     #[derive_where(skip(EqHashOrd))]
     pub def_loc: Option<Loc>,
 }

@@ -26,14 +26,18 @@ pub trait SchemaLookup: Sized {
     /// type is declared. Out of memory is the only refusal.
     fn euid_literal(alloc: Global, uid: &EntityUID, schema: &ValidatorSchema) -> M<Option<Self>>
         ensures known { IfOk result (λ literal. IsSome literal
-            ↔ IsKnownUid (schema_of schema.now).entity_types (schema_of schema.now).actions (uid_of uid.now)) }
-        ensures ty { IfOk result (λ literal. IfSome literal (λ ty. stands_for ty ≡ union_of ((uid_of uid.now).ty ∷ []))) };
+            ↔ IsKnownUid (schema_of schema.now).entity_types (schema_of schema.now).actions
+            (uid_of uid.now)) }
+        ensures ty { IfOk result (λ literal.
+            IfSome literal (λ ty. stands_for ty ≡ union_of ((uid_of uid.now).ty ∷ []))) };
 
     /// The attributes of the type: a record's own; those that are known of an entity's kind, as
     /// [`KnownAttrs::all_known_attrs`] gives them; and of every other type none. Out of memory is
     /// the only refusal.
     fn all_attributes(&self, alloc: Global, schema: &ValidatorSchema) -> M<Attributes>
-        ensures { IfOk result (λ attrs. AreAttributesOf (schema_of schema.now).entity_types (stands_for self.now) (fields_of attrs)) };
+        ensures { IfOk result (λ attrs.
+            AreAttributesOf (schema_of schema.now).entity_types (stands_for self.now)
+            (fields_of attrs)) };
 
     /// The attribute of this name among the type's, if there is one. Out of memory is the only
     /// refusal.
@@ -43,23 +47,28 @@ pub trait SchemaLookup: Sized {
         ty: &Self,
         name: &str,
     ) -> M<Option<AttributeType>>
-        ensures { IfOk result (λ found. (known : Fields) × AreAttributesOf (schema_of schema.now).entity_types (stands_for ty.now) known
+        ensures { IfOk result (λ found.
+            (known : Fields) × AreAttributesOf (schema_of schema.now).entity_types
+            (stands_for ty.now) known
             × (option_map attribute_of found ≡ field_at name.now known)) };
 
-    /// Whether values of the type may have the attribute: always for `Never` and for any entity; for a union
-    /// where some member declares it, or is no type of actions and either not declared or open; for a
-    /// record where it is listed or the record is open; else not.
+    /// Whether values of the type may have the attribute: always for `Never` and for any entity;
+    /// for a union where some member declares it, or is no type of actions and either not declared
+    /// or open; for a record where it is listed or the record is open; else not.
     fn may_have_attr(schema: &ValidatorSchema, ty: &Self, name: &str) -> bool
-        ensures { IsTrue result ↔ MayHaveAttribute (schema_of schema.now).entity_types (stands_for ty.now) name.now };
+        ensures { IsTrue result ↔ MayHaveAttribute (schema_of schema.now).entity_types
+            (stands_for ty.now) name.now };
 
-    /// Whether values of the type may have tags: for a union where some member is declared with tags; else
-    /// always.
+    /// Whether values of the type may have tags: for a union where some member is declared with
+    /// tags; else always.
     fn may_have_tags(schema: &ValidatorSchema, ty: &Self) -> bool
-        ensures { IsTrue result ↔ MayHaveTags (schema_of schema.now).entity_types (stands_for ty.now) };
+        ensures { IsTrue result ↔ MayHaveTags (schema_of schema.now).entity_types
+            (stands_for ty.now) };
 
     /// Whether the members of a union are all declared; always so for every other type.
     fn has_declared_entity_types(schema: &ValidatorSchema, ty: &Self) -> bool
-        ensures { IsTrue result ↔ AreDeclaredTypes (schema_of schema.now).entity_types (stands_for ty.now) };
+        ensures { IsTrue result ↔ AreDeclaredTypes (schema_of schema.now).entity_types
+            (stands_for ty.now) };
 }
 
 impl SchemaLookup for Type {
@@ -110,7 +119,9 @@ pub trait KnownAttrs {
     /// mode and without locations; of entities of any type none. An entity type that the schema
     /// lacks counts as one without attributes. Out of memory is the only refusal.
     fn all_known_attrs(&self, alloc: Global, schema: &ValidatorSchema) -> M<Attributes>
-        ensures { IfOk result (λ attrs. AreAttributesOf (schema_of schema.now).entity_types (stands_for self.now) (fields_of attrs)) };
+        ensures { IfOk result (λ attrs.
+            AreAttributesOf (schema_of schema.now).entity_types (stands_for self.now)
+            (fields_of attrs)) };
 }
 
 impl KnownAttrs for EntityKind {
@@ -129,9 +140,11 @@ pub fn literal_attributes<T: SchemaLookup + Drop>(
     schema: &ValidatorSchema,
 ) -> M<Option<Attributes>>
     ensures known { IfOk result (λ found. IsSome found
-        ↔ IsKnownUid (schema_of schema.now).entity_types (schema_of schema.now).actions (uid_of uid.now)) }
+        ↔ IsKnownUid (schema_of schema.now).entity_types (schema_of schema.now).actions
+        (uid_of uid.now)) }
     ensures attributes { IfOk result (λ found. IfSome found (λ attrs.
-        AreAttributesOf (schema_of schema.now).entity_types (union_of ((uid_of uid.now).ty ∷ [])) (fields_of attrs))) }
+        AreAttributesOf (schema_of schema.now).entity_types (union_of ((uid_of uid.now).ty ∷ []))
+        (fields_of attrs))) }
 {
     match T::euid_literal(alloc, uid, schema)? {
         Some(ty) => Ok(Some(ty.all_attributes(alloc, schema)?)),
@@ -147,7 +160,9 @@ pub fn known_attribute<K: KnownAttrs>(
     kind: &K,
     name: &str,
 ) -> M<Option<AttributeType>>
-    ensures { IfOk result (λ found. (known : Fields) × AreAttributesOf (schema_of schema.now).entity_types (K.stands_for kind.now) known
+    ensures { IfOk result (λ found.
+        (known : Fields) × AreAttributesOf (schema_of schema.now).entity_types
+        (K.stands_for kind.now) known
         × (option_map attribute_of found ≡ field_at name.now known)) }
 {
     let attrs = kind.all_known_attrs(alloc, schema)?;

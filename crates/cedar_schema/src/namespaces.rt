@@ -27,7 +27,11 @@ fn located_namespace(
     def_loc: Option<Loc>,
 ) -> M<LocatedNamespace>
     ensures { IfOk result (λ it. shown_namespace it
-        ≡ record { text = name_text (name_of name.now); name_loc = name_loc name.now; def_loc = def_loc }) }
+        ≡ record {
+          text = name_text (name_of name.now);
+          name_loc = name_loc name.now;
+          def_loc = def_loc;
+        }) }
 {
     Ok(LocatedNamespace {
         name: name.to_string(alloc)?,
@@ -42,8 +46,10 @@ fn with_namespace(
     namespaces: NamespacesByName,
     definition: &ValidatorNamespaceDef<ConditionalName, ConditionalName>,
 ) -> M<NamespacesByName>
-    ensures { IfOk result (λ it. (defined : List DefinedNamespace) → HoldsNamespaces defined namespaces
-        → HoldsNamespaces (defined ++ definition_namespaces Conditional Conditional definition.now) it) }
+    ensures { IfOk result (λ it. (defined : List DefinedNamespace)
+        → HoldsNamespaces defined namespaces
+        → HoldsNamespaces
+        (defined ++ definition_namespaces Conditional Conditional definition.now) it) }
 {
     let Some(name) = definition.namespace() else {
         return Ok(namespaces);
@@ -60,8 +66,10 @@ fn with_definitions(
     namespaces: NamespacesByName,
     definitions: &[ValidatorNamespaceDef<ConditionalName, ConditionalName>],
 ) -> M<NamespacesByName>
-    ensures { IfOk result (λ it. (defined : List DefinedNamespace) → HoldsNamespaces defined namespaces
-        → HoldsNamespaces (defined ++ flat_map (definition_namespaces Conditional Conditional) definitions.now) it) }
+    ensures { IfOk result (λ it. (defined : List DefinedNamespace)
+        → HoldsNamespaces defined namespaces
+        → HoldsNamespaces (defined ++ flat_map
+        (definition_namespaces Conditional Conditional) definitions.now) it) }
 {
     let mut namespaces = namespaces;
     for definition in definitions {

@@ -52,7 +52,8 @@ impl ValidatorSchema {
     /// The entity types, in the order of their names, one for each.
     pub fn entity_types(&self) -> btree_map::Values<'_, EntityType, ValidatorEntityType>
         ensures types { result ≡ map (λ entry. entry.1) (schema_entries self.now) }
-        ensures in_order { IsStrictlySortedBy name_cmp (map (λ it. (entity_type_of it).name) result) }
+        ensures in_order { IsStrictlySortedBy name_cmp
+            (map (λ it. (entity_type_of it).name) result) }
     {
         self.entity_types.values()
     }
@@ -60,7 +61,8 @@ impl ValidatorSchema {
     /// The names of the entity types, in order, each once.
     pub fn entity_type_names(&self) -> btree_map::Keys<'_, EntityType, ValidatorEntityType>
         ensures names { result ≡ map (λ entry. entry.0) (schema_entries self.now) }
-        ensures located { map type_loc result ≡ map (λ entry. types.name_loc entry.1) (schema_entries self.now) }
+        ensures located { map type_loc result
+            ≡ map (λ entry. types.name_loc entry.1) (schema_entries self.now) }
         ensures in_order { IsStrictlySortedBy name_cmp (map type_name result) }
     {
         self.entity_types.keys()
@@ -84,15 +86,17 @@ impl ValidatorSchema {
     /// The uids of the actions, external ones too, in order, each once.
     pub fn actions(&self) -> btree_map::Keys<'_, EntityUID, ValidatorActionId>
         ensures uids { result ≡ map (λ entry. entry.0) (action_entries self.now) }
-        ensures located { map uid_loc result ≡ map (λ entry. action.name_loc entry.1) (action_entries self.now) }
-        ensures types_located { map uid_type_loc result ≡ map (λ entry. action.name_type_loc entry.1) (action_entries self.now) }
+        ensures located { map uid_loc result
+            ≡ map (λ entry. action.name_loc entry.1) (action_entries self.now) }
+        ensures types_located { map uid_type_loc result
+            ≡ map (λ entry. action.name_type_loc entry.1) (action_entries self.now) }
         ensures in_order { IsStrictlySortedBy uid_cmp (map uid_of result) }
     {
         self.action_ids.keys()
     }
 
-    /// The environments of the requests that the actions are for: for each action that is defined, each
-    /// of its principals with each of its resources, and its context. Each stands there once.
+    /// The environments of the requests that the actions are for: for each action that is defined,
+    /// each of its principals with each of its resources, and its context. Each stands there once.
     pub fn unlinked_envs_owned(&self) -> &[UnlinkedRequestEnv]
         ensures { AreEnvironmentsOf (schema_of self.now) (map owned_environment result.now) }
     {
@@ -107,51 +111,54 @@ impl ValidatorSchema {
         RequestEnvs::new(self.unlinked_envs_owned())
     }
 
-    /// The types of the principals of requests: of each action in turn each once. External actions have
-    /// none.
+    /// The types of the principals of requests: of each action in turn each once. External actions
+    /// have none.
     pub fn principals(&self) -> ApplicableTypes<'_>
         ensures { result ≡ all_principals (schema_of self.now).actions }
     {
         cedar_queries::principals(&self.action_ids)
     }
 
-    /// The types of the resources of requests: of each action in turn each once. External actions have
-    /// none.
+    /// The types of the resources of requests: of each action in turn each once. External actions
+    /// have none.
     pub fn resources(&self) -> ApplicableTypes<'_>
         ensures { result ≡ all_resources (schema_of self.now).actions }
     {
         cedar_queries::resources(&self.action_ids)
     }
 
-    /// The types of the principals of an action's requests, each once; of an external action none. None
-    /// where the schema has no action of this uid.
+    /// The types of the principals of an action's requests, each once; of an external action none.
+    /// None where the schema has no action of this uid.
     pub fn principals_for_action(&self, uid: &EntityUID) -> Option<hash_set::Iter<'_, EntityType>>
         ensures names { option_map (map type_name) result
-            ≡ option_map (λ it. kind_principals it.kind) (action_at (uid_of uid.now) (schema_of self.now).actions) }
+            ≡ option_map (λ it. kind_principals it.kind)
+            (action_at (uid_of uid.now) (schema_of self.now).actions) }
         ensures once { IfSome result (λ types. AllPairs (λ a b. a ≢ b) (map type_name types)) }
     {
         cedar_queries::principals_for_action(&self.action_ids, uid)
     }
 
-    /// The types of the resources of an action's requests, each once; of an external action none. None
-    /// where the schema has no action of this uid.
+    /// The types of the resources of an action's requests, each once; of an external action none.
+    /// None where the schema has no action of this uid.
     pub fn resources_for_action(&self, uid: &EntityUID) -> Option<hash_set::Iter<'_, EntityType>>
         ensures names { option_map (map type_name) result
-            ≡ option_map (λ it. kind_resources it.kind) (action_at (uid_of uid.now) (schema_of self.now).actions) }
+            ≡ option_map (λ it. kind_resources it.kind)
+            (action_at (uid_of uid.now) (schema_of self.now).actions) }
         ensures once { IfSome result (λ types. AllPairs (λ a b. a ≢ b) (map type_name types)) }
     {
         cedar_queries::resources_for_action(&self.action_ids, uid)
     }
 
-    /// The uids of the actions that are for requests of this principal with this resource, in order, each
-    /// once.
+    /// The uids of the actions that are for requests of this principal with this resource, in
+    /// order, each once.
     pub fn actions_for_principal_and_resource<'a>(
         &'a self,
         principal: &'a EntityType,
         resource: &'a EntityType,
     ) -> ActionsFor<'a>
         ensures uids { map uid_of result
-            ≡ actions_for (type_name principal.now) (type_name resource.now) (schema_of self.now).actions }
+            ≡ actions_for (type_name principal.now) (type_name resource.now)
+            (schema_of self.now).actions }
         ensures in_order { IsStrictlySortedBy uid_cmp (map uid_of result) }
     {
         cedar_queries::actions_for_principal_and_resource(&self.action_ids, principal, resource)
@@ -165,34 +172,41 @@ impl ValidatorSchema {
         cedar_queries::action_groups(&self.action_ids)
     }
 
-    /// The type of the context of an action's requests. None where the schema has no action of this uid,
-    /// or has it as external.
+    /// The type of the context of an action's requests. None where the schema has no action of this
+    /// uid, or has it as external.
     pub fn context_type(&self, uid: &EntityUID) -> Option<&Type>
-        ensures { option_map ty_of (option_copied result) ≡ context_at (uid_of uid.now) (schema_of self.now).actions }
+        ensures { option_map ty_of (option_copied result)
+            ≡ context_at (uid_of uid.now) (schema_of self.now).actions }
     {
         cedar_queries::context_type(&self.action_ids, uid)
     }
 
     /// Whether the schema has an entity type of this name, or the name is one of actions' types.
     pub fn is_known_entity_type(&self, name: &EntityType) -> bool
-        ensures { IsTrue result ↔ IsKnownType (schema_of self.now).entity_types (type_name name.now) }
+        ensures { IsTrue result ↔ IsKnownType (schema_of self.now).entity_types
+            (type_name name.now) }
     {
         cedar_queries::is_known_entity_type(&self.entity_types, name)
     }
 
     /// Whether the schema has an action of this uid.
     pub fn is_known_action_id(&self, uid: &EntityUID) -> bool
-        ensures { IsTrue result ↔ Contains (map (λ it. it.0) (schema_of self.now).actions) (uid_of uid.now) }
+        ensures { IsTrue result ↔ Contains (map (λ it. it.0) (schema_of self.now).actions)
+            (uid_of uid.now) }
     {
         cedar_queries::is_known_action_id(&self.action_ids, uid)
     }
 
-    /// The names of the entity types that have this one among their descendants, in order, each once; None
-    /// where the schema has no entity type of this name.
+    /// The names of the entity types that have this one among their descendants, in order, each
+    /// once; None where the schema has no entity type of this name.
     pub fn ancestors<'a>(&'a self, ty: &'a EntityType) -> Option<Ancestors<'a>>
-        ensures known { IsSome result ↔ Contains (map (λ it. it.0) (schema_of self.now).entity_types) (type_name ty.now) }
-        ensures names { IfSome result (λ above. map type_name above ≡ types_above (type_name ty.now) (schema_of self.now).entity_types) }
-        ensures in_order { IfSome result (λ above. IsStrictlySortedBy name_cmp (map type_name above)) }
+        ensures known { IsSome result ↔ Contains
+            (map (λ it. it.0) (schema_of self.now).entity_types) (type_name ty.now) }
+        ensures names { IfSome result (λ above.
+            map type_name above ≡ types_above (type_name ty.now)
+            (schema_of self.now).entity_types) }
+        ensures in_order { IfSome result (λ above.
+            IsStrictlySortedBy name_cmp (map type_name above)) }
     {
         cedar_queries::ancestors(&self.entity_types, ty)
     }
@@ -206,8 +220,11 @@ impl ValidatorSchema {
         ty: &'a EntityType,
     ) -> M<Vec<&'a EntityType>>
         ensures names { IfOk result (λ names. map (λ name. type_name name.now) names.items
-            ≡ descendants_of (type_name ty.now) (schema_of self.now).entity_types ++ type_name ty.now ∷ []) }
-        ensures once { IfOk result (λ _. AllPairs (λ a b. a ≢ b) (descendants_of (type_name ty.now) (schema_of self.now).entity_types)) }
+            ≡ descendants_of (type_name ty.now) (schema_of self.now).entity_types
+            ++ type_name ty.now ∷ []) }
+        ensures once { IfOk result (λ _.
+            AllPairs (λ a b. a ≢ b) (descendants_of (type_name ty.now)
+            (schema_of self.now).entity_types)) }
     {
         cedar_queries::entity_types_in(alloc, &self.entity_types, ty)
     }
@@ -221,34 +238,41 @@ impl ValidatorSchema {
         uids: &'a [EntityUID],
     ) -> M<Option<Vec<&'a EntityUID>>>
         ensures known { IfOk result (λ answer. IsSome answer
-            ↔ All (λ uid. Contains (map (λ it. it.0) (schema_of self.now).actions) (uid_of uid)) uids.now) }
-        ensures uids { IfOk result (λ answer. IfSome answer (λ all. map (λ it. uid_of it.now) all.items
-            ≡ flat_map (λ uid. action_descendants (uid_of uid) (schema_of self.now).actions ++ uid_of uid ∷ []) uids.now)) }
+            ↔ All (λ uid. Contains (map (λ it. it.0) (schema_of self.now).actions)
+            (uid_of uid)) uids.now) }
+        ensures uids { IfOk result (λ answer.
+            IfSome answer (λ all. map (λ it. uid_of it.now) all.items
+            ≡ flat_map (λ uid. action_descendants (uid_of uid) (schema_of self.now).actions
+            ++ uid_of uid ∷ []) uids.now)) }
     {
         cedar_queries::actions_in_set(alloc, &self.action_ids, uids)
     }
 
-    /// Whether entities of some of the one types may be among or below those of some of the others: one of
-    /// the first is one of the second, or a descendant of it, or the type of a descendant of an action of
-    /// it.
+    /// Whether entities of some of the one types may be among or below those of some of the others:
+    /// one of the first is one of the second, or a descendant of it, or the type of a descendant of
+    /// an action of it.
     pub fn any_descendent_of(&self, lowers: &[EntityType], uppers: &[EntityType]) -> bool
-        ensures { IsTrue result ↔ Any (λ lower. Any (λ upper. MayBeIn (schema_of self.now).entity_types
-            (schema_of self.now).actions (type_name lower) (type_name upper)) uppers.now) lowers.now }
+        ensures { IsTrue result ↔ Any (λ lower.
+            Any (λ upper. MayBeIn (schema_of self.now).entity_types
+            (schema_of self.now).actions (type_name lower)
+            (type_name upper)) uppers.now) lowers.now }
     {
         cedar_queries::any_descendent_of(&self.entity_types, &self.action_ids, lowers, uppers)
     }
 
-    /// What is declared to be elsewhere (RFC 116): the external entity types in order, and then the external
-    /// actions in order, each as the schema has it.
+    /// What is declared to be elsewhere (RFC 116): the external entity types in order, and then the
+    /// external actions in order, each as the schema has it.
     pub fn unresolved_declarations(&self) -> UnresolvedDeclarations<'_>
-        ensures { unresolved_left result ≡ unresolved (schema_entries self.now) (action_entries self.now) }
+        ensures { unresolved_left result
+            ≡ unresolved (schema_entries self.now) (action_entries self.now) }
     {
         cedar_queries::unresolved_declarations(&self.entity_types, &self.action_ids)
     }
 
     /// Whether nothing is declared to be elsewhere.
     pub fn is_complete(&self) -> bool
-        ensures { IsTrue result ↔ (unresolved (schema_entries self.now) (action_entries self.now) ≡ []) }
+        ensures { IsTrue result ↔ (unresolved (schema_entries self.now) (action_entries self.now)
+            ≡ []) }
     {
         cedar_queries::is_complete(&self.entity_types, &self.action_ids)
     }
@@ -256,8 +280,10 @@ impl ValidatorSchema {
     /// That nothing is declared to be elsewhere; else the error carries what is, in order, with the
     /// location of the first. Or out of memory.
     pub fn check_complete(&self, alloc: Global) -> Result<(), CompleteError>
-        ensures complete { OnOk result (unresolved (schema_entries self.now) (action_entries self.now) ≡ []) }
-        ensures incomplete { IfErr result (IsIncomplete (schema_entries self.now) (action_entries self.now)) }
+        ensures complete { OnOk result
+            (unresolved (schema_entries self.now) (action_entries self.now) ≡ []) }
+        ensures incomplete { IfErr result
+            (IsIncomplete (schema_entries self.now) (action_entries self.now)) }
     {
         cedar_queries::check_complete(alloc, &self.entity_types, &self.action_ids)
     }
@@ -267,7 +293,8 @@ impl ValidatorSchema {
     /// order. Out of memory is the only refusal.
     pub fn leaf_types(&self, alloc: Global) -> M<TypeIterator<'_>>
         ensures { IfOk result (λ leaves. IsPermutation
-            (schema_leaves (schema_of self.now).entity_types (schema_of self.now).actions) (leaves_of (pending_types leaves))) }
+            (schema_leaves (schema_of self.now).entity_types (schema_of self.now).actions)
+            (leaves_of (pending_types leaves))) }
     {
         cedar_queries::leaf_types(alloc, &self.entity_types, &self.action_ids)
     }
@@ -277,7 +304,8 @@ impl ValidatorSchema {
     /// of memory is the only refusal.
     pub fn action_entities(&self, alloc: Global, _extensions: &Extensions) -> M<Entities>
         ensures { IfOk result (λ entities. AreActionEntities
-            (schema_with (schema_of self.now).entity_types (action_entries self.now) (entities_of entities))) }
+            (schema_with (schema_of self.now).entity_types (action_entries self.now)
+            (entities_of entities))) }
     {
         action_entities(alloc, &self.action_ids)
     }

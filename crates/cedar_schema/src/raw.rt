@@ -31,13 +31,16 @@ fn conditional_fragments(
     fragments: Vec<Fragment<RawName>>,
 ) -> Result<Vec<ValidatorSchemaFragment<ConditionalName, ConditionalName>>, SchemaError>
     ensures bag { IfOk result (λ it. conditional_bag it.items ≡ raw_bag fragments.items) }
-    ensures common_types { IfOk result (λ it. flat_map (fragment_common_names Conditional Conditional) it.items
+    ensures common_types { IfOk result (λ it.
+        flat_map (fragment_common_names Conditional Conditional) it.items
         ≡ flat_map raw_common_names fragments.items) }
-    ensures namespaces { IfOk result (λ it. flat_map (named_namespaces Conditional Conditional) it.items
+    ensures namespaces { IfOk result (λ it.
+        flat_map (named_namespaces Conditional Conditional) it.items
         ≡ flat_map raw_namespaces fragments.items) }
     ensures fault { IfErr result (λ error. (fault_of error ≡ out_of_memory)
         ⊎ IsDefinitionFault (raw_bag fragments.items) (fault_of error)) }
-    ensures all_named { IfErr result (λ error. NamesAllOfADefinition fragments.items (fault_of error)) }
+    ensures all_named { IfErr result (λ error.
+        NamesAllOfADefinition fragments.items (fault_of error)) }
 {
     let mut conditional = Vec::new(alloc);
     for fragment in fragments {
@@ -59,10 +62,13 @@ pub(crate) fn build_raw(
     extensions: &Extensions,
 ) -> Result<SchemaParts, SchemaError>
     requires { TypeNamesFit (extension_types extensions.now) }
-    ensures built { IsBuiltFrom (raw_bag fragments.items) extensions.now (result_map_both parts_schema fault_of result) }
-    ensures all_named { IfErr result (λ error. NamesAllOfADefinition fragments.items (fault_of error)) }
+    ensures built { IsBuiltFrom (raw_bag fragments.items) extensions.now
+        (result_map_both parts_schema fault_of result) }
+    ensures all_named { IfErr result (λ error.
+        NamesAllOfADefinition fragments.items (fault_of error)) }
     ensures located { IfOk result (λ parts. ShowsWritten fragments.items parts.located) }
-    ensures keys { IfOk result (λ parts. AreKeysLocated parts.entity_types.entries parts.actions.entries) }
+    ensures keys { IfOk result (λ parts.
+        AreKeysLocated parts.entity_types.entries parts.actions.entries) }
 {
     let fragments = conditional_fragments(alloc, fragments)?;
     build(alloc, fragments, extensions)

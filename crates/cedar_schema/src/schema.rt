@@ -37,11 +37,12 @@ use std::collections::BTreeMap;
 /// A schema: its entity types and its actions.
 ///
 /// It holds two things beside them that follow of the actions, which it answers without looking
-/// further: the entities of the actions, and the environments of requests. A schema that was built from
-/// fragments also shows their common types and namespaces, with where these were written.
+/// further: the entities of the actions, and the environments of requests. A schema that was built
+/// from fragments also shows their common types and namespaces, with where these were written.
 ///
-/// An entity type or an action is located where it is defined, or else where an external declaration of it
-/// stands, and so is whatever lends its name. Equality ignores locations, and what is shown of fragments.
+/// An entity type or an action is located where it is defined, or else where an external
+/// declaration of it stands, and so is whatever lends its name. Equality ignores locations, and
+/// what is shown of fragments.
 #[derive(Drop)]
 #[derive_where(Debug, PartialEq, Eq)]
 pub struct ValidatorSchema {
@@ -54,14 +55,18 @@ pub struct ValidatorSchema {
     #[derive_where(skip(EqHashOrd))]
     pub(crate) located: Located,
     ghost entities_of_actions: { ∥ AreActionEntities
-        (schema_with (map plain_entry entity_types.entries) action_ids.entries (entities_of action_entities)) ∥₁ },
+        (schema_with (map plain_entry entity_types.entries) action_ids.entries
+        (entities_of action_entities)) ∥₁ },
     ghost environments_of_actions: { ∥ AreEnvironmentsOf
-        (schema_with (map plain_entry entity_types.entries) action_ids.entries (entities_of action_entities))
+        (schema_with (map plain_entry entity_types.entries) action_ids.entries
+        (entities_of action_entities))
         (map owned_environment environments.items) ∥₁ },
     ghost in_order: { ∥ IsInOrder
-        (schema_with (map plain_entry entity_types.entries) action_ids.entries (entities_of action_entities)) ∥₁ },
+        (schema_with (map plain_entry entity_types.entries) action_ids.entries
+        (entities_of action_entities)) ∥₁ },
     ghost under_names: { ∥ StandsUnderItsNames
-        (schema_with (map plain_entry entity_types.entries) action_ids.entries (entities_of action_entities)) ∥₁ },
+        (schema_with (map plain_entry entity_types.entries) action_ids.entries
+        (entities_of action_entities)) ∥₁ },
     ghost types_located: { types.AreLocatedAsKeys entity_types.entries },
     ghost actions_located: { action.AreLocatedAsKeys action_ids.entries },
 }
@@ -124,7 +129,8 @@ impl ValidatorSchema {
         requires under_names { StandsUnderItsNames (parts_schema parts) }
         requires keys { AreKeysLocated parts.entity_types.entries parts.actions.entries }
         ensures schema { IfOk result (λ schema. schema_of schema ≡ parts_schema parts) }
-        ensures entity_types { IfOk result (λ schema. schema_entries schema ≡ parts.entity_types.entries) }
+        ensures entity_types { IfOk result (λ schema.
+            schema_entries schema ≡ parts.entity_types.entries) }
         ensures actions { IfOk result (λ schema. action_entries schema ≡ parts.actions.entries) }
         ensures located { IfOk result (λ schema. located_of schema ≡ parts.located) }
     {
@@ -180,9 +186,12 @@ impl ValidatorSchema {
         extensions: &Extensions,
     ) -> Result<Self, SchemaError>
         requires { TypeNamesFit (extension_types extensions.now) }
-        ensures built { IsBuiltFrom (conditional_bag fragments.items) extensions.now (result_map_both schema_of fault_of result) }
-        ensures located { IfOk result (λ schema. ShowsFragments fragments.items (located_of schema)) }
-        ensures keys { IfOk result (λ schema. AreKeysLocated (schema_entries schema) (action_entries schema)) }
+        ensures built { IsBuiltFrom (conditional_bag fragments.items) extensions.now
+            (result_map_both schema_of fault_of result) }
+        ensures located { IfOk result (λ schema.
+            ShowsFragments fragments.items (located_of schema)) }
+        ensures keys { IfOk result (λ schema.
+            AreKeysLocated (schema_entries schema) (action_entries schema)) }
     {
         let parts = build(alloc, fragments, extensions)?;
         Ok(ValidatorSchema::from_parts(alloc, parts)?)
@@ -221,10 +230,13 @@ impl ValidatorSchema {
         extensions: &Extensions,
     ) -> Result<Self, SchemaError>
         requires { TypeNamesFit (extension_types extensions.now) }
-        ensures built { IsBuiltFrom (raw_bag fragments.items) extensions.now (result_map_both schema_of fault_of result) }
-        ensures all_named { IfErr result (λ error. NamesAllOfADefinition fragments.items (fault_of error)) }
+        ensures built { IsBuiltFrom (raw_bag fragments.items) extensions.now
+            (result_map_both schema_of fault_of result) }
+        ensures all_named { IfErr result (λ error.
+            NamesAllOfADefinition fragments.items (fault_of error)) }
         ensures located { IfOk result (λ schema. ShowsWritten fragments.items (located_of schema)) }
-        ensures keys { IfOk result (λ schema. AreKeysLocated (schema_entries schema) (action_entries schema)) }
+        ensures keys { IfOk result (λ schema.
+            AreKeysLocated (schema_entries schema) (action_entries schema)) }
     {
         let parts = build_raw(alloc, fragments, extensions)?;
         Ok(ValidatorSchema::from_parts(alloc, parts)?)
@@ -261,10 +273,13 @@ impl ValidatorSchema {
         extensions: &Extensions,
     ) -> Result<Self, SchemaError>
         requires { TypeNamesFit (extension_types extensions.now) }
-        ensures built { IsBuiltFrom (raw_fragment fragment) extensions.now (result_map_both schema_of fault_of result) }
-        ensures all_named { IfErr result (λ error. NamesAllOfADefinition (fragment ∷ []) (fault_of error)) }
+        ensures built { IsBuiltFrom (raw_fragment fragment) extensions.now
+            (result_map_both schema_of fault_of result) }
+        ensures all_named { IfErr result (λ error.
+            NamesAllOfADefinition (fragment ∷ []) (fault_of error)) }
         ensures located { IfOk result (λ schema. ShowsWritten (fragment ∷ []) (located_of schema)) }
-        ensures keys { IfOk result (λ schema. AreKeysLocated (schema_entries schema) (action_entries schema)) }
+        ensures keys { IfOk result (λ schema.
+            AreKeysLocated (schema_entries schema) (action_entries schema)) }
     {
         let mut fragments = Vec::new(alloc);
         fragments.push(fragment)?;
@@ -298,10 +313,15 @@ impl ValidatorSchema {
         extensions: &Extensions,
     ) -> Result<Self, SchemaError>
         requires { TypeNamesFit (extension_types extensions.now) }
-        ensures built { IsBuiltFrom (raw_declarations None definition) extensions.now (result_map_both schema_of fault_of result) }
-        ensures all_named { IfErr result (λ error. NamesAllWithAttributes (raw_declarations None definition) None (fault_of error)) }
-        ensures located { IfOk result (λ schema. Shows (written_common_names None definition.common_types.entries) [] (located_of schema)) }
-        ensures keys { IfOk result (λ schema. AreKeysLocated (schema_entries schema) (action_entries schema)) }
+        ensures built { IsBuiltFrom (raw_declarations None definition) extensions.now
+            (result_map_both schema_of fault_of result) }
+        ensures all_named { IfErr result (λ error.
+            NamesAllWithAttributes (raw_declarations None definition) None (fault_of error)) }
+        ensures located { IfOk result (λ schema.
+            Shows (written_common_names None definition.common_types.entries) []
+            (located_of schema)) }
+        ensures keys { IfOk result (λ schema.
+            AreKeysLocated (schema_entries schema) (action_entries schema)) }
     {
         let mut definitions = BTreeMap::new(alloc);
         definitions.insert(None, definition)?;
@@ -312,23 +332,28 @@ impl ValidatorSchema {
     /// the last counts. The entities of the actions and the environments are made of them. Both
     /// have to come to an end.
     ///
-    /// Nothing is checked, and descendants stay as they are given: [`ValidatorSchema::try_validate`] closes
-    /// and checks. Out of memory is the only refusal.
+    /// Nothing is checked, and descendants stay as they are given:
+    /// [`ValidatorSchema::try_validate`] closes and checks. Out of memory is the only refusal.
     pub fn new<
         T: IntoIterator<Item = ValidatorEntityType>,
         A: IntoIterator<Item = ValidatorActionId> + Drop,
     >(alloc: Global, entity_types: T, actions: A) -> M<Self>
-        requires entity_types { (it : T.IntoIter) → T.into_iter_gives entity_types it → T.IntoIter.can_next it × IsFinite (T.IntoIter.remaining it) }
-        requires actions { (it : A.IntoIter) → A.into_iter_gives actions it → A.IntoIter.can_next it × IsFinite (A.IntoIter.remaining it) }
-        ensures entity_types { IfOk result (λ schema. (it : T.IntoIter) × (xs : List EntityTypeOfSchema)
+        requires entity_types { (it : T.IntoIter) → T.into_iter_gives entity_types it
+            → T.IntoIter.can_next it × IsFinite (T.IntoIter.remaining it) }
+        requires actions { (it : A.IntoIter) → A.into_iter_gives actions it
+            → A.IntoIter.can_next it × IsFinite (A.IntoIter.remaining it) }
+        ensures entity_types { IfOk result (λ schema.
+            (it : T.IntoIter) × (xs : List EntityTypeOfSchema)
             × T.into_iter_gives entity_types it × Drains T.IntoIter.next_gives it xs
-            × ((name : Name) → entity_type_named schema (type_name name) ≡ last_named (type_name name) xs)) }
+            × ((name : Name) → entity_type_named schema (type_name name)
+            ≡ last_named (type_name name) xs)) }
         ensures actions { IfOk result (λ schema. (it : A.IntoIter) × (xs : List ActionOfSchema)
             × A.into_iter_gives actions it × Drains A.IntoIter.next_gives it xs
             × ((uid : Uid) → action_of_uid schema (uid_of uid) ≡ last_of_uid (uid_of uid) xs)) }
         ensures common_types { IfOk result (λ schema. common_entries (located_of schema) ≡ []) }
         ensures namespaces { IfOk result (λ schema. namespace_entries (located_of schema) ≡ []) }
-        ensures keys { IfOk result (λ schema. AreKeysLocated (schema_entries schema) (action_entries schema)) }
+        ensures keys { IfOk result (λ schema.
+            AreKeysLocated (schema_entries schema) (action_entries schema)) }
     {
         let entity_types = types_by_name(alloc, Vec::from_iter(alloc, entity_types)?)?;
         let actions = actions_by_uid(alloc, Vec::from_iter(alloc, actions)?)?;
@@ -367,7 +392,8 @@ impl ValidatorSchema {
         ensures valid { OnOk result (IsValidSchema extensions.now (schema_of self)) }
         ensures closed { IfOk result (λ schema. ClosesSchema (schema_of self) (schema_of schema)) }
         ensures located { IfOk result (λ schema. located_of schema ≡ located_of self) }
-        ensures keys { IfOk result (λ schema. AreKeysLocated (schema_entries schema) (action_entries schema)) }
+        ensures keys { IfOk result (λ schema.
+            AreKeysLocated (schema_entries schema) (action_entries schema)) }
     {
         let Validated {
             entity_types,
@@ -387,13 +413,18 @@ impl ValidatorSchema {
     /// names and their attributes are located alike. Out of memory is the only refusal.
     pub fn clone(&self) -> M<Self>
         ensures schema { IfOk result (λ copy. SameSchema (schema_of copy) (schema_of self.now)) }
-        ensures entity_types { IfOk result (λ copy. HoldsPairwise IsTypeCopied (schema_entries self.now) (schema_entries copy)) }
-        ensures actions { IfOk result (λ copy. HoldsPairwise IsActionCopied (action_entries self.now) (action_entries copy)) }
-        ensures common_types { IfOk result (λ copy. map shown_common_type (common_entries (located_of copy))
+        ensures entity_types { IfOk result (λ copy.
+            HoldsPairwise IsTypeCopied (schema_entries self.now) (schema_entries copy)) }
+        ensures actions { IfOk result (λ copy.
+            HoldsPairwise IsActionCopied (action_entries self.now) (action_entries copy)) }
+        ensures common_types { IfOk result (λ copy.
+            map shown_common_type (common_entries (located_of copy))
             ≡ map shown_common_type (common_entries (located_of self.now))) }
-        ensures namespaces { IfOk result (λ copy. map shown_entry (namespace_entries (located_of copy))
+        ensures namespaces { IfOk result (λ copy.
+            map shown_entry (namespace_entries (located_of copy))
             ≡ map shown_entry (namespace_entries (located_of self.now))) }
-        ensures keys { IfOk result (λ schema. AreKeysLocated (schema_entries schema) (action_entries schema)) }
+        ensures keys { IfOk result (λ schema.
+            AreKeysLocated (schema_entries schema) (action_entries schema)) }
     {
         let alloc = *self.environments.allocator();
         let actions = copied_actions(&self.action_ids)?;

@@ -6,7 +6,8 @@ ghost use Rattle.cedar_schema.specs.TypeLocations.{location_of_type, location_of
 use cedar_below::Loc;
 use cedar_names::json_schema::{Type, TypeVariant};
 
-/// Where a type was written, if that is known: a set where its element was, all else where it was itself.
+/// Where a type was written, if that is known: a set where its element was, all else where it was
+/// itself.
 #[cycle(type_locations)]
 pub(crate) fn type_loc<N>(ty: &Type<N>) -> Option<Loc>
     ensures { result ≡ location_of_type N ty.now }

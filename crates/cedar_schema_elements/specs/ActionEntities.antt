@@ -18,7 +18,8 @@ use Rattle.cedar_declarations.specs.PlainSchema.{ActionEntity, PlainSchema, Sche
 
 -- the values of a map, each under its name
 abbrev pub named_values : BTreeMap (String Global) Value → Entries
-named_values values = entries_from (map (λ entry. (string_bytes entry.0, tree_of (value_expr entry.1))) values.entries)
+named_values values = entries_from
+    (map (λ entry. (string_bytes entry.0, tree_of (value_expr entry.1))) values.entries)
 
 -- the entity of an action, as plain data
 abbrev pub plain_action_entity : Entity → ActionEntity
@@ -30,7 +31,8 @@ plain_action_entity it = record {
 }
 
 -- a schema of some entity types, some actions, and these entities of actions
-abbrev pub schema_with : List (PlainName × SchemaEntityType) → List (EntityUID × ValidatorActionId) → List Entity → PlainSchema
+abbrev pub schema_with : List (PlainName × SchemaEntityType) → List (EntityUID × ValidatorActionId)
+    → List Entity → PlainSchema
 schema_with types actions entities = record {
   entity_types = types;
   actions = map plain_action_entry actions;
@@ -40,10 +42,12 @@ schema_with types actions entities = record {
 -- the one of some actions lists the other among its descendants
 abbrev pub Lists : List (EntityUID × ValidatorActionId) → PlainUid → PlainUid → Type 0
 Lists actions lower upper =
-    (it : SchemaAction) × Contains (map plain_action_entry actions) (upper, it) × Contains it.descendants lower
+    (it : SchemaAction) × Contains (map plain_action_entry actions) (upper, it)
+    × Contains it.descendants lower
 
 -- the entity is that of the uid: without attributes and tags, and just below those that stand above
-pub record IsEntityOf (IsAbove : PlainUid → Type 0) (stated : PlainUid) (it : ActionEntity) : Type 0 where
+pub record IsEntityOf (IsAbove : PlainUid → Type 0) (stated : PlainUid)
+    (it : ActionEntity) : Type 0 where
   pub uid : it.uid ≡ stated
   pub attributes : it.attributes ≡ no_entry
   pub tags : it.tags ≡ no_entry

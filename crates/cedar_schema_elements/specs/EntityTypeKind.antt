@@ -11,12 +11,14 @@ use Rattle.cedar_types.specs.declared.types.Type.{«Type»}
 
 -- a standard entity type as plain data
 abbrev pub plain_standard : StandardValidatorEntityType → EntityTypeKind
-plain_standard it = standard_kind (fields_of it.attributes) it.open_attributes (option_map ty_of it.tags)
+plain_standard it = standard_kind (fields_of it.attributes) it.open_attributes
+    (option_map ty_of it.tags)
 
 -- a kind as plain data
 abbrev pub plain_kind : ValidatorEntityTypeKind → EntityTypeKind
 plain_kind (variant.Standard it) = plain_standard it
-plain_kind (variant.Enum choices) = enumerated_kind (map eid_text (choices.head ∷ choices.tail.items))
+plain_kind (variant.Enum choices) =
+    enumerated_kind (map eid_text (choices.head ∷ choices.tail.items))
 plain_kind variant.External = external_kind
 
 -- the attributes of a standard entity type, with their locations

@@ -10,7 +10,12 @@ use Rattle.cedar_type_rules.specs.Ty.{Ty}
 -- the environments of one principal with each of some resources
 abbrev pub with_resources : PlainUid → Ty → PlainName → List PlainName → List Environment
 with_resources uid context principal resources =
-    map (λ resource. record { principal = principal; action = uid; resource = resource; context = context }) resources
+    map (λ resource. record {
+      principal = principal;
+      action = uid;
+      resource = resource;
+      context = context;
+    }) resources
 
 -- the environments of each of some principals with each of some resources
 abbrev pub with_principals : PlainUid → Ty → List PlainName → List PlainName → List Environment
@@ -19,7 +24,8 @@ with_principals uid context principals resources =
 
 -- the environments of an action of a kind; external actions have none
 abbrev pub kind_environments : PlainUid → ActionKind → List Environment
-kind_environments uid (defined_action principals resources context) = with_principals uid context principals resources
+kind_environments uid (defined_action principals resources context) =
+    with_principals uid context principals resources
 kind_environments uid external_action = []
 
 -- the environments of some actions, each under its uid

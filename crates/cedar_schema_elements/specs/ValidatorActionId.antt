@@ -12,7 +12,11 @@ use Rattle.cedar_types.specs.declared.types.Type.{«Type»}
 
 -- an action as plain data, but for its location
 abbrev pub action_of : ValidatorActionId → SchemaAction
-action_of it = record { uid = uid_of it.name; kind = plain_kind it.kind; descendants = map uid_of it.descendants.keys }
+action_of it = record {
+  uid = uid_of it.name;
+  kind = plain_kind it.kind;
+  descendants = map uid_of it.descendants.keys;
+}
 
 -- where the action was declared
 abbrev pub action_loc : ValidatorActionId → Option Loc
@@ -39,11 +43,13 @@ context_of it = borrowed_context it.kind
 abbrev pub plain_action_entry : EntityUID × ValidatorActionId → PlainUid × SchemaAction
 plain_action_entry entry = (uid_of entry.0, action_of entry.1)
 
--- the key of an action was written where its uid was, and the type in the one where that in the other was
+-- the key of an action was written where its uid was, and the type in the one where that in the
+-- other was
 pub record IsLocatedAsKey (entry : EntityUID × ValidatorActionId) : Type 0 where
   pub uid : uid_loc entry.0 ≡ name_loc entry.1
   pub ty : uid_type_loc entry.0 ≡ name_type_loc entry.1
 
 -- each key was written where the uid of its action was
 abbrev pub AreLocatedAsKeys : List (EntityUID × ValidatorActionId) → Type 0
-AreLocatedAsKeys entries = (entry : EntityUID × ValidatorActionId) → Contains entries entry → IsLocatedAsKey entry
+AreLocatedAsKeys entries = (entry : EntityUID × ValidatorActionId) → Contains entries entry
+    → IsLocatedAsKey entry

@@ -35,7 +35,8 @@ entity_type_of it = record { name = type_name it.name; kind = plain_kind it.kind
 abbrev pub name_loc : ValidatorEntityType → Option Loc
 name_loc it = type_loc it.name
 
--- the attributes that an entity type lends, with their locations: those of a standard one, else none
+-- the attributes that an entity type lends, with their locations: those of a standard one, else
+-- none
 abbrev pub attributes_of : ValidatorEntityType → Attributes
 attributes_of it = kind_attributes it.no_attributes it.kind
 
@@ -64,4 +65,5 @@ IsLocatedAsKey entry = type_loc entry.0 ≡ name_loc entry.1
 
 -- each key was written where the name of its entity type was
 abbrev pub AreLocatedAsKeys : List (EntityType × ValidatorEntityType) → Type 0
-AreLocatedAsKeys entries = (entry : EntityType × ValidatorEntityType) → Contains entries entry → IsLocatedAsKey entry
+AreLocatedAsKeys entries = (entry : EntityType × ValidatorEntityType) → Contains entries entry
+    → IsLocatedAsKey entry

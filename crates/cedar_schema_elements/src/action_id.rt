@@ -52,14 +52,16 @@ impl ValidatorActionId {
         kind: ValidatorActionKind,
         loc: Option<Loc>,
     ) -> M<Self>
-        requires { (it : D.IntoIter) → D.into_iter_gives descendants it → D.IntoIter.can_next it × IsFinite (D.IntoIter.remaining it) }
+        requires { (it : D.IntoIter) → D.into_iter_gives descendants it
+            → D.IntoIter.can_next it × IsFinite (D.IntoIter.remaining it) }
         ensures uid { IfOk result (λ action. (action_of action).uid ≡ uid_of name) }
         ensures name_loc { IfOk result (λ action. name_loc action ≡ uid_loc name) }
         ensures name_type_loc { IfOk result (λ action. name_type_loc action ≡ uid_type_loc name) }
         ensures kind { IfOk result (λ action. (action_of action).kind ≡ plain_kind kind) }
         ensures borrowed { IfOk result (λ action. context_of action ≡ borrowed_context kind) }
         ensures descendants { IfOk result (λ action. (it : D.IntoIter) × (xs : List EntityUID)
-            × D.into_iter_gives descendants it × Drains D.IntoIter.next_gives it xs × SameItems (action_of action).descendants (map uid_of xs)) }
+            × D.into_iter_gives descendants it × Drains D.IntoIter.next_gives it xs
+            × SameItems (action_of action).descendants (map uid_of xs)) }
         ensures loc { IfOk result (λ action. action_loc action ≡ loc) }
     {
         Ok(ValidatorActionId {
@@ -87,20 +89,27 @@ impl ValidatorActionId {
         context: Type,
         loc: Option<Loc>,
     ) -> M<Self>
-        requires principals { (it : P.IntoIter) → P.into_iter_gives principals it → P.IntoIter.can_next it × IsFinite (P.IntoIter.remaining it) }
-        requires resources { (it : R.IntoIter) → R.into_iter_gives resources it → R.IntoIter.can_next it × IsFinite (R.IntoIter.remaining it) }
-        requires descendants { (it : D.IntoIter) → D.into_iter_gives descendants it → D.IntoIter.can_next it × IsFinite (D.IntoIter.remaining it) }
+        requires principals { (it : P.IntoIter) → P.into_iter_gives principals it
+            → P.IntoIter.can_next it × IsFinite (P.IntoIter.remaining it) }
+        requires resources { (it : R.IntoIter) → R.into_iter_gives resources it
+            → R.IntoIter.can_next it × IsFinite (R.IntoIter.remaining it) }
+        requires descendants { (it : D.IntoIter) → D.into_iter_gives descendants it
+            → D.IntoIter.can_next it × IsFinite (D.IntoIter.remaining it) }
         ensures uid { IfOk result (λ action. (action_of action).uid ≡ uid_of name) }
         ensures name_loc { IfOk result (λ action. name_loc action ≡ uid_loc name) }
         ensures name_type_loc { IfOk result (λ action. name_type_loc action ≡ uid_type_loc name) }
         ensures principals { IfOk result (λ action. (it : P.IntoIter) × (xs : List EntityType)
-            × P.into_iter_gives principals it × Drains P.IntoIter.next_gives it xs × SameItems (kind_principals (action_of action).kind) (map type_name xs)) }
+            × P.into_iter_gives principals it × Drains P.IntoIter.next_gives it xs
+            × SameItems (kind_principals (action_of action).kind) (map type_name xs)) }
         ensures resources { IfOk result (λ action. (it : R.IntoIter) × (xs : List EntityType)
-            × R.into_iter_gives resources it × Drains R.IntoIter.next_gives it xs × SameItems (kind_resources (action_of action).kind) (map type_name xs)) }
-        ensures context { IfOk result (λ action. kind_context (action_of action).kind ≡ Some (ty_of context)) }
+            × R.into_iter_gives resources it × Drains R.IntoIter.next_gives it xs
+            × SameItems (kind_resources (action_of action).kind) (map type_name xs)) }
+        ensures context { IfOk result (λ action.
+            kind_context (action_of action).kind ≡ Some (ty_of context)) }
         ensures borrowed { IfOk result (λ action. context_of action ≡ Some context) }
         ensures descendants { IfOk result (λ action. (it : D.IntoIter) × (xs : List EntityUID)
-            × D.into_iter_gives descendants it × Drains D.IntoIter.next_gives it xs × SameItems (action_of action).descendants (map uid_of xs)) }
+            × D.into_iter_gives descendants it × Drains D.IntoIter.next_gives it xs
+            × SameItems (action_of action).descendants (map uid_of xs)) }
         ensures loc { IfOk result (λ action. action_loc action ≡ loc) }
     {
         let principals = type_set(alloc, principals)?;
@@ -120,13 +129,15 @@ impl ValidatorActionId {
         descendants: D,
         loc: Option<Loc>,
     ) -> M<Self>
-        requires { (it : D.IntoIter) → D.into_iter_gives descendants it → D.IntoIter.can_next it × IsFinite (D.IntoIter.remaining it) }
+        requires { (it : D.IntoIter) → D.into_iter_gives descendants it
+            → D.IntoIter.can_next it × IsFinite (D.IntoIter.remaining it) }
         ensures uid { IfOk result (λ action. (action_of action).uid ≡ uid_of name) }
         ensures name_loc { IfOk result (λ action. name_loc action ≡ uid_loc name) }
         ensures name_type_loc { IfOk result (λ action. name_type_loc action ≡ uid_type_loc name) }
         ensures kind { IfOk result (λ action. (action_of action).kind ≡ external_action) }
         ensures descendants { IfOk result (λ action. (it : D.IntoIter) × (xs : List EntityUID)
-            × D.into_iter_gives descendants it × Drains D.IntoIter.next_gives it xs × SameItems (action_of action).descendants (map uid_of xs)) }
+            × D.into_iter_gives descendants it × Drains D.IntoIter.next_gives it xs
+            × SameItems (action_of action).descendants (map uid_of xs)) }
         ensures loc { IfOk result (λ action. action_loc action ≡ loc) }
     {
         Self::with_kind(alloc, name, descendants, ValidatorActionKind::External, loc)
@@ -165,7 +176,8 @@ impl ValidatorActionId {
 
     /// The type of the context of the action's requests. External actions have none.
     pub fn context(&self) -> Option<&Type>
-        ensures ty { option_map ty_of (option_copied result) ≡ kind_context (action_of self.now).kind }
+        ensures ty { option_map ty_of (option_copied result)
+            ≡ kind_context (action_of self.now).kind }
         ensures borrowed { option_copied result ≡ context_of self.now }
     {
         match &self.kind {
@@ -176,7 +188,8 @@ impl ValidatorActionId {
 
     /// The type of the context of the action's requests. External actions have none.
     pub fn context_type(&self) -> Option<&Type>
-        ensures ty { option_map ty_of (option_copied result) ≡ kind_context (action_of self.now).kind }
+        ensures ty { option_map ty_of (option_copied result)
+            ≡ kind_context (action_of self.now).kind }
         ensures borrowed { option_copied result ≡ context_of self.now }
     {
         self.context()
@@ -226,7 +239,8 @@ impl ValidatorActionId {
 
     /// Whether the entity type is a type of principals of the action's requests.
     pub fn is_applicable_principal_type(&self, ty: &EntityType) -> bool
-        ensures { IsTrue result ↔ Contains (kind_principals (action_of self.now).kind) (type_name ty.now) }
+        ensures { IsTrue result ↔ Contains (kind_principals (action_of self.now).kind)
+            (type_name ty.now) }
     {
         match &self.kind {
             ValidatorActionKind::Defined { applies_to, .. } => {
@@ -238,7 +252,8 @@ impl ValidatorActionId {
 
     /// Whether the entity type is a type of resources of the action's requests.
     pub fn is_applicable_resource_type(&self, ty: &EntityType) -> bool
-        ensures { IsTrue result ↔ Contains (kind_resources (action_of self.now).kind) (type_name ty.now) }
+        ensures { IsTrue result ↔ Contains (kind_resources (action_of self.now).kind)
+            (type_name ty.now) }
     {
         match &self.kind {
             ValidatorActionKind::Defined { applies_to, .. } => {
@@ -253,8 +268,10 @@ impl ValidatorActionId {
         ensures uid { IfOk result (λ copy. (action_of copy).uid ≡ (action_of self.now).uid) }
         ensures name_loc { IfOk result (λ copy. name_loc copy ≡ name_loc self.now) }
         ensures name_type_loc { IfOk result (λ copy. name_type_loc copy ≡ name_type_loc self.now) }
-        ensures kind { IfOk result (λ copy. SameActionKind (action_of copy).kind (action_of self.now).kind) }
-        ensures descendants { IfOk result (λ copy. SameItems (action_of copy).descendants (action_of self.now).descendants) }
+        ensures kind { IfOk result (λ copy.
+            SameActionKind (action_of copy).kind (action_of self.now).kind) }
+        ensures descendants { IfOk result (λ copy.
+            SameItems (action_of copy).descendants (action_of self.now).descendants) }
         ensures loc { IfOk result (λ copy. action_loc copy ≡ action_loc self.now) }
     {
         Ok(ValidatorActionId {

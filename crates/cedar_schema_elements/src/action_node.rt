@@ -50,11 +50,13 @@ impl TCNode<EntityUID> for ValidatorActionId {
 
     fn reset_edges(&mut self) {}
 
-    ghost edges_respect_eq = { λ node a b same. entity_uid_searches-respect_eq node.descendants.keys a b same };
+    ghost edges_respect_eq = { λ node a b same.
+        entity_uid_searches-respect_eq node.descendants.keys a b same };
 
     ghost alike_itself = { λ node. (refl, refl, refl) };
 
-    ghost alike_onwards = { λ a b c first second. (first.0 ∙ second.0, first.1 ∙ second.1, first.2 ∙ second.2) };
+    ghost alike_onwards = { λ a b c first second.
+        (first.0 ∙ second.0, first.1 ∙ second.1, first.2 ∙ second.2) };
 }
 
 impl SchemaNode<EntityUID> for ValidatorActionId {
@@ -102,15 +104,25 @@ impl SchemaNode<EntityUID> for ValidatorActionId {
 
     ghost key_order = { entity_uid_ord-uid_cmp };
 
-    ghost below_key = { λ node name among. let key = Contains-preimage uid_of node.descendants.keys name among in (key.0, key.2) };
+    ghost below_key = { λ node name among.
+        let key = Contains-preimage uid_of node.descendants.keys name among in (key.0, key.2) };
 
     ghost edge_below = { λ node key. list_any-Contains uid_of (uid_of key) _
-        (λ each. (λ equal. sym ((entity_uid_eq-same key each).0 equal), λ same. (entity_uid_eq-same key each).1 (sym same)))
+        (λ each. (
+          λ equal. sym ((entity_uid_eq-same key each).0 equal),
+          λ same.
+              (entity_uid_eq-same key each).1 (sym same),
+        ))
         node.descendants.keys };
 
     ghost alike_named = { λ a b alike. ap uid_of alike.0 };
 
     ghost alike_external = { λ a b alike is. ap plain_kind (sym alike.1) ∙ is };
 
-    ghost alike_located = { λ key a b alike located. record { uid = located.uid ∙ ap uid_loc alike.0; ty = located.ty ∙ ap uid_type_loc alike.0 } };
+    ghost alike_located = { λ key a b alike located.
+        record {
+          uid = located.uid ∙ ap uid_loc alike.0;
+          ty = located.ty
+              ∙ ap uid_type_loc alike.0;
+        } };
 }

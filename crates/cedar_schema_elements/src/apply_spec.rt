@@ -71,8 +71,10 @@ impl ValidatorApplySpec<EntityType> {
 
     /// Equal sets. Out of memory is the only refusal.
     pub fn clone(&self) -> M<Self>
-        ensures principals { IfOk result (λ copy. SameItems (principal_names copy) (principal_names self.now)) }
-        ensures resources { IfOk result (λ copy. SameItems (resource_names copy) (resource_names self.now)) }
+        ensures principals { IfOk result (λ copy.
+            SameItems (principal_names copy) (principal_names self.now)) }
+        ensures resources { IfOk result (λ copy.
+            SameItems (resource_names copy) (resource_names self.now)) }
     {
         Ok(ValidatorApplySpec {
             principals: copied(&self.principals, EntityType::clone)?,
@@ -88,8 +90,10 @@ impl ValidatorApplySpec<ConditionalName> {
 
     /// Equal sets. Out of memory is the only refusal.
     pub fn clone(&self) -> M<Self>
-        ensures principals { IfOk result (λ copy. SameItems (principal_references copy) (principal_references self.now)) }
-        ensures resources { IfOk result (λ copy. SameItems (resource_references copy) (resource_references self.now)) }
+        ensures principals { IfOk result (λ copy.
+            SameItems (principal_references copy) (principal_references self.now)) }
+        ensures resources { IfOk result (λ copy.
+            SameItems (resource_references copy) (resource_references self.now)) }
     {
         Ok(ValidatorApplySpec {
             principals: copied(&self.principals, ConditionalName::clone)?,

@@ -20,9 +20,11 @@ use std::collections::{BTreeMap, BTreeSet};
 /// taken out.
 fn action_entity(alloc: Global, uppers: &mut Uppers<EntityUID>, uid: &EntityUID) -> M<Entity>
     ensures entity { IfOk result (λ entity.
-        IsEntityOf (IsUpper ⟦<EntityUID as Ord>⟧.cmp uid_of uppers.old uid.now) (uid_of uid.now) (plain_action_entity entity)) }
+        IsEntityOf (IsUpper ⟦<EntityUID as Ord>⟧.cmp uid_of uppers.old uid.now) (uid_of uid.now)
+        (plain_action_entity entity)) }
     ensures others { OnOk result ((key : Key) → uid_of key ≢ uid_of uid.now
-        → upper_set ⟦<EntityUID as Ord>⟧.cmp uppers.new key ≡ upper_set ⟦<EntityUID as Ord>⟧.cmp uppers.old key) }
+        → upper_set ⟦<EntityUID as Ord>⟧.cmp uppers.new key
+        ≡ upper_set ⟦<EntityUID as Ord>⟧.cmp uppers.old key) }
 {
     let ancestors = match uppers.remove(uid) {
         Some(ancestors) => ancestors,

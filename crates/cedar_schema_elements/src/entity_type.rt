@@ -59,12 +59,14 @@ impl ValidatorEntityType {
         kind: ValidatorEntityTypeKind,
         loc: Option<Loc>,
     ) -> M<Self>
-        requires { (it : I.IntoIter) → I.into_iter_gives descendants it → I.IntoIter.can_next it × IsFinite (I.IntoIter.remaining it) }
+        requires { (it : I.IntoIter) → I.into_iter_gives descendants it
+            → I.IntoIter.can_next it × IsFinite (I.IntoIter.remaining it) }
         ensures name { IfOk result (λ ty. (entity_type_of ty).name ≡ type_name name) }
         ensures name_loc { IfOk result (λ ty. name_loc ty ≡ type_loc name) }
         ensures kind { IfOk result (λ ty. ty.kind ≡ kind) }
         ensures descendants { IfOk result (λ ty. (it : I.IntoIter) × (xs : List EntityType)
-            × I.into_iter_gives descendants it × Drains I.IntoIter.next_gives it xs × SameItems (descendant_names ty) (map type_name xs)) }
+            × I.into_iter_gives descendants it × Drains I.IntoIter.next_gives it xs
+            × SameItems (descendant_names ty) (map type_name xs)) }
         ensures loc { IfOk result (λ ty. ty.loc ≡ loc) }
     {
         Ok(ValidatorEntityType {
@@ -88,14 +90,18 @@ impl ValidatorEntityType {
         tags: Option<Type>,
         loc: Option<Loc>,
     ) -> M<Self>
-        requires { (it : I.IntoIter) → I.into_iter_gives descendants it → I.IntoIter.can_next it × IsFinite (I.IntoIter.remaining it) }
+        requires { (it : I.IntoIter) → I.into_iter_gives descendants it
+            → I.IntoIter.can_next it × IsFinite (I.IntoIter.remaining it) }
         ensures name { IfOk result (λ ty. (entity_type_of ty).name ≡ type_name name) }
         ensures name_loc { IfOk result (λ ty. name_loc ty ≡ type_loc name) }
-        ensures kind { IfOk result (λ ty. (entity_type_of ty).kind ≡ standard_kind (fields_of attributes) open_attributes (option_map ty_of tags)) }
+        ensures kind { IfOk result (λ ty.
+            (entity_type_of ty).kind ≡ standard_kind (fields_of attributes) open_attributes
+            (option_map ty_of tags)) }
         ensures attributes { IfOk result (λ ty. attributes_of ty ≡ attributes) }
         ensures tags { IfOk result (λ ty. tags_of ty ≡ tags) }
         ensures descendants { IfOk result (λ ty. (it : I.IntoIter) × (xs : List EntityType)
-            × I.into_iter_gives descendants it × Drains I.IntoIter.next_gives it xs × SameItems (descendant_names ty) (map type_name xs)) }
+            × I.into_iter_gives descendants it × Drains I.IntoIter.next_gives it xs
+            × SameItems (descendant_names ty) (map type_name xs)) }
         ensures loc { IfOk result (λ ty. ty.loc ≡ loc) }
     {
         let kind = StandardValidatorEntityType::new(attributes, open_attributes, tags);
@@ -112,12 +118,16 @@ impl ValidatorEntityType {
         choices: NonEmpty<Eid>,
         loc: Option<Loc>,
     ) -> M<Self>
-        requires { (it : I.IntoIter) → I.into_iter_gives descendants it → I.IntoIter.can_next it × IsFinite (I.IntoIter.remaining it) }
+        requires { (it : I.IntoIter) → I.into_iter_gives descendants it
+            → I.IntoIter.can_next it × IsFinite (I.IntoIter.remaining it) }
         ensures name { IfOk result (λ ty. (entity_type_of ty).name ≡ type_name name) }
         ensures name_loc { IfOk result (λ ty. name_loc ty ≡ type_loc name) }
-        ensures kind { IfOk result (λ ty. (entity_type_of ty).kind ≡ enumerated_kind (map eid_text (choices.head ∷ choices.tail.items))) }
+        ensures kind { IfOk result (λ ty.
+            (entity_type_of ty).kind ≡ enumerated_kind
+            (map eid_text (choices.head ∷ choices.tail.items))) }
         ensures descendants { IfOk result (λ ty. (it : I.IntoIter) × (xs : List EntityType)
-            × I.into_iter_gives descendants it × Drains I.IntoIter.next_gives it xs × SameItems (descendant_names ty) (map type_name xs)) }
+            × I.into_iter_gives descendants it × Drains I.IntoIter.next_gives it xs
+            × SameItems (descendant_names ty) (map type_name xs)) }
         ensures loc { IfOk result (λ ty. ty.loc ≡ loc) }
     {
         let kind = ValidatorEntityTypeKind::Enum(choices);
@@ -132,12 +142,14 @@ impl ValidatorEntityType {
         descendants: I,
         loc: Option<Loc>,
     ) -> M<Self>
-        requires { (it : I.IntoIter) → I.into_iter_gives descendants it → I.IntoIter.can_next it × IsFinite (I.IntoIter.remaining it) }
+        requires { (it : I.IntoIter) → I.into_iter_gives descendants it
+            → I.IntoIter.can_next it × IsFinite (I.IntoIter.remaining it) }
         ensures name { IfOk result (λ ty. (entity_type_of ty).name ≡ type_name name) }
         ensures name_loc { IfOk result (λ ty. name_loc ty ≡ type_loc name) }
         ensures kind { IfOk result (λ ty. (entity_type_of ty).kind ≡ external_kind) }
         ensures descendants { IfOk result (λ ty. (it : I.IntoIter) × (xs : List EntityType)
-            × I.into_iter_gives descendants it × Drains I.IntoIter.next_gives it xs × SameItems (descendant_names ty) (map type_name xs)) }
+            × I.into_iter_gives descendants it × Drains I.IntoIter.next_gives it xs
+            × SameItems (descendant_names ty) (map type_name xs)) }
         ensures loc { IfOk result (λ ty. ty.loc ≡ loc) }
     {
         Self::with_kind(
@@ -171,8 +183,10 @@ impl ValidatorEntityType {
 
     /// The declared attribute of this name, if there is one.
     pub fn attr(&self, name: &str) -> Option<&AttributeType>
-        ensures attribute { option_map attribute_of (option_copied result) ≡ field_at name.now (kind_fields (entity_type_of self.now).kind) }
-        ensures located { option_map located (option_copied result) ≡ located_at name.now (attributes_of self.now) }
+        ensures attribute { option_map attribute_of (option_copied result)
+            ≡ field_at name.now (kind_fields (entity_type_of self.now).kind) }
+        ensures located { option_map located (option_copied result)
+            ≡ located_at name.now (attributes_of self.now) }
     {
         self.attributes().get_attr(name)
     }
@@ -212,7 +226,8 @@ impl ValidatorEntityType {
 
     /// The type of the tags, where entities of this type may have tags.
     pub fn tag_type(&self) -> Option<&Type>
-        ensures ty { option_map ty_of (option_copied result) ≡ kind_tags (entity_type_of self.now).kind }
+        ensures ty { option_map ty_of (option_copied result)
+            ≡ kind_tags (entity_type_of self.now).kind }
         ensures tags { option_copied result ≡ tags_of self.now }
     {
         match &self.kind {
@@ -229,7 +244,8 @@ impl ValidatorEntityType {
         ensures name_loc { IfOk result (λ copy. name_loc copy ≡ name_loc self.now) }
         ensures located { IfOk result (λ copy. (name : Text)
             → located_at name (attributes_of copy) ≡ located_at name (attributes_of self.now)) }
-        ensures descendants { IfOk result (λ copy. SameItems (descendant_names copy) (descendant_names self.now)) }
+        ensures descendants { IfOk result (λ copy.
+            SameItems (descendant_names copy) (descendant_names self.now)) }
         ensures loc { IfOk result (λ copy. copy.loc ≡ self.now.loc) }
     {
         Ok(ValidatorEntityType {

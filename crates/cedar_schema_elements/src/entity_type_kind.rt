@@ -38,7 +38,8 @@ impl ValidatorEntityTypeKind {
         ensures kind { IfOk result (λ copy. plain_kind copy ≡ plain_kind self.now) }
         ensures located { IfOk result (λ copy. (others same : AttributesOf) (name : Text)
             → located_at name others ≡ located_at name same
-            → located_at name (kind_attributes others copy) ≡ located_at name (kind_attributes same self.now)) }
+            → located_at name (kind_attributes others copy)
+            ≡ located_at name (kind_attributes same self.now)) }
     {
         Ok(match self {
             ValidatorEntityTypeKind::Standard(standard) => {
@@ -55,7 +56,8 @@ impl ValidatorEntityTypeKind {
 impl StandardValidatorEntityType {
     /// An entity type with these attributes, and with tags of this type.
     pub(crate) fn new(attributes: Attributes, open_attributes: OpenTag, tags: Option<Type>) -> Self
-        ensures standard { plain_standard result ≡ standard_kind (fields_of attributes) open_attributes (option_map ty_of tags) }
+        ensures standard { plain_standard result
+            ≡ standard_kind (fields_of attributes) open_attributes (option_map ty_of tags) }
         ensures attributes { standard_attributes result ≡ attributes }
         ensures tags { standard_tags result ≡ tags }
     {
@@ -93,7 +95,8 @@ impl StandardValidatorEntityType {
     pub fn clone(&self) -> M<Self>
         ensures standard { IfOk result (λ copy. plain_standard copy ≡ plain_standard self.now) }
         ensures located { IfOk result (λ copy. (name : Text)
-            → located_at name (standard_attributes copy) ≡ located_at name (standard_attributes self.now)) }
+            → located_at name (standard_attributes copy)
+            ≡ located_at name (standard_attributes self.now)) }
     {
         let tags = match &self.tags {
             Some(ty) => Some(ty.clone()?),

@@ -50,11 +50,13 @@ impl TCNode<EntityType> for ValidatorEntityType {
 
     fn reset_edges(&mut self) {}
 
-    ghost edges_respect_eq = { λ node a b same. entity_type_searches-respect_eq node.descendants.keys a b same };
+    ghost edges_respect_eq = { λ node a b same.
+        entity_type_searches-respect_eq node.descendants.keys a b same };
 
     ghost alike_itself = { λ node. (refl, refl, refl) };
 
-    ghost alike_onwards = { λ a b c first second. (first.0 ∙ second.0, first.1 ∙ second.1, first.2 ∙ second.2) };
+    ghost alike_onwards = { λ a b c first second.
+        (first.0 ∙ second.0, first.1 ∙ second.1, first.2 ∙ second.2) };
 }
 
 impl SchemaNode<EntityType> for ValidatorEntityType {
@@ -102,7 +104,8 @@ impl SchemaNode<EntityType> for ValidatorEntityType {
 
     ghost key_order = { entity_type_ord-name_cmp };
 
-    ghost below_key = { λ node name among. let key = Contains-named node.descendants.keys name among in (key.0, key.2) };
+    ghost below_key = { λ node name among.
+        let key = Contains-named node.descendants.keys name among in (key.0, key.2) };
 
     ghost edge_below = { λ node key. list_any-names key node.descendants.keys };
 

@@ -26,10 +26,13 @@ fn named_types(
     references: HashSet<ConditionalName>,
     all_defs: &AllDefs,
 ) -> Result<HashSet<EntityType>, SchemaError>
-    ensures types { IfOk result (λ types. (name : PlainName) → Contains (map type_name types.keys) name
+    ensures types { IfOk result (λ types.
+        (name : PlainName) → Contains (map type_name types.keys) name
         ↔ IsNamedBy (held_names all_defs.now) (map conditional_reference references.keys) name) }
-    ensures resolved { OnOk result ((reference : Reference) → Contains (map conditional_reference references.keys) reference
-        → (name : PlainName) × ResolvesTo (held_names all_defs.now) reference name × ¬ IsReserved name) }
+    ensures resolved { OnOk result
+        ((reference : Reference) → Contains (map conditional_reference references.keys) reference
+        → (name : PlainName) × ResolvesTo (held_names all_defs.now) reference name
+        × ¬ IsReserved name) }
     ensures fault { IfErr result (λ error. IsUnresolvable (held_names all_defs.now)
         (Contains (map conditional_reference references.keys)) (λ parent. ⊥)
         (Contains (map conditional_reference references.keys)) (fault_of error)) }
@@ -63,13 +66,16 @@ impl ValidatorApplySpec<ConditionalName> {
         alloc: Global,
         all_defs: &AllDefs,
     ) -> Result<ValidatorApplySpec<EntityType>, SchemaError>
-        ensures principals { IfOk result (λ it. (name : PlainName) → Contains (principal_names it) name
+        ensures principals { IfOk result (λ it.
+            (name : PlainName) → Contains (principal_names it) name
             ↔ IsNamedBy (held_names all_defs.now) (principal_references self) name) }
-        ensures resources { IfOk result (λ it. (name : PlainName) → Contains (resource_names it) name
+        ensures resources { IfOk result (λ it.
+            (name : PlainName) → Contains (resource_names it) name
             ↔ IsNamedBy (held_names all_defs.now) (resource_references self) name) }
         ensures resolved { OnOk result ((reference : Reference)
             → Contains (principal_references self ++ resource_references self) reference
-            → (name : PlainName) × ResolvesTo (held_names all_defs.now) reference name × ¬ IsReserved name) }
+            → (name : PlainName) × ResolvesTo (held_names all_defs.now) reference name
+            × ¬ IsReserved name) }
         ensures fault { IfErr result (λ error. IsUnresolvable (held_names all_defs.now)
             (Contains (principal_references self ++ resource_references self)) (λ parent. ⊥)
             (Contains (principal_references self ++ resource_references self)) (fault_of error)) }

@@ -7,8 +7,8 @@ use cedar_below::{EntityType, EntityUID, M};
 use cedar_types::Type;
 use std::rc::Rc;
 
-/// The types of a request: those of its principal and of its resource, its action, and the type of its
-/// context.
+/// The types of a request: those of its principal and of its resource, its action, and the type of
+/// its context.
 #[derive(Debug, Clone, Copy)]
 pub struct RequestEnv<'a> {
     /// The entity type of the principal.

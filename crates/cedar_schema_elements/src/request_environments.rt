@@ -52,9 +52,11 @@ fn requests_of(
     context: &Type,
 ) -> M<Requests>
     ensures action { IfOk result (λ requests. uid_of requests.action.value ≡ uid_of uid.now) }
-    ensures resources { IfOk result (λ requests. map shared_name requests.resources.items ≡ kind_resources (action_of action.now).kind) }
+    ensures resources { IfOk result (λ requests.
+        map shared_name requests.resources.items ≡ kind_resources (action_of action.now).kind) }
     ensures context { IfOk result (λ requests. ty_of requests.context.value ≡ ty_of context.now) }
-    ensures once { OnOk result (AllPairs (λ a b. a ≢ b) (kind_resources (action_of action.now).kind)) }
+    ensures once { OnOk result (AllPairs (λ a b.
+        a ≢ b) (kind_resources (action_of action.now).kind)) }
 {
     Ok(Requests {
         action: Rc::new(alloc, uid.clone()?)?,
@@ -69,8 +71,10 @@ fn add_resources(
     requests: &Requests,
     principal: &Rc<EntityType>,
 ) -> M<()>
-    ensures { OnOk result (map owned_environment environments.new.items ≡ map owned_environment environments.old.items
-        ++ with_resources (uid_of requests.now.action.value) (ty_of requests.now.context.value) (shared_name principal.now)
+    ensures { OnOk result (map owned_environment environments.new.items
+        ≡ map owned_environment environments.old.items
+        ++ with_resources (uid_of requests.now.action.value) (ty_of requests.now.context.value)
+        (shared_name principal.now)
         (map shared_name requests.now.resources.items)) }
 {
     for resource in &requests.resources {
@@ -91,8 +95,10 @@ fn add_principals(
     requests: &Requests,
     principals: hash_set::Iter<'_, EntityType>,
 ) -> M<()>
-    ensures { OnOk result (map owned_environment environments.new.items ≡ map owned_environment environments.old.items
-        ++ with_principals (uid_of requests.now.action.value) (ty_of requests.now.context.value) (map type_name principals.entry)
+    ensures { OnOk result (map owned_environment environments.new.items
+        ≡ map owned_environment environments.old.items
+        ++ with_principals (uid_of requests.now.action.value) (ty_of requests.now.context.value)
+        (map type_name principals.entry)
         (map shared_name requests.now.resources.items)) }
 {
     for principal in principals {
@@ -110,8 +116,10 @@ pub fn environments(
     alloc: Global,
     actions: &BTreeMap<EntityUID, ValidatorActionId>,
 ) -> M<Vec<UnlinkedRequestEnv>>
-    ensures { IfOk result (λ environments. (types : List (PlainName × SchemaEntityType)) (entities : List ActionEntity)
-        → AreEnvironmentsOf (schema_with types actions.now.entries entities) (map owned_environment environments.items)) }
+    ensures { IfOk result (λ environments.
+        (types : List (PlainName × SchemaEntityType)) (entities : List ActionEntity)
+        → AreEnvironmentsOf (schema_with types actions.now.entries entities)
+        (map owned_environment environments.items)) }
 {
     let mut environments = Vec::new(alloc);
     for (uid, action) in actions {

@@ -16,9 +16,9 @@ use std::hash::Hash;
 /// An entity type or an action of a schema: a node of a hierarchy that has a name, by which others
 /// refer to it, and that is declared here or elsewhere.
 ///
-/// The ghost members are what contracts speak of: what a key stands for, the order of names, the name
-/// of a node, whether the node is external, whether a key was written where its name was, and its
-/// descendants.
+/// The ghost members are what contracts speak of: what a key stands for, the order of names, the
+/// name of a node, whether the node is external, whether a key was written where its name was, and
+/// its descendants.
 pub trait SchemaNode<K: Ord + Hash>: TCNode<K> {
     ghost Name: { Type 0 };
 
@@ -44,7 +44,8 @@ pub trait SchemaNode<K: Ord + Hash>: TCNode<K> {
     /// An equal name, located alike. Out of memory is the only refusal.
     fn copy_name(name: &K) -> M<K>
         ensures name { IfOk result (λ copy. key_name copy ≡ key_name name.now) }
-        ensures located { IfOk result (λ copy. (node : Self) → IsLocatedAs name.now node → IsLocatedAs copy node) };
+        ensures located { IfOk result (λ copy.
+            (node : Self) → IsLocatedAs name.now node → IsLocatedAs copy node) };
 
     /// Whether the node is declared elsewhere.
     fn is_external(&self) -> bool
@@ -66,13 +67,16 @@ pub trait SchemaNode<K: Ord + Hash>: TCNode<K> {
 
     ghost key_order: { (a b : K) → K.cmp a b ≡ name_order (key_name a) (key_name b) };
 
-    ghost below_key: { (node : Self) (name : Name) → Contains (below node) name → (key : K) × (key_name key ≡ name) };
+    ghost below_key: { (node : Self) (name : Name) → Contains (below node) name
+        → (key : K) × (key_name key ≡ name) };
 
-    ghost edge_below: { (node : Self) (key : K) → IsTrue (Self.has_edge node key) ↔ Contains (below node) (key_name key) };
+    ghost edge_below: { (node : Self) (key : K)
+        → IsTrue (Self.has_edge node key) ↔ Contains (below node) (key_name key) };
 
     ghost alike_named: { (a b : Self) → Self.is_alike a b → node_name a ≡ node_name b };
 
     ghost alike_external: { (a b : Self) → Self.is_alike a b → IsExternal a → IsExternal b };
 
-    ghost alike_located: { (key : K) (a b : Self) → Self.is_alike a b → IsLocatedAs key a → IsLocatedAs key b };
+    ghost alike_located: { (key : K) (a b : Self) → Self.is_alike a b → IsLocatedAs key a
+        → IsLocatedAs key b };
 }

@@ -22,9 +22,11 @@ pub(crate) fn type_set<I: IntoIterator<Item = EntityType>>(
     alloc: Global,
     types: I,
 ) -> M<HashSet<EntityType>>
-    requires { (it : I.IntoIter) → I.into_iter_gives types it → I.IntoIter.can_next it × IsFinite (I.IntoIter.remaining it) }
+    requires { (it : I.IntoIter) → I.into_iter_gives types it
+        → I.IntoIter.can_next it × IsFinite (I.IntoIter.remaining it) }
     ensures { IfOk result (λ set. (it : I.IntoIter) × (xs : List EntityType)
-        × I.into_iter_gives types it × Drains I.IntoIter.next_gives it xs × SameItems (map type_name set.keys) (map type_name xs)) }
+        × I.into_iter_gives types it × Drains I.IntoIter.next_gives it xs
+        × SameItems (map type_name set.keys) (map type_name xs)) }
 {
     Ok(HashSet::from_iter(alloc, types)?)
 }
@@ -34,9 +36,11 @@ pub(crate) fn uid_set<I: IntoIterator<Item = EntityUID>>(
     alloc: Global,
     uids: I,
 ) -> M<HashSet<EntityUID>>
-    requires { (it : I.IntoIter) → I.into_iter_gives uids it → I.IntoIter.can_next it × IsFinite (I.IntoIter.remaining it) }
+    requires { (it : I.IntoIter) → I.into_iter_gives uids it
+        → I.IntoIter.can_next it × IsFinite (I.IntoIter.remaining it) }
     ensures { IfOk result (λ set. (it : I.IntoIter) × (xs : List EntityUID)
-        × I.into_iter_gives uids it × Drains I.IntoIter.next_gives it xs × SameItems (map uid_of set.keys) (map uid_of xs)) }
+        × I.into_iter_gives uids it × Drains I.IntoIter.next_gives it xs
+        × SameItems (map uid_of set.keys) (map uid_of xs)) }
 {
     Ok(HashSet::from_iter(alloc, uids)?)
 }
@@ -49,7 +53,8 @@ pub(crate) fn copied<K: Eq + Hash + Drop, F: Fn(&K) -> M<K> + Drop>(
     requires callable { F.IsAlwaysCallable copy }
     requires equal { (item : K) (answer : Result K Memory) → FnReturnsAt F.Fn copy item answer
         → IfOk answer (λ other. IsTrue (K.eq other item)) }
-    ensures { IfOk result (λ set. (other : K) → contains K.eq set other ≡ contains K.eq items.now other) }
+    ensures { IfOk result (λ set. (other : K)
+        → contains K.eq set other ≡ contains K.eq items.now other) }
 {
     let mut set = HashSet::emptied(items)?;
     for item in items {

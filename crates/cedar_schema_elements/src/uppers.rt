@@ -19,7 +19,8 @@ fn add_upper<K: Ord + Hash + Drop, V: SchemaNode<K>>(
     lower: &K,
     upper: &K,
 ) -> M<()>
-    ensures { OnOk result ((key : K) (above : V.Name) → IsUpper K.cmp V.key_name uppers.new key above
+    ensures { OnOk result ((key : K) (above : V.Name)
+        → IsUpper K.cmp V.key_name uppers.new key above
         ↔ (IsUpper K.cmp V.key_name uppers.old key above
         ⊎ ((V.key_name lower.now ≡ V.key_name key) × (V.key_name upper.now ≡ above)))) }
 {
@@ -44,7 +45,8 @@ fn add_uppers<K: Ord + Hash + Drop, V: SchemaNode<K>>(
     upper: &K,
     node: &V,
 ) -> M<()>
-    ensures { OnOk result ((key : K) (above : V.Name) → IsUpper K.cmp V.key_name uppers.new key above
+    ensures { OnOk result ((key : K) (above : V.Name)
+        → IsUpper K.cmp V.key_name uppers.new key above
         ↔ (IsUpper K.cmp V.key_name uppers.old key above
         ⊎ ((V.key_name upper.now ≡ above) × Contains (V.below node.now) (V.key_name key)))) }
 {
@@ -60,7 +62,8 @@ pub fn upper_sets<K: Ord + Hash + Drop, V: SchemaNode<K>>(
     alloc: Global,
     nodes: &BTreeMap<K, V>,
 ) -> M<Uppers<K>>
-    ensures { IfOk result (λ uppers. (key : K) (above : V.Name) → IsUpper K.cmp V.key_name uppers key above
+    ensures { IfOk result (λ uppers.
+        (key : K) (above : V.Name) → IsUpper K.cmp V.key_name uppers key above
         ↔ ListsBelow V.key_name V.below nodes.now.entries (V.key_name key) above) }
 {
     let mut uppers = BTreeMap::new(alloc);

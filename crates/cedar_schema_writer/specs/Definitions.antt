@@ -28,7 +28,8 @@ Definitions = List (Option Name × NamespaceDefinition RawName)
 
 -- the declarations of some definitions
 abbrev pub definitions_bag : Definitions → Bag
-definitions_bag definitions = flat_map (λ entry. raw_declarations (plain_namespace entry.0) entry.1) definitions
+definitions_bag definitions = flat_map (λ entry.
+    raw_declarations (plain_namespace entry.0) entry.1) definitions
 
 -- a declaration of an entity type
 abbrev pub type_declared : Option PlainName → Text → EntityBody → Declaration
@@ -42,7 +43,8 @@ action_declared namespace id body = record { namespace = namespace; id = id; bod
 abbrev pub AppliesIfDefined : ActionType RawName → Type 0
 AppliesIfDefined it = is_some it.applies_to ≡ not it.external
 
--- the definition declares something, and each of its actions has an `appliesTo` part exactly if it isn't external
+-- the definition declares something, and each of its actions has an `appliesTo` part exactly if it
+-- isn't external
 pub record IsProper (definition : NamespaceDefinition RawName) : Type 0 where
   pub declares : (namespace : Option PlainName) → raw_declarations namespace definition ≢ []
   pub applies : All AppliesIfDefined (values_of definition.actions.entries)
@@ -54,16 +56,20 @@ AreProper definitions = All IsProper (values_of definitions)
 -- the requests that an `appliesTo` part gives in the namespace; an external action has none
 abbrev pub requests_written : Option PlainName → Option (ApplySpec RawName) → Requests
 requests_written namespace None = elsewhere
-requests_written namespace (Some it) = applies_to RawName (raw_reference namespace) namespace (Some it)
+requests_written namespace (Some it) =
+    applies_to RawName (raw_reference namespace) namespace (Some it)
 
--- what is declared of an action is written of it: without attributes, with these parents in full, and for its requests
-pub record IsActionWritten (namespace : Option PlainName) (parents : List PlainUid) (kind : ActionKind) (body : ActionBody) : Type 0 where
+-- what is declared of an action is written of it: without attributes, with these parents in full,
+-- and for its requests
+pub record IsActionWritten (namespace : Option PlainName) (parents : List PlainUid)
+    (kind : ActionKind) (body : ActionBody) : Type 0 where
   pub without_attributes : body.has_attributes ≡ false
   pub parents_are : body.parents ≡ map (full_uid namespace) parents
   pub requests_are : AreRequestsWritten namespace kind body.applies_to
 
 -- the declarations of some items are put into a bag, one for each, in turn
-pub record ArePut {A : Type 0} (R : A → Declaration → Type 0) (items : List A) (before after : Bag) : Type 0 where
+pub record ArePut {A : Type 0} (R : A → Declaration → Type 0) (items : List A)
+    (before after : Bag) : Type 0 where
   pub put : List Declaration
   pub turn : HoldsPairwise R items put
   pub in_some_order : IsPermutation (before ++ put) after

@@ -40,11 +40,13 @@ parts_schema types actions entities = record {
 abbrev pub known_schema : Known → PlainSchema
 known_schema known = parts_schema known.entity_types.now.entries known.actions.now.entries []
 
--- the names that are known: those of the entity types, and the types of the actions as they were collected
+-- the names that are known: those of the entity types, and the types of the actions as they were
+-- collected
 abbrev pub known_names : Known → Names
 known_names known = record {
   common = [];
-  entities = map (λ it. it.0) (known_schema known).entity_types ++ map type_name known.action_types.now.keys;
+  entities = map (λ it. it.0) (known_schema known).entity_types
+      ++ map type_name known.action_types.now.keys;
   actions = map (λ it. it.0) (known_schema known).actions;
 }
 

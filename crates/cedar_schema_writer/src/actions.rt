@@ -36,10 +36,13 @@ fn write_requests(
     namespace: &Option<Name>,
     action: &ValidatorActionId,
 ) -> Result<Option<ApplySpec<RawName>>, WriteBackFault>
-    ensures written { IfOk result (λ it. AreRequestsWritten (plain_namespace namespace.now) (action_of action.now).kind
+    ensures written { IfOk result (λ it.
+        AreRequestsWritten (plain_namespace namespace.now) (action_of action.now).kind
         (requests_written (plain_namespace namespace.now) it)) }
-    ensures sound { OnOk result (IsSoundAction (known_names known.now) (plain_namespace namespace.now) (action_of action.now).kind) }
-    ensures refusal { IfErr result (Refuses (¬ IsSoundAction (known_names known.now) (plain_namespace namespace.now)
+    ensures sound { OnOk result (IsSoundAction (known_names known.now)
+        (plain_namespace namespace.now) (action_of action.now).kind) }
+    ensures refusal { IfErr result
+        (Refuses (¬ IsSoundAction (known_names known.now) (plain_namespace namespace.now)
         (action_of action.now).kind)) }
 {
     let Some(context) = action.context() else {
@@ -60,7 +63,8 @@ fn action_type(
     applies_to: Option<ApplySpec<RawName>>,
     parents: Vec<ActionEntityUID<RawName>>,
 ) -> ActionType<RawName>
-    ensures body { (namespace : Option PlainName) → action_body RawName (raw_reference namespace) namespace result
+    ensures body { (namespace : Option PlainName)
+        → action_body RawName (raw_reference namespace) namespace result
         ≡ record {
           has_attributes = false;
           parents = map (parent_action RawName (raw_reference namespace) namespace) parents.items;
@@ -85,12 +89,16 @@ fn write_action(
     parents: Vec<ActionEntityUID<RawName>>,
     action: &ValidatorActionId,
 ) -> Result<ActionType<RawName>, WriteBackFault>
-    ensures written { IfOk result (λ it. IsActionWritten (plain_namespace namespace.now) (map written_uid parents.items)
+    ensures written { IfOk result (λ it.
+        IsActionWritten (plain_namespace namespace.now) (map written_uid parents.items)
         (action_of action.now).kind
-        (action_body RawName (raw_reference (plain_namespace namespace.now)) (plain_namespace namespace.now) it)) }
+        (action_body RawName (raw_reference (plain_namespace namespace.now))
+        (plain_namespace namespace.now) it)) }
     ensures applies { IfOk result AppliesIfDefined }
-    ensures sound { OnOk result (IsSoundAction (known_names known.now) (plain_namespace namespace.now) (action_of action.now).kind) }
-    ensures refusal { IfErr result (Refuses (¬ IsSoundAction (known_names known.now) (plain_namespace namespace.now)
+    ensures sound { OnOk result (IsSoundAction (known_names known.now)
+        (plain_namespace namespace.now) (action_of action.now).kind) }
+    ensures refusal { IfErr result
+        (Refuses (¬ IsSoundAction (known_names known.now) (plain_namespace namespace.now)
         (action_of action.now).kind)) }
 {
     let applies_to = write_requests(known, namespace, action)?;
@@ -103,16 +111,21 @@ pub(crate) fn write_actions(
     uppers: &Uppers<EntityUID>,
     definitions: &mut Definitions,
 ) -> Result<(), WriteBackFault>
-    requires uppers { (key : Key) (above : PlainUid) → IsUpper ⟦<EntityUID as Ord>⟧.cmp uid_of uppers.now key above
+    requires uppers { (key : Key) (above : PlainUid)
+        → IsUpper ⟦<EntityUID as Ord>⟧.cmp uid_of uppers.now key above
         ↔ ListsDescendantAction (known_schema known.now) (uid_of key) above }
     requires none { (namespace : Option PlainName) (id : Text) (body : ActionBody)
         → ¬ Contains (definitions_bag definitions.old.entries) (action_declared namespace id body) }
-    ensures put { OnOk result (ArePut (IsActionDeclaration (known_schema known.now)) (known_schema known.now).actions
+    ensures put { OnOk result (ArePut (IsActionDeclaration (known_schema known.now))
+        (known_schema known.now).actions
         (definitions_bag definitions.old.entries) (definitions_bag definitions.new.entries)) }
-    ensures proper { OnOk result (AreProper definitions.old.entries → AreProper definitions.new.entries) }
-    ensures sound { OnOk result ((it : PlainUid × SchemaAction) → Contains (known_schema known.now).actions it
+    ensures proper { OnOk result (AreProper definitions.old.entries
+        → AreProper definitions.new.entries) }
+    ensures sound { OnOk result ((it : PlainUid × SchemaAction)
+        → Contains (known_schema known.now).actions it
         → IsSoundActionEntry known.now it) }
-    ensures refusal { IfErr result (Refuses ((it : PlainUid × SchemaAction) × Contains (known_schema known.now).actions it
+    ensures refusal { IfErr result
+        (Refuses ((it : PlainUid × SchemaAction) × Contains (known_schema known.now).actions it
         × ¬ IsSoundActionEntry known.now it)) }
 {
     for (uid, action) in known.actions {

@@ -26,10 +26,12 @@ fn take_definition(
     definitions: &mut Definitions,
     namespace: &Option<Name>,
 ) -> NamespaceDefinition<RawName>
-    ensures taken { IsPermutation (raw_declarations (plain_namespace namespace.now) result ++ definitions_bag definitions.new.entries)
+    ensures taken { IsPermutation (raw_declarations (plain_namespace namespace.now) result
+        ++ definitions_bag definitions.new.entries)
         (definitions_bag definitions.old.entries) }
     ensures proper { AreProper definitions.old.entries
-        → All AppliesIfDefined (values_of result.actions.entries) × AreProper definitions.new.entries }
+        → All AppliesIfDefined (values_of result.actions.entries)
+        × AreProper definitions.new.entries }
     ensures absent { get ⟦<Option<Name> as Ord>⟧.cmp definitions.new namespace.now ≡ None }
 {
     match definitions.remove(namespace) {
@@ -51,12 +53,15 @@ pub(crate) fn put_entity_type(
     id: UnreservedId,
     declared: EntityType<RawName>,
 ) -> M<()>
-    ensures put { OnOk result (((body : EntityBody) → ¬ Contains (definitions_bag definitions.old.entries)
+    ensures put { OnOk result (((body : EntityBody)
+        → ¬ Contains (definitions_bag definitions.old.entries)
         (type_declared (plain_namespace namespace) (unreserved_id_text id) body))
         → IsPermutation (definitions_bag definitions.old.entries
-        ++ type_declared (plain_namespace namespace) (unreserved_id_text id) (raw_entity_body (plain_namespace namespace) declared) ∷ [])
+        ++ type_declared (plain_namespace namespace) (unreserved_id_text id)
+        (raw_entity_body (plain_namespace namespace) declared) ∷ [])
         (definitions_bag definitions.new.entries)) }
-    ensures proper { OnOk result (AreProper definitions.old.entries → AreProper definitions.new.entries) }
+    ensures proper { OnOk result (AreProper definitions.old.entries
+        → AreProper definitions.new.entries) }
 {
     let mut definition = take_definition(alloc, definitions, &namespace);
     put(&mut definition.entity_types, id, declared)?;
@@ -71,13 +76,16 @@ pub(crate) fn put_action(
     id: String,
     declared: ActionType<RawName>,
 ) -> M<()>
-    ensures put { OnOk result (((body : ActionBody) → ¬ Contains (definitions_bag definitions.old.entries)
+    ensures put { OnOk result (((body : ActionBody)
+        → ¬ Contains (definitions_bag definitions.old.entries)
         (action_declared (plain_namespace namespace) (string_bytes id) body))
         → IsPermutation (definitions_bag definitions.old.entries
         ++ action_declared (plain_namespace namespace) (string_bytes id)
-        (action_body RawName (raw_reference (plain_namespace namespace)) (plain_namespace namespace) declared) ∷ [])
+        (action_body RawName (raw_reference (plain_namespace namespace))
+        (plain_namespace namespace) declared) ∷ [])
         (definitions_bag definitions.new.entries)) }
-    ensures proper { OnOk result (AppliesIfDefined declared → AreProper definitions.old.entries → AreProper definitions.new.entries) }
+    ensures proper { OnOk result (AppliesIfDefined declared → AreProper definitions.old.entries
+        → AreProper definitions.new.entries) }
 {
     let mut definition = take_definition(alloc, definitions, &namespace);
     put(&mut definition.actions, id, declared)?;

@@ -48,12 +48,16 @@ fn write_shape(
     ty: &ValidatorEntityType,
 ) -> Result<json_schema::Type<RawName>, WriteBackFault>
     ensures written { IfOk result (λ shape. type_written (plain_namespace namespace.now)
-        (record_of (kind_fields (entity_type_of ty.now).kind) (kind_openness (entity_type_of ty.now).kind))
+        (record_of (kind_fields (entity_type_of ty.now).kind)
+        (kind_openness (entity_type_of ty.now).kind))
         ≡ Some (raw_expr (plain_namespace namespace.now) shape)) }
     ensures sound { OnOk result (IsSoundType (known_names known.now) (plain_namespace namespace.now)
-        (record_of (kind_fields (entity_type_of ty.now).kind) (kind_openness (entity_type_of ty.now).kind))) }
-    ensures refusal { IfErr result (Refuses (¬ IsSoundType (known_names known.now) (plain_namespace namespace.now)
-        (record_of (kind_fields (entity_type_of ty.now).kind) (kind_openness (entity_type_of ty.now).kind)))) }
+        (record_of (kind_fields (entity_type_of ty.now).kind)
+        (kind_openness (entity_type_of ty.now).kind))) }
+    ensures refusal { IfErr result
+        (Refuses (¬ IsSoundType (known_names known.now) (plain_namespace namespace.now)
+        (record_of (kind_fields (entity_type_of ty.now).kind)
+        (kind_openness (entity_type_of ty.now).kind)))) }
 {
     match ty.open_attributes() {
         OpenTag::OpenAttributes => Err(WriteBackFault::Unwritable),
@@ -67,11 +71,13 @@ fn write_tags(
     namespace: &Option<Name>,
     tags: Option<&Type>,
 ) -> Result<Option<json_schema::Type<RawName>>, WriteBackFault>
-    ensures written { IfOk result (λ it. AreTagsWritten (plain_namespace namespace.now) (option_map ty_of (option_copied tags.entry))
+    ensures written { IfOk result (λ it.
+        AreTagsWritten (plain_namespace namespace.now) (option_map ty_of (option_copied tags.entry))
         (option_map (raw_expr (plain_namespace namespace.now)) it)) }
     ensures sound { OnOk result ((ty : Ty) → option_map ty_of (option_copied tags.entry) ≡ Some ty
         → IsSoundType (known_names known.now) (plain_namespace namespace.now) ty) }
-    ensures refusal { IfErr result (Refuses ((ty : Ty) × (option_map ty_of (option_copied tags.entry) ≡ Some ty)
+    ensures refusal { IfErr result
+        (Refuses ((ty : Ty) × (option_map ty_of (option_copied tags.entry) ≡ Some ty)
         × ¬ IsSoundType (known_names known.now) (plain_namespace namespace.now) ty)) }
 {
     match tags {
@@ -89,16 +95,21 @@ fn write_standard(
 ) -> Result<StandardEntityType<RawName>, WriteBackFault>
     ensures written { IfOk result (λ it. IsKindWritten (plain_namespace namespace.now)
         (λ upper. Contains (map raw_name parents.items) upper)
-        (standard_kind (kind_fields (entity_type_of ty.now).kind) (kind_openness (entity_type_of ty.now).kind)
+        (standard_kind (kind_fields (entity_type_of ty.now).kind)
+        (kind_openness (entity_type_of ty.now).kind)
         (kind_tags (entity_type_of ty.now).kind))
-        (kind_body RawName (raw_reference (plain_namespace namespace.now)) (written_kind.Standard it) false)) }
+        (kind_body RawName (raw_reference (plain_namespace namespace.now))
+        (written_kind.Standard it) false)) }
     ensures sound { OnOk result (IsSoundKind (known_names known.now) (plain_namespace namespace.now)
         (λ upper. Contains (map raw_name parents.items) upper)
-        (standard_kind (kind_fields (entity_type_of ty.now).kind) (kind_openness (entity_type_of ty.now).kind)
+        (standard_kind (kind_fields (entity_type_of ty.now).kind)
+        (kind_openness (entity_type_of ty.now).kind)
         (kind_tags (entity_type_of ty.now).kind))) }
-    ensures refusal { IfErr result (Refuses (¬ IsSoundKind (known_names known.now) (plain_namespace namespace.now)
+    ensures refusal { IfErr result
+        (Refuses (¬ IsSoundKind (known_names known.now) (plain_namespace namespace.now)
         (λ upper. Contains (map raw_name parents.items) upper)
-        (standard_kind (kind_fields (entity_type_of ty.now).kind) (kind_openness (entity_type_of ty.now).kind)
+        (standard_kind (kind_fields (entity_type_of ty.now).kind)
+        (kind_openness (entity_type_of ty.now).kind)
         (kind_tags (entity_type_of ty.now).kind)))) }
 {
     let shape = write_shape(known, namespace, ty)?;
@@ -134,7 +145,8 @@ fn write_enumerated(
 /// An external entity type with these parents.
 fn external_type(parents: Vec<RawName>) -> EntityType<RawName>
     ensures { (namespace : Option PlainName)
-        → raw_entity_body namespace result ≡ external (map (λ parent. raw_reference namespace reference.Entity parent) parents.items) }
+        → raw_entity_body namespace result
+        ≡ external (map (λ parent. raw_reference namespace reference.Entity parent) parents.items) }
 {
     let attributes = BTreeMap::new(*parents.allocator());
     let shape = TypeVariant::Record(RecordType {
@@ -164,7 +176,8 @@ fn write_entity_type(
         (raw_entity_body (plain_namespace namespace.now) it)) }
     ensures sound { OnOk result (IsSoundKind (known_names known.now) (plain_namespace namespace.now)
         (λ upper. Contains (map raw_name parents.items) upper) (entity_type_of ty.now).kind) }
-    ensures refusal { IfErr result (Refuses (¬ IsSoundKind (known_names known.now) (plain_namespace namespace.now)
+    ensures refusal { IfErr result
+        (Refuses (¬ IsSoundKind (known_names known.now) (plain_namespace namespace.now)
         (λ upper. Contains (map raw_name parents.items) upper) (entity_type_of ty.now).kind)) }
 {
     match &ty.kind {
@@ -187,15 +200,21 @@ pub(crate) fn write_entity_types(
     uppers: &Uppers<Key>,
     definitions: &mut Definitions,
 ) -> Result<(), WriteBackFault>
-    requires uppers { (key : TypeKey) (above : PlainName) → IsUpper ⟦<Key as Ord>⟧.cmp type_name uppers.now key above
+    requires uppers { (key : TypeKey) (above : PlainName)
+        → IsUpper ⟦<Key as Ord>⟧.cmp type_name uppers.now key above
         ↔ ListsDescendant (known_schema known.now) (type_name key) above }
     requires empty { definitions_bag definitions.old.entries ≡ [] }
-    ensures put { OnOk result (ArePut (IsTypeDeclaration (known_schema known.now)) (known_schema known.now).entity_types
+    ensures put { OnOk result (ArePut (IsTypeDeclaration (known_schema known.now))
+        (known_schema known.now).entity_types
         (definitions_bag definitions.old.entries) (definitions_bag definitions.new.entries)) }
-    ensures proper { OnOk result (AreProper definitions.old.entries → AreProper definitions.new.entries) }
-    ensures sound { OnOk result ((it : PlainName × SchemaEntityType) → Contains (known_schema known.now).entity_types it
+    ensures proper { OnOk result (AreProper definitions.old.entries
+        → AreProper definitions.new.entries) }
+    ensures sound { OnOk result ((it : PlainName × SchemaEntityType)
+        → Contains (known_schema known.now).entity_types it
         → IsSoundEntityType known.now it) }
-    ensures refusal { IfErr result (Refuses ((it : PlainName × SchemaEntityType) × Contains (known_schema known.now).entity_types it
+    ensures refusal { IfErr result
+        (Refuses ((it : PlainName × SchemaEntityType)
+        × Contains (known_schema known.now).entity_types it
         × ¬ IsSoundEntityType known.now it)) }
 {
     for (name, ty) in known.entity_types {

@@ -37,7 +37,8 @@ pub fn json_schema(
     ensures writable { OnOk result ((entities : List ActionEntity)
         → IsWritable (parts_schema entity_types.now.entries actions.now.entries entities)) }
     ensures written { IfOk result (λ fragment. (entities : List ActionEntity)
-        → IsConvertedBack (parts_schema entity_types.now.entries actions.now.entries entities) (raw_fragment fragment)) }
+        → IsConvertedBack (parts_schema entity_types.now.entries actions.now.entries entities)
+        (raw_fragment fragment)) }
     ensures definitions { IfOk result (λ fragment. AreProper fragment.0.entries) }
     ensures refusal { IfErr result (Refuses ((entities : List ActionEntity)
         → ¬ IsWritable (parts_schema entity_types.now.entries actions.now.entries entities))) }

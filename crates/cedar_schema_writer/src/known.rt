@@ -39,7 +39,8 @@ pub(crate) fn action_types(
     actions: &BTreeMap<EntityUID, ValidatorActionId>,
 ) -> M<HashSet<EntityType>>
     ensures { IfOk result (λ types. (name : PlainName) → Contains (map type_name types.keys) name
-        ↔ Contains (map (λ (it : PlainUid × SchemaAction). it.0.ty) (map plain_action_entry actions.now.entries)) name) }
+        ↔ Contains (map (λ (it : PlainUid × SchemaAction). it.0.ty)
+        (map plain_action_entry actions.now.entries)) name) }
 {
     let mut types = HashSet::new(alloc);
     for uid in actions.keys() {
@@ -74,7 +75,8 @@ impl<'a> Known<'a> {
     /// Whether the name, written in full in the namespace, names no other entity type there.
     fn names_no_other(&self, namespace: &Option<Name>, name: &EntityType) -> M<bool>
         ensures { IfOk result (λ answer. IsTrue answer
-            ↔ NamesNoOther (known_names self.now) (plain_namespace namespace.now) (type_name name.now)) }
+            ↔ NamesNoOther (known_names self.now) (plain_namespace namespace.now)
+            (type_name name.now)) }
     {
         match namespace {
             Some(namespace) if name.name().is_unqualified() => {
@@ -88,7 +90,8 @@ impl<'a> Known<'a> {
     /// Whether the uid, written in full in the namespace, names no other action there.
     fn names_no_other_action(&self, namespace: &Option<Name>, uid: &EntityUID) -> M<bool>
         ensures { IfOk result (λ answer. IsTrue answer
-            ↔ NamesNoOtherAction (known_names self.now) (plain_namespace namespace.now) (uid_of uid.now)) }
+            ↔ NamesNoOtherAction (known_names self.now) (plain_namespace namespace.now)
+            (uid_of uid.now)) }
     {
         let name = uid.entity_type().name();
         match namespace {
@@ -108,9 +111,12 @@ impl<'a> Known<'a> {
         name: &EntityType,
     ) -> Result<RawName, WriteBackFault>
         ensures name { IfOk result (λ written. raw_name written ≡ type_name name.now) }
-        ensures no_other { OnOk result (NamesNoOther (known_names self.now) (plain_namespace namespace.now) (type_name name.now)) }
+        ensures no_other { OnOk result
+            (NamesNoOther (known_names self.now) (plain_namespace namespace.now)
+            (type_name name.now)) }
         ensures refusal { IfErr result (Refuses
-            (¬ NamesNoOther (known_names self.now) (plain_namespace namespace.now) (type_name name.now))) }
+            (¬ NamesNoOther (known_names self.now) (plain_namespace namespace.now)
+            (type_name name.now))) }
     {
         if !self.names_no_other(namespace, name)? {
             return Err(WriteBackFault::Unwritable);
@@ -125,9 +131,12 @@ impl<'a> Known<'a> {
         uid: &EntityUID,
     ) -> Result<ActionEntityUID<RawName>, WriteBackFault>
         ensures uid { IfOk result (λ written. written_uid written ≡ uid_of uid.now) }
-        ensures no_other { OnOk result (NamesNoOtherAction (known_names self.now) (plain_namespace namespace.now) (uid_of uid.now)) }
+        ensures no_other { OnOk result
+            (NamesNoOtherAction (known_names self.now) (plain_namespace namespace.now)
+            (uid_of uid.now)) }
         ensures refusal { IfErr result (Refuses
-            (¬ NamesNoOtherAction (known_names self.now) (plain_namespace namespace.now) (uid_of uid.now))) }
+            (¬ NamesNoOtherAction (known_names self.now) (plain_namespace namespace.now)
+            (uid_of uid.now))) }
     {
         if !self.names_no_other_action(namespace, uid)? {
             return Err(WriteBackFault::Unwritable);
@@ -147,10 +156,13 @@ impl<'a> Known<'a> {
         namespace: &Option<Name>,
         names: hash_set::Iter<'_, EntityType>,
     ) -> Result<Vec<RawName>, WriteBackFault>
-        ensures names { IfOk result (λ written. map raw_name written.items ≡ map type_name names.entry) }
-        ensures no_other { OnOk result ((name : PlainName) → Contains (map type_name names.entry) name
+        ensures names { IfOk result (λ written.
+            map raw_name written.items ≡ map type_name names.entry) }
+        ensures no_other { OnOk result
+            ((name : PlainName) → Contains (map type_name names.entry) name
             → NamesNoOther (known_names self.now) (plain_namespace namespace.now) name) }
-        ensures refusal { IfErr result (Refuses ((name : PlainName) × Contains (map type_name names.entry) name
+        ensures refusal { IfErr result
+            (Refuses ((name : PlainName) × Contains (map type_name names.entry) name
             × ¬ NamesNoOther (known_names self.now) (plain_namespace namespace.now) name)) }
     {
         let mut written = Vec::new(self.alloc);

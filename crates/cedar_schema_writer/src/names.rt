@@ -26,7 +26,8 @@ fn clone_path(alloc: Global, path: &[Id]) -> M<Vec<Id>>
 
 /// The namespace that a name stands in: its path, as a name. None is the empty namespace.
 pub(crate) fn namespace_of(alloc: Global, name: &Name) -> M<Option<Name>>
-    ensures { IfOk result (λ namespace. IsPathOf (plain_namespace namespace) (plain_name name.now).path) }
+    ensures { IfOk result (λ namespace.
+        IsPathOf (plain_namespace namespace) (plain_name name.now).path) }
 {
     match name.path() {
         [] => Ok(None),
@@ -49,7 +50,8 @@ pub(crate) fn base_id(alloc: Global, name: &Name) -> M<UnreservedId>
 
 /// The name of an entity type with the base name of another, in a namespace.
 pub(crate) fn within(alloc: Global, namespace: &Name, name: &Name) -> M<EntityType>
-    ensures { IfOk result (λ ty. type_name ty ≡ name_within (Some (plain_name namespace.now)) (plain_name name.now).base) }
+    ensures { IfOk result (λ ty. type_name ty
+        ≡ name_within (Some (plain_name namespace.now)) (plain_name name.now).base) }
 {
     let mut path = clone_path(alloc, namespace.path())?;
     path.push(namespace.basename().clone()?)?;

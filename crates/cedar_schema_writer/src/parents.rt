@@ -37,9 +37,12 @@ pub(crate) trait WrittenKey<P>: Ord {
     /// The key in full, as it is written in the namespace.
     fn write(&self, known: &Known, namespace: &Option<Name>) -> Result<P, WriteBackFault>
         ensures name { IfOk result (λ parent. written parent ≡ named self.now) }
-        ensures no_other { OnOk result (IsUnambiguous (known_names known.now) (plain_namespace namespace.now) (named self.now)) }
+        ensures no_other { OnOk result
+            (IsUnambiguous (known_names known.now) (plain_namespace namespace.now)
+            (named self.now)) }
         ensures refusal { IfErr result (Refuses
-            (¬ IsUnambiguous (known_names known.now) (plain_namespace namespace.now) (named self.now))) };
+            (¬ IsUnambiguous (known_names known.now) (plain_namespace namespace.now)
+            (named self.now))) };
 }
 
 impl WrittenKey<RawName> for EntityType {
@@ -80,10 +83,12 @@ fn write_keys<K: WrittenKey<P>, P: Drop>(
     namespace: &Option<Name>,
     keys: &BTreeSet<K>,
 ) -> Result<Vec<P>, WriteBackFault>
-    ensures names { IfOk result (λ parents. map K.written parents.items ≡ map K.named keys.now.keys) }
+    ensures names { IfOk result (λ parents.
+        map K.written parents.items ≡ map K.named keys.now.keys) }
     ensures no_other { OnOk result ((name : K.Named) → Contains (map K.named keys.now.keys) name
         → K.IsUnambiguous (known_names known.now) (plain_namespace namespace.now) name) }
-    ensures refusal { IfErr result (Refuses ((name : K.Named) × Contains (map K.named keys.now.keys) name
+    ensures refusal { IfErr result
+        (Refuses ((name : K.Named) × Contains (map K.named keys.now.keys) name
         × ¬ K.IsUnambiguous (known_names known.now) (plain_namespace namespace.now) name)) }
 {
     let mut parents = Vec::new(known.alloc);
@@ -100,11 +105,14 @@ pub(crate) fn write_parents<K: WrittenKey<P>, P: Drop>(
     uppers: &Uppers<K>,
     lower: &K,
 ) -> Result<Vec<P>, WriteBackFault>
-    ensures names { IfOk result (λ parents. (upper : K.Named) → Contains (map K.written parents.items) upper
+    ensures names { IfOk result (λ parents.
+        (upper : K.Named) → Contains (map K.written parents.items) upper
         ↔ IsUpper K.cmp K.named uppers.now lower.now upper) }
-    ensures no_other { OnOk result ((upper : K.Named) → IsUpper K.cmp K.named uppers.now lower.now upper
+    ensures no_other { OnOk result
+        ((upper : K.Named) → IsUpper K.cmp K.named uppers.now lower.now upper
         → K.IsUnambiguous (known_names known.now) (plain_namespace namespace.now) upper) }
-    ensures refusal { IfErr result (Refuses ((upper : K.Named) × IsUpper K.cmp K.named uppers.now lower.now upper
+    ensures refusal { IfErr result
+        (Refuses ((upper : K.Named) × IsUpper K.cmp K.named uppers.now lower.now upper
         × ¬ K.IsUnambiguous (known_names known.now) (plain_namespace namespace.now) upper)) }
 {
     match uppers.get(lower) {

@@ -28,14 +28,16 @@ use std::collections::BTreeMap;
 
 /// A type variant as a type, without a location.
 pub(crate) fn plain(ty: TypeVariant<RawName>) -> json_schema::Type<RawName>
-    ensures { (namespace : Option PlainName) → raw_expr namespace result ≡ raw_variant namespace ty }
+    ensures { (namespace : Option PlainName)
+        → raw_expr namespace result ≡ raw_variant namespace ty }
 {
     json_schema::Type::Plain { ty, loc: None }
 }
 
 /// An attribute of a type that is elaborated.
 fn flag_and_expr(ty: TypeVariant<RawName>, required: bool) -> TypeOfAttribute<RawName>
-    ensures { (namespace : Option PlainName) → raw_attribute namespace result ≡ (required, raw_variant namespace ty) }
+    ensures { (namespace : Option PlainName)
+        → raw_attribute namespace result ≡ (required, raw_variant namespace ty) }
 {
     TypeOfAttribute {
         ty: plain(ty),
@@ -74,10 +76,14 @@ fn write_kind(
     namespace: &Option<Name>,
     kind: &EntityKind,
 ) -> Result<TypeVariant<RawName>, WriteBackFault>
-    ensures written { IfOk result (λ variant. type_written (plain_namespace namespace.now) (kind_ty kind.now)
+    ensures written { IfOk result (λ variant.
+        type_written (plain_namespace namespace.now) (kind_ty kind.now)
         ≡ Some (raw_variant (plain_namespace namespace.now) variant)) }
-    ensures sound { OnOk result (IsSoundType (known_names known.now) (plain_namespace namespace.now) (kind_ty kind.now)) }
-    ensures refusal { IfErr result (Refuses (¬ IsSoundType (known_names known.now) (plain_namespace namespace.now) (kind_ty kind.now))) }
+    ensures sound { OnOk result (IsSoundType (known_names known.now) (plain_namespace namespace.now)
+        (kind_ty kind.now)) }
+    ensures refusal { IfErr result
+        (Refuses (¬ IsSoundType (known_names known.now) (plain_namespace namespace.now)
+        (kind_ty kind.now))) }
 {
     let EntityKind::Entity(union) = kind else {
         return Err(WriteBackFault::Unwritable);
@@ -93,7 +99,8 @@ fn write_kind(
 /// An extension type, whose name has no path.
 fn write_extension(alloc: Global, name: &Name) -> Result<TypeVariant<RawName>, WriteBackFault>
     ensures written { IfOk result (λ variant. (namespace : Option PlainName)
-        → type_written namespace (extension_of (plain_name name.now)) ≡ Some (raw_variant namespace variant)) }
+        → type_written namespace (extension_of (plain_name name.now))
+        ≡ Some (raw_variant namespace variant)) }
     ensures refusal { IfErr result (Refuses ((namespace : Option PlainName)
         → type_written namespace (extension_of (plain_name name.now)) ≡ None)) }
 {
@@ -112,10 +119,14 @@ pub(crate) fn to_json_type(
     namespace: &Option<Name>,
     ty: &Type,
 ) -> Result<TypeVariant<RawName>, WriteBackFault>
-    ensures written { IfOk result (λ variant. type_written (plain_namespace namespace.now) (ty_of ty.now)
+    ensures written { IfOk result (λ variant.
+        type_written (plain_namespace namespace.now) (ty_of ty.now)
         ≡ Some (raw_variant (plain_namespace namespace.now) variant)) }
-    ensures sound { OnOk result (IsSoundType (known_names known.now) (plain_namespace namespace.now) (ty_of ty.now)) }
-    ensures refusal { IfErr result (Refuses (¬ IsSoundType (known_names known.now) (plain_namespace namespace.now) (ty_of ty.now))) }
+    ensures sound { OnOk result (IsSoundType (known_names known.now) (plain_namespace namespace.now)
+        (ty_of ty.now)) }
+    ensures refusal { IfErr result
+        (Refuses (¬ IsSoundType (known_names known.now) (plain_namespace namespace.now)
+        (ty_of ty.now))) }
 {
     match ty {
         Type::Bool(BoolType::AnyBool) => Ok(TypeVariant::Boolean),
@@ -142,11 +153,13 @@ pub(crate) fn write_record(
     attrs: &Attributes,
 ) -> Result<TypeVariant<RawName>, WriteBackFault>
     ensures written { IfOk result (λ variant.
-        type_written (plain_namespace namespace.now) (record_of (fields_of attrs.now) openness.ClosedAttributes)
+        type_written (plain_namespace namespace.now)
+        (record_of (fields_of attrs.now) openness.ClosedAttributes)
         ≡ Some (raw_variant (plain_namespace namespace.now) variant)) }
     ensures sound { OnOk result (IsSoundType (known_names known.now) (plain_namespace namespace.now)
         (record_of (fields_of attrs.now) openness.ClosedAttributes)) }
-    ensures refusal { IfErr result (Refuses (¬ IsSoundType (known_names known.now) (plain_namespace namespace.now)
+    ensures refusal { IfErr result
+        (Refuses (¬ IsSoundType (known_names known.now) (plain_namespace namespace.now)
         (record_of (fields_of attrs.now) openness.ClosedAttributes))) }
 {
     let mut attributes = BTreeMap::new(known.alloc);

@@ -5,8 +5,9 @@ use Rattle.cedar_type_rules.specs.Below.{HasField}
 use Rattle.cedar_type_rules.specs.Ty.{Ty, any_entity, union_of, set_of, record_of, Fields, end, field}
 
 abbrev mutual
-  -- two types agree: at each place that both have, two records have the same names and flags, and two entities are of
-  -- the same kind; nothing is compared with `Never` as the lower or with the any-set as the upper
+  -- two types agree: at each place that both have, two records have the same names and flags, and
+  -- two entities are of the same kind; nothing is compared with `Never` as the lower or with the
+  -- any-set as the upper
   pub Agree : Ty → Ty → Type 0
   Agree any_entity any_entity = Unit {0}
   Agree any_entity (union_of upper) = ⊥
@@ -23,5 +24,6 @@ abbrev mutual
   pub FieldsAgree : Fields → Fields → Type 0
   FieldsAgree lower end = Unit {0}
   FieldsAgree lower (field name required ty upper) =
-      ((own_required : Bool) (own : Ty) → HasField lower name own_required own → (own_required ≡ required) × Agree own ty)
+      ((own_required : Bool) (own : Ty) → HasField lower name own_required own
+      → (own_required ≡ required) × Agree own ty)
       × FieldsAgree lower upper

@@ -15,7 +15,8 @@ HasField end name required ty = ⊥
 HasField (field other flag of rest) name required ty =
     ((other ≡ name) × (flag ≡ required) × (of ≡ ty)) ⊎ HasField rest name required ty
 
--- the flags of an attribute: they are equal in strict mode, and in permissive mode the lower requires what the upper does
+-- the flags of an attribute: they are equal in strict mode, and in permissive mode the lower
+-- requires what the upper does
 abbrev pub FlagsBelow : ValidationMode → Bool → Bool → Type 0
 FlagsBelow Strict lower upper = lower ≡ upper
 FlagsBelow Permissive lower upper = IsTrue upper → IsTrue lower
@@ -31,10 +32,10 @@ NamesBelow Permissive OpenAttributes lower upper = Unit {0}
 NamesBelow _ _ lower upper = Included (field_names lower) (field_names upper)
 
 abbrev mutual
-  -- one type is below another: `Never` below all, a truth value below any, a set below a set of more and below the
-  -- any-set, a record below one of which it has each attribute, with a type below and a flag that fits, and no further
-  -- name but where that one is open and the mode permissive, an entity below a union with its types, and each type
-  -- below itself
+  -- one type is below another: `Never` below all, a truth value below any, a set below a set of
+  -- more and below the any-set, a record below one of which it has each attribute, with a type
+  -- below and a flag that fits, and no further name but where that one is open and the mode
+  -- permissive, an entity below a union with its types, and each type below itself
   pub Below : ValidationMode → Ty → Ty → Type 0
   Below mode never upper = Unit {0}
   Below mode (truth lower) (truth upper) = (upper ≡ AnyBool) ⊎ (lower ≡ upper)
@@ -48,7 +49,8 @@ abbrev mutual
   Below mode (set_of lower) any_set = Unit {0}
   Below mode (set_of lower) (set_of upper) = Below mode lower upper
   Below mode (record_of lower openness) (record_of upper upper_openness) =
-      OpennessBelow openness upper_openness × NamesBelow mode upper_openness lower upper × FieldsBelow mode lower upper
+      OpennessBelow openness upper_openness × NamesBelow mode upper_openness lower upper
+      × FieldsBelow mode lower upper
   Below mode (extension_of lower) (extension_of upper) = lower ≡ upper
   Below _ _ _ = ⊥
 

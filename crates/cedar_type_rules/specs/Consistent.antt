@@ -12,14 +12,16 @@ HasCoreField core_end name required core = ⊥
 HasCoreField (core_field other flag of rest) name required core =
     ((other ≡ name) × (flag ≡ required) × (of ≡ core)) ⊎ HasCoreField rest name required core
 
--- each attribute that isn't among the names is optional, or attributes beyond the names are admitted
+-- each attribute that isn't among the names is optional, or attributes beyond the names are
+-- admitted
 abbrev pub AreOptionalBeyond : (Text → Bool → Type 0) → List Text → Type 0 → Type 0
 AreOptionalBeyond HasFlag names IsOpen =
-    (name : Text) (required : Bool) → HasFlag name required → ¬ Contains names name → (required ≡ false) ⊎ IsOpen
+    (name : Text) (required : Bool) → HasFlag name required → ¬ Contains names name
+    → (required ≡ false) ⊎ IsOpen
 
 abbrev mutual
-  -- a type is consistent with a core type: they are of one kind, sets and records have consistent parts, and a record
-  -- lacks no required attribute of the other, but where it is open
+  -- a type is consistent with a core type: they are of one kind, sets and records have consistent
+  -- parts, and a record lacks no required attribute of the other, but where it is open
   pub IsConsistent : Ty → CoreTy → Type 0
   IsConsistent (truth known) core_truth = Unit {0}
   IsConsistent long core_long = Unit {0}
@@ -32,8 +34,10 @@ abbrev mutual
   IsConsistent (extension_of own) (core_extension name) = own ≡ name
   IsConsistent (record_of fields openness) (core_record core open_attrs) =
       FieldsAreConsistent fields core
-      × AreOptionalBeyond (λ name required. (ty : Ty) × HasField fields name required ty) (core_names core) (open_attrs ≡ true)
-      × AreOptionalBeyond (λ name required. (of : CoreTy) × HasCoreField core name required of) (field_names fields)
+      × AreOptionalBeyond (λ name required.
+      (ty : Ty) × HasField fields name required ty) (core_names core) (open_attrs ≡ true)
+      × AreOptionalBeyond (λ name required.
+      (of : CoreTy) × HasCoreField core name required of) (field_names fields)
       (openness ≡ OpenAttributes)
   IsConsistent _ _ = ⊥
 
@@ -41,4 +45,5 @@ abbrev mutual
   pub FieldsAreConsistent : Fields → CoreFields → Type 0
   FieldsAreConsistent end core = Unit {0}
   FieldsAreConsistent (field name required ty rest) core =
-      ((flag : Bool) (of : CoreTy) → HasCoreField core name flag of → IsConsistent ty of) × FieldsAreConsistent rest core
+      ((flag : Bool) (of : CoreTy) → HasCoreField core name flag of → IsConsistent ty of)
+      × FieldsAreConsistent rest core

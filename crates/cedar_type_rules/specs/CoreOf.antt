@@ -17,14 +17,16 @@ abbrev mutual
   core_of (union_of names) = option_map core_entity (only_name names)
   core_of any_set = Some core_empty_set
   core_of (set_of ty) = option_map core_set (core_of ty)
-  core_of (record_of fields openness) = option_map (λ core. core_record core (is_open openness)) (core_fields fields)
+  core_of (record_of fields openness) =
+      option_map (λ core. core_record core (is_open openness)) (core_fields fields)
   core_of (extension_of name) = Some (core_extension name)
 
   -- the attributes with the core types of their types, if each has one
   pub core_fields : Fields → Option CoreFields
   core_fields end = Some core_end
   core_fields (field name required ty rest) =
-      option_map (λ both. core_field name required both.0 both.1) (option_zip (core_of ty) (core_fields rest))
+      option_map (λ both. core_field name required both.0 both.1)
+      (option_zip (core_of ty) (core_fields rest))
 
 -- types that have no core type: `Never`, any entity, and a union of other than one entity type
 abbrev pub LacksCore : Ty → Type 0

@@ -13,4 +13,5 @@ AreDisjoint names others = (name : PlainName) → Contains names name → ¬ Con
 
 -- the names of the last list are those that stand in one of the first two
 abbrev pub IsUnionOf : List PlainName → List PlainName → List PlainName → Type 0
-IsUnionOf names others all = (name : PlainName) → Contains all name ↔ (Contains names name ⊎ Contains others name)
+IsUnionOf names others all = (name : PlainName)
+    → Contains all name ↔ (Contains names name ⊎ Contains others name)

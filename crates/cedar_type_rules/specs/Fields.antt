@@ -18,6 +18,9 @@ IsSortedByName fields = IsStrictlySortedBy text_cmp (field_names fields)
 abbrev pub HoldsLast : List (Text × (Bool × Ty)) → Fields → Type 0
 HoldsLast items fields = (name : Text) → field_at name fields ≡ last_named name items
 
--- the record type of some pairs: its attributes are the last of each name, in order, and it has the openness
+-- the record type of some pairs: its attributes are the last of each name, in order, and it has the
+-- openness
 abbrev pub IsRecordOf : List (Text × (Bool × Ty)) → OpenTag → Ty → Type 0
-IsRecordOf items openness ty = (fields : Fields) × (ty ≡ record_of fields openness) × HoldsLast items fields × IsSortedByName fields
+IsRecordOf items openness ty =
+    (fields : Fields) × (ty ≡ record_of fields openness) × HoldsLast items fields
+    × IsSortedByName fields

@@ -32,15 +32,18 @@ abbrev mutual
   HasBy calls (set_value values) any_set = Unit {0}
   HasBy calls (set_value values) (set_of ty) = EachTree (λ value. HasBy calls value ty) values
   HasBy calls (map_value values) (record_of fields openness) =
-      NamesListed (is_open openness) (entry_names values) (field_names fields) × HasFieldsBy calls values fields
+      NamesListed (is_open openness) (entry_names values) (field_names fields)
+      × HasFieldsBy calls values fields
   HasBy calls (call_value function args) (extension_of name) = calls function args name
   HasBy _ _ _ = ⊥
 
-  -- the listed attributes have their types where they are there, and those that are required are there
+  -- the listed attributes have their types where they are there, and those that are required are
+  -- there
   pub HasFieldsBy : (PlainName → Trees → PlainName → Type 0) → Entries → Fields → Type 0
   HasFieldsBy calls values end = Unit {0}
   HasFieldsBy calls values (field name required ty rest) =
-      EntryFits (λ value. HasBy calls value ty) required (entry_at name values) × HasFieldsBy calls values rest
+      EntryFits (λ value. HasBy calls value ty) required (entry_at name values)
+      × HasFieldsBy calls values rest
 
 -- a value has a type: a call has the extension type that its function returns, if its arguments fit
 abbrev pub Has : Extensions → Tree → Ty → Type 0
@@ -48,7 +51,8 @@ Has extensions = HasBy (Gives extensions)
 
 -- a call gives a value of an extension type, or no function has its name
 abbrev pub MayGive : Extensions → PlainName → Trees → PlainName → Type 0
-MayGive extensions function args name = Gives extensions function args name ⊎ IsUnknown extensions function
+MayGive extensions function args name =
+    Gives extensions function args name ⊎ IsUnknown extensions function
 
 -- a value has a type, if each call of an unknown function is given every extension type
 abbrev pub MayHave : Extensions → Tree → Ty → Type 0
@@ -60,15 +64,20 @@ SomeEntry P None = ⊥
 SomeEntry P (Some value) = P value
 
 abbrev mutual
-  -- a value meets an unknown function at a type: a call of it stands where an extension type is asked for
+  -- a value meets an unknown function at a type: a call of it stands where an extension type is
+  -- asked for
   pub Meets : Extensions → PlainName → Tree → Ty → Type 0
-  Meets extensions unknown (call_value function args) (extension_of name) = (function ≡ unknown) × IsUnknown extensions unknown
-  Meets extensions unknown (set_value values) (set_of ty) = SomeTree (λ value. Meets extensions unknown value ty) values
-  Meets extensions unknown (map_value values) (record_of fields openness) = FieldsMeet extensions unknown values fields
+  Meets extensions unknown (call_value function args) (extension_of name) =
+      (function ≡ unknown) × IsUnknown extensions unknown
+  Meets extensions unknown (set_value values) (set_of ty) =
+      SomeTree (λ value. Meets extensions unknown value ty) values
+  Meets extensions unknown (map_value values) (record_of fields openness) =
+      FieldsMeet extensions unknown values fields
   Meets _ _ _ _ = ⊥
 
   -- the value of a listed attribute meets an unknown function at the attribute's type
   pub FieldsMeet : Extensions → PlainName → Entries → Fields → Type 0
   FieldsMeet extensions unknown values end = ⊥
   FieldsMeet extensions unknown values (field name required ty rest) =
-      SomeEntry (λ value. Meets extensions unknown value ty) (entry_at name values) ⊎ FieldsMeet extensions unknown values rest
+      SomeEntry (λ value. Meets extensions unknown value ty) (entry_at name values)
+      ⊎ FieldsMeet extensions unknown values rest

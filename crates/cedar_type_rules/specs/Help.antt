@@ -18,8 +18,8 @@ abbrev pub IsFlagHelp : Bool × Ty → Bool × Ty → LubHelp → Type 0
 IsFlagHelp a b given = HaveOwnBound Strict a.1 b.1 × (a.0 ≢ b.0) × (given ≡ help.AttributeQualifier)
 
 abbrev mutual
-  -- a help may be given for two types: that for an entity and a record, in strict mode those for two entities and for
-  -- two records, for two sets one for their elements, and else none
+  -- a help may be given for two types: that for an entity and a record, in strict mode those for
+  -- two entities and for two records, for two sets one for their elements, and else none
   pub IsHelp : ValidationMode → Ty → Ty → LubHelp → Type 0
   IsHelp mode any_entity (record_of b openness) given = given ≡ help.EntityRecord
   IsHelp mode (union_of a) (record_of b openness) given = given ≡ help.EntityRecord
@@ -34,11 +34,13 @@ abbrev mutual
   IsHelp mode (set_of a) (set_of b) given = IsHelp mode a b given
   IsHelp mode a b given = given ≡ help.None
 
-  -- a help is found at a name of the one record: the other lacks it, or the flags differ, or the types don't join
+  -- a help is found at a name of the one record: the other lacks it, or the flags differ, or the
+  -- types don't join
   pub IsHelpAtName : Fields → Fields → LubHelp → Type 0
   IsHelpAtName end b given = ⊥
   IsHelpAtName (field name required ty rest) b given =
       IsWidthHelp b name given
       ⊎ ((flag : Bool) × (of : Ty) × HasField b name flag of
-      × (IsFlagHelp (required, ty) (flag, of) given ⊎ (¬ HaveOwnBound Strict ty of × IsHelp Strict ty of given)))
+      × (IsFlagHelp (required, ty) (flag, of) given
+      ⊎ (¬ HaveOwnBound Strict ty of × IsHelp Strict ty of given)))
       ⊎ IsHelpAtName rest b given

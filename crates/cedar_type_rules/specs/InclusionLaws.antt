@@ -13,11 +13,12 @@ use Rattle.cedar_type_rules.specs.WellFormed.{IsWellFormed}
 
 -- each value of the one type is a value of the other
 abbrev pub ValuesIncluded : Extensions → Ty → Ty → Type 0
-ValuesIncluded extensions lower upper = (value : Tree) → IsValue value → Has extensions value lower → Has extensions value upper
+ValuesIncluded extensions lower upper = (value : Tree) → IsValue value → Has extensions value lower
+    → Has extensions value upper
 
 abbrev mutual
-  -- the lower type lists the upper's names: at each place that both have, each name of the upper record is one of the
-  -- lower record
+  -- the lower type lists the upper's names: at each place that both have, each name of the upper
+  -- record is one of the lower record
   pub ListsNames : Ty → Ty → Type 0
   ListsNames (set_of lower) (set_of upper) = ListsNames lower upper
   ListsNames (record_of lower openness) (record_of upper upper_openness) =
@@ -37,8 +38,8 @@ SubtypingIsInclusionOf a b =
     (extensions : Extensions) → IsStated extensions a → IsStated extensions b
     → Below Permissive a b ↔ ValuesIncluded extensions a b
 
--- of two types, if they are inhabited throughout, permissive subtyping is inclusion of values where the lower type lists
--- the upper's names
+-- of two types, if they are inhabited throughout, permissive subtyping is inclusion of values where
+-- the lower type lists the upper's names
 abbrev pub SubtypingIsInclusionAndNamesOf : Ty → Ty → Type 0
 SubtypingIsInclusionAndNamesOf a b =
     (extensions : Extensions) → IsInhabited extensions a → IsInhabited extensions b
@@ -48,6 +49,8 @@ SubtypingIsInclusionAndNamesOf a b =
 abbrev pub SubtypingIsInclusion : Type 0
 SubtypingIsInclusion = (a b : Ty) → IsWellFormed a → IsWellFormed b → SubtypingIsInclusionOf a b
 
--- with optional attributes too, it is inclusion of values where the lower type lists the upper's names
+-- with optional attributes too, it is inclusion of values where the lower type lists the upper's
+-- names
 abbrev pub SubtypingIsInclusionAndNames : Type 0
-SubtypingIsInclusionAndNames = (a b : Ty) → IsWellFormed a → IsWellFormed b → SubtypingIsInclusionAndNamesOf a b
+SubtypingIsInclusionAndNames = (a b : Ty) → IsWellFormed a → IsWellFormed b
+    → SubtypingIsInclusionAndNamesOf a b

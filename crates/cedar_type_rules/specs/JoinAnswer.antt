@@ -23,16 +23,18 @@ abbrev pub IsJoinAnswer : ValidationMode → Ty → Ty → JoinAnswer → Type 0
 IsJoinAnswer mode a b (Ok join) = IsLeastOwnBound mode a b join
 IsJoinAnswer mode a b (Err given) = ¬ HaveOwnBound mode a b × IsHelp mode a b given
 
--- types are folded by joins from a start, each join well formed: to what the last one gives, or to the help of the
--- first that is refused
+-- types are folded by joins from a start, each join well formed: to what the last one gives, or to
+-- the help of the first that is refused
 abbrev pub IsReduceAnswer : ValidationMode → Ty → List Ty → JoinAnswer → Type 0
 IsReduceAnswer mode start [] answer = answer ≡ Ok start
 IsReduceAnswer mode start (ty ∷ rest) answer =
-    ((join : Ty) × IsJoinAnswer mode start ty (Ok join) × IsWellFormed join × IsReduceAnswer mode join rest answer)
+    ((join : Ty) × IsJoinAnswer mode start ty (Ok join) × IsWellFormed join
+    × IsReduceAnswer mode join rest answer)
     ⊎ ((given : LubHelp) × IsJoinAnswer mode start ty (Err given) × (answer ≡ Err given))
 
 -- the answer of a call is right, by what its value stands for, or it is that memory ran out
-abbrev pub IsAnswerOrMemory : {A : Type 0} → (A → Ty) → (JoinAnswer → Type 0) → Result A JoinError → Type 0
+abbrev pub IsAnswerOrMemory : {A : Type 0} → (A → Ty) → (JoinAnswer → Type 0) → Result A JoinError
+    → Type 0
 IsAnswerOrMemory stands_for IsAnswer (Ok value) = IsAnswer (Ok (stands_for value))
 IsAnswerOrMemory stands_for IsAnswer (Err (error.Help given)) = IsAnswer (Err given)
 IsAnswerOrMemory stands_for IsAnswer (Err error.Memory) = Unit {0}

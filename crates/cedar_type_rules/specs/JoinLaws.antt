@@ -12,14 +12,17 @@ use Rattle.cedar_type_rules.specs.WellFormed.{IsWellFormed}
 -- every clean bound of two types is an own bound
 abbrev pub CleanBoundsAreOwn : Type 0
 CleanBoundsAreOwn =
-    (mode : ValidationMode) (a b bound : Ty) → IsCleanBound mode (a ∷ b ∷ []) bound → IsOwnBound mode a b bound
+    (mode : ValidationMode) (a b bound : Ty) → IsCleanBound mode (a ∷ b ∷ []) bound
+    → IsOwnBound mode a b bound
 
 -- every own bound of two clean types is clean
 abbrev pub OwnBoundsOfCleanAreClean : Type 0
 OwnBoundsOfCleanAreClean =
-    (mode : ValidationMode) (a b bound : Ty) → IsClean a → IsClean b → IsOwnBound mode a b bound → IsClean bound
+    (mode : ValidationMode) (a b bound : Ty) → IsClean a → IsClean b → IsOwnBound mode a b bound
+    → IsClean bound
 
--- any two well-formed types have an answer: a well-formed least own bound, or a help where there is no own bound
+-- any two well-formed types have an answer: a well-formed least own bound, or a help where there is
+-- no own bound
 abbrev pub JoinsAreAnswered : Type 0
 JoinsAreAnswered =
     (mode : ValidationMode) (a b : Ty) → IsWellFormed a → IsWellFormed b
@@ -40,19 +43,23 @@ JoinsAreUnique =
 -- where one type is below the other, the upper is the join
 abbrev pub UpperTypesAreJoins : Type 0
 UpperTypesAreJoins =
-    (mode : ValidationMode) (a b : Ty) → Below mode a b → IsLeastOwnBound mode a b b × IsLeastOwnBound mode b a b
+    (mode : ValidationMode) (a b : Ty) → Below mode a b
+    → IsLeastOwnBound mode a b b × IsLeastOwnBound mode b a b
 
--- a join is above both types and below each of their clean bounds, and is refused only where they have none
+-- a join is above both types and below each of their clean bounds, and is refused only where they
+-- have none
 abbrev pub JoinsAreBelowCleanBounds : Type 0
 JoinsAreBelowCleanBounds =
     (mode : ValidationMode) (a b : Ty) (answer : JoinAnswer) → IsJoinAnswer mode a b answer
     → IfOk answer (λ join. Below mode a join × Below mode b join)
-    × ((bound : Ty) → IsCleanBound mode (a ∷ b ∷ []) bound → IsOkAnd answer (λ join. Below mode join bound))
+    × ((bound : Ty) → IsCleanBound mode (a ∷ b ∷ []) bound
+    → IsOkAnd answer (λ join. Below mode join bound))
 
 -- the join of clean types is their least clean bound, and is refused only where they have none
 abbrev pub JoinsOfCleanAreLeastClean : Type 0
 JoinsOfCleanAreLeastClean =
-    (mode : ValidationMode) (a b : Ty) (answer : JoinAnswer) → IsClean a → IsClean b → IsJoinAnswer mode a b answer
+    (mode : ValidationMode) (a b : Ty) (answer : JoinAnswer) → IsClean a → IsClean b
+    → IsJoinAnswer mode a b answer
     → IsLeastAnswer mode (IsCleanBound mode (a ∷ b ∷ [])) answer
 
 -- two types swapped have the same own bounds, and so the same joins

@@ -15,5 +15,6 @@ help_text help.EntityRecord = codes "EntityRecord"
 
 -- why a join has no answer, as it is printed: with its help
 abbrev pub join_error_text : JoinError → Text
-join_error_text (error.Help it) = codes "the types have no least upper bound (help: " ++ (help_text it ++ codes ")")
+join_error_text (error.Help it) =
+    codes "the types have no least upper bound (help: " ++ (help_text it ++ codes ")")
 join_error_text error.Memory = codes "out of memory"

@@ -32,7 +32,8 @@ openness_cmp ClosedAttributes ClosedAttributes = Equal
 abbrev pub union_cmp : List PlainName → List PlainName → Ordering
 union_cmp = slice_cmp name_cmp
 
--- the place of a type's kind: `Never`, truth values, whole numbers, texts, entities, sets, records, extension types
+-- the place of a type's kind: `Never`, truth values, whole numbers, texts, entities, sets, records,
+-- extension types
 abbrev pub kind_rank : Ty → ℕ
 kind_rank never = 0
 kind_rank (truth known) = 1
@@ -46,8 +47,8 @@ kind_rank (record_of fields openness) = 6
 kind_rank (extension_of name) = 7
 
 abbrev mutual
-  -- the order of types: by kind; any entity is below a union, and the any-set below a set of a type; records go by their
-  -- attributes and then by openness, and all else by its part
+  -- the order of types: by kind; any entity is below a union, and the any-set below a set of a
+  -- type; records go by their attributes and then by openness, and all else by its part
   pub ty_cmp : Ty → Ty → Ordering
   ty_cmp (truth a) (truth b) = truth_cmp a b
   ty_cmp any_entity (union_of b) = Less
@@ -56,19 +57,21 @@ abbrev mutual
   ty_cmp any_set (set_of b) = Less
   ty_cmp (set_of a) any_set = Greater
   ty_cmp (set_of a) (set_of b) = ty_cmp a b
-  ty_cmp (record_of a openness) (record_of b other_openness) = ordering_then (fields_cmp a b) (openness_cmp openness other_openness)
+  ty_cmp (record_of a openness) (record_of b other_openness) =
+      ordering_then (fields_cmp a b) (openness_cmp openness other_openness)
   ty_cmp (extension_of a) (extension_of b) = name_cmp a b
   ty_cmp a b = nat_cmp (kind_rank a) (kind_rank b)
 
-  -- the order of attributes: in turn, each by its name, its type and its flag; what may be missing is below what is
-  -- required, and what ends first is below
+  -- the order of attributes: in turn, each by its name, its type and its flag; what may be missing
+  -- is below what is required, and what ends first is below
   pub fields_cmp : Fields → Fields → Ordering
   fields_cmp end end = Equal
   fields_cmp end (field name required ty rest) = Less
   fields_cmp (field name required ty rest) end = Greater
   fields_cmp (field a required ty rest) (field b other_required other_ty other_rest) =
       ordering_then
-      (ordering_then (text_cmp a b) (ordering_then (ty_cmp ty other_ty) (bool_cmp required other_required)))
+      (ordering_then (text_cmp a b) (ordering_then (ty_cmp ty other_ty)
+      (bool_cmp required other_required)))
       (fields_cmp rest other_rest)
 
 -- the order of one attribute: by its type, and then by its flag

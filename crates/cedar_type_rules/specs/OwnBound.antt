@@ -13,11 +13,13 @@ IsElementOf Among ty = Among (set_of ty)
 -- a type of a name in some types is that of an attribute of that name of a record among them
 abbrev pub IsNamedIn : (Ty → Type 0) → Text → Ty → Type 0
 IsNamedIn Among name ty =
-    (fields : Fields) × (openness : OpenTag) × (required : Bool) × Among (record_of fields openness) × HasField fields name required ty
+    (fields : Fields) × (openness : OpenTag) × (required : Bool) × Among (record_of fields openness)
+    × HasField fields name required ty
 
 abbrev mutual
-  -- a type lies within some types: the any-set if it is among them, a set if its element type lies within their element
-  -- types, a record if the type of each attribute lies within their types of its name, and every other type
+  -- a type lies within some types: the any-set if it is among them, a set if its element type lies
+  -- within their element types, a record if the type of each attribute lies within their types of
+  -- its name, and every other type
   pub LiesWithin : (Ty → Type 0) → Ty → Type 0
   LiesWithin Among any_set = Among any_set
   LiesWithin Among (set_of ty) = LiesWithin (IsElementOf Among) ty

@@ -20,15 +20,18 @@ ReductionsAreAnswered =
 -- what types are reduced to is well formed
 abbrev pub ReductionsAreWellFormed : Type 0
 ReductionsAreWellFormed =
-    (mode : ValidationMode) (tys : List Ty) (answer : JoinAnswer) → IsReduceAnswer mode never tys answer → IfOk answer IsWellFormed
+    (mode : ValidationMode) (tys : List Ty) (answer : JoinAnswer)
+    → IsReduceAnswer mode never tys answer → IfOk answer IsWellFormed
 
 -- where types are reduced to a type, this is their only answer
 abbrev pub ReductionsAreUnique : Type 0
 ReductionsAreUnique =
     (mode : ValidationMode) (tys : List Ty) (join : Ty) (answer : JoinAnswer)
-    → IsReduceAnswer mode never tys (Ok join) → IsReduceAnswer mode never tys answer → answer ≡ Ok join
+    → IsReduceAnswer mode never tys (Ok join) → IsReduceAnswer mode never tys answer
+    → answer ≡ Ok join
 
--- where some types are reduced to one that has no own bound with the next, all are reduced to a help for these two
+-- where some types are reduced to one that has no own bound with the next, all are reduced to a
+-- help for these two
 abbrev pub RefusalsAreOfTheFirst : Type 0
 RefusalsAreOfTheFirst =
     (mode : ValidationMode) (before after : List Ty) (join ty : Ty) (answer : JoinAnswer)
@@ -39,7 +42,8 @@ RefusalsAreOfTheFirst =
 -- no types at all are reduced to `Never`
 abbrev pub EmptyIsReducedToNever : Type 0
 EmptyIsReducedToNever =
-    (mode : ValidationMode) (answer : JoinAnswer) → IsReduceAnswer mode never [] answer → answer ≡ Ok never
+    (mode : ValidationMode) (answer : JoinAnswer) → IsReduceAnswer mode never [] answer
+    → answer ≡ Ok never
 
 -- clean types are reduced to their least clean bound, and are refused only where they have none
 abbrev pub CleanAreReducedToLeastClean : Type 0
@@ -52,4 +56,5 @@ abbrev pub CleanAreReducedInAnyOrder : Type 0
 CleanAreReducedInAnyOrder =
     (mode : ValidationMode) (tys others : List Ty) (join : Ty) (answer : JoinAnswer)
     → AllByRecursion IsClean tys → Included tys others → Included others tys
-    → IsReduceAnswer mode never tys (Ok join) → IsReduceAnswer mode never others answer → answer ≡ Ok join
+    → IsReduceAnswer mode never tys (Ok join) → IsReduceAnswer mode never others answer
+    → answer ≡ Ok join

@@ -6,18 +6,21 @@ use Rattle.cedar_type_rules.specs.Has.{Has}
 use Rattle.cedar_type_rules.specs.Ty.{Ty, never, set_of, record_of, extension_of, Fields, end, field}
 
 abbrev mutual
-  -- a type is inhabited throughout: no `Never` stands in it, and each extension type in it has a value
+  -- a type is inhabited throughout: no `Never` stands in it, and each extension type in it has a
+  -- value
   pub IsInhabited : Extensions → Ty → Type 0
   IsInhabited extensions never = ⊥
   IsInhabited extensions (set_of ty) = IsInhabited extensions ty
   IsInhabited extensions (record_of fields openness) = AreInhabited extensions fields
-  IsInhabited extensions (extension_of name) = (value : Tree) × IsValue value × Has extensions value (extension_of name)
+  IsInhabited extensions (extension_of name) =
+      (value : Tree) × IsValue value × Has extensions value (extension_of name)
   IsInhabited extensions _ = Unit {0}
 
   -- the type of each attribute is inhabited throughout
   pub AreInhabited : Extensions → Fields → Type 0
   AreInhabited extensions end = Unit {0}
-  AreInhabited extensions (field name required ty rest) = IsInhabited extensions ty × AreInhabited extensions rest
+  AreInhabited extensions (field name required ty rest) =
+      IsInhabited extensions ty × AreInhabited extensions rest
 
 abbrev mutual
   -- every attribute that stands in a type is required
@@ -29,7 +32,8 @@ abbrev mutual
   -- each attribute is required, and so is every one in its type
   pub FieldsRequireAll : Fields → Type 0
   FieldsRequireAll end = Unit {0}
-  FieldsRequireAll (field name required ty rest) = IsTrue required × RequiresAll ty × FieldsRequireAll rest
+  FieldsRequireAll (field name required ty rest) =
+      IsTrue required × RequiresAll ty × FieldsRequireAll rest
 
 -- a stated type has no `Never` in it, no optional attribute, and no extension type without a value
 abbrev pub IsStated : Extensions → Ty → Type 0
@@ -37,16 +41,19 @@ IsStated extensions ty = IsInhabited extensions ty × RequiresAll ty
 
 -- some sample of a list has a type
 abbrev pub IsSampled : Extensions → List Tree → Ty → Type 0
-IsSampled extensions samples ty = (sample : Tree) × Contains samples sample × Has extensions sample ty
+IsSampled extensions samples ty =
+    (sample : Tree) × Contains samples sample × Has extensions sample ty
 
 abbrev mutual
-  -- a type is stated with samples: no `Never` stands in it, each attribute in it is required, and each extension type in
-  -- it has one of the samples
+  -- a type is stated with samples: no `Never` stands in it, each attribute in it is required, and
+  -- each extension type in it has one of the samples
   pub IsStatedWith : Extensions → List Tree → Ty → Type 0
   IsStatedWith extensions samples never = ⊥
   IsStatedWith extensions samples (set_of ty) = IsStatedWith extensions samples ty
-  IsStatedWith extensions samples (record_of fields openness) = AreStatedWith extensions samples fields
-  IsStatedWith extensions samples (extension_of name) = IsSampled extensions samples (extension_of name)
+  IsStatedWith extensions samples (record_of fields openness) =
+      AreStatedWith extensions samples fields
+  IsStatedWith extensions samples (extension_of name) =
+      IsSampled extensions samples (extension_of name)
   IsStatedWith extensions samples _ = Unit {0}
 
   -- each attribute is required, and its type is stated with the samples

@@ -32,4 +32,5 @@ fields_from (item ∷ rest) = field item.0 item.1.0 item.1.1 (fields_from rest)
 -- the attribute of that name: whether it is required, and its type
 abbrev pub field_at : Text → Fields → Option (Bool × Ty)
 field_at name end = None
-field_at name (field other required ty rest) = if bytes_eq name other then Some (required, ty) else field_at name rest
+field_at name (field other required ty rest) =
+    if bytes_eq name other then Some (required, ty) else field_at name rest

@@ -38,10 +38,12 @@ abbrev mutual
   ty_text (union_of names) = union_text names
   ty_text any_set = codes "Set<__cedar::internal::Any>"
   ty_text (set_of ty) = codes "Set<" ++ ty_text ty ++ codes ">"
-  ty_text (record_of fields openness) = tag_text openness ++ codes "{" ++ fields_text fields ++ codes "}"
+  ty_text (record_of fields openness) =
+      tag_text openness ++ codes "{" ++ fields_text fields ++ codes "}"
   ty_text (extension_of name) = name_text name
 
   -- the attributes of a record as they are printed, each with a comma behind it
   pub fields_text : Fields → Text
   fields_text end = []
-  fields_text (field name required ty rest) = name ++ mark_text required ++ ty_text ty ++ codes "," ++ fields_text rest
+  fields_text (field name required ty rest) =
+      name ++ mark_text required ++ ty_text ty ++ codes "," ++ fields_text rest

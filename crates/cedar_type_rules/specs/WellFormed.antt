@@ -15,13 +15,14 @@ abbrev pub AreTexts : List Text → Type 0
 AreTexts names = (name : Text) → Contains names name → IsText name
 
 abbrev mutual
-  -- a plain type is well formed: in each union and in each record in it the names are sorted without duplicates, no
-  -- union is empty, the names of entity types and of extension types aren't reserved, and the names of attributes are
-  -- texts
+  -- a plain type is well formed: in each union and in each record in it the names are sorted
+  -- without duplicates, no union is empty, the names of entity types and of extension types aren't
+  -- reserved, and the names of attributes are texts
   pub IsWellFormed : Ty → Type 0
   IsWellFormed (union_of names) = (names ≢ []) × IsStrictlySortedBy name_cmp names × AreNames names
   IsWellFormed (set_of ty) = IsWellFormed ty
-  IsWellFormed (record_of fields openness) = IsSortedByName fields × AreWellFormed fields × AreTexts (field_names fields)
+  IsWellFormed (record_of fields openness) =
+      IsSortedByName fields × AreWellFormed fields × AreTexts (field_names fields)
   IsWellFormed (extension_of name) = IsName name
   IsWellFormed _ = Unit {0}
 

@@ -41,20 +41,24 @@ pub trait JoinOrder {
 
     ghost below_itself: { (mode : ValidationMode) (a : Self) → below mode a a };
 
-    ghost below_onwards: { (mode : ValidationMode) (a b c : Self) → below mode a b → below mode b c → below mode a c };
+    ghost below_onwards: { (mode : ValidationMode) (a b c : Self) → below mode a b → below mode b c
+        → below mode a c };
 
-    ghost below_both_ways: { (mode : ValidationMode) (a b : Self) → below mode a b → below mode b a → is_alike a b };
+    ghost below_both_ways: { (mode : ValidationMode) (a b : Self) → below mode a b → below mode b a
+        → is_alike a b };
 
     ghost join_is_above: { (mode : ValidationMode) (a b given : Self) → join mode a b (Ok given)
         → below mode a given × below mode b given };
 
-    ghost join_is_least: { (mode : ValidationMode) (a b given bound : Self) → join mode a b (Ok given)
+    ghost join_is_least: { (mode : ValidationMode) (a b given bound : Self)
+        → join mode a b (Ok given)
         → below mode a bound → below mode b bound → is_clean bound → below mode given bound };
 
     ghost join_is_clean: { (mode : ValidationMode) (a b given : Self) → join mode a b (Ok given)
         → is_clean a → is_clean b → is_clean given };
 
-    ghost refused_has_none: { (mode : ValidationMode) (a b bound : Self) (help : LubHelp) → join mode a b (Err help)
+    ghost refused_has_none: { (mode : ValidationMode) (a b bound : Self) (help : LubHelp)
+        → join mode a b (Err help)
         → below mode a bound → below mode b bound → ¬ is_clean bound };
 }
 

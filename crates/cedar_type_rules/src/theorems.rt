@@ -35,7 +35,8 @@ pub fn subtyping_is_reflexive()
 
 /// A type below one that is below a third is below the third, in either mode.
 pub fn subtyping_is_transitive()
-    ensures { (mode : ValidationMode) (a b c : Ty) → Below mode a b → Below mode b c → Below mode a c }
+    ensures { (mode : ValidationMode) (a b c : Ty) → Below mode a b → Below mode b c
+        → Below mode a c }
 {}
 
 /// Well-formed plain types that are below each other are the same, in either mode.
@@ -54,11 +55,12 @@ pub fn supertypes_have_the_values()
 
 /// Strict subtyping of a well-formed plain type is permissive subtyping, and agreement.
 pub fn strict_subtyping_is_permissive_and_agrees()
-    ensures { (a b : Ty) → IsWellFormed a → Below mode.Strict a b ↔ (Below mode.Permissive a b × Agree a b) }
+    ensures { (a b : Ty) → IsWellFormed a
+        → Below mode.Strict a b ↔ (Below mode.Permissive a b × Agree a b) }
 {}
 
-/// On well-formed plain types, permissive subtyping is inclusion of values where both types are stated;
-/// and where they are only inhabited throughout, it is inclusion of values and of names.
+/// On well-formed plain types, permissive subtyping is inclusion of values where both types are
+/// stated; and where they are only inhabited throughout, it is inclusion of values and of names.
 pub fn permissive_subtyping_is_inclusion()
     ensures stated { SubtypingIsInclusion }
     ensures with_optional { SubtypingIsInclusionAndNames }
@@ -69,22 +71,23 @@ pub fn clean_types_are_without_the_any_set()
     ensures { CleanIsWithoutAnySet }
 {}
 
-/// Every clean bound of two types is an own bound, and of clean types every own bound is a clean one.
+/// Every clean bound of two types is an own bound, and of clean types every own bound is a clean
+/// one.
 pub fn clean_bounds_are_own_bounds()
     ensures own { CleanBoundsAreOwn }
     ensures clean { OwnBoundsOfCleanAreClean }
 {}
 
-/// Any two well-formed types have an answer of their join, and any list of them has one of joining them
-/// in turn; what it gives is well formed too.
+/// Any two well-formed types have an answer of their join, and any list of them has one of joining
+/// them in turn; what it gives is well formed too.
 pub fn joins_are_answered()
     ensures of_two { JoinsAreAnswered }
     ensures pairwise { ReductionsAreAnswered }
 {}
 
-/// What follows for whatever answers a join of two types: it is given exactly where they have an own
-/// bound, there is one at most, it is the upper where one is below the other, it is below each clean
-/// bound and of clean types the least one, the types may be swapped, and a strict join is the
+/// What follows for whatever answers a join of two types: it is given exactly where they have an
+/// own bound, there is one at most, it is the upper where one is below the other, it is below each
+/// clean bound and of clean types the least one, the types may be swapped, and a strict join is the
 /// permissive one.
 pub fn joins_are_least_bounds()
     ensures given { JoinsAreGivenExactly }
@@ -118,14 +121,14 @@ pub fn disjoint_types_share_no_value()
     ensures { DisjointTypesShareNoValue }
 {}
 
-/// A type has no core type exactly where `Never`, any entity, or a union of other than one entity type
-/// stands in it.
+/// A type has no core type exactly where `Never`, any entity, or a union of other than one entity
+/// type stands in it.
 pub fn core_types_are_lacked_exactly()
     ensures { CoreIsLackedExactly }
 {}
 
-/// Equality, order and hash of what is known of a truth value, and of openness, go by the variants in
-/// the order in which they are written.
+/// Equality, order and hash of what is known of a truth value, and of openness, go by the variants
+/// in the order in which they are written.
 pub fn truths_and_openness_compare_by_variant()
     ensures truths { ComparesBy (λ (known : BoolType). known) truth_cmp
         ⟦<BoolType as PartialEq>⟧.eq ⟦<BoolType as Ord>⟧.cmp ⟦<BoolType as Hash>⟧.hash_input }
@@ -133,9 +136,11 @@ pub fn truths_and_openness_compare_by_variant()
         ⟦<OpenTag as PartialEq>⟧.eq ⟦<OpenTag as Ord>⟧.cmp ⟦<OpenTag as Hash>⟧.hash_input }
 {}
 
-/// The hash of what is known of a truth value, and of openness, is fed the variant first: unlike values feed
-/// unlike first items.
+/// The hash of what is known of a truth value, and of openness, is fed the variant first: unlike
+/// values feed unlike first items.
 pub fn truths_and_openness_feed_their_variant()
-    ensures truths { FeedsVariantFirst (λ (known : BoolType). known) ⟦<BoolType as Hash>⟧.hash_input }
-    ensures openness { FeedsVariantFirst (λ (openness : OpenTag). openness) ⟦<OpenTag as Hash>⟧.hash_input }
+    ensures truths { FeedsVariantFirst
+        (λ (known : BoolType). known) ⟦<BoolType as Hash>⟧.hash_input }
+    ensures openness { FeedsVariantFirst
+        (λ (openness : OpenTag). openness) ⟦<OpenTag as Hash>⟧.hash_input }
 {}

@@ -24,7 +24,7 @@ use Rattle.cedar_types.specs.declared.entity_lub.EntityLUB.{EntityLUB}
 
 -- unions are equal exactly where their names are
 lub_eq-same : (a b : EntityLUB) → IsTrue ((lub_eq.ghosts).eq a b) ↔ (lub_names a ≡ lub_names b)
-lub_eq-same a b = pointwise-map_Decides type_name _ entity_type_eq-same a.lub_elements.items b.lub_elements.items
+lub_eq-same a b = pointwise-map_Decides type_name _ entity_type_eq-same a.lub_elements.value.items b.lub_elements.value.items
 
 -- kinds are equal exactly where they stand for the same type
 pub kind_eq-same : (a b : EntityKind) → IsTrue ((kind_eq.ghosts).eq a b) ↔ (kind_ty a ≡ kind_ty b)
@@ -37,8 +37,8 @@ kind_eq-same (kind.Entity a) (kind.Entity b) =
 -- unions are ordered by their names
 lub_cmp-is : (a b : EntityLUB) → (lub_ord.ghosts).cmp a b ≡ union_cmp (lub_names a) (lub_names b)
 lub_cmp-is a b =
-    (λ i. slice_cmp (λ x y. entity_type_ord-name_cmp x y i) a.lub_elements.items b.lub_elements.items)
-    ∙ sym (lex_map type_name name_cmp a.lub_elements.items b.lub_elements.items)
+    (λ i. slice_cmp (λ x y. entity_type_ord-name_cmp x y i) a.lub_elements.value.items b.lub_elements.value.items)
+    ∙ sym (lex_map type_name name_cmp a.lub_elements.value.items b.lub_elements.value.items)
 
 -- kinds are ordered as the types that they stand for
 pub kind_cmp-is : (a b : EntityKind) → (kind_ord.ghosts).cmp a b ≡ ty_cmp (kind_ty a) (kind_ty b)

@@ -7,7 +7,7 @@ use Rattle.cedar_types.specs.declared.entity_lub.EntityLUB.{EntityLUB}
 
 -- a union's entity types, in order
 abbrev pub lub_types : EntityLUB → List EntityType
-lub_types lub = lub.lub_elements.items
+lub_types lub = lub.lub_elements.value.items
 
 -- the only one of some entity types
 abbrev pub only_type : List EntityType → Option EntityType

@@ -13,7 +13,8 @@ use Rattle.cedar_types.specs.declared.attributes.Attributes.{Attributes, out-Att
 use Rattle.cedar_types.specs.declared.types.Type.{«Type», out-Type}
 use Rattle.cedar_types.specs.declared.types.Type.TheOpen as layer
 
--- an attribute with its locations: its type as it is, whether it has to be there, and where it was declared
+-- an attribute with its locations: its type as it is, whether it has to be there, and where it was
+-- declared
 pub record Located : Type 0 where
   pub ty : «Type»
   pub required : Bool
@@ -29,7 +30,8 @@ located attribute = record {
 
 -- the attribute of that name with its locations, if there is one
 abbrev pub located_at : Text → Attributes → Option Located
-located_at name all = option_map located (value_at name (out-Attributes all).attrs.value.entries.items)
+located_at name all = option_map located
+    (value_at name (out-Attributes all).attrs.value.entries.items)
 
 -- pairs of a name and an attribute, with the locations
 abbrev pub located_attributes : List (String Global × AttributeType) → List (Text × Located)
@@ -37,7 +39,8 @@ located_attributes items = map (λ item. (string_bytes item.0, located item.1)) 
 
 -- pairs of a name and the type of an attribute that is required, which itself has no location
 abbrev pub located_required : List (String Global × Rc «Type» Global) → List (Text × Located)
-located_required items = map (λ item. (string_bytes item.0, record { ty = item.1.value; required = true; loc = None })) items
+located_required items = map (λ item.
+    (string_bytes item.0, record { ty = item.1.value; required = true; loc = None })) items
 
 -- the attribute of a name is the last of the pairs with that name, with its locations
 abbrev pub KeepsLast : List (Text × Located) → Attributes → Type 0
@@ -57,8 +60,9 @@ element_of ty =
 abbrev pub IsUnplaced : «Type» → Type 0
 IsUnplaced ty = (name : Text) → IfSome (listed_at name ty) (λ attribute. attribute.loc ≡ None)
 
--- a type is handed on as another: that one stands for the same, lists the same attributes with their locations, and has the
--- same element type
+-- a type is handed on as another: that one stands for the same, lists the same attributes with
+-- their locations, and has the same element type
 abbrev pub IsHandedOn : «Type» → «Type» → Type 0
 IsHandedOn ty given =
-    (ty_of given ≡ ty_of ty) × ((name : Text) → listed_at name given ≡ listed_at name ty) × (element_of given ≡ element_of ty)
+    (ty_of given ≡ ty_of ty) × ((name : Text) → listed_at name given ≡ listed_at name ty)
+    × (element_of given ≡ element_of ty)

@@ -26,7 +26,8 @@ attribute_step attribute = (attribute.is_required, attribute.attr_type.value)
 
 -- the attributes of a record, with what each stands for in its place
 abbrev pub attributes_step : layer.Attributes-F Ty (Bool × Ty) Fields → Fields
-attributes_step attributes = fields_from (map (λ entry. (string_bytes entry.0, entry.1)) attributes.attrs.value.entries.items)
+attributes_step attributes = fields_from
+    (map (λ entry. (string_bytes entry.0, entry.1)) attributes.attrs.value.entries.items)
 
 -- what a type stands for
 abbrev pub ty_of : «Type» → Ty

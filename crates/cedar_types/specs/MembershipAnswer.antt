@@ -7,9 +7,10 @@ use Rattle.cedar_below.specs.declared.extension.ExtensionFunctionLookupError.{Ex
 abbrev pub Answer : Type 0
 Answer = Result Bool ExtensionFunctionLookupError
 
--- an answer is right: yes exactly where the value has the type, no exactly where it can't have it whatever the unknown
--- functions give, and else the fault of a function that it meets
-pub record IsMembership (answer : Answer) (Holds MayHold : Type 0) (Meeting : PlainName → Type 0) : Type 0 where
+-- an answer is right: yes exactly where the value has the type, no exactly where it can't have it
+-- whatever the unknown functions give, and else the fault of a function that it meets
+pub record IsMembership (answer : Answer) (Holds MayHold : Type 0)
+    (Meeting : PlainName → Type 0) : Type 0 where
   pub yes : (answer ≡ Ok true) ↔ Holds
   pub no : (answer ≡ Ok false) ↔ ¬ MayHold
   pub fault : IfErr answer (λ error. Meeting (plain_name error.name.now))

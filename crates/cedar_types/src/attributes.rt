@@ -56,7 +56,8 @@ impl AttributeType {
     pub fn new(attr_type: Rc<Type>, is_required: bool) -> Self
         ensures attribute { attribute_of result ≡ (is_required, ty_of attr_type.value) }
         ensures loc { attribute_loc result ≡ None }
-        ensures located { located result ≡ record { ty = attr_type.value; required = is_required; loc = None } }
+        ensures located { located result
+            ≡ record { ty = attr_type.value; required = is_required; loc = None } }
     {
         AttributeType {
             attr_type,
@@ -69,7 +70,8 @@ impl AttributeType {
     pub fn new_with_loc(attr_type: Rc<Type>, is_required: bool, loc: Option<Loc>) -> Self
         ensures attribute { attribute_of result ≡ (is_required, ty_of attr_type.value) }
         ensures loc { attribute_loc result ≡ loc }
-        ensures located { located result ≡ record { ty = attr_type.value; required = is_required; loc = loc } }
+        ensures located { located result
+            ≡ record { ty = attr_type.value; required = is_required; loc = loc } }
     {
         AttributeType {
             attr_type,
@@ -82,7 +84,8 @@ impl AttributeType {
     pub fn required_attribute(attr_type: Rc<Type>) -> Self
         ensures attribute { attribute_of result ≡ (true, ty_of attr_type.value) }
         ensures loc { attribute_loc result ≡ None }
-        ensures located { located result ≡ record { ty = attr_type.value; required = true; loc = None } }
+        ensures located { located result
+            ≡ record { ty = attr_type.value; required = true; loc = None } }
     {
         AttributeType::new(attr_type, true)
     }
@@ -91,7 +94,8 @@ impl AttributeType {
     pub fn optional_attribute(attr_type: Rc<Type>) -> Self
         ensures attribute { attribute_of result ≡ (false, ty_of attr_type.value) }
         ensures loc { attribute_loc result ≡ None }
-        ensures located { located result ≡ record { ty = attr_type.value; required = false; loc = None } }
+        ensures located { located result
+            ≡ record { ty = attr_type.value; required = false; loc = None } }
     {
         AttributeType::new(attr_type, false)
     }
@@ -120,7 +124,8 @@ impl AttributeType {
 impl Attributes {
     /// The attributes of these pairs. Of repeated names the last wins.
     fn from_entries(alloc: Global, entries: Vec<(String, AttributeType)>) -> M<Self>
-        ensures attributes { IfOk result (λ all. HoldsLast (plain_attributes entries.items) (fields_of all)) }
+        ensures attributes { IfOk result (λ all.
+            HoldsLast (plain_attributes entries.items) (fields_of all)) }
         ensures located { IfOk result (λ all. KeepsLast (located_attributes entries.items) all) }
     {
         Ok(Attributes {
@@ -134,8 +139,11 @@ impl Attributes {
         entries: Vec<(String, AttributeType)>,
     ) -> M<Self>
         requires { AreSortedByName entries.items }
-        ensures attributes { IfOk result (λ all. fields_of all ≡ fields_from (plain_attributes entries.items)) }
-        ensures located { IfOk result (λ all. (name : Text) → located_at name all ≡ option_map located (value_at name entries.items)) }
+        ensures attributes { IfOk result (λ all.
+            fields_of all ≡ fields_from (plain_attributes entries.items)) }
+        ensures located { IfOk result (λ all.
+            (name : Text) → located_at name all
+            ≡ option_map located (value_at name entries.items)) }
     {
         Ok(Attributes {
             attrs: Rc::new(alloc, ByName::from_sorted_by_name(entries))?,
@@ -155,9 +163,12 @@ impl Attributes {
         alloc: Global,
         items: I,
     ) -> M<Self>
-        requires { (it : I.IntoIter) → I.into_iter_gives items it → I.IntoIter.can_next it × IsFinite (I.IntoIter.remaining it) }
-        ensures attributes { IfOk result (λ all. (it : I.IntoIter) × (xs : List (String Global × AttributeType))
-            × I.into_iter_gives items it × Drains I.IntoIter.next_gives it xs × HoldsLast (plain_attributes xs) (fields_of all)
+        requires { (it : I.IntoIter) → I.into_iter_gives items it
+            → I.IntoIter.can_next it × IsFinite (I.IntoIter.remaining it) }
+        ensures attributes { IfOk result (λ all.
+            (it : I.IntoIter) × (xs : List (String Global × AttributeType))
+            × I.into_iter_gives items it × Drains I.IntoIter.next_gives it xs
+            × HoldsLast (plain_attributes xs) (fields_of all)
             × KeepsLast (located_attributes xs) all) }
         ensures sorted_by_name { IfOk result (λ all. IsSortedByName (fields_of all)) }
     {
@@ -174,9 +185,12 @@ impl Attributes {
         alloc: Global,
         items: I,
     ) -> M<Self>
-        requires { (it : I.IntoIter) → I.into_iter_gives items it → I.IntoIter.can_next it × IsFinite (I.IntoIter.remaining it) }
-        ensures attributes { IfOk result (λ all. (it : I.IntoIter) × (xs : List (String Global × Rc «Type» Global))
-            × I.into_iter_gives items it × Drains I.IntoIter.next_gives it xs × HoldsLast (plain_required xs) (fields_of all)
+        requires { (it : I.IntoIter) → I.into_iter_gives items it
+            → I.IntoIter.can_next it × IsFinite (I.IntoIter.remaining it) }
+        ensures attributes { IfOk result (λ all.
+            (it : I.IntoIter) × (xs : List (String Global × Rc «Type» Global))
+            × I.into_iter_gives items it × Drains I.IntoIter.next_gives it xs
+            × HoldsLast (plain_required xs) (fields_of all)
             × KeepsLast (located_required xs) all) }
         ensures sorted_by_name { IfOk result (λ all. IsSortedByName (fields_of all)) }
     {
@@ -205,18 +219,22 @@ impl Attributes {
 
     /// The attribute of this name, if there is one.
     pub fn get_attr(&self, name: &str) -> Option<&AttributeType>
-        ensures attribute { option_map attribute_of (option_copied result) ≡ field_at name.now (fields_of self.now) }
+        ensures attribute { option_map attribute_of (option_copied result)
+            ≡ field_at name.now (fields_of self.now) }
         ensures located { option_map located (option_copied result) ≡ located_at name.now self.now }
     {
         self.get_attr_counted(name).0
     }
 
-    /// The attribute of this name, if there is one, and how many names were compared with it: at most
-    /// k where there are fewer than 2 to the k attributes.
+    /// The attribute of this name, if there is one, and how many names were compared with it: at
+    /// most k where there are fewer than 2 to the k attributes.
     pub fn get_attr_counted(&self, name: &str) -> (Option<&AttributeType>, u32)
-        ensures attribute { option_map attribute_of (option_copied result.0) ≡ field_at name.now (fields_of self.now) }
-        ensures located { option_map located (option_copied result.0) ≡ located_at name.now self.now }
-        ensures compared { (k : ℕ) → length (field_names (fields_of self.now)) < 2 ^ k → result.1 ≤ k }
+        ensures attribute { option_map attribute_of (option_copied result.0)
+            ≡ field_at name.now (fields_of self.now) }
+        ensures located { option_map located (option_copied result.0)
+            ≡ located_at name.now self.now }
+        ensures compared { (k : ℕ) → length (field_names (fields_of self.now)) < 2 ^ k
+            → result.1 ≤ k }
     {
         self.attrs.get_counted(name)
     }
@@ -225,7 +243,8 @@ impl Attributes {
     /// refusal.
     pub fn clone(&self) -> M<Self>
         ensures attributes { IfOk result (λ copy. fields_of copy ≡ fields_of self.now) }
-        ensures located { IfOk result (λ copy. (name : Text) → located_at name copy ≡ located_at name self.now) }
+        ensures located { IfOk result (λ copy.
+            (name : Text) → located_at name copy ≡ located_at name self.now) }
     {
         Ok(Attributes {
             attrs: self.attrs.clone()?,

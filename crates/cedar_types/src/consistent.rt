@@ -28,7 +28,8 @@ fn may_lack(required: bool, openness: OpenTag) -> bool
 
 /// Whether each of some attributes may be missing in a core record, which may be open.
 fn may_lack_all(attributes: &[(String, AttributeType)], is_open: bool) -> bool
-    ensures { IsTrue result ↔ AllByRecursion (λ item. (item.1.0 ≡ false) ⊎ (is_open ≡ true)) (plain_attributes attributes.now) }
+    ensures { IsTrue result ↔ AllByRecursion (λ item.
+        (item.1.0 ≡ false) ⊎ (is_open ≡ true)) (plain_attributes attributes.now) }
 {
     for (_, attribute) in attributes {
         if attribute.is_required && !is_open {
@@ -49,7 +50,8 @@ fn records_fit(
     core_is_open: bool,
 ) -> bool
     ensures { IsTrue result
-        ↔ IsConsistent (record_of (fields_of attrs.now) openness) (core_record (core_fields_of core.now) core_is_open) }
+        ↔ IsConsistent (record_of (fields_of attrs.now) openness)
+        (core_record (core_fields_of core.now) core_is_open) }
 {
     let own = attrs.attrs.as_slice();
     let mut at = 0;
@@ -87,9 +89,9 @@ impl Type {
     /// Whether the type is consistent with a core type: of the same kind, and sets and records with
     /// consistent parts.
     ///
-    /// Any set is consistent with the empty set, and what is known of a truth value isn't looked at. An
-    /// entity is consistent with one of its types, and any entity with each. An attribute that only one of
-    /// two records has is optional there, or the other record is open.
+    /// Any set is consistent with the empty set, and what is known of a truth value isn't looked
+    /// at. An entity is consistent with one of its types, and any entity with each. An attribute
+    /// that only one of two records has is optional there, or the other record is open.
     #[cycle(consistent)]
     pub fn is_consistent_with(&self, core: &CoreSchemaType) -> bool
         ensures { IsTrue result ↔ IsConsistent (ty_of self.now) (core_ty_of core.now) }

@@ -63,7 +63,8 @@ fn core_attributes(
     alloc: Global,
     attrs: &Attributes,
 ) -> Result<BTreeMap<String, CoreAttributeType>, CoreTypeFault>
-    ensures core { IfOk result (λ core. core_fields (fields_of attrs.now) ≡ Some (core_fields_of core)) }
+    ensures core { IfOk result (λ core.
+        core_fields (fields_of attrs.now) ≡ Some (core_fields_of core)) }
     ensures fault { IfErr result (IsFieldsFault (fields_of attrs.now)) }
 {
     let mut core = BTreeMap::new(alloc);
@@ -111,8 +112,8 @@ fn core_type(alloc: Global, ty: &Type) -> Result<CoreSchemaType, CoreTypeFault>
     }
 }
 
-/// The core type of a type: each case by itself, with the one of all truth values for any of them, and
-/// that of the empty set for the any-set.
+/// The core type of a type: each case by itself, with the one of all truth values for any of them,
+/// and that of the empty set for the any-set.
 ///
 /// A type in which `Never`, any entity, or a union of two entity types or more stands has none, and
 /// the fault names one that stands in it. Or the answer is that memory ran out.

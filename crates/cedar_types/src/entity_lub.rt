@@ -1,22 +1,25 @@
 //! Unions of entity types.
 
-ghost use Rattle.std.specs.Prelude.{◌≡◌, ◌≢◌, ◌++◌, [], map, IfOk};
+ghost use Rattle.std.specs.Prelude.{◌≡◌, ◌≢◌, ◌++◌, [], length, map, true, IfOk};
 ghost use Rattle.std.specs.List.Sorted.{IsPermutation, IsSorted, IsStrictlySortedBy, IsStrictlySortedBy-prop};
 ghost use Rattle.cedar_below.specs.EntityType.{type_name};
 ghost use Rattle.cedar_below.specs.PlainName.{name_cmp};
 
-use cedar_below::{EntityType, M};
+use cedar_below::{EntityType, Held, M};
 use itertools::Itertools;
 use std::alloc::Global;
 use std::cmp::Ordering;
 use std::slice;
 
-/// A union of entity types: a nonempty set of them, in order and without repeats.
+/// A union of entity types: a nonempty set of them, in order and without repeats. Several are
+/// shared, so that a copy of their union is a count.
 #[derive(Debug, Drop, PartialEq, Eq, PartialOrd, Ord, Hash)]
 pub struct EntityLUB {
-    lub_elements: Vec<EntityType>,
-    ghost nonempty: { lub_elements.items ≢ [] },
-    ghost sorted_by_name: { IsStrictlySortedBy name_cmp (map type_name lub_elements.items) } by { IsStrictlySortedBy-prop name_cmp (map type_name lub_elements.items) },
+    lub_elements: Held<Vec<EntityType>>,
+    ghost nonempty: { lub_elements.value.items ≢ [] },
+    ghost sorted_by_name: { IsStrictlySortedBy name_cmp
+        (map type_name lub_elements.value.items) } by { IsStrictlySortedBy-prop name_cmp (map type_name lub_elements.value.items) },
+    ghost single_owned: { lub_elements.is_shared ≡ true → length lub_elements.value.items ≢ 1 },
 }
 
 /// Equal entity types in the same order.
@@ -30,20 +33,22 @@ fn clone_each(types: &Vec<EntityType>) -> M<Vec<EntityType>>
     Ok(copy)
 }
 
-/// Entity types equal to those that are referred to, in the same order.
-fn clone_all(types: &Vec<&EntityType>) -> M<Vec<EntityType>>
-    ensures { IfOk result (λ copy. map type_name copy.items ≡ map (λ ty. type_name ty.now) types.now.items) }
+/// Entity types equal to those that are referred to, in the same order, each of them shared.
+fn share_all(types: &Vec<&EntityType>) -> M<Vec<EntityType>>
+    ensures { IfOk result (λ copy.
+        map type_name copy.items ≡ map (λ ty. type_name ty.now) types.now.items) }
 {
     let mut copy = Vec::with_capacity(*types.allocator(), types.len())?;
     for ty in types {
-        copy.push((**ty).clone()?)?;
+        copy.push((**ty).clone()?.into_shared()?)?;
     }
     Ok(copy)
 }
 
 /// References to the entity types of two lists.
 fn both_types<'a>(types: &'a Vec<EntityType>, others: &'a Vec<EntityType>) -> M<Vec<&'a EntityType>>
-    ensures { IfOk result (λ both. map (λ ty. ty.now) both.items ≡ types.now.items ++ others.now.items) }
+    ensures { IfOk result (λ both.
+        map (λ ty. ty.now) both.items ≡ types.now.items ++ others.now.items) }
 {
     let both = types.iter().chain(others.iter());
     Ok(both.collect_vec(*types.allocator())?)
@@ -52,7 +57,8 @@ fn both_types<'a>(types: &'a Vec<EntityType>, others: &'a Vec<EntityType>) -> M<
 /// The same references in the order of their entity types.
 fn in_order<'a>(types: Vec<&'a EntityType>) -> M<Vec<&'a EntityType>>
     ensures permutation { IfOk result (λ sorted. IsPermutation types.entry.items sorted.items) }
-    ensures sorted { IfOk result (λ sorted. IsSorted (λ a b. ⟦<EntityType as Ord>⟧.cmp a.now b.now) sorted.items) }
+    ensures sorted { IfOk result (λ sorted.
+        IsSorted (λ a b. ⟦<EntityType as Ord>⟧.cmp a.now b.now) sorted.items) }
 {
     let alloc = *types.allocator();
     Ok(types.into_iter().sorted(alloc)?.collect_vec(alloc)?)
@@ -77,15 +83,36 @@ impl EntityLUB {
     {
         let mut lub_elements = Vec::with_capacity(alloc, 1)?;
         lub_elements.push(ty)?;
-        Ok(EntityLUB { lub_elements })
+        Ok(EntityLUB {
+            lub_elements: Held::new(lub_elements),
+        })
+    }
+
+    /// The union of some entity types, which are in order and without repeats.
+    fn of_sorted(types: Vec<EntityType>) -> M<Self>
+        requires nonempty { types.items ≢ [] }
+        requires sorted { IsStrictlySortedBy name_cmp (map type_name types.items) }
+        ensures { IfOk result (λ lub. lub_types lub ≡ types.items) }
+    {
+        let alloc = *types.allocator();
+        let alone = types.len() == 1;
+        let held = Held::new(types);
+        Ok(EntityLUB {
+            lub_elements: if alone {
+                held
+            } else {
+                held.into_shared(alloc)?
+            },
+        })
     }
 
     /// The entity type of the union, where there is only one.
     pub fn get_single_entity(&self) -> Option<&EntityType>
-        ensures name { option_map type_name (option_copied result) ≡ only_name (lub_names self.now) }
+        ensures name { option_map type_name (option_copied result)
+            ≡ only_name (lub_names self.now) }
         ensures ty { option_copied result ≡ only_type (lub_types self.now) }
     {
-        match self.lub_elements.as_slice() {
+        match self.as_slice() {
             [ty] => Some(ty),
             _ => None,
         }
@@ -96,12 +123,8 @@ impl EntityLUB {
         ensures name { option_map type_name result ≡ only_name (lub_names self) }
         ensures ty { result ≡ only_type (lub_types self) }
     {
-        let mut lub_elements = self.lub_elements;
-        if lub_elements.len() == 1 {
-            lub_elements.pop()
-        } else {
-            None
-        }
+        let mut types = self.lub_elements.into_owned()?;
+        if types.len() == 1 { types.pop() } else { None }
     }
 
     /// The entity types of the union, in order.
@@ -110,21 +133,21 @@ impl EntityLUB {
         ensures nonempty { lub_names self.now ≢ [] }
         ensures sorted_by_name { IsStrictlySortedBy name_cmp (lub_names self.now) }
     {
-        self.lub_elements.iter()
+        self.as_slice().iter()
     }
 
     /// The entity types of the union, in order.
     pub(crate) fn as_slice(&self) -> &[EntityType]
         ensures { result.now ≡ lub_types self.now }
     {
-        self.lub_elements.as_slice()
+        self.lub_elements.value().as_slice()
     }
 
     /// Whether an entity type is one of the union.
     pub fn contains(&self, ty: &EntityType) -> bool
         ensures { IsTrue result ↔ Contains (lub_names self.now) (type_name ty.now) }
     {
-        self.lub_elements.binary_search(ty).is_ok()
+        self.as_slice().binary_search(ty).is_ok()
     }
 
     /// Whether an entity type is one of the union.
@@ -140,9 +163,10 @@ impl EntityLUB {
         ensures passed { (i : ℕ) (d : EntityType) → from ≤ i → i < result
             → name_cmp (type_name (get_or (lub_types self.now) i d)) (type_name ty.now) ≡ Less }
         ensures stays { (d : EntityType) → result < length (lub_types self.now)
-            → name_cmp (type_name (get_or (lub_types self.now) result d)) (type_name ty.now) ≢ Less }
+            → name_cmp (type_name (get_or (lub_types self.now) result d)) (type_name ty.now)
+            ≢ Less }
     {
-        let types = self.lub_elements.as_slice();
+        let types = self.as_slice();
         let mut at = from;
         while at < types.len() && types[at].cmp(ty) == Ordering::Less {
             at += 1;
@@ -153,9 +177,10 @@ impl EntityLUB {
     /// Whether an entity type is at a place.
     pub(crate) fn is_at(&self, place: usize, ty: &EntityType) -> bool
         ensures { IsTrue result ↔ ((place < length (lub_types self.now))
-            × ((d : EntityType) → type_name (get_or (lub_types self.now) place d) ≡ type_name ty.now)) }
+            × ((d : EntityType) → type_name (get_or (lub_types self.now) place d)
+            ≡ type_name ty.now)) }
     {
-        let types = self.lub_elements.as_slice();
+        let types = self.as_slice();
         place < types.len() && types[place] == *ty
     }
 
@@ -166,7 +191,7 @@ impl EntityLUB {
         ensures { IsTrue result ↔ AreDisjoint (lub_names self.now) (lub_names other.now) }
     {
         let mut at = 0;
-        for ty in &self.lub_elements {
+        for ty in self.as_slice() {
             at = other.seek(at, ty);
             if other.is_at(at, ty) {
                 return false;
@@ -177,21 +202,23 @@ impl EntityLUB {
 
     /// The union of the entity types of both unions. Out of memory is the only refusal.
     pub fn least_upper_bound(&self, other: &EntityLUB) -> M<EntityLUB>
-        ensures { IfOk result (λ lub. IsUnionOf (lub_names self.now) (lub_names other.now) (lub_names lub)) }
+        ensures { IfOk result (λ lub. IsUnionOf (lub_names self.now) (lub_names other.now)
+            (lub_names lub)) }
     {
-        let mut both = in_order(both_types(&self.lub_elements, &other.lub_elements)?)?;
+        let types = self.lub_elements.value();
+        let mut both = in_order(both_types(types, other.lub_elements.value())?)?;
         both.dedup();
-        Ok(EntityLUB {
-            lub_elements: clone_all(&both)?,
-        })
+        EntityLUB::of_sorted(share_all(&both)?)
     }
 
     /// An equal union. Out of memory is the only refusal.
     pub fn clone(&self) -> M<Self>
         ensures { IfOk result (λ copy. lub_names copy ≡ lub_names self.now) }
     {
-        Ok(EntityLUB {
-            lub_elements: clone_each(&self.lub_elements)?,
-        })
+        let lub_elements = match self.lub_elements.other_owner()? {
+            Some(shared) => shared,
+            None => Held::new(clone_each(self.lub_elements.value())?),
+        };
+        Ok(EntityLUB { lub_elements })
     }
 }

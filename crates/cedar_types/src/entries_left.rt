@@ -39,7 +39,8 @@ impl<'v> EntriesLeft<'v> {
         ensures ascend { AreSortedByName (entries_left self.new) }
         ensures keeps { (other : Text) → text_cmp other name.now ≢ Less
             → value_at other (entries_left self.new) ≡ value_at other (entries_left self.old) }
-        ensures passes { (other : Text) → text_cmp other name.now ≡ Less → value_at other (entries_left self.new) ≡ None }
+        ensures passes { (other : Text) → text_cmp other name.now ≡ Less
+            → value_at other (entries_left self.new) ≡ None }
     {
         while let Some((key, value)) = self.first {
             match key.as_str().cmp(name) {

@@ -30,7 +30,8 @@ use std::rc::Rc;
 
 /// The join of two unions in strict mode: the union, if they are the same.
 fn strict_union(lub: &EntityLUB, other: &EntityLUB) -> Result<EntityLUB, JoinError>
-    ensures { IsAnswerOrMemory lub_ty (IsJoinAnswer mode.Strict (lub_ty lub.now) (lub_ty other.now)) result }
+    ensures { IsAnswerOrMemory lub_ty
+        (IsJoinAnswer mode.Strict (lub_ty lub.now) (lub_ty other.now)) result }
 {
     if union_fits(lub, other, ValidationMode::Strict) {
         Ok(lub.clone()?)
@@ -45,7 +46,8 @@ pub(crate) fn join_unions(
     other: &EntityLUB,
     mode: ValidationMode,
 ) -> Result<EntityLUB, JoinError>
-    ensures { IsAnswerOrMemory lub_ty (IsJoinAnswer mode (lub_ty lub.now) (lub_ty other.now)) result }
+    ensures { IsAnswerOrMemory lub_ty
+        (IsJoinAnswer mode (lub_ty lub.now) (lub_ty other.now)) result }
 {
     match mode {
         ValidationMode::Strict => strict_union(lub, other),
@@ -55,7 +57,8 @@ pub(crate) fn join_unions(
 
 /// The join of two kinds of entities in strict mode: the kind, if they are the same.
 fn strict_kind(kind: &EntityKind, other: &EntityKind) -> Result<EntityKind, JoinError>
-    ensures { IsAnswerOrMemory kind_ty (IsJoinAnswer mode.Strict (kind_ty kind.now) (kind_ty other.now)) result }
+    ensures { IsAnswerOrMemory kind_ty
+        (IsJoinAnswer mode.Strict (kind_ty kind.now) (kind_ty other.now)) result }
 {
     if kind.is_subtype(other, ValidationMode::Strict) {
         Ok(kind.clone()?)
@@ -66,7 +69,8 @@ fn strict_kind(kind: &EntityKind, other: &EntityKind) -> Result<EntityKind, Join
 
 /// The join of two kinds of entities in permissive mode.
 fn permissive_kind(kind: &EntityKind, other: &EntityKind) -> M<EntityKind>
-    ensures { IfOk result (λ join. IsLeastOwnBound mode.Permissive (kind_ty kind.now) (kind_ty other.now) (kind_ty join)) }
+    ensures { IfOk result (λ join.
+        IsLeastOwnBound mode.Permissive (kind_ty kind.now) (kind_ty other.now) (kind_ty join)) }
 {
     match (kind, other) {
         (EntityKind::Entity(lub), EntityKind::Entity(other_lub)) => Ok(EntityKind::Entity(
@@ -87,7 +91,8 @@ impl EntityKind {
         other: &EntityKind,
         mode: ValidationMode,
     ) -> Result<EntityKind, JoinError>
-        ensures { IsAnswerOrMemory kind_ty (IsJoinAnswer mode (kind_ty self.now) (kind_ty other.now)) result }
+        ensures { IsAnswerOrMemory kind_ty
+            (IsJoinAnswer mode (kind_ty self.now) (kind_ty other.now)) result }
     {
         match mode {
             ValidationMode::Strict => strict_kind(self, other),
@@ -134,8 +139,8 @@ fn record(attrs: Attributes, open_attributes: OpenTag) -> Type
     }
 }
 
-/// The openness of the permissive join of two records with so many attributes, of which it keeps so many:
-/// closed if both are and no name is dropped.
+/// The openness of the permissive join of two records with so many attributes, of which it keeps so
+/// many: closed if both are and no name is dropped.
 fn permissive_openness(
     openness: OpenTag,
     other_openness: OpenTag,
@@ -144,7 +149,8 @@ fn permissive_openness(
     kept: usize,
 ) -> OpenTag
     ensures { (result ≡ ClosedAttributes)
-        ↔ (((openness ≡ ClosedAttributes) × (other_openness ≡ ClosedAttributes)) × ((kept ≡ count) × (kept ≡ other_count))) }
+        ↔ (((openness ≡ ClosedAttributes) × (other_openness ≡ ClosedAttributes))
+        × ((kept ≡ count) × (kept ≡ other_count))) }
 {
     let are_closed = openness == OpenTag::ClosedAttributes
         && other_openness == OpenTag::ClosedAttributes;
@@ -188,8 +194,8 @@ fn permissive_attribute(
     }
 }
 
-/// The join of two attributes of a name in strict mode, which has no location; or the help for their
-/// types, or the one for their flags.
+/// The join of two attributes of a name in strict mode, which has no location; or the help for
+/// their types, or the one for their flags.
 #[cycle(join)]
 fn strict_attribute(
     alloc: Global,
@@ -219,7 +225,8 @@ fn permissive_record(
     a_openness: OpenTag,
     b_openness: OpenTag,
 ) -> M<Type>
-    ensures join { IfOk result (λ join. IsLeastOwnBound mode.Permissive (record_of (fields_of a.now) a_openness)
+    ensures join { IfOk result (λ join.
+        IsLeastOwnBound mode.Permissive (record_of (fields_of a.now) a_openness)
         (record_of (fields_of b.now) b_openness) (ty_of join)) }
     ensures unplaced { IfOk result IsUnplaced }
 {
@@ -257,7 +264,8 @@ fn strict_record(
     b_openness: OpenTag,
 ) -> Result<Type, JoinError>
     ensures join { IsAnswerOrMemory ty_of
-        (IsJoinAnswer mode.Strict (record_of (fields_of a.now) a_openness) (record_of (fields_of b.now) b_openness)) result }
+        (IsJoinAnswer mode.Strict (record_of (fields_of a.now) a_openness)
+        (record_of (fields_of b.now) b_openness)) result }
     ensures unplaced { IfOk result IsUnplaced }
 {
     let own = a.attrs.as_slice();
@@ -285,7 +293,8 @@ fn join_kinds(
     other: &EntityKind,
     mode: ValidationMode,
 ) -> Result<Type, JoinError>
-    ensures join { IsAnswerOrMemory ty_of (IsJoinAnswer mode (kind_ty kind.now) (kind_ty other.now)) result }
+    ensures join { IsAnswerOrMemory ty_of
+        (IsJoinAnswer mode (kind_ty kind.now) (kind_ty other.now)) result }
     ensures unplaced { IfOk result IsUnplaced }
 {
     Ok(Type::Entity(kind.least_upper_bound(other, mode)?))
@@ -302,7 +311,8 @@ fn join_records(
     mode: ValidationMode,
 ) -> Result<Type, JoinError>
     ensures join { IsAnswerOrMemory ty_of
-        (IsJoinAnswer mode (record_of (fields_of a.now) a_openness) (record_of (fields_of b.now) b_openness)) result }
+        (IsJoinAnswer mode (record_of (fields_of a.now) a_openness)
+        (record_of (fields_of b.now) b_openness)) result }
     ensures unplaced { IfOk result IsUnplaced }
 {
     match mode {
@@ -360,7 +370,8 @@ fn join_shared(
     b: &Rc<Type>,
     mode: ValidationMode,
 ) -> Result<Rc<Type>, JoinError>
-    ensures { IsAnswerOrMemory (λ rc. ty_of rc.value) (IsJoinAnswer mode (ty_of a.now.value) (ty_of b.now.value)) result }
+    ensures { IsAnswerOrMemory (λ rc.
+        ty_of rc.value) (IsJoinAnswer mode (ty_of a.now.value) (ty_of b.now.value)) result }
 {
     if Type::is_subtype(a, b, mode) {
         return Ok(shared_again(b)?);
@@ -373,15 +384,15 @@ fn join_shared(
 }
 
 impl Type {
-    /// The least upper bound of two types: of the types above both that lie within them, the one below
-    /// each of these. Parts that are handed on stay shared.
+    /// The least upper bound of two types: of the types above both that lie within them, the one
+    /// below each of these. Parts that are handed on stay shared.
     ///
-    /// Where one type is below the other it is the upper. Two truth values have `Bool`, two sets the set
-    /// of their elements' join, two entities the join of their kinds. In permissive mode two records have
-    /// the attributes of the names of both whose types join, required if both require them, and their join
-    /// is open if either is or if a name of either is dropped. In strict mode the records have to list the
-    /// same names with the same flags, and all their types have to join. An attribute that is joined has no
-    /// location.
+    /// Where one type is below the other it is the upper. Two truth values have `Bool`, two sets
+    /// the set of their elements' join, two entities the join of their kinds. In permissive mode
+    /// two records have the attributes of the names of both whose types join, required if both
+    /// require them, and their join is open if either is or if a name of either is dropped. In
+    /// strict mode the records have to list the same names with the same flags, and all their types
+    /// have to join. An attribute that is joined has no location.
     ///
     /// Else there is a help: `EntityRecord` for an entity and a record, that of the elements for
     /// sets, `EntityType` for unlike entities in strict mode, and for records in strict mode
@@ -394,10 +405,13 @@ impl Type {
         b: &Type,
         mode: ValidationMode,
     ) -> Result<Type, JoinError>
-        ensures join { IsAnswerOrMemory ty_of (IsJoinAnswer mode (ty_of a.now) (ty_of b.now)) result }
+        ensures join { IsAnswerOrMemory ty_of
+            (IsJoinAnswer mode (ty_of a.now) (ty_of b.now)) result }
         ensures second { Below mode (ty_of a.now) (ty_of b.now) → IfOk result (IsHandedOn b.now) }
-        ensures first { ¬ Below mode (ty_of a.now) (ty_of b.now) → Below mode (ty_of b.now) (ty_of a.now) → IfOk result (IsHandedOn a.now) }
-        ensures apart { ¬ Below mode (ty_of a.now) (ty_of b.now) → ¬ Below mode (ty_of b.now) (ty_of a.now) → IfOk result IsUnplaced }
+        ensures first { ¬ Below mode (ty_of a.now) (ty_of b.now)
+            → Below mode (ty_of b.now) (ty_of a.now) → IfOk result (IsHandedOn a.now) }
+        ensures apart { ¬ Below mode (ty_of a.now) (ty_of b.now)
+            → ¬ Below mode (ty_of b.now) (ty_of a.now) → IfOk result IsUnplaced }
     {
         if Type::is_subtype(a, b, mode) {
             return Ok(b.clone()?);

@@ -47,7 +47,8 @@ impl JoinOrder for Type {
 
     ghost below_onwards = { joins_of.below_onwards ty_of };
 
-    ghost below_both_ways = { λ mode a b. Below-same mode (ty_of a) (ty_of b) (IsWellFormed-type a) (IsWellFormed-type b) };
+    ghost below_both_ways = { λ mode a b.
+        Below-same mode (ty_of a) (ty_of b) (IsWellFormed-type a) (IsWellFormed-type b) };
 
     ghost join_is_above = { joins_of.join_above ty_of };
 
@@ -90,7 +91,8 @@ impl JoinOrder for EntityKind {
 
     ghost below_onwards = { joins_of.below_onwards kind_ty };
 
-    ghost below_both_ways = { λ mode a b. Below-same mode (kind_ty a) (kind_ty b) (kind_formed a) (kind_formed b) };
+    ghost below_both_ways = { λ mode a b.
+        Below-same mode (kind_ty a) (kind_ty b) (kind_formed a) (kind_formed b) };
 
     ghost join_is_above = { joins_of.join_above kind_ty };
 
@@ -133,7 +135,8 @@ impl JoinOrder for EntityLUB {
 
     ghost below_onwards = { joins_of.below_onwards lub_ty };
 
-    ghost below_both_ways = { λ mode a b. Below-same mode (lub_ty a) (lub_ty b) (lub_formed a) (lub_formed b) };
+    ghost below_both_ways = { λ mode a b.
+        Below-same mode (lub_ty a) (lub_ty b) (lub_formed a) (lub_formed b) };
 
     ghost join_is_above = { joins_of.join_above lub_ty };
 

@@ -68,7 +68,8 @@ fn has_uid(kind: &EntityKind, uid: &EntityUID) -> bool
 ///
 /// It goes over both together, once.
 fn all_listed(values: &BTreeMap<String, RestrictedExpr>, attrs: &Attributes) -> bool
-    ensures { IsTrue result ↔ Included (entry_names (entries_of values.now)) (field_names (fields_of attrs.now)) }
+    ensures { IsTrue result ↔ Included (entry_names (entries_of values.now))
+        (field_names (fields_of attrs.now)) }
 {
     let mut at = 0;
     for name in values.keys() {
@@ -86,7 +87,8 @@ fn only_listed(
     attrs: &Attributes,
     openness: OpenTag,
 ) -> bool
-    ensures { IsTrue result ↔ NamesListed (is_open openness) (entry_names (entries_of values.now)) (field_names (fields_of attrs.now)) }
+    ensures { IsTrue result ↔ NamesListed (is_open openness) (entry_names (entries_of values.now))
+        (field_names (fields_of attrs.now)) }
 {
     match openness {
         OpenTag::OpenAttributes => true,
@@ -115,9 +117,11 @@ fn call_has<'v>(
 #[cycle(member)]
 fn elements_have<'v>(values: &'v [RestrictedExpr], ty: &Type, extensions: &Extensions) -> Answer<'v>
     ensures { let element = ty_of ty.now in
-        IsMembership result (EachTree (λ value. Has extensions.now value element) (trees_of values.now))
+        IsMembership result (EachTree (λ value.
+        Has extensions.now value element) (trees_of values.now))
         (EachTree (λ value. MayHave extensions.now value element) (trees_of values.now))
-        (λ unknown. SomeTree (λ value. Meets extensions.now unknown value element) (trees_of values.now)) }
+        (λ unknown. SomeTree (λ value.
+        Meets extensions.now unknown value element) (trees_of values.now)) }
 {
     let mut so_far = Ok(true);
     for value in values {
@@ -173,8 +177,10 @@ impl Type {
         extensions: &Extensions,
     ) -> Result<bool, ExtensionFunctionLookupError<'v>>
         ensures has { (result ≡ Ok true) ↔ Has extensions.now (tree_of expr.now) (ty_of self.now) }
-        ensures lacks { (result ≡ Ok false) ↔ ¬ MayHave extensions.now (tree_of expr.now) (ty_of self.now) }
-        ensures fault { IfErr result (λ error. Meets extensions.now (plain_name error.name.now) (tree_of expr.now) (ty_of self.now)) }
+        ensures lacks { (result ≡ Ok false)
+            ↔ ¬ MayHave extensions.now (tree_of expr.now) (ty_of self.now) }
+        ensures fault { IfErr result (λ error.
+            Meets extensions.now (plain_name error.name.now) (tree_of expr.now) (ty_of self.now)) }
     {
         match (self, expr) {
             (Type::Bool(known), RestrictedExpr::Bool(value)) => Ok(has_truth(known, *value)),
@@ -213,9 +219,13 @@ impl Type {
         value: &'v Value,
         extensions: &Extensions,
     ) -> Result<bool, ExtensionFunctionLookupError<'v>>
-        ensures has { (result ≡ Ok true) ↔ Has extensions.now (tree_of (value_expr value.now)) (ty_of self.now) }
-        ensures lacks { (result ≡ Ok false) ↔ ¬ MayHave extensions.now (tree_of (value_expr value.now)) (ty_of self.now) }
-        ensures fault { IfErr result (λ error. Meets extensions.now (plain_name error.name.now) (tree_of (value_expr value.now)) (ty_of self.now)) }
+        ensures has { (result ≡ Ok true)
+            ↔ Has extensions.now (tree_of (value_expr value.now)) (ty_of self.now) }
+        ensures lacks { (result ≡ Ok false)
+            ↔ ¬ MayHave extensions.now (tree_of (value_expr value.now)) (ty_of self.now) }
+        ensures fault { IfErr result (λ error.
+            Meets extensions.now (plain_name error.name.now) (tree_of (value_expr value.now))
+            (ty_of self.now)) }
     {
         self.typecheck_restricted_expr(value.expr(), extensions)
     }

@@ -21,7 +21,8 @@ use std::fmt::Display;
 
 /// Writes entity types, each with `, ` before it.
 fn write_others<W: fmt::Write>(types: &[EntityType], f: &mut fmt::Formatter<W>) -> fmt::Result
-    ensures { WritesOnOk W.write_str_gives f.old result (flat_map (λ name. codes ", " ++ name_text name) (map type_name types.now)) f.new }
+    ensures { WritesOnOk W.write_str_gives f.old result
+        (flat_map (λ name. codes ", " ++ name_text name) (map type_name types.now)) f.new }
 {
     for ty in types {
         write!(f, ", {ty}")?;
@@ -92,7 +93,8 @@ pub(crate) fn write_attribute<W: fmt::Write>(
     f: &mut fmt::Formatter<W>,
 ) -> fmt::Result
     ensures { WritesOnOk W.write_str_gives f.old result (string_bytes name.now
-        ++ mark_text (attribute_of attribute.now).0 ++ ty_text (attribute_of attribute.now).1 ++ codes ",") f.new }
+        ++ mark_text (attribute_of attribute.now).0 ++ ty_text (attribute_of attribute.now).1
+        ++ codes ",") f.new }
 {
     f.write_str(name.as_str())?;
     f.write_str(mark_word(attribute.is_required))?;

@@ -75,8 +75,8 @@ fn is_same(lower: &EntityLUB, upper: &EntityLUB) -> bool
     lower == upper
 }
 
-/// Whether the entities of the one union are entities of the other: in strict mode the unions have the same
-/// entity types, and in permissive mode the other has each of this one.
+/// Whether the entities of the one union are entities of the other: in strict mode the unions have
+/// the same entity types, and in permissive mode the other has each of this one.
 pub(crate) fn union_fits(lower: &EntityLUB, upper: &EntityLUB, mode: ValidationMode) -> bool
     ensures { IsTrue result ↔ Below mode (lub_ty lower.now) (lub_ty upper.now) }
 {
@@ -87,8 +87,9 @@ pub(crate) fn union_fits(lower: &EntityLUB, upper: &EntityLUB, mode: ValidationM
 }
 
 impl EntityKind {
-    /// Whether the entities of this kind are entities of the other: in strict mode the kinds are the
-    /// same, and in permissive mode the other one is any entity or has each entity type of this one.
+    /// Whether the entities of this kind are entities of the other: in strict mode the kinds are
+    /// the same, and in permissive mode the other one is any entity or has each entity type of this
+    /// one.
     pub fn is_subtype(&self, other: &EntityKind, mode: ValidationMode) -> bool
         ensures { IsTrue result ↔ Below mode (kind_ty self.now) (kind_ty other.now) }
     {
@@ -106,7 +107,8 @@ impl EntityKind {
 /// Whether an attribute is below another: its flag fits and its type is below.
 #[cycle(subtype)]
 fn attribute_fits(lower: &AttributeType, upper: &AttributeType, mode: ValidationMode) -> bool
-    ensures { IsTrue result ↔ AttributeBelow mode (attribute_of lower.now) (attribute_of upper.now) }
+    ensures { IsTrue result ↔ AttributeBelow mode (attribute_of lower.now)
+        (attribute_of upper.now) }
 {
     flags_fit(lower.is_required, upper.is_required, mode)
         && Type::is_subtype(&lower.attr_type, &upper.attr_type, mode)
@@ -137,12 +139,12 @@ impl Type {
     /// Whether the one type is below the other: what has it has the other.
     ///
     /// `Never` is below every type, `True` and `False` are below `Bool`, and every type is below
-    /// itself. A set is below a set whose elements have a type that is above, and below the any-set.
-    /// Of two records each attribute of the upper is an attribute of the lower whose type is below; a
-    /// closed upper lists no fewer names than the lower, and an open record is never below a closed
-    /// one. In strict mode records have the same names and flags, and entities the same kind. In
-    /// permissive mode an open upper may list fewer names, an attribute that the upper requires is
-    /// required in the lower, and an entity is below every union with its types.
+    /// itself. A set is below a set whose elements have a type that is above, and below the
+    /// any-set. Of two records each attribute of the upper is an attribute of the lower whose type
+    /// is below; a closed upper lists no fewer names than the lower, and an open record is never
+    /// below a closed one. In strict mode records have the same names and flags, and entities the
+    /// same kind. In permissive mode an open upper may list fewer names, an attribute that the
+    /// upper requires is required in the lower, and an entity is below every union with its types.
     #[cycle(subtype)]
     pub fn is_subtype(a: &Type, b: &Type, mode: ValidationMode) -> bool
         ensures { IsTrue result ↔ Below mode (ty_of a.now) (ty_of b.now) }

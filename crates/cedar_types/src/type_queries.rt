@@ -41,7 +41,8 @@ impl Type {
         }
     }
 
-    /// Whether the two types are unions of entity types that have none in common, so that no value has both.
+    /// Whether the two types are unions of entity types that have none in common, so that no value
+    /// has both.
     pub fn are_types_disjoint(a: &Type, b: &Type) -> bool
         ensures { IsTrue result ↔ AreDisjointTypes (ty_of a.now) (ty_of b.now) }
     {

@@ -148,9 +148,11 @@ impl Type {
         items: I,
         open_attributes: OpenTag,
     ) -> M<Self>
-        requires { (it : I.IntoIter) → I.into_iter_gives items it → I.IntoIter.can_next it × IsFinite (I.IntoIter.remaining it) }
+        requires { (it : I.IntoIter) → I.into_iter_gives items it
+            → I.IntoIter.can_next it × IsFinite (I.IntoIter.remaining it) }
         ensures { IfOk result (λ ty. (it : I.IntoIter) × (xs : List (String Global × AttributeType))
-            × I.into_iter_gives items it × Drains I.IntoIter.next_gives it xs × IsRecordOf (plain_attributes xs) open_attributes (ty_of ty)
+            × I.into_iter_gives items it × Drains I.IntoIter.next_gives it xs
+            × IsRecordOf (plain_attributes xs) open_attributes (ty_of ty)
             × ((name : Text) → listed_at name ty ≡ last_named name (located_attributes xs))) }
     {
         Ok(Type::Record {
@@ -166,9 +168,12 @@ impl Type {
         items: I,
         open_attributes: OpenTag,
     ) -> M<Self>
-        requires { (it : I.IntoIter) → I.into_iter_gives items it → I.IntoIter.can_next it × IsFinite (I.IntoIter.remaining it) }
-        ensures { IfOk result (λ ty. (it : I.IntoIter) × (xs : List (String Global × Rc «Type» Global))
-            × I.into_iter_gives items it × Drains I.IntoIter.next_gives it xs × IsRecordOf (plain_required xs) open_attributes (ty_of ty)) }
+        requires { (it : I.IntoIter) → I.into_iter_gives items it
+            → I.IntoIter.can_next it × IsFinite (I.IntoIter.remaining it) }
+        ensures { IfOk result (λ ty. (it : I.IntoIter)
+            × (xs : List (String Global × Rc «Type» Global))
+            × I.into_iter_gives items it × Drains I.IntoIter.next_gives it xs
+            × IsRecordOf (plain_required xs) open_attributes (ty_of ty)) }
     {
         Ok(Type::Record {
             attrs: Attributes::with_required_attributes(alloc, items)?,
@@ -186,7 +191,8 @@ impl Type {
     /// An equal type, with the same locations of attributes. Out of memory is the only refusal.
     pub fn clone(&self) -> M<Self>
         ensures same { IfOk result (λ copy. ty_of copy ≡ ty_of self.now) }
-        ensures listed { IfOk result (λ copy. (name : Text) → listed_at name copy ≡ listed_at name self.now) }
+        ensures listed { IfOk result (λ copy.
+            (name : Text) → listed_at name copy ≡ listed_at name self.now) }
         ensures element { IfOk result (λ copy. element_of copy ≡ element_of self.now) }
     {
         Ok(match self {

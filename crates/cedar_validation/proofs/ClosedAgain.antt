@@ -1,6 +1,5 @@
 -- A schema that closes a closed one: what is at fault in it, and what it closes.
-use Rattle.std.proofs.Common.{List, [], ◌∷◌, ◌∙◌}
-use Rattle.cedar_below.specs.Lists.{HoldsPairwise}
+use Rattle.std.proofs.Common.{◌∙◌}
 use Rattle.cedar_below.specs.PlainName.{PlainName}
 use Rattle.cedar_below.specs.PlainUid.{PlainUid}
 use Rattle.cedar_below.specs.declared.extension.Extensions.{Extensions}
@@ -9,18 +8,7 @@ use Rattle.cedar_declarations.specs.Fault.{Fault}
 use Rattle.cedar_declarations.specs.PlainSchema.{PlainSchema, SchemaAction, SchemaEntityType}
 use Rattle.cedar_declarations.specs.ValidSchema.{IsSchemaFault}
 use Rattle.cedar_validation.proofs.Agreeing.{action_shape, actions_closed, fault_back as closed_fault, leads_back, type_shape, types_closed}
-
--- what holds pairwise, one after the other, holds pairwise
-pairwise_joined : {A B C : Type 0} (R : A → B → Type 0) (S : B → C → Type 0) (T : A → C → Type 0)
-    → ((x : A) (y : B) (z : C) → R x y → S y z → T x z) → (xs : List A) (ys : List B) (zs : List C)
-    → HoldsPairwise R xs ys → HoldsPairwise S ys zs → HoldsPairwise T xs zs
-pairwise_joined R S T step [] [] [] first second = tt
-pairwise_joined R S T step [] [] (z ∷ zs) first second = absurd second
-pairwise_joined R S T step [] (y ∷ ys) zs first second = absurd first
-pairwise_joined R S T step (x ∷ xs) [] zs first second = absurd first
-pairwise_joined R S T step (x ∷ xs) (y ∷ ys) [] first second = absurd second
-pairwise_joined R S T step (x ∷ xs) (y ∷ ys) (z ∷ zs) first second =
-    (step x y z first.0 second.0, pairwise_joined R S T step xs ys zs first.1 second.1)
+use Rattle.cedar_validation.proofs.Pairwise.{pairwise_joined}
 
 module _ (schema closed : PlainSchema) (closes : ClosesSchema schema closed) where
   -- what is at fault in the closed one is at fault

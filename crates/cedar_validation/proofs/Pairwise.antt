@@ -28,3 +28,15 @@ pairwise_map R f g _ _ holds = absurd holds
 pub pairwise_back : {A B : Type 0} (R : A → B → Type 0) (xs : List A) (ys : List B) → HoldsPairwise R xs ys → (y : B)
     → Contains ys y → (x : A) × Contains xs x × R x y
 pairwise_back R xs ys holds = turn_forth (λ y x. R x y) ys xs (turn_back R (λ y x. R x y) (λ x y is. is) xs ys holds)
+
+-- what holds pairwise, one after the other, holds pairwise
+pub pairwise_joined : {A B C : Type 0} (R : A → B → Type 0) (S : B → C → Type 0) (T : A → C → Type 0)
+    → ((x : A) (y : B) (z : C) → R x y → S y z → T x z) → (xs : List A) (ys : List B) (zs : List C)
+    → HoldsPairwise R xs ys → HoldsPairwise S ys zs → HoldsPairwise T xs zs
+pairwise_joined R S T step [] [] [] first second = tt
+pairwise_joined R S T step [] [] (z ∷ zs) first second = absurd second
+pairwise_joined R S T step [] (y ∷ ys) zs first second = absurd first
+pairwise_joined R S T step (x ∷ xs) [] zs first second = absurd first
+pairwise_joined R S T step (x ∷ xs) (y ∷ ys) [] first second = absurd second
+pairwise_joined R S T step (x ∷ xs) (y ∷ ys) (z ∷ zs) first second =
+    (step x y z first.0 second.0, pairwise_joined R S T step xs ys zs first.1 second.1)

@@ -18,7 +18,8 @@ pub record IsTypeCopied (it copy : EntityType × ValidatorEntityType) : Type 0 w
   pub same : SameEntityType (plain_entry copy) (plain_entry it)
   pub key_loc : type_loc copy.0 ≡ type_loc it.0
   pub name_loc : name_loc copy.1 ≡ name_loc it.1
-  pub attributes : (name : Text) → located_at name (attributes_of copy.1) ≡ located_at name (attributes_of it.1)
+  pub attributes : (name : Text)
+      → located_at name (attributes_of copy.1) ≡ located_at name (attributes_of it.1)
   pub loc : copy.1.loc ≡ it.1.loc
 
 -- an action under its uid has a copy: the same with the same locations

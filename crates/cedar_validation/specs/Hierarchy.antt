@@ -30,16 +30,20 @@ StandsAt parts name it = get ((entity_type_ord.ghosts).cmp) parts.entity_types n
 
 -- each descendant that stands under its name is of a kind that may stand below
 abbrev pub IsBelowSound : Parts → ValidatorEntityType → Type 0
-IsBelowSound parts above = (lower : EntityType) (below : ValidatorEntityType) → Contains above.descendants.keys lower
-    → StandsAt parts lower below → IsKindSound (entity_type_of below).kind (entity_type_of above).kind
+IsBelowSound parts above = (lower : EntityType) (below : ValidatorEntityType)
+    → Contains above.descendants.keys lower
+    → StandsAt parts lower below → IsKindSound (entity_type_of below).kind
+    (entity_type_of above).kind
 
 -- one that stands under its name isn't
 abbrev pub IsBelowFault : Parts → PlainName → ValidatorEntityType → Fault → Type 0
 IsBelowFault parts upper above fault = (lower : EntityType) × (below : ValidatorEntityType)
     × Contains above.descendants.keys lower × StandsAt parts lower below
-    × IsKindFault (type_name lower) (entity_type_of below).kind upper (entity_type_of above).kind fault
+    × IsKindFault (type_name lower) (entity_type_of below).kind upper
+    (entity_type_of above).kind fault
 
--- the lower entity type is one of the schema and isn't enumerated, and isn't external where the upper is enumerated
+-- the lower entity type is one of the schema and isn't enumerated, and isn't external where the
+-- upper is enumerated
 pub record IsPairSound (schema : PlainSchema) (lower upper : PlainName) : Type 0 where
   pub declared : HasEntityType schema lower
   pub not_enumerated : ¬ IsOfKind schema lower IsEnumerated

@@ -1,4 +1,5 @@
--- The last of some items that passes a test, and the last entity type of a name, or action of a uid.
+-- The last of some items that passes a test, and the last entity type of a name, or action of a
+-- uid.
 use Rattle.std.specs.Prelude.{Bool, cond, List, [], ◌∷◌, Option, None, Some}
 use Rattle.std.specs.Option.{option_or}
 use Rattle.std.specs.Ordering.{is_eq}

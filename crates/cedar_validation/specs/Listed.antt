@@ -1,19 +1,24 @@
--- What the nodes under the keys of a map list by name, and the same nodes with all that chains of these lead to.
+-- What the nodes under the keys of a map list by name, and the same nodes with all that chains of
+-- these lead to.
 use Rattle.std.specs.Prelude.{◌≡◌, ◌↔◌, Contains, List}
 use Rattle.cedar_below.specs.Chain.{Chain}
 
 module _ {K V P : Type 0} (under : K → P) (below : V → List P) (entries : List (K × V)) where
   -- an entry of the second name lists the first
   abbrev pub ListsIn : P → P → Type 0
-  ListsIn lower upper = (entry : K × V) × Contains entries entry × (under entry.0 ≡ upper) × Contains (below entry.1) lower
+  ListsIn lower upper = (entry : K × V) × Contains entries entry × (under entry.0 ≡ upper)
+      × Contains (below entry.1) lower
 
   -- one or more steps of what is listed lead from the second name to the first
   abbrev pub LeadsTo : P → P → Type 0
   LeadsTo = Chain ListsIn
 
--- the entries have one name and are alike, and the second lists just what chains lead to from that name
-pub record IsClosedOf {K V P : Type 0} (under : K → P) (below : V → List P) (is_alike : V → V → Type 0) (entries : List (K × V))
+-- the entries have one name and are alike, and the second lists just what chains lead to from that
+-- name
+pub record IsClosedOf {K V P : Type 0} (under : K → P) (below : V → List P)
+    (is_alike : V → V → Type 0) (entries : List (K × V))
     (it closed : K × V) : Type 0 where
   pub key : under it.0 ≡ under closed.0
   pub alike : is_alike it.1 closed.1
-  pub below_it : (lower : P) → Contains (below closed.1) lower ↔ LeadsTo under below entries lower (under it.0)
+  pub below_it : (lower : P) → Contains (below closed.1) lower
+      ↔ LeadsTo under below entries lower (under it.0)

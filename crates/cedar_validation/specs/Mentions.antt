@@ -12,7 +12,8 @@ use Rattle.cedar_validation.specs.declared.known.Known.{Known}
 
 -- the entity type is one of the schema, or the type of an action
 abbrev pub Knows : Known → PlainName → Type 0
-Knows known name = HasEntityType (plain_parts known.parts.now) name ⊎ Contains (map type_name known.action_types.now.keys) name
+Knows known name = HasEntityType (plain_parts known.parts.now) name
+    ⊎ Contains (map type_name known.action_types.now.keys) name
 
 -- the extension type was handed in
 abbrev pub KnowsExtension : Known → PlainName → Type 0
@@ -26,5 +27,7 @@ IsKnownThroughout known ty = ((name : PlainName) → MentionsEntity ty name → 
 -- why the type is refused: memory ran out, or what stands in it isn't known
 abbrev pub IsUnknownIn : Known → Ty → Fault → Type 0
 IsUnknownIn known ty fault = (fault ≡ out_of_memory)
-    ⊎ (((name : PlainName) × (fault ≡ undeclared_entity_types (name ∷ [])) × MentionsEntity ty name × ¬ Knows known name)
-    ⊎ ((name : PlainName) × (fault ≡ unknown_extension_type name) × MentionsExtensionType ty name × ¬ KnowsExtension known name))
+    ⊎ (((name : PlainName) × (fault ≡ undeclared_entity_types (name ∷ [])) × MentionsEntity ty name
+    × ¬ Knows known name)
+    ⊎ ((name : PlainName) × (fault ≡ unknown_extension_type name) × MentionsExtensionType ty name
+    × ¬ KnowsExtension known name))

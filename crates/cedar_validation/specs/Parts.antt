@@ -20,20 +20,24 @@ use Rattle.cedar_schema_elements.specs.declared.entity_type.ValidatorEntityType.
 use Rattle.cedar_validation.specs.declared.parts.Parts.{Parts}
 
 -- the schema of some entity types, some actions, and these entities of actions
-abbrev pub plain_schema : List (EntityType × ValidatorEntityType) → List (EntityUID × ValidatorActionId) → List Entity → PlainSchema
+abbrev pub plain_schema : List (EntityType × ValidatorEntityType)
+    → List (EntityUID × ValidatorActionId) → List Entity → PlainSchema
 plain_schema types actions entities = schema_with (map plain_entry types) actions entities
 
 -- the schema of entity types and actions, without entities of actions
 abbrev pub plain_parts : Parts → PlainSchema
 plain_parts parts = plain_schema parts.entity_types.entries parts.actions.entries []
 
--- why a schema is refused: memory ran out, or the fault is one of it, whatever extensions are handed in
+-- why a schema is refused: memory ran out, or the fault is one of it, whatever extensions are
+-- handed in
 abbrev pub IsRefusal : PlainSchema → Fault → Type 0
-IsRefusal schema fault = (fault ≡ out_of_memory) ⊎ ((extensions : Extensions) → IsSchemaFault extensions schema fault)
+IsRefusal schema fault = (fault ≡ out_of_memory)
+    ⊎ ((extensions : Extensions) → IsSchemaFault extensions schema fault)
 
 -- descendants are closed: what chains of them lead to is listed; and no action is on a cycle
 pub record IsClosed (schema : PlainSchema) : Type 0 where
-  pub types : (lower upper : PlainName) → Chain (ListsDescendant schema) lower upper → ListsDescendant schema lower upper
+  pub types : (lower upper : PlainName) → Chain (ListsDescendant schema) lower upper
+      → ListsDescendant schema lower upper
   pub acyclic : (uid : PlainUid) → ¬ Chain (ListsDescendantAction schema) uid uid
 
 -- why a graph of actions is refused, as plain data

@@ -6,7 +6,8 @@ use Rattle.cedar_declarations.specs.Fault.{Fault, undeclared_action_descendant, 
 use Rattle.cedar_declarations.specs.PlainSchema.{PlainSchema, SchemaAction}
 use Rattle.cedar_declarations.specs.ValidSchema.{HasAction, HasEntityType, IsPrincipalOrResourceOf}
 
--- the principals and resources of the action are entity types of the schema, and its descendants actions
+-- the principals and resources of the action are entity types of the schema, and its descendants
+-- actions
 pub record ArePlaced (schema : PlainSchema) (it : SchemaAction) : Type 0 where
   pub types : (name : PlainName) → IsPrincipalOrResourceOf it.kind name → HasEntityType schema name
   pub descendants : (uid : PlainUid) → Contains it.descendants uid → HasAction schema uid
@@ -14,6 +15,8 @@ pub record ArePlaced (schema : PlainSchema) (it : SchemaAction) : Type 0 where
 -- why the action is refused: memory ran out, or one of these isn't of the schema
 abbrev pub IsMisplaced : PlainSchema → SchemaAction → Fault → Type 0
 IsMisplaced schema it fault = (fault ≡ out_of_memory)
-    ⊎ (((name : PlainName) × (fault ≡ undeclared_entity_types (name ∷ [])) × IsPrincipalOrResourceOf it.kind name
+    ⊎ (((name : PlainName) × (fault ≡ undeclared_entity_types (name ∷ []))
+    × IsPrincipalOrResourceOf it.kind name
     × ¬ HasEntityType schema name)
-    ⊎ ((uid : PlainUid) × (fault ≡ undeclared_action_descendant uid) × Contains it.descendants uid × ¬ HasAction schema uid))
+    ⊎ ((uid : PlainUid) × (fault ≡ undeclared_action_descendant uid) × Contains it.descendants uid
+    × ¬ HasAction schema uid))

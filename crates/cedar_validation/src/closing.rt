@@ -40,13 +40,16 @@ fn closed_nodes<K: Ord + Hash + Drop, V: SchemaNode<K> + Drop>(
     nodes: BTreeMap<K, V>,
     enforce_dag: bool,
 ) -> Result<BTreeMap<K, V>, TcError<K>>
-    ensures located { IfOk result (λ closed. ((it : K × V) → Contains nodes.entries it → V.IsLocatedAs it.0 it.1)
+    ensures located { IfOk result (λ closed.
+        ((it : K × V) → Contains nodes.entries it → V.IsLocatedAs it.0 it.1)
         → (it : K × V) → Contains closed.entries it → V.IsLocatedAs it.0 it.1) }
-    ensures closed { IfOk result (λ closed. HoldsPairwise (IsClosedOf V.key_name V.below V.is_alike nodes.entries)
+    ensures closed { IfOk result (λ closed.
+        HoldsPairwise (IsClosedOf V.key_name V.below V.is_alike nodes.entries)
         nodes.entries closed.entries) }
     ensures acyclic { OnOk result (IsTrue enforce_dag → (name : V.Name)
         → ¬ LeadsTo V.key_name V.below nodes.entries name name) }
-    ensures fault { IfErr result (IsRefusal (λ key other. LeadsTo V.key_name V.below nodes.entries (V.key_name key)
+    ensures fault { IfErr result (IsRefusal (λ key other.
+        LeadsTo V.key_name V.below nodes.entries (V.key_name key)
         (V.key_name other)) enforce_dag) }
 {
     let mut hashed = into_hash_map(alloc, nodes)?;
@@ -54,10 +57,11 @@ fn closed_nodes<K: Ord + Hash + Drop, V: SchemaNode<K> + Drop>(
     Ok(into_btree_map(alloc, hashed)?)
 }
 
-/// The entity types with their descendants closed: each with just those that one or more steps of the
-/// listed ones reach. Out of memory is the only refusal.
+/// The entity types with their descendants closed: each with just those that one or more steps of
+/// the listed ones reach. Out of memory is the only refusal.
 pub(crate) fn closed_types(alloc: Global, types: Types) -> M<Types>
-    ensures located { IfOk result (λ closed. type_specs.AreLocatedAsKeys types.entries → type_specs.AreLocatedAsKeys closed.entries) }
+    ensures located { IfOk result (λ closed.
+        type_specs.AreLocatedAsKeys types.entries → type_specs.AreLocatedAsKeys closed.entries) }
     ensures closed { IfOk result (λ closed. (actions : List (Uid × Action)) (entities : List Entity)
         → HoldsPairwise (ClosesType (plain_schema types.entries actions entities))
         (map plain_entry types.entries) (map plain_entry closed.entries)) }
@@ -86,9 +90,11 @@ pub(crate) fn closed_actions(alloc: Global, actions: Actions) -> Result<Actions,
     ensures closed { IfOk result (λ closed. (types : List (Name × Node)) (entities : List Entity)
         → HoldsPairwise (ClosesAction (plain_schema types actions.entries entities))
         (map plain_action_entry actions.entries) (map plain_action_entry closed.entries)) }
-    ensures acyclic { OnOk result ((types : List (Name × Node)) (entities : List Entity) (uid : PlainUid)
+    ensures acyclic { OnOk result ((types : List (Name × Node)) (entities : List Entity)
+        (uid : PlainUid)
         → ¬ Chain (ListsDescendantAction (plain_schema types actions.entries entities)) uid uid) }
-    ensures fault { IfErr result (λ error. (types : List (Name × Node)) (entities : List Entity) → (fault_of error ≡ out_of_memory)
+    ensures fault { IfErr result (λ error.
+        (types : List (Name × Node)) (entities : List Entity) → (fault_of error ≡ out_of_memory)
         ⊎ ((uid : PlainUid) × (fault_of error ≡ action_cycle uid)
         × Chain (ListsDescendantAction (plain_schema types actions.entries entities)) uid uid)) }
 {

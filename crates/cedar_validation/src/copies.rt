@@ -19,7 +19,8 @@ pub fn copied_types(types: &Types) -> M<Types>
 /// Equal actions with the same locations, each under an equal uid. Out of memory is the only
 /// refusal.
 pub fn copied_actions(actions: &Actions) -> M<Actions>
-    ensures { IfOk result (λ copies. HoldsPairwise IsActionCopied actions.now.entries copies.entries) }
+    ensures { IfOk result (λ copies.
+        HoldsPairwise IsActionCopied actions.now.entries copies.entries) }
 {
     copied_entries(actions, EntityUID::clone, ValidatorActionId::clone)
 }

@@ -24,9 +24,11 @@ fn check_kinds(
     upper: &EntityType,
     above: &ValidatorEntityType,
 ) -> Result<(), SchemaError>
-    ensures sound { OnOk result (IsKindSound (entity_type_of below.now).kind (entity_type_of above.now).kind) }
+    ensures sound { OnOk result (IsKindSound (entity_type_of below.now).kind
+        (entity_type_of above.now).kind) }
     ensures fault { IfErr result (λ error. (fault_of error ≡ out_of_memory)
-        ⊎ IsKindFault (type_name lower.now) (entity_type_of below.now).kind (type_name upper.now) (entity_type_of above.now).kind
+        ⊎ IsKindFault (type_name lower.now) (entity_type_of below.now).kind (type_name upper.now)
+        (entity_type_of above.now).kind
         (fault_of error)) }
 {
     if below.is_enumerated() {
@@ -59,7 +61,8 @@ fn check_below(
 
 /// Checks the descendants of each entity type, which have to be entity types of the schema.
 pub(crate) fn check_hierarchy(alloc: Global, parts: &Parts) -> Result<(), SchemaError>
-    ensures sound { OnOk result ((lower upper : PlainName) → ListsDescendant (plain_parts parts.now) lower upper
+    ensures sound { OnOk result ((lower upper : PlainName)
+        → ListsDescendant (plain_parts parts.now) lower upper
         → IsPairSound (plain_parts parts.now) lower upper) }
     ensures fault { IfErr result (λ error. IsRefusal (plain_parts parts.now) (fault_of error)) }
 {

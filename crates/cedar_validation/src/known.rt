@@ -48,7 +48,8 @@ pub(crate) fn action_types(alloc: Global, parts: &Parts) -> M<HashSet<EntityType
 
 /// The refusal of an entity type that isn't declared.
 pub(crate) fn undeclared(alloc: Global, name: &EntityType) -> M<SchemaError>
-    ensures { IfOk result (λ error. fault_of error ≡ undeclared_entity_types (type_name name.now ∷ [])) }
+    ensures { IfOk result (λ error.
+        fault_of error ≡ undeclared_entity_types (type_name name.now ∷ [])) }
 {
     Ok(SchemaError::UndeclaredEntityTypes(NonEmpty {
         head: name.clone()?,
@@ -66,9 +67,11 @@ impl<'a> Known<'a> {
 
     /// Refuses a union with an entity type that isn't known.
     fn check_union(&self, union: &EntityLUB) -> Result<(), SchemaError>
-        ensures sound { OnOk result ((name : PlainName) → Contains (lub_names union.now) name → Knows self.now name) }
+        ensures sound { OnOk result ((name : PlainName) → Contains (lub_names union.now) name
+            → Knows self.now name) }
         ensures fault { IfErr result (λ error. (fault_of error ≡ out_of_memory)
-            ⊎ ((name : PlainName) × (fault_of error ≡ undeclared_entity_types (name ∷ [])) × Contains (lub_names union.now) name
+            ⊎ ((name : PlainName) × (fault_of error ≡ undeclared_entity_types (name ∷ []))
+            × Contains (lub_names union.now) name
             × ¬ Knows self.now name)) }
     {
         for name in union.iter() {
@@ -82,7 +85,8 @@ impl<'a> Known<'a> {
     /// Refuses a kind of entities with such a union.
     pub(crate) fn check_kind(&self, kind: &EntityKind) -> Result<(), SchemaError>
         ensures sound { OnOk result (IsKnownThroughout self.now (kind_ty kind.now)) }
-        ensures fault { IfErr result (λ error. IsUnknownIn self.now (kind_ty kind.now) (fault_of error)) }
+        ensures fault { IfErr result (λ error.
+            IsUnknownIn self.now (kind_ty kind.now) (fault_of error)) }
     {
         match kind {
             EntityKind::AnyEntity => Ok(()),
@@ -92,7 +96,8 @@ impl<'a> Known<'a> {
 
     /// Refuses an extension type that wasn't handed in.
     pub(crate) fn check_extension(&self, name: &Name) -> Result<(), SchemaError>
-        ensures sound { OnOk result (Contains (extension_types self.now.extensions.now) (plain_name name.now)) }
+        ensures sound { OnOk result (Contains (extension_types self.now.extensions.now)
+            (plain_name name.now)) }
         ensures fault { IfErr result (λ error. (fault_of error ≡ out_of_memory)
             ⊎ ((fault_of error ≡ unknown_extension_type (plain_name name.now))
             × ¬ Contains (extension_types self.now.extensions.now) (plain_name name.now))) }

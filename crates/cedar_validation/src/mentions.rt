@@ -38,8 +38,10 @@ fn check_type(known: &Known, ty: &Type) -> Result<(), SchemaError>
 /// Checks what the types of attributes mention.
 #[cycle(mentions)]
 fn check_attributes(known: &Known, attrs: &Attributes) -> Result<(), SchemaError>
-    ensures sound { OnOk result (IsKnownThroughout known.now (record_of (fields_of attrs.now) ClosedAttributes)) }
-    ensures fault { IfErr result (λ error. IsUnknownIn known.now (record_of (fields_of attrs.now) ClosedAttributes) (fault_of error)) }
+    ensures sound { OnOk result (IsKnownThroughout known.now
+        (record_of (fields_of attrs.now) ClosedAttributes)) }
+    ensures fault { IfErr result (λ error.
+        IsUnknownIn known.now (record_of (fields_of attrs.now) ClosedAttributes) (fault_of error)) }
 {
     for (_name, attribute) in attrs.iter() {
         check_type(known, &attribute.attr_type)?;
@@ -53,7 +55,8 @@ trait Typed {
 
     /// Checks what its types mention.
     fn check_types(&self, known: &Known) -> Result<(), SchemaError>
-        ensures sound { OnOk result ((of : Ty) → HasType self.now of → IsKnownThroughout known.now of) }
+        ensures sound { OnOk result ((of : Ty) → HasType self.now of
+            → IsKnownThroughout known.now of) }
         ensures fault { IfErr result (λ error. (fault_of error ≡ out_of_memory)
             ⊎ ((of : Ty) × HasType self.now of × IsUnknownIn known.now of (fault_of error))) };
 }
@@ -85,7 +88,8 @@ impl Typed for ValidatorActionId {
 
 /// Checks what the types in each value of a map mention.
 fn check_each<K: Ord, V: Typed>(known: &Known, typed: &BTreeMap<K, V>) -> Result<(), SchemaError>
-    ensures sound { OnOk result ((entry : K × V) → Contains typed.now.entries entry → (of : Ty) → V.HasType entry.1 of
+    ensures sound { OnOk result ((entry : K × V) → Contains typed.now.entries entry → (of : Ty)
+        → V.HasType entry.1 of
         → IsKnownThroughout known.now of) }
     ensures fault { IfErr result (λ error. (fault_of error ≡ out_of_memory)
         ⊎ ((entry : K × V) × Contains typed.now.entries entry
@@ -99,9 +103,11 @@ fn check_each<K: Ord, V: Typed>(known: &Known, typed: &BTreeMap<K, V>) -> Result
 
 /// Refuses a schema in whose types something stands that isn't known.
 pub(crate) fn check_mentions(known: &Known) -> Result<(), SchemaError>
-    ensures sound { OnOk result ((of : Ty) → IsTypeIn (plain_parts known.now.parts.now) of → IsKnownThroughout known.now of) }
+    ensures sound { OnOk result ((of : Ty) → IsTypeIn (plain_parts known.now.parts.now) of
+        → IsKnownThroughout known.now of) }
     ensures fault { IfErr result (λ error. (fault_of error ≡ out_of_memory)
-        ⊎ ((of : Ty) × IsTypeIn (plain_parts known.now.parts.now) of × IsUnknownIn known.now of (fault_of error))) }
+        ⊎ ((of : Ty) × IsTypeIn (plain_parts known.now.parts.now) of
+        × IsUnknownIn known.now of (fault_of error))) }
 {
     check_each(known, &known.parts.entity_types)?;
     check_each(known, &known.parts.actions)

@@ -35,7 +35,8 @@ fn by_name<K: Ord + Hash + Drop, V: SchemaNode<K> + Drop>(
         ≡ last_that (λ it. is_eq (V.name_order (V.key_name name) (V.node_name it))) nodes.items) }
     ensures under_names { IfOk result (λ named. (it : K × V) → Contains named.entries it
         → V.node_name it.1 ≡ V.key_name it.0) }
-    ensures located { IfOk result (λ named. (it : K × V) → Contains named.entries it → V.IsLocatedAs it.0 it.1) }
+    ensures located { IfOk result (λ named.
+        (it : K × V) → Contains named.entries it → V.IsLocatedAs it.0 it.1) }
 {
     let mut named = BTreeMap::new(alloc);
     for node in nodes {
@@ -50,9 +51,11 @@ fn by_name<K: Ord + Hash + Drop, V: SchemaNode<K> + Drop>(
 /// The entity types, each under its name; of those of one name the last. Out of memory is the
 /// only refusal.
 pub fn types_by_name(alloc: Global, types: Vec<ValidatorEntityType>) -> M<Types>
-    ensures last { IfOk result (λ named. (name : Name) → get_by (λ key. name_cmp (type_name name) (type_name key)) named
+    ensures last { IfOk result (λ named.
+        (name : Name) → get_by (λ key. name_cmp (type_name name) (type_name key)) named
         ≡ last_named (type_name name) types.items) }
-    ensures under_names { IfOk result (λ named. (it : Name × EntityTypeOfSchema) → Contains named.entries it
+    ensures under_names { IfOk result (λ named.
+        (it : Name × EntityTypeOfSchema) → Contains named.entries it
         → (entity_type_of it.1).name ≡ type_name it.0) }
     ensures located { IfOk result (λ named. type_specs.AreLocatedAsKeys named.entries) }
 {
@@ -62,9 +65,11 @@ pub fn types_by_name(alloc: Global, types: Vec<ValidatorEntityType>) -> M<Types>
 /// The actions, each under its uid; of those of one uid the last. Out of memory is the only
 /// refusal.
 pub fn actions_by_uid(alloc: Global, actions: Vec<ValidatorActionId>) -> M<Actions>
-    ensures last { IfOk result (λ named. (uid : Uid) → get_by (λ key. uid_cmp (uid_of uid) (uid_of key)) named
+    ensures last { IfOk result (λ named.
+        (uid : Uid) → get_by (λ key. uid_cmp (uid_of uid) (uid_of key)) named
         ≡ last_of_uid (uid_of uid) actions.items) }
-    ensures under_uids { IfOk result (λ named. (it : Uid × ActionOfSchema) → Contains named.entries it
+    ensures under_uids { IfOk result (λ named.
+        (it : Uid × ActionOfSchema) → Contains named.entries it
         → (action_of it.1).uid ≡ uid_of it.0) }
     ensures located { IfOk result (λ named. action_specs.AreLocatedAsKeys named.entries) }
 {

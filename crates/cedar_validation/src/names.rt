@@ -16,7 +16,8 @@ use std::alloc::Global;
 
 /// Refuses an entity type with the base name of actions' types.
 pub(crate) fn check_type_names(parts: &Parts) -> Result<(), SchemaError>
-    ensures sound { OnOk result ((name : PlainName) → HasEntityType (plain_parts parts.now) name → ¬ IsActionType name) }
+    ensures sound { OnOk result ((name : PlainName) → HasEntityType (plain_parts parts.now) name
+        → ¬ IsActionType name) }
     ensures fault { IfErr result (λ error. IsRefusal (plain_parts parts.now) (fault_of error)) }
 {
     for name in parts.entity_types.keys() {
@@ -30,7 +31,8 @@ pub(crate) fn check_type_names(parts: &Parts) -> Result<(), SchemaError>
 
 /// Refuses an action whose type hasn't that base name.
 pub(crate) fn check_action_types(parts: &Parts) -> Result<(), SchemaError>
-    ensures sound { OnOk result ((uid : PlainUid) → HasAction (plain_parts parts.now) uid → IsActionType uid.ty) }
+    ensures sound { OnOk result ((uid : PlainUid) → HasAction (plain_parts parts.now) uid
+        → IsActionType uid.ty) }
     ensures fault { IfErr result (λ error. IsRefusal (plain_parts parts.now) (fault_of error)) }
 {
     for uid in parts.actions.keys() {
@@ -56,7 +58,8 @@ fn unqualified(alloc: Global, ty: &EntityType) -> M<EntityType>
 
 /// Refuses an entity type without a namespace beside one of the same base name in a namespace.
 pub(crate) fn check_shadowed_types(alloc: Global, parts: &Parts) -> Result<(), SchemaError>
-    ensures sound { OnOk result ((plain qualified : PlainName) → HasEntityType (plain_parts parts.now) plain
+    ensures sound { OnOk result ((plain qualified : PlainName)
+        → HasEntityType (plain_parts parts.now) plain
         → HasEntityType (plain_parts parts.now) qualified → ¬ ShadowsType plain qualified) }
     ensures fault { IfErr result (λ error. IsRefusal (plain_parts parts.now) (fault_of error)) }
 {
@@ -73,10 +76,11 @@ pub(crate) fn check_shadowed_types(alloc: Global, parts: &Parts) -> Result<(), S
     Ok(())
 }
 
-/// Refuses an action whose type has no namespace beside one of the same id whose type has one. All types of
-/// actions have one base name.
+/// Refuses an action whose type has no namespace beside one of the same id whose type has one. All
+/// types of actions have one base name.
 pub(crate) fn check_shadowed_actions(alloc: Global, parts: &Parts) -> Result<(), SchemaError>
-    ensures sound { OnOk result (((uid : PlainUid) → HasAction (plain_parts parts.now) uid → IsActionType uid.ty)
+    ensures sound { OnOk result (((uid : PlainUid) → HasAction (plain_parts parts.now) uid
+        → IsActionType uid.ty)
         → (plain qualified : PlainUid) → HasAction (plain_parts parts.now) plain
         → HasAction (plain_parts parts.now) qualified → ¬ ShadowsAction plain qualified) }
     ensures fault { IfErr result (λ error. IsRefusal (plain_parts parts.now) (fault_of error)) }

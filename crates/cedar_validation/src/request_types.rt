@@ -24,7 +24,8 @@ use std::collections::{BTreeMap, hash_set};
 
 /// The first of some keys under which nothing stands in a map.
 fn missing<'a, K: Ord, V>(map: &BTreeMap<K, V>, keys: hash_set::Iter<'a, K>) -> Option<&'a K>
-    ensures { MatchOption result ((key : K) → Contains keys.entry key → ContainsKey K.cmp map.now key)
+    ensures { MatchOption result ((key : K) → Contains keys.entry key
+        → ContainsKey K.cmp map.now key)
         (λ key. Contains keys.entry key.now × ¬ ContainsKey K.cmp map.now key.now) }
 {
     for key in keys {
@@ -44,7 +45,8 @@ pub(crate) fn check_declared(
     ensures sound { OnOk result ((name : PlainName) → Contains (map type_name names.entry) name
         → HasEntityType (plain_parts parts.now) name) }
     ensures fault { IfErr result (λ error. (fault_of error ≡ out_of_memory)
-        ⊎ ((name : PlainName) × (fault_of error ≡ undeclared_entity_types (name ∷ [])) × Contains (map type_name names.entry) name
+        ⊎ ((name : PlainName) × (fault_of error ≡ undeclared_entity_types (name ∷ []))
+        × Contains (map type_name names.entry) name
         × ¬ HasEntityType (plain_parts parts.now) name)) }
 {
     match missing(&parts.entity_types, names) {
@@ -58,7 +60,8 @@ fn check_descendants(parts: &Parts, action: &ValidatorActionId) -> Result<(), Sc
     ensures sound { OnOk result ((uid : PlainUid) → Contains (action_of action.now).descendants uid
         → HasAction (plain_parts parts.now) uid) }
     ensures fault { IfErr result (λ error. (fault_of error ≡ out_of_memory)
-        ⊎ ((uid : PlainUid) × (fault_of error ≡ undeclared_action_descendant uid) × Contains (action_of action.now).descendants uid
+        ⊎ ((uid : PlainUid) × (fault_of error ≡ undeclared_action_descendant uid)
+        × Contains (action_of action.now).descendants uid
         × ¬ HasAction (plain_parts parts.now) uid)) }
 {
     match missing(&parts.actions, action.descendants()) {
@@ -67,11 +70,12 @@ fn check_descendants(parts: &Parts, action: &ValidatorActionId) -> Result<(), Sc
     }
 }
 
-/// Refuses an action with such a descendant, or with a principal or a resource that isn't an entity type of
-/// the schema.
+/// Refuses an action with such a descendant, or with a principal or a resource that isn't an entity
+/// type of the schema.
 fn check_action(alloc: Global, parts: &Parts, action: &ValidatorActionId) -> Result<(), SchemaError>
     ensures sound { OnOk result (ArePlaced (plain_parts parts.now) (action_of action.now)) }
-    ensures fault { IfErr result (λ error. IsMisplaced (plain_parts parts.now) (action_of action.now) (fault_of error)) }
+    ensures fault { IfErr result (λ error.
+        IsMisplaced (plain_parts parts.now) (action_of action.now) (fault_of error)) }
 {
     check_declared(alloc, parts, action.principals())?;
     check_declared(alloc, parts, action.resources())?;
@@ -80,7 +84,8 @@ fn check_action(alloc: Global, parts: &Parts, action: &ValidatorActionId) -> Res
 
 /// Checks the principals, resources and descendants of each action.
 pub(crate) fn check_actions(alloc: Global, parts: &Parts) -> Result<(), SchemaError>
-    ensures sound { OnOk result ((entry : PlainUid × SchemaAction) → Contains (plain_parts parts.now).actions entry
+    ensures sound { OnOk result ((entry : PlainUid × SchemaAction)
+        → Contains (plain_parts parts.now).actions entry
         → ArePlaced (plain_parts parts.now) entry.1) }
     ensures fault { IfErr result (λ error. IsRefusal (plain_parts parts.now) (fault_of error)) }
 {

@@ -67,7 +67,8 @@ fn check_types(alloc: Global, parts: &Parts, extensions: &Extensions) -> Result<
 
 /// Refuses a schema with any fault, where its descendants are closed.
 fn check_parts(alloc: Global, parts: &Parts, extensions: &Extensions) -> Result<(), SchemaError>
-    ensures valid { OnOk result (IsClosed (plain_parts parts.now) → IsValidSchema extensions.now (plain_parts parts.now)) }
+    ensures valid { OnOk result (IsClosed (plain_parts parts.now)
+        → IsValidSchema extensions.now (plain_parts parts.now)) }
     ensures fault { IfErr result (λ error. (fault_of error ≡ out_of_memory)
         ⊎ IsSchemaFault extensions.now (plain_parts parts.now) (fault_of error)) }
 {
@@ -99,17 +100,21 @@ pub fn validate(
     actions: BTreeMap<EntityUID, ValidatorActionId>,
     extensions: &Extensions,
 ) -> Result<Validated, SchemaError>
-    ensures fault { IfErr result (λ error. (entities : List Entity) → (fault_of error ≡ out_of_memory)
-        ⊎ IsSchemaFault extensions.now (plain_schema entity_types.entries actions.entries entities) (fault_of error)) }
+    ensures fault { IfErr result (λ error.
+        (entities : List Entity) → (fault_of error ≡ out_of_memory)
+        ⊎ IsSchemaFault extensions.now (plain_schema entity_types.entries actions.entries entities)
+        (fault_of error)) }
     ensures valid { OnOk result ((entities : List Entity)
-        → IsValidSchema extensions.now (plain_schema entity_types.entries actions.entries entities)) }
+        → IsValidSchema extensions.now
+        (plain_schema entity_types.entries actions.entries entities)) }
     ensures types_located { IfOk result (λ it. type_specs.AreLocatedAsKeys entity_types.entries
         → type_specs.AreLocatedAsKeys it.entity_types.entries) }
     ensures actions_located { IfOk result (λ it. action_specs.AreLocatedAsKeys actions.entries
         → action_specs.AreLocatedAsKeys it.actions.entries) }
     ensures closed { IfOk result (λ it. (entities : List Entity)
         → ClosesSchema (plain_schema entity_types.entries actions.entries entities)
-        (plain_schema it.entity_types.entries it.actions.entries (entities_of it.action_entities))) }
+        (plain_schema it.entity_types.entries it.actions.entries
+        (entities_of it.action_entities))) }
 {
     let parts = Parts {
         entity_types: closed_types(alloc, entity_types)?,

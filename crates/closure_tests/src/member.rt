@@ -10,7 +10,8 @@ use cedar_graph::TCNode;
 use std::alloc::Global;
 use std::collections::{HashMap, HashSet, hash_set};
 
-/// A node of the tests: its own key, a mark that a closure is to leave alone, and what it is a member of.
+/// A node of the tests: its own key, a mark that a closure is to leave alone, and what it is a
+/// member of.
 #[derive(Drop)]
 pub struct Member {
     pub key: u32,
@@ -48,7 +49,8 @@ impl TCNode<u32> for Member {
 
     fn reset_edges(&mut self) {}
 
-    ghost edges_respect_eq = { λ node a b same. ap (contains nat_eq node.owners) (eqb-true a b same) };
+    ghost edges_respect_eq = { λ node a b same.
+        ap (contains nat_eq node.owners) (eqb-true a b same) };
 
     ghost alike_itself = { λ node. (refl, refl) };
 

@@ -23,7 +23,8 @@ fn ring(alloc: Global, count: u32) -> M<Vec<(u32, u32)>> {
     Ok(edges)
 }
 
-/// Whether a chain is closed with so many edges in all, in at most as many joins as there are pairs of nodes.
+/// Whether a chain is closed with so many edges in all, in at most as many joins as there are pairs
+/// of nodes.
 fn closes_chain(alloc: Global, count: u32, total: usize) -> Result<bool, Fail> {
     let mut nodes = nodes_of(alloc, count, &chain(alloc, count)?)?;
     let joins = compute_tc_counted(alloc, &mut nodes, true)?;
@@ -69,8 +70,8 @@ fn a_ring_is_closed_or_refused(rt: HostRuntime) -> Result<(), Fail> {
     holds(allowing(alloc, 65, &ring)? == 4225, "each reaches each")
 }
 
-/// Graphs: how many nodes and which edges they have, what closing answers where cycles are refused, and how many edges there
-/// are in all where they are allowed.
+/// Graphs: how many nodes and which edges they have, what closing answers where cycles are refused,
+/// and how many edges there are in all where they are allowed.
 const GRAPHS: &[(u32, &[(u32, u32)], &str, usize)] = &[
     (0, &[], "0 edges", 0),
     (2, &[(0, 1), (1, 9)], "3 edges", 3),
@@ -105,7 +106,8 @@ fn adding(alloc: Global, edges: &[(u32, u32)]) -> Result<usize, Fail> {
     Ok(edges_in_all(&nodes))
 }
 
-/// Edges that are added to two nodes of which the second has an edge to the first, and how many there are then.
+/// Edges that are added to two nodes of which the second has an edge to the first, and how many
+/// there are then.
 const ADDED: &[(&[(u32, u32)], usize, &str)] = &[
     (&[], 1, "none"),
     (&[(0, 1), (1, 9)], 3, "one of them to no node"),

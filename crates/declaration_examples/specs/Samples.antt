@@ -54,7 +54,11 @@ action_here id principals =
       namespace = None;
       id = id;
       body =
-          action (record { has_attributes = false; parents = []; applies_to = requests principals [] (record_expr no_member false) });
+          action (record {
+            has_attributes = false;
+            parents = [];
+            applies_to = requests principals [] (record_expr no_member false);
+          });
     }
 
 -- the definition of `A` in a cycle: it refers to `B`, and to the alias of a built-in type
@@ -84,22 +88,35 @@ alias_bag = entity_here (codes "String") [] no_member ∷ []
 
 -- an entity type in the empty namespace, and a common type of its base name in `N`
 abbrev pub shadow_bag : Bag
-shadow_bag = entity_here (codes "User") [] no_member ∷ declared_within (codes "User") (common_type long_expr) ∷ []
+shadow_bag = entity_here (codes "User") [] no_member
+    ∷ declared_within (codes "User") (common_type long_expr) ∷ []
 
 -- two actions, of the types `Action` and `N::Action`
 abbrev pub actions_bag : Bag
 actions_bag =
     action_here (codes "read") []
     ∷ declared_within (codes "view")
-    (action (record { has_attributes = false; parents = []; applies_to = requests [] [] (record_expr no_member false) }))
+    (action (record {
+      has_attributes = false;
+      parents = [];
+      applies_to = requests [] [] (record_expr no_member false);
+    }))
     ∷ []
 
 -- an enumerated entity type, one below it, and an external one below that
 abbrev pub tint_bag : Bag
 tint_bag =
-    record { namespace = None; id = codes "Color"; body = entity_type (enumerated (codes "red" ∷ [])) }
+    record {
+      namespace = None;
+      id = codes "Color";
+      body = entity_type (enumerated (codes "red" ∷ []));
+    }
     ∷ entity_here (codes "Shade") (refer_here Entity (codes "Color") ∷ []) no_member
-    ∷ record { namespace = None; id = codes "Tint"; body = entity_type (external (refer_here Entity (codes "Shade") ∷ [])) }
+    ∷ record {
+      namespace = None;
+      id = codes "Tint";
+      body = entity_type (external (refer_here Entity (codes "Shade") ∷ []));
+    }
     ∷ []
 
 -- the same, where the lowest has a definition besides
@@ -109,15 +126,27 @@ known_tint_bag = tint_bag ++ entity_here (codes "Tint") [] no_member ∷ []
 -- an enumerated entity type that an external declaration gives a parent
 abbrev pub painted_bag : Bag
 painted_bag =
-    record { namespace = None; id = codes "Color"; body = entity_type (enumerated (codes "red" ∷ [])) }
-    ∷ record { namespace = None; id = codes "Color"; body = entity_type (external (refer_here Entity (codes "Paint") ∷ [])) }
+    record {
+      namespace = None;
+      id = codes "Color";
+      body = entity_type (enumerated (codes "red" ∷ []));
+    }
+    ∷ record {
+      namespace = None;
+      id = codes "Color";
+      body = entity_type (external (refer_here Entity (codes "Paint") ∷ []));
+    }
     ∷ entity_here (codes "Paint") [] no_member
     ∷ []
 
 -- an entity type with an external declaration and a definition, each with a parent of its own
 abbrev pub linked_bag : Bag
 linked_bag =
-    record { namespace = None; id = codes "User"; body = entity_type (external (refer_here Entity (codes "Group") ∷ [])) }
+    record {
+      namespace = None;
+      id = codes "User";
+      body = entity_type (external (refer_here Entity (codes "Group") ∷ []));
+    }
     ∷ entity_here (codes "User") (refer_here Entity (codes "Team") ∷ []) no_member
     ∷ entity_here (codes "Group") [] no_member
     ∷ entity_here (codes "Team") [] no_member
@@ -125,15 +154,18 @@ linked_bag =
 
 -- an external declaration of `U` with these parents
 abbrev pub external_here : List Reference → Declaration
-external_here parents = record { namespace = None; id = codes "U"; body = entity_type (external parents) }
+external_here parents = record
+    { namespace = None; id = codes "U"; body = entity_type (external parents) }
 
 -- an external entity type that two declarations give a parent each
 abbrev pub apart_bag : Bag
-apart_bag = external_here (refer_here Entity (codes "A") ∷ []) ∷ external_here (refer_here Entity (codes "B") ∷ []) ∷ []
+apart_bag = external_here (refer_here Entity (codes "A") ∷ [])
+    ∷ external_here (refer_here Entity (codes "B") ∷ []) ∷ []
 
 -- the same in one declaration
 abbrev pub together_bag : Bag
-together_bag = external_here (refer_here Entity (codes "B") ∷ refer_here Entity (codes "A") ∷ []) ∷ []
+together_bag = external_here (refer_here Entity (codes "B") ∷ refer_here Entity (codes "A") ∷ [])
+    ∷ []
 
 -- two entity types, each below the other
 abbrev pub ring_bag : Bag

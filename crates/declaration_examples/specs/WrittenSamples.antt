@@ -17,15 +17,19 @@ use Rattle.declaration_examples.specs.Samples.{action_here, declared_within, ent
 
 -- an entity type under its name, of a kind and with some descendants
 abbrev pub type_entry : PlainName → EntityTypeKind → List PlainName → PlainName × SchemaEntityType
-type_entry name kind descendants = (name, record { name = name; kind = kind; descendants = descendants })
+type_entry name kind descendants =
+    (name, record { name = name; kind = kind; descendants = descendants })
 
 -- an external action under its uid, with some descendants
 abbrev pub action_entry : PlainUid → List PlainUid → PlainUid × SchemaAction
-action_entry uid descendants = (uid, record { uid = uid; kind = external_action; descendants = descendants })
+action_entry uid descendants =
+    (uid, record { uid = uid; kind = external_action; descendants = descendants })
 
 -- a schema of these entity types and actions
-abbrev pub schema_of_entries : List (PlainName × SchemaEntityType) → List (PlainUid × SchemaAction) → PlainSchema
-schema_of_entries types actions = record { entity_types = types; actions = actions; action_entities = [] }
+abbrev pub schema_of_entries : List (PlainName × SchemaEntityType) → List (PlainUid × SchemaAction)
+    → PlainSchema
+schema_of_entries types actions =
+    record { entity_types = types; actions = actions; action_entities = [] }
 
 -- a standard kind with one attribute of the type, which is required, and no tags
 abbrev pub with_attribute : Ty → EntityTypeKind
@@ -50,27 +54,32 @@ action_within id = record { ty = within_sample action_word; eid = id }
 -- in `N` an entity type whose attribute is of the type `Action`, and these actions
 abbrev pub action_attribute : List (PlainUid × SchemaAction) → PlainSchema
 action_attribute actions =
-    schema_of_entries (type_entry (within_sample (codes "U")) (with_attribute (union_of (alias_name action_word ∷ []))) [] ∷ []) actions
+    schema_of_entries (type_entry (within_sample (codes "U"))
+    (with_attribute (union_of (alias_name action_word ∷ []))) [] ∷ []) actions
 
 -- `Group` with the descendant `U`, and beside it this
 abbrev pub group_of : List (PlainName × SchemaEntityType) → PlainSchema
-group_of others = schema_of_entries (type_entry (alias_name (codes "Group")) plain_kind (alias_name (codes "U") ∷ []) ∷ others) []
+group_of others = schema_of_entries
+    (type_entry (alias_name (codes "Group")) plain_kind (alias_name (codes "U") ∷ []) ∷ others) []
 
 -- attributes, of which the first may be missing
 abbrev pub sample_fields : Fields
-sample_fields = field (codes "a") false long (field (codes "g") true (union_of (alias_name (codes "Group") ∷ [])) end)
+sample_fields = field (codes "a") false long
+    (field (codes "g") true (union_of (alias_name (codes "Group") ∷ [])) end)
 
 -- `Group` with the descendant `N::User`, which has attributes, and an action for such principals
 abbrev pub sample_schema : PlainSchema
 sample_schema = schema_of_entries
     (type_entry (alias_name (codes "Group")) plain_kind (within_sample (codes "User") ∷ [])
-    ∷ type_entry (within_sample (codes "User")) (standard_kind sample_fields ClosedAttributes None) []
+    ∷ type_entry (within_sample (codes "User")) (standard_kind sample_fields ClosedAttributes None)
+    []
     ∷ [])
     ((
       action_named (codes "view"),
       record {
         uid = action_named (codes "view");
-        kind = defined_action (within_sample (codes "User") ∷ []) [] (record_of end ClosedAttributes);
+        kind = defined_action (within_sample (codes "User") ∷ []) []
+            (record_of end ClosedAttributes);
         descendants = [];
       },
     ) ∷ [])
@@ -81,7 +90,8 @@ sample_bag =
     entity_here (codes "Group") [] no_member
     ∷ declared_within (codes "User")
     (entity_type (standard (refer_within Entity (codes "Group") ∷ [])
-    (record_expr (member (codes "a") false long_expr (member (codes "g") true (named (refer_within Entity
+    (record_expr (member (codes "a") false long_expr
+    (member (codes "g") true (named (refer_within Entity
     (codes "Group"))) no_member)) false)
     None))
     ∷ action_here (codes "view") (reference_to None Entity (within_sample (codes "User")) ∷ [])

@@ -11,23 +11,25 @@ ghost use Rattle.cedar_type_rules.specs.declared.open_tag.OpenTag.TheVariants as
 ghost use Rattle.declaration_examples.specs.Samples.{within_sample};
 ghost use Rattle.declaration_examples.specs.WrittenSamples.{action_attribute, action_entry, action_named, action_within, group_of, one_type, plain_kind, sample_bag, sample_schema, schema_of_entries, type_entry, with_attribute};
 
-/// A schema and its bag, whole: parents and attributes are written in full, flags stay, and an action says
-/// what it is for.
+/// A schema and its bag, whole: parents and attributes are written in full, flags stay, and an
+/// action says what it is for.
 pub fn schemas_are_converted_back()
     ensures { IsConvertedBack sample_schema sample_bag }
 {}
 
-/// These types have no expression, in whatever namespace, and neither has a type of which one of them is
-/// a part.
+/// These types have no expression, in whatever namespace, and neither has a type of which one of
+/// them is a part.
 pub fn some_types_have_no_expression()
     ensures never { (namespace : Option PlainName) → type_written namespace never ≡ None }
-    ensures one_truth { (namespace : Option PlainName) → type_written namespace (truth truth_type.True) ≡ None }
+    ensures one_truth { (namespace : Option PlainName)
+        → type_written namespace (truth truth_type.True) ≡ None }
     ensures any_entity { (namespace : Option PlainName) → type_written namespace any_entity ≡ None }
     ensures two_types { (namespace : Option PlainName) (one other : PlainName)
         → type_written namespace (union_of (one ∷ other ∷ [])) ≡ None }
     ensures any_set { (namespace : Option PlainName) → type_written namespace any_set ≡ None }
     ensures set { (namespace : Option PlainName) → type_written namespace (set_of never) ≡ None }
-    ensures open_record { (namespace : Option PlainName) → type_written namespace (record_of end openness.OpenAttributes) ≡ None }
+    ensures open_record { (namespace : Option PlainName)
+        → type_written namespace (record_of end openness.OpenAttributes) ≡ None }
     ensures extension { (namespace : Option PlainName)
         → type_written namespace (extension_of (within_sample (codes "ipaddr"))) ≡ None }
 {}
@@ -35,7 +37,8 @@ pub fn some_types_have_no_expression()
 /// A schema can't be converted back with an attribute whose type has no expression, or with an open
 /// entity type.
 pub fn unwritable_types()
-    ensures attribute { (ty : Ty) → ((namespace : Option PlainName) → type_written namespace ty ≡ None)
+    ensures attribute { (ty : Ty) → ((namespace : Option PlainName)
+        → type_written namespace ty ≡ None)
         → ¬ IsWritable (one_type (with_attribute ty)) }
     ensures open_type { ¬ IsWritable (one_type (standard_kind end openness.OpenAttributes None)) }
 {}
@@ -45,10 +48,12 @@ pub fn unwritable_types()
 /// there. The same of the uid of a parent.
 pub fn names_that_name_others()
     ensures type_name { ¬ IsWritable (action_attribute
-        (action_entry (action_named (codes "b")) [] ∷ action_entry (action_within (codes "c")) [] ∷ [])) }
+        (action_entry (action_named (codes "b")) [] ∷ action_entry (action_within (codes "c")) []
+        ∷ [])) }
     ensures uid { ¬ IsWritable (schema_of_entries []
         (action_entry (action_named (codes "b")) (action_within (codes "c") ∷ [])
-        ∷ action_entry (action_within (codes "b")) [] ∷ action_entry (action_within (codes "c")) [] ∷ [])) }
+        ∷ action_entry (action_within (codes "b")) [] ∷ action_entry (action_within (codes "c")) []
+        ∷ [])) }
 {}
 
 /// A schema can't be converted back with an action whose uid is none of an action, with a

@@ -50,7 +50,8 @@ pub fn common_types_are_preferred()
 /// An entity type takes the alias of its name away; the built-in type keeps its full name.
 pub fn entity_types_take_aliases_away()
     ensures entity { (extensions : Extensions) → ElaboratesTo (definitions alias_bag extensions)
-        (named (refer_here to.CommonOrEntity (codes "String"))) (union_of (alias_name (codes "String") ∷ [])) }
+        (named (refer_here to.CommonOrEntity (codes "String")))
+        (union_of (alias_name (codes "String") ∷ [])) }
     ensures built_in { (extensions : Extensions) → ElaboratesTo (definitions alias_bag extensions)
         (named (reference_to None to.CommonOrEntity (built_in_name (codes "String")))) text }
     ensures alias { (extensions : Extensions) → ElaboratesTo (definitions alias_bag extensions)
@@ -61,12 +62,13 @@ pub fn entity_types_take_aliases_away()
 /// resolve.
 pub fn external_attributes_do_not_count()
     ensures body { (kind : EntityTypeKind RawName)
-        → (parents : List Reference) × (kind_body RawName (raw_reference None) kind true ≡ external parents) }
+        → (parents : List Reference) × (kind_body RawName (raw_reference None) kind true
+        ≡ external parents) }
     ensures nothing { (reference : Reference) → ¬ HasToResolve external_bag reference }
 {}
 
-/// A declared name without a path is shadowed by one of the same base name with a path; the types of
-/// actions, which nothing declares, shadow nothing.
+/// A declared name without a path is shadowed by one of the same base name with a path; the types
+/// of actions, which nothing declares, shadow nothing.
 pub fn declared_names_shadow()
     ensures types { (extensions : Extensions) → IsFault shadow_bag extensions
         (type_shadowing (alias_name (codes "User")) (within_sample (codes "User"))) }
@@ -103,7 +105,8 @@ pub fn enumerated_types_have_no_parents()
         (enumerated_below (alias_name (codes "Color")) (alias_name (codes "Paint"))) }
 {}
 
-/// Two external declarations of an entity type with a parent each say what one with both parents says.
+/// Two external declarations of an entity type with a parent each say what one with both parents
+/// says.
 pub fn parents_may_be_said_apart_or_together()
     ensures { SameBag apart_bag together_bag }
 {}
@@ -116,9 +119,11 @@ pub fn definitions_fulfil_external_declarations()
     ensures once { (extensions : Extensions) → ¬ IsFault linked_bag extensions
         (duplicate_entity_type (alias_name (codes "User"))) }
     ensures external { (extensions : Extensions)
-        → IsDescendant linked_bag extensions (alias_name (codes "User")) (alias_name (codes "Group")) }
+        → IsDescendant linked_bag extensions (alias_name (codes "User"))
+        (alias_name (codes "Group")) }
     ensures own { (extensions : Extensions)
-        → IsDescendant linked_bag extensions (alias_name (codes "User")) (alias_name (codes "Team")) }
+        → IsDescendant linked_bag extensions (alias_name (codes "User"))
+        (alias_name (codes "Team")) }
 {}
 
 /// Where two entity types are each below the other, each is its own descendant.
@@ -141,7 +146,8 @@ pub fn names_resolve_in_their_namespace_first()
         (refer_within to.Entity (codes "T")) (within_sample (codes "T")) }
     ensures without { (extensions : Extensions) → ResolvesTo (defined_names tint_bag extensions)
         (refer_within to.Entity (codes "Shade")) (alias_name (codes "Shade")) }
-    ensures elsewhere { (extensions : Extensions) → ¬ ResolvesTo (defined_names nested_bag extensions)
+    ensures elsewhere { (extensions : Extensions)
+        → ¬ ResolvesTo (defined_names nested_bag extensions)
         (refer_within to.Entity (codes "T")) (alias_name (codes "T")) }
 {}
 

@@ -1,8 +1,8 @@
 //! Fragments for the tests, as short texts spell them.
 //!
-//! A fragment is its definitions, with ` | ` between them. A definition is `N::M: declaration; declaration`,
-//! with nothing before the colon for the empty namespace, and may stand in a reserved one. Declarations are
-//! written as [`shorthand`] says.
+//! A fragment is its definitions, with ` | ` between them. A definition is `N::M: declaration;
+//! declaration`, with nothing before the colon for the empty namespace, and may stand in a reserved
+//! one. Declarations are written as [`shorthand`] says.
 
 use cedar_declarations::SchemaError;
 use cedar_fragments::namespace::{ValidatorNamespaceDef, ValidatorSchemaFragment};

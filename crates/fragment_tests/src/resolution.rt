@@ -19,8 +19,8 @@ fn reference(alloc: Global, written: &str, kind: ReferenceType) -> Result<Condit
     Ok(raw(alloc, written)?.conditionally_qualify_with(alloc, Some(&inside), kind)?)
 }
 
-/// In the namespace `N` the common type `T`, the entity type `Both` and the common type `Both`; in the
-/// empty namespace the entity types `T` and `Only`; and in a reserved one a common type.
+/// In the namespace `N` the common type `T`, the entity type `Both` and the common type `Both`; in
+/// the empty namespace the entity types `T` and `Only`; and in a reserved one a common type.
 const DEFINED: &[&str] = &[
     "N: type T = Long; type Both = Long; entity Both; action a",
     ": entity T; external entity Only",
@@ -75,7 +75,8 @@ fn references_resolve_to_the_first_that_is_permitted(rt: HostRuntime) -> Result<
     Ok(())
 }
 
-/// What references of one kind that are written in the namespace `N` resolve to, with a blank before each.
+/// What references of one kind that are written in the namespace `N` resolve to, with a blank
+/// before each.
 fn all_resolved(alloc: Global, written: &[&str], kind: ReferenceType) -> Result<String, Fail> {
     let all_defs = AllDefs::new(alloc, &fragments_of(alloc, DEFINED)?)?;
     let mut references = Vec::new(alloc);
@@ -139,7 +140,8 @@ fn requested(
     }
 }
 
-/// What requests by a principal on `T` come to name where some entity types are defined, or the refusal.
+/// What requests by a principal on `T` come to name where some entity types are defined, or the
+/// refusal.
 fn named(alloc: Global, defined: &[&str], principal: &str) -> Result<String, Fail> {
     let all_defs = entity_types(alloc, defined)?;
     let spec = ValidatorApplySpec::new(entity(alloc, principal)?, entity(alloc, "T")?);

@@ -74,7 +74,8 @@ fn reserved_names_are_refused(rt: HostRuntime) -> Result<(), Fail> {
     Ok(())
 }
 
-/// The texts of the name of a word, of its entity type, and of the error that no function has the name.
+/// The texts of the name of a word, of its entity type, and of the error that no function has the
+/// name.
 fn printed(alloc: Global, word: &str) -> Result<String, Fail> {
     let name = name(alloc, word)?;
     let error = ExtensionFunctionLookupError { name: &name };
@@ -121,7 +122,8 @@ fn names_order_by_base_name_and_then_path(rt: HostRuntime) -> Result<(), Fail> {
     Ok(())
 }
 
-/// Whether a name that is written at a place and nowhere is one and the same, in equality and order.
+/// Whether a name that is written at a place and nowhere is one and the same, in equality and
+/// order.
 fn are_same_names(alloc: Global, word: &str) -> Result<bool, Fail> {
     let here = internal(alloc, word, Some(PLACE))?;
     let nowhere = internal(alloc, word, None)?;

@@ -1,9 +1,11 @@
 //! Questions of where the names were written that a schema lends, and their answers as texts.
 //!
-//! - of the names of entity types, of the uids of actions, and of the ancestors of an entity type: `borrowed names`,
-//!   `borrowed uids`, `borrowed_above U`
-//! - of the uids of actions that have descendants, and of declarations that are lacking: `borrowed groups`, `borrowed lacks`
-//! - of the uids of the entities of actions, and of the actions of environments: `borrowed entities`, `borrowed environments`
+//! - of the names of entity types, of the uids of actions, and of the ancestors of an entity type:
+//!   `borrowed names`, `borrowed uids`, `borrowed_above U`
+//! - of the uids of actions that have descendants, and of declarations that are lacking: `borrowed
+//!   groups`, `borrowed lacks`
+//! - of the uids of the entities of actions, and of the actions of environments: `borrowed
+//!   entities`, `borrowed environments`
 //!
 //! A location is answered as the number of its text, and no location as 0, each before a `;`.
 

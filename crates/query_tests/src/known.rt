@@ -1,11 +1,13 @@
 //! Questions of what a schema knows of types, and their answers as texts.
 //!
-//! - of the attributes of types: `known A,B`, `listed A,B`, and of one of a name `known_one A,B a`, `look_up A,B a`,
-//!   `may_have A,B a`
-//! - whether entities may have tags, and whether their types are declared: `may_have_tags A,B`, `are_declared A,B`
+//! - of the attributes of types: `known A,B`, `listed A,B`, and of one of a name `known_one A,B a`,
+//!   `look_up A,B a`, `may_have A,B a`
+//! - whether entities may have tags, and whether their types are declared: `may_have_tags A,B`,
+//!   `are_declared A,B`
 //! - of the literal of a uid, and of its attributes: `literal U::x`, `attributes_of U::x`
 //!
-//! The types are those of the entities of the listed types, or one of `Long`, `{*}` (any record) and `any` (any entity).
+//! The types are those of the entities of the listed types, or one of `Long`, `{*}` (any record)
+//! and `any` (any entity).
 
 use crate::questions::unknown;
 use cedar_schema::below::{M, ValidationMode};

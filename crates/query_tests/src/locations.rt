@@ -1,10 +1,11 @@
 //! Questions of where things were written, and their answers as texts.
 //!
-//! - of entity types, their attributes, and an attribute of the records that are their tags: `type_at U`, `attr_at U a`,
-//!   `tags_at U a`
-//! - of actions, their uids, and an attribute of their contexts: `action_at Action::view`, `uid_at Action::view`,
-//!   `context_at Action::view a`
-//! - of an attribute that is known of types, as it is listed and as it is looked up: `listed_at A,B a`, `looked_up_at A,B a`
+//! - of entity types, their attributes, and an attribute of the records that are their tags:
+//!   `type_at U`, `attr_at U a`, `tags_at U a`
+//! - of actions, their uids, and an attribute of their contexts: `action_at Action::view`, `uid_at
+//!   Action::view`, `context_at Action::view a`
+//! - of an attribute that is known of types, as it is listed and as it is looked up: `listed_at A,B
+//!   a`, `looked_up_at A,B a`
 //! - of the first declaration that is lacking: `lacking_at`
 //! - of all common types and namespaces that a schema shows: `common_types`, `namespaces`
 //!
@@ -121,8 +122,8 @@ pub(crate) fn lacking_at(alloc: Global, schema: &ValidatorSchema) -> Result<Stri
     }
 }
 
-/// The common types of a schema: each with its base name and its full name, where it was declared, and where
-/// its type was written.
+/// The common types of a schema: each with its base name and its full name, where it was declared,
+/// and where its type was written.
 pub(crate) fn common_types(alloc: Global, schema: &ValidatorSchema) -> M<String> {
     let mut shown = String::new(alloc);
     for common in schema.common_types() {
@@ -134,8 +135,8 @@ pub(crate) fn common_types(alloc: Global, schema: &ValidatorSchema) -> M<String>
     Ok(shown)
 }
 
-/// The namespaces of a schema: each with its name, where that was written, and where the namespace was
-/// defined.
+/// The namespaces of a schema: each with its name, where that was written, and where the namespace
+/// was defined.
 pub(crate) fn namespaces(alloc: Global, schema: &ValidatorSchema) -> M<String> {
     let mut shown = String::new(alloc);
     for namespace in schema.namespaces() {

@@ -36,8 +36,8 @@ fn check_all(alloc: Global, table: &[(&str, Questions)]) -> Result<(), Fail> {
     Ok(())
 }
 
-/// Compares the answers to questions of the schema of each text with the wanted ones, and so of its copy and of what
-/// validation gives of it.
+/// Compares the answers to questions of the schema of each text with the wanted ones, and so of its
+/// copy and of what validation gives of it.
 fn check_kept(alloc: Global, text: &str, rows: Questions) -> Result<(), Fail> {
     let extensions = sample_extensions(alloc)?;
     let schema = schema_of(alloc, text)?;
@@ -527,7 +527,8 @@ fn things_are_where_they_were_written(rt: HostRuntime) -> Result<(), Fail> {
     Ok(())
 }
 
-/// An external declaration beside the definition, in either order and with or without places, and where the definition is.
+/// An external declaration beside the definition, in either order and with or without places, and
+/// where the definition is.
 const LINKED: &[(&str, Questions)] = &[
     (
         "external entity U@1; external action view@3@4 | entity U@11; action view@13@14",

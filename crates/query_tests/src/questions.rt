@@ -1,19 +1,22 @@
 //! Questions that texts put to a schema, and their answers as texts.
 //!
 //! - of an entity type: `find U`, `ancestors U`, `types_in U`, `is_type U`
-//! - of an action: `find_action Action::view`, `principals_for Action::view`, `resources_for Action::view`,
-//!   `context Action::view`, `is_action Action::view`
-//! - of lists: `any_below A,B C,D` of entity types below others, `actions_in Action::view,Action::edit`
+//! - of an action: `find_action Action::view`, `principals_for Action::view`, `resources_for
+//!   Action::view`, `context Action::view`, `is_action Action::view`
+//! - of lists: `any_below A,B C,D` of entity types below others, `actions_in
+//!   Action::view,Action::edit`
 //! - of a principal and a resource: `actions_for U Photo`
-//! - of the whole: `names`, `uids`, `principals`, `resources`, `groups`, `entities`, `leaves` of all types, `lacks`,
-//!   `is_complete`, `check`, `copy`, and for the environments of requests in either mode `strict` and `permissive`
+//! - of the whole: `names`, `uids`, `principals`, `resources`, `groups`, `entities`, `leaves` of
+//!   all types, `lacks`, `is_complete`, `check`, `copy`, and for the environments of requests in
+//!   either mode `strict` and `permissive`
 //! - of what is known of types, of where things were written, and of where the names were that are
 //! borrowed: as `known`,
 //!   `locations` and `borrowed` say
 //!
-//! A list stands between commas, with `-` for an empty one. An answer's items stand between blanks, and
-//! `None` stands for no answer. Principals, resources, leaves, environments, and the types in an entity type but for
-//! the last are sorted, since their order is open. A text that asks nothing of these fails by name.
+//! A list stands between commas, with `-` for an empty one. An answer's items stand between blanks,
+//! and `None` stands for no answer. Principals, resources, leaves, environments, and the types in
+//! an entity type but for the last are sorted, since their order is open. A text that asks nothing
+//! of these fails by name.
 
 ghost use Rattle.std.specs.Iterator.{IsFinite};
 

@@ -38,11 +38,13 @@ set_of_longs = set_of long
 
 -- closed `{bar: Long, foo: False}`
 abbrev pub bar_and_false : Ty
-bar_and_false = record_of (field (codes "bar") true long (field (codes "foo") true (truth False) end)) ClosedAttributes
+bar_and_false = record_of (field (codes "bar") true long
+    (field (codes "foo") true (truth False) end)) ClosedAttributes
 
 -- closed `{bar: Long, foo: String}`
 abbrev pub bar_and_text : Ty
-bar_and_text = record_of (field (codes "bar") true long (field (codes "foo") true text end)) ClosedAttributes
+bar_and_text = record_of (field (codes "bar") true long
+    (field (codes "foo") true text end)) ClosedAttributes
 
 -- open `{bar: Long}`
 abbrev pub open_bar : Ty
@@ -50,11 +52,13 @@ open_bar = record_of (field (codes "bar") true long end) OpenAttributes
 
 -- closed `{s: any-set, t: Long}`
 abbrev pub any_set_and_long : Ty
-any_set_and_long = record_of (field (codes "s") true any_set (field (codes "t") true long end)) ClosedAttributes
+any_set_and_long = record_of (field (codes "s") true any_set
+    (field (codes "t") true long end)) ClosedAttributes
 
 -- closed `{s: Long, t: Long}`
 abbrev pub long_and_long : Ty
-long_and_long = record_of (field (codes "s") true long (field (codes "t") true long end)) ClosedAttributes
+long_and_long = record_of (field (codes "s") true long
+    (field (codes "t") true long end)) ClosedAttributes
 
 -- open `{t: Long}`
 abbrev pub open_t : Ty

@@ -38,7 +38,8 @@ pub fn records_join()
 /// any-set and another set have the any-set.
 pub fn sets_join()
     ensures apart { (mode : ValidationMode) → ¬ HaveOwnBound mode set_of_truths set_of_longs }
-    ensures bounded { (mode : ValidationMode) → IsBound mode (set_of_truths ∷ set_of_longs ∷ []) any_set }
+    ensures bounded { (mode : ValidationMode)
+        → IsBound mode (set_of_truths ∷ set_of_longs ∷ []) any_set }
     ensures with_any { (mode : ValidationMode) → IsLeastOwnBound mode any_set set_of_longs any_set }
 {}
 
@@ -50,12 +51,15 @@ pub fn entities_join()
 
 /// Helps of joins that are refused.
 pub fn refused_joins_have_helps()
-    ensures entity_and_record { (mode : ValidationMode) → IsJoinAnswer mode foo_entity unit_record (Err help.EntityRecord) }
+    ensures entity_and_record { (mode : ValidationMode)
+        → IsJoinAnswer mode foo_entity unit_record (Err help.EntityRecord) }
     ensures entities { IsJoinAnswer mode.Strict foo_entity bar_entity (Err help.EntityType) }
-    ensures sets { IsJoinAnswer mode.Strict (set_of foo_entity) (set_of bar_entity) (Err help.EntityType) }
+    ensures sets { IsJoinAnswer mode.Strict (set_of foo_entity) (set_of bar_entity)
+        (Err help.EntityType) }
     ensures widths { IsJoinAnswer mode.Strict unit_record required_y (Err help.RecordWidth) }
     ensures flags { IsJoinAnswer mode.Strict required_y optional_y (Err help.AttributeQualifier) }
-    ensures flags_alone { (given : LubHelp) → IsJoinAnswer mode.Strict required_y optional_y (Err given)
+    ensures flags_alone { (given : LubHelp)
+        → IsJoinAnswer mode.Strict required_y optional_y (Err given)
         → given ≡ help.AttributeQualifier }
     ensures types { IsJoinAnswer mode.Strict bar_and_false bar_and_text (Err help.None) }
 {}
@@ -68,11 +72,15 @@ pub fn order_matters_with_the_any_set()
         → IsReduceAnswer mode never (set_of_truths ∷ set_of_longs ∷ any_set ∷ []) (Err help.None) }
 {}
 
-/// What types are reduced to is well formed, and so is each join before a refusal: two records whose only
-/// types don't join are refused for these, and a record that names an attribute twice is no answer.
+/// What types are reduced to is well formed, and so is each join before a refusal: two records
+/// whose only types don't join are refused for these, and a record that names an attribute twice is
+/// no answer.
 pub fn reductions_are_of_well_formed_types()
-    ensures refused { (given : LubHelp) → IsReduceAnswer mode.Strict never (required_y ∷ text_y ∷ []) (Err given) → given ≡ help.None }
-    ensures alone { (answer : JoinAnswer) → IsReduceAnswer mode.Permissive never (open_y ∷ []) answer → answer ≡ Ok open_y }
+    ensures refused { (given : LubHelp)
+        → IsReduceAnswer mode.Strict never (required_y ∷ text_y ∷ []) (Err given)
+        → given ≡ help.None }
+    ensures alone { (answer : JoinAnswer)
+        → IsReduceAnswer mode.Permissive never (open_y ∷ []) answer → answer ≡ Ok open_y }
     ensures twice { ¬ IsReduceAnswer mode.Permissive never (open_y ∷ []) (Ok twice_y) }
 {}
 
@@ -83,7 +91,8 @@ pub fn clean_types()
     ensures attribute { ¬ IsClean any_set_and_long }
 {}
 
-/// Stated types have no `Never` in them, no optional attribute, and no extension type without a value.
+/// Stated types have no `Never` in them, no optional attribute, and no extension type without a
+/// value.
 pub fn stated_types()
     ensures stated { (extensions : Extensions) → IsStated extensions bar_and_text }
     ensures optional { (extensions : Extensions) → ¬ IsStated extensions optional_y }
@@ -94,7 +103,8 @@ pub fn stated_types()
 
 /// With an optional attribute, inclusion of values alone isn't subtyping: the names are asked for.
 pub fn inclusion_asks_for_names()
-    ensures included { (extensions : Extensions) → ValuesIncluded extensions unit_record optional_y }
+    ensures included { (extensions : Extensions)
+        → ValuesIncluded extensions unit_record optional_y }
     ensures unlisted { ¬ ListsNames unit_record optional_y }
     ensures not_below { ¬ Below mode.Permissive unit_record optional_y }
 {}
@@ -112,7 +122,8 @@ pub fn texts_of_types()
 /// Core types of types, and types that have none.
 pub fn core_types()
     ensures known { core_of (truth bool_type.False) ≡ Some core_truth }
-    ensures record_type { core_of open_bar ≡ Some (core_record (core_field (codes "bar") true core_long core_end) true) }
+    ensures record_type { core_of open_bar
+        ≡ Some (core_record (core_field (codes "bar") true core_long core_end) true) }
     ensures every_set { core_of any_set ≡ Some core_empty_set }
     ensures single { core_of (set_of foo_entity) ≡ Some (core_set (core_entity foo_name)) }
     ensures union { core_of (set_of foo_or_bar) ≡ None }

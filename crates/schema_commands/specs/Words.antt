@@ -4,7 +4,8 @@ use Rattle.cedar_below.specs.Text.{Text}
 -- the names of the built-in cases
 abbrev pub case_names : List Text
 case_names =
-    codes "alias" ∷ codes "both" ∷ codes "cycle" ∷ codes "empty" ∷ codes "linked" ∷ codes "photos" ∷ codes "ring"
+    codes "alias" ∷ codes "both" ∷ codes "cycle" ∷ codes "empty" ∷ codes "linked" ∷ codes "photos"
+    ∷ codes "ring"
     ∷ codes "shadow" ∷ codes "shapes" ∷ codes "split" ∷ codes "tint" ∷ []
 
 -- the names of the modes
@@ -15,10 +16,12 @@ mode_names = codes "strict" ∷ codes "permissive" ∷ []
 abbrev pub stated_names : List Text
 stated_names =
     codes "true" ∷ codes "false" ∷ codes "bool" ∷ codes "long" ∷ codes "string" ∷ codes "any-set"
-    ∷ codes "set-bool" ∷ codes "set-long" ∷ codes "any-entity" ∷ codes "foo" ∷ codes "bar" ∷ codes "any-record"
+    ∷ codes "set-bool" ∷ codes "set-long" ∷ codes "any-entity" ∷ codes "foo" ∷ codes "bar"
+    ∷ codes "any-record"
     ∷ codes "unit" ∷ codes "r1" ∷ codes "r2" ∷ codes "r3" ∷ []
 
--- the names of the types that are joined: these, and one of no value and one with an optional attribute
+-- the names of the types that are joined: these, and one of no value and one with an optional
+-- attribute
 abbrev pub type_names : List Text
 type_names = codes "never" ∷ codes "opt" ∷ stated_names
 
@@ -46,7 +49,7 @@ pub record IsSeparate (words : List Text) : Type 0 where
   pub is_second : Contains stated_names second
   pub asked : words ≡ codes "separate" ∷ first ∷ second ∷ []
 
--- the words give a command: `list`, `show` with the name of a case, `join` with a mode and two types, or `separate` with
--- two types
+-- the words give a command: `list`, `show` with the name of a case, `join` with a mode and two
+-- types, or `separate` with two types
 abbrev pub IsCommand : List Text → Type 0
 IsCommand words = (words ≡ codes "list" ∷ []) ⊎ (IsShow words ⊎ (IsJoin words ⊎ IsSeparate words))

@@ -53,8 +53,8 @@ fn case_named(name: &str) -> Option<Case>
     }
 }
 
-/// A type that the program separates from others: no `Never` stands in it, and each attribute in it is
-/// required.
+/// A type that the program separates from others: no `Never` stands in it, and each attribute in it
+/// is required.
 #[derive(Clone, Copy)]
 pub enum StatedType {
     /// The value true.
@@ -197,7 +197,8 @@ fn join_command(word: &str, mode: &str, first: &str, second: &str) -> Option<Com
 
 /// The command of a word and the names of two types.
 fn separate_command(word: &str, first: &str, second: &str) -> Option<Command>
-    ensures { IsSome result ↔ ((word.now ≡ codes "separate") × Contains stated_names first.now × Contains stated_names second.now) }
+    ensures { IsSome result ↔ ((word.now ≡ codes "separate") × Contains stated_names first.now
+        × Contains stated_names second.now) }
 {
     match word {
         "separate" => Some(Command::Separate(stated_named(first)?, stated_named(second)?)),

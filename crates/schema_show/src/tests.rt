@@ -245,8 +245,8 @@ fn separations_are_told(rt: HostRuntime) -> Result<(), Fail> {
     Ok(())
 }
 
-/// Words that give no command: none, unknown ones, too few or too many, in another case or order, and types that
-/// aren't separated.
+/// Words that give no command: none, unknown ones, too few or too many, in another case or order,
+/// and types that aren't separated.
 const OTHERS: &[&[&str]] = &[
     &[],
     &[""],
@@ -279,7 +279,8 @@ fn other_words_are_answered_by_the_usage(rt: HostRuntime) -> Result<(), Fail> {
     Ok(())
 }
 
-/// The status of the program on some words where nothing can be printed, and whether nothing is said.
+/// The status of the program on some words where nothing can be printed, and whether nothing is
+/// said.
 fn unprinted(alloc: Global, texts: &[&str]) -> Result<(u8, bool), Fail> {
     let words = words_of(alloc, texts)?;
     let mut err = Vec::new(alloc);

@@ -20,7 +20,8 @@ pub fn holds(is_so: bool, row: &str) -> Result<(), Fail> {
     Err(Fail::new(format_args!("at {row}")))
 }
 
-/// Fails, with the row, where an answer is none of the texts that are allowed, between which stands ` or `.
+/// Fails, with the row, where an answer is none of the texts that are allowed, between which stands
+/// ` or `.
 pub fn one_of(row: &str, answer: &str, allowed: &str) -> Result<(), Fail> {
     for text in allowed.split(" or ") {
         if text == answer {

@@ -1,15 +1,19 @@
 //! Fragments that a short form of text spells, as plain data.
 //!
-//! Declarations stand between `;`, and fragments between `|`. Inside one fragment `|` parts declarations
-//! as `;` does. A declaration in a namespace begins with the namespace's name and a colon.
+//! Declarations stand between `;`, and fragments between `|`. Inside one fragment `|` parts
+//! declarations as `;` does. A declaration in a namespace begins with the namespace's name and a
+//! colon.
 //!
-//! - `entity U in A,N::B {a: n:T, b?: Set<Long>} tags e:V`, `entity U shape c:S`, `entity U enum red,green`
+//! - `entity U in A,N::B {a: n:T, b?: Set<Long>} tags e:V`, `entity U shape c:S`, `entity U enum
+//!   red,green`
 //! - `type T = {x?: n:Long}`
-//! - `action view in all,N::Action::read P A,B R C context {a: Long} attributes`, with `-` for no types
+//! - `action view in all,N::Action::read P A,B R C context {a: Long} attributes`, with `-` for no
+//!   types
 //! - `external` before `entity` or `action`
 //! - `N::M: entity U`, or `N::M:` for a namespace that declares nothing
-//! - locations: `entity U@1`, `type T@1 = Long@2`, `action view@1@2 in all@3` for the action, its id and its parent,
-//!   `N@1@2: entity U` for the name of the namespace and its definition, and as `types` says of types and attributes
+//! - locations: `entity U@1`, `type T@1 = Long@2`, `action view@1@2 in all@3` for the action, its
+//!   id and its parent, `N@1@2: entity U` for the name of the namespace and its definition, and as
+//!   `types` says of types and attributes
 //!
 //! A text that spells none of these fails by name.
 
@@ -99,7 +103,8 @@ pub fn declare(
     Err(Fail::new(format_args!("no declaration: {text}")))
 }
 
-/// The text of a declaration's namespace, and the declaration, which is missing only after a namespace.
+/// The text of a declaration's namespace, and the declaration, which is missing only after a
+/// namespace.
 pub fn within_namespace(text: &str) -> (&str, Option<&str>) {
     let (word, rest) = match text.split_once(' ') {
         Some((word, rest)) => (word, Some(rest)),
@@ -141,8 +146,8 @@ fn add_declarations(
     Ok(fresh)
 }
 
-/// The one fragment of all declarations of a text, or None where one of its definitions would declare
-/// an id twice.
+/// The one fragment of all declarations of a text, or None where one of its definitions would
+/// declare an id twice.
 pub fn fragment_of(alloc: Global, text: &str) -> Result<Option<Fragment<RawName>>, Fail> {
     let mut fragment = Fragment(BTreeMap::new(alloc));
     let mut fresh = true;
@@ -164,7 +169,8 @@ pub fn written(alloc: Global, text: &str) -> M<Vec<&str>> {
     Ok(fragments)
 }
 
-/// A fragment of each text. A definition that would declare an id twice fails by its fragment's text.
+/// A fragment of each text. A definition that would declare an id twice fails by its fragment's
+/// text.
 pub fn fragments_of(alloc: Global, texts: &[&str]) -> Result<Vec<Fragment<RawName>>, Fail> {
     let mut fragments = Vec::new(alloc);
     for text in texts {

@@ -95,7 +95,8 @@ fn standard(alloc: Global, text: &str) -> Result<(&str, EntityTypeKind<RawName>)
     Ok((name, EntityTypeKind::Standard(standard)))
 }
 
-/// The name and the declaration of an entity type, a standard one or `U enum red,green`, with a location behind its name.
+/// The name and the declaration of an entity type, a standard one or `U enum red,green`, with a
+/// location behind its name.
 pub(crate) fn entity_type(
     alloc: Global,
     text: &str,
@@ -117,8 +118,8 @@ pub(crate) fn entity_type(
     Ok((name, declared))
 }
 
-/// The reference to an action that is written as its id, with its type and `::` before it or without, and a location
-/// behind it.
+/// The reference to an action that is written as its id, with its type and `::` before it or
+/// without, and a location behind it.
 fn group(alloc: Global, text: &str) -> Result<ActionEntityUID<RawName>, Fail> {
     let (text, loc) = located_at(text);
     let (ty, id) = match text.rsplit_once("::") {
@@ -147,7 +148,8 @@ fn groups(
     Ok(Some(groups))
 }
 
-/// The requests `A,B R C,D context {a: Long}`: principals, resources, and a context or the empty one.
+/// The requests `A,B R C,D context {a: Long}`: principals, resources, and a context or the empty
+/// one.
 fn requests(alloc: Global, text: &str) -> Result<ApplySpec<RawName>, Fail> {
     let (text, context) = parts(text, " context ");
     let (principals, resources) = parts(text, " R ");
@@ -179,8 +181,8 @@ fn without_attributes(text: &str) -> (&str, bool) {
 }
 
 /// The text of the id and the declaration of an action,
-/// `view in all,N::Action::read P A,B R C context {} attributes`, with the locations of the declaration and of the id behind
-/// the id.
+/// `view in all,N::Action::read P A,B R C context {} attributes`, with the locations of the
+/// declaration and of the id behind the id.
 pub(crate) fn action(
     alloc: Global,
     text: &str,

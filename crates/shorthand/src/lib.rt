@@ -1,4 +1,5 @@
-//! Declarations that short texts spell, as plain data, for tests: a text that spells none fails by name.
+//! Declarations that short texts spell, as plain data, for tests: a text that spells none fails by
+//! name.
 #![tactic(auto)]
 
 pub use declarations::{declare, fragment_of, fragments_of, nothing, within_namespace, written};

@@ -8,8 +8,8 @@ use std::test::Fail;
 /// The text of no names in a list.
 pub const NONE: &str = "-";
 
-/// What stands before an `@` and a number at the end of a text, and the location in the text of that number; or the
-/// whole text, and no location.
+/// What stands before an `@` and a number at the end of a text, and the location in the text of
+/// that number; or the whole text, and no location.
 pub fn located_at(text: &str) -> (&str, Option<Loc>) {
     let Some((before, number)) = text.rsplit_once('@') else {
         return (text, None);
@@ -33,7 +33,8 @@ pub fn unreserved_id(alloc: Global, text: &str) -> Result<UnreservedId, Fail> {
     Ok(UnreservedId::from_str(alloc, text)?)
 }
 
-/// The name whose parts stand between `::` in a text, with a location behind them. It may be reserved.
+/// The name whose parts stand between `::` in a text, with a location behind them. It may be
+/// reserved.
 pub fn internal_name(alloc: Global, text: &str) -> Result<InternalName, Fail> {
     let (text, loc) = located_at(text);
     Ok(InternalName::from_str(alloc, text)?.with_loc(loc))

@@ -1,10 +1,10 @@
 //! Types that texts spell, as plain data. A text that spells none fails by name.
 //!
-//! A leaf is `Long`, `String`, `Bool`, `n:X` (whatever `X` names), `e:X` (the entity type), `c:X` (the
-//! common type) or `x:X` (the extension type). A type is a leaf, a set `Set<leaf>`, or a record
-//! `{a: type, b?: type}`, with `*` at its end where it is open: `{a: type *}`, `{*}`. A record inside a
-//! record has leaves and sets alone, and one attribute at most. A type and the name of an attribute may have a location
-//! behind them, `{a@1: Set<Long@2>@3}`.
+//! A leaf is `Long`, `String`, `Bool`, `n:X` (whatever `X` names), `e:X` (the entity type), `c:X`
+//! (the common type) or `x:X` (the extension type). A type is a leaf, a set `Set<leaf>`, or a
+//! record `{a: type, b?: type}`, with `*` at its end where it is open: `{a: type *}`, `{*}`. A
+//! record inside a record has leaves and sets alone, and one attribute at most. A type and the name
+//! of an attribute may have a location behind them, `{a@1: Set<Long@2>@3}`.
 
 use crate::names::{located_at, raw, unreserved_id};
 use cedar_below::Loc;
@@ -31,7 +31,8 @@ pub(crate) fn empty_record(alloc: Global) -> Type<RawName> {
     plain(TypeVariant::Record(no_attributes(alloc)), None)
 }
 
-/// What a type is that refers to a name, in the way that the letter before it says, but for common types.
+/// What a type is that refers to a name, in the way that the letter before it says, but for common
+/// types.
 fn reference(alloc: Global, letter: &str, text: &str) -> Result<TypeVariant<RawName>, Fail> {
     match letter {
         "n" => Ok(TypeVariant::EntityOrCommon {

@@ -44,13 +44,15 @@ pub(crate) fn action(alloc: Global, word: &str) -> Result<ValidatorActionId, Fai
 /// Actions, each with how many principals it has.
 const ACTIONS: &[(&str, usize)] = &[("view", 2), ("look", 0)];
 
-/// Whether two actions are equal, with their locations, and the second has as many principals as said.
+/// Whether two actions are equal, with their locations, and the second has as many principals as
+/// said.
 fn are_alike(first: &ValidatorActionId, second: &ValidatorActionId, principals: usize) -> bool {
     let are_equal = first == second && first.loc() == second.loc();
     are_equal && second.principals().count() == principals
 }
 
-/// Whether a copy of the action of a word is equal to it, with its location, and has as many principals as said.
+/// Whether a copy of the action of a word is equal to it, with its location, and has as many
+/// principals as said.
 fn is_copied(alloc: Global, word: &str, principals: usize) -> Result<bool, Fail> {
     let action = action(alloc, word)?;
     let copy = action.clone()?;

@@ -43,7 +43,8 @@ fn attribute(alloc: Global, name: &str, ty: Type) -> Result<(String, AttributeTy
     Ok((text(alloc, name)?, attribute))
 }
 
-/// The closed record type of numbers at `bar` and of the type of a word at `foo`, both declared at the place.
+/// The closed record type of numbers at `bar` and of the type of a word at `foo`, both declared at
+/// the place.
 fn located(alloc: Global, foo: &str) -> Result<Type, Fail> {
     let mut items = Vec::new(alloc);
     items.push(attribute(alloc, "bar", Type::Long)?)?;
@@ -74,8 +75,8 @@ fn shown(alloc: Global, first: &str, second: &str) -> Result<String, Fail> {
     Ok(format!(in alloc; "{join} {bar} {foo}")?)
 }
 
-/// Types at `foo`, each two with the text of the join: what is joined with itself keeps its locations, and what is
-/// joined with another type has none.
+/// Types at `foo`, each two with the text of the join: what is joined with itself keeps its
+/// locations, and what is joined with another type has none.
 const JOINED: &[(&str, &str, &str)] = &[
     ("true", "false", "{bar: Long,foo: Bool,} false false"),
     (
@@ -102,7 +103,8 @@ fn joins_of_equal_types_alone_keep_locations(rt: HostRuntime) -> Result<(), Fail
     Ok(())
 }
 
-/// How many types remain of one with locations and of an equal one without, in a set by hash and in one by order.
+/// How many types remain of one with locations and of an equal one without, in a set by hash and in
+/// one by order.
 fn counts(alloc: Global, located: Type, plain: Type) -> Result<(usize, usize), Fail> {
     let mut by_hash = HashSet::new(alloc);
     by_hash.insert(located.clone()?)?;

@@ -62,13 +62,15 @@ const KINDS: &[(&str, bool)] = &[
     ("external", false),
 ];
 
-/// Whether two entity types are equal, with their locations, and the second has tags just if that is said.
+/// Whether two entity types are equal, with their locations, and the second has tags just if that
+/// is said.
 fn are_alike(first: &ValidatorEntityType, second: &ValidatorEntityType, has_tags: bool) -> bool {
     let are_equal = first == second && first.loc == second.loc;
     are_equal && second.tag_type().is_some() == has_tags
 }
 
-/// Whether a copy of the entity type of a kind is equal to it, with its location, and has tags just if that is said.
+/// Whether a copy of the entity type of a kind is equal to it, with its location, and has tags just
+/// if that is said.
 fn is_copied(alloc: Global, kind: &str, has_tags: bool) -> Result<bool, Fail> {
     let ty = of_kind(alloc, kind)?;
     let copy = ty.clone()?;

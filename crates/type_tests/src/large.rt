@@ -39,7 +39,8 @@ fn numbered(alloc: Global, number: u32) -> Result<Type, Fail> {
     Ok(Type::named_entity_reference(alloc, entity_type(alloc, name.as_str())?)?)
 }
 
-/// What the types of the entities of 300 entity types are reduced to, in the order of their numbers or the last first.
+/// What the types of the entities of 300 entity types are reduced to, in the order of their numbers
+/// or the last first.
 fn reduced(alloc: Global, reversed: bool) -> Result<Type, Fail> {
     let mut types = Vec::new(alloc);
     for step in 0..300u32 {

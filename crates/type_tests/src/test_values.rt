@@ -85,7 +85,8 @@ fn simple(alloc: Global, word: &str) -> Result<Type, Fail> {
     }
 }
 
-/// The record type of some attributes: of each its name, whether it is required, and its type's word.
+/// The record type of some attributes: of each its name, whether it is required, and its type's
+/// word.
 fn record(
     alloc: Global,
     openness: OpenTag,
@@ -103,8 +104,8 @@ const OPEN: OpenTag = OpenTag::OpenAttributes;
 
 const CLOSED: OpenTag = OpenTag::ClosedAttributes;
 
-/// A record type: its word, whether it is open, and of each attribute its name, whether it is required, and
-/// its type's word.
+/// A record type: its word, whether it is open, and of each attribute its name, whether it is
+/// required, and its type's word.
 type Record = (
     &'static str,
     OpenTag,
@@ -226,7 +227,8 @@ pub(crate) fn sample(alloc: Global, word: &str) -> Result<Type, Fail> {
     simple(alloc, word)
 }
 
-/// The value of a word: a number, the entity `Foo::"blue"`, a call without arguments such as `ip()`, or else a text.
+/// The value of a word: a number, the entity `Foo::"blue"`, a call without arguments such as
+/// `ip()`, or else a text.
 fn simple_value(alloc: Global, word: &str) -> Result<RestrictedExpr, Fail> {
     if let Some(function) = word.strip_suffix("()") {
         return Ok(RestrictedExpr::ExtensionCall {
@@ -284,8 +286,8 @@ fn record_value(alloc: Global, text: &str) -> Result<RestrictedExpr, Fail> {
     Ok(RestrictedExpr::Record(values))
 }
 
-/// The value of a word: a record such as `{a:1,b:x}`, a set such as `[ip=x;1`, or one that may be an
-/// element.
+/// The value of a word: a record such as `{a:1,b:x}`, a set such as `[ip=x;1`, or one that may be
+/// an element.
 pub(crate) fn value(alloc: Global, word: &str) -> Result<RestrictedExpr, Fail> {
     if let Some(entries) = word.strip_prefix('{') {
         return record_value(alloc, entries.trim_end_matches('}'));

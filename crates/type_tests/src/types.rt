@@ -85,8 +85,8 @@ fn errors_print_their_cause(rt: HostRuntime) -> Result<(), Fail> {
     Ok(())
 }
 
-/// Pairs of types: whether the first is below the second in strict mode and in permissive mode, and whether they
-/// are disjoint.
+/// Pairs of types: whether the first is below the second in strict mode and in permissive mode, and
+/// whether they are disjoint.
 const PAIRS: &[(&str, &str, bool, bool, bool)] = &[
     ("unit", "a-long-optional", false, false, false),
     ("a-true", "a-bool", true, true, false),
@@ -113,8 +113,8 @@ const PAIRS: &[(&str, &str, bool, bool, bool)] = &[
     ("ipaddr", "string", false, false, false),
 ];
 
-/// Whether the type of one word is below that of another in strict mode and in permissive mode, and whether
-/// they are disjoint.
+/// Whether the type of one word is below that of another in strict mode and in permissive mode, and
+/// whether they are disjoint.
 fn compared(alloc: Global, first: &str, second: &str) -> Result<(bool, bool, bool), Fail> {
     let (a, b) = (sample(alloc, first)?, sample(alloc, second)?);
     let strict = Type::is_subtype(&a, &b, ValidationMode::Strict);

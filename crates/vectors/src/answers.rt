@@ -95,7 +95,8 @@ fn check_comes_back(alloc: Global, row: &Row) -> Result<(), Fail> {
     }
 }
 
-/// Compares the answer for the fragments of a text as they are written, in every order and in no other split.
+/// Compares the answer for the fragments of a text as they are written, in every order and in no
+/// other split.
 pub(crate) fn check_as_written(
     alloc: Global,
     name: &str,

@@ -3,8 +3,9 @@
 //! A text has entity types and actions between `; `:
 //!
 //! - `entity U`, `enum U` and `external U`; `action Action::view`, `external action Action::view`
-//! - then ` > A,B` for descendants, and then ` : TYPE` for an attribute `a` or for the context of an action,
-//!   ` tags TYPE` for tags, or ` for A` for an action's principals, where `TYPE` is `Long`, `True`, `ext NAME` or the name of an entity type
+//! - then ` > A,B` for descendants, and then ` : TYPE` for an attribute `a` or for the context of
+//!   an action, ` tags TYPE` for tags, or ` for A` for an action's principals, where `TYPE` is
+//!   `Long`, `True`, `ext NAME` or the name of an entity type
 
 use crate::answers::{answer_text, shown};
 use cedar_schema::below::{Eid, EntityType, NonEmpty};
@@ -113,8 +114,8 @@ fn context(alloc: Global, text: Option<&str>) -> Result<Type, Fail> {
     }
 }
 
-/// The action of a text, behind its first word: for requests of one type of principals, or for none, with a
-/// context.
+/// The action of a text, behind its first word: for requests of one type of principals, or for
+/// none, with a context.
 fn defined(alloc: Global, text: &str) -> Result<ValidatorActionId, Fail> {
     let (text, principal) = parts(text, " for ");
     let (text, written) = parts(text, " : ");
@@ -168,8 +169,8 @@ const VALID: &[(&str, &str)] = &[
     ),
 ];
 
-/// Schemas, how they are refused, with ` or ` between answers that are allowed, and the nearest schema that
-/// is valid.
+/// Schemas, how they are refused, with ` or ` between answers that are allowed, and the nearest
+/// schema that is valid.
 const REFUSED: &[(&str, &str, &str)] = &[
     (
         "entity Group > Mid; entity Mid > Leaf; enum Leaf",

@@ -5,7 +5,8 @@ use crate::answers::check_row;
 use std::alloc::Global;
 use std::test::Fail;
 
-/// A kind, declarations that are refused, the refusal, near declarations, and the lines of their schema.
+/// A kind, declarations that are refused, the refusal, near declarations, and the lines of their
+/// schema.
 type Near = (
     &'static str,
     &'static str,

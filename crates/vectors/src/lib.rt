@@ -1,4 +1,5 @@
-//! Worked rows: what the builder of schemas answers on small declarations, in several splits and orders.
+//! Worked rows: what the builder of schemas answers on small declarations, in several splits and
+//! orders.
 #![tactic(auto)]
 
 #[cfg(test)]

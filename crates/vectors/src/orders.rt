@@ -15,7 +15,8 @@ pub(crate) fn order_count(texts: &[&str]) -> usize {
     }
 }
 
-/// The texts in the order of a number. The numbers below the factorial of their count give all orders.
+/// The texts in the order of a number. The numbers below the factorial of their count give all
+/// orders.
 pub(crate) fn in_order<'t>(alloc: Global, texts: &[&'t str], number: usize) -> M<Vec<&'t str>> {
     let mut number = number;
     let mut ordered = Vec::new(alloc);

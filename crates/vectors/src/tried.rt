@@ -1,5 +1,5 @@
-//! That rows are tried as they are said to be: in each order, and in one fragment only where it declares
-//! no id twice.
+//! That rows are tried as they are said to be: in each order, and in one fragment only where it
+//! declares no id twice.
 
 use crate::orders::{in_order, order_count};
 use shorthand::checked::holds;

@@ -17,7 +17,8 @@ use std::collections::BTreeSet;
 
 /// Adds a name to some, or leaves them as they are and runs out of memory.
 fn add_name(names: &mut BTreeSet<InternalName>, name: InternalName) -> M<()>
-    ensures added { OnOk result (HasAlso (map name_of names.new.keys) (map name_of names.old.keys) (name_of name ∷ [])) }
+    ensures added { OnOk result (HasAlso (map name_of names.new.keys) (map name_of names.old.keys)
+        (name_of name ∷ [])) }
     ensures refused { OnErr result (names.new.keys ≡ names.old.keys) }
 {
     let _is_new = names.insert(name)?;
@@ -26,7 +27,8 @@ fn add_name(names: &mut BTreeSet<InternalName>, name: InternalName) -> M<()>
 
 /// Adds a uid to some, or leaves them as they are and runs out of memory.
 fn add_uid(uids: &mut BTreeSet<EntityUID>, uid: EntityUID) -> M<()>
-    ensures added { OnOk result (HasAlso (map uid_of uids.new.keys) (map uid_of uids.old.keys) (uid_of uid ∷ [])) }
+    ensures added { OnOk result (HasAlso (map uid_of uids.new.keys) (map uid_of uids.old.keys)
+        (uid_of uid ∷ [])) }
     ensures refused { OnErr result (uids.new.keys ≡ uids.old.keys) }
 {
     let _is_new = uids.insert(uid)?;
@@ -89,7 +91,8 @@ impl AllDefs {
     /// Adds the name to those of entity types. Out of memory is the only refusal, after which all
     /// names are as before.
     pub fn mark_as_defined_as_entity_type(&mut self, name: InternalName) -> M<()>
-        ensures added { OnOk result (HasAlso (held_names self.new).entities (held_names self.old).entities (name_of name ∷ [])) }
+        ensures added { OnOk result (HasAlso (held_names self.new).entities
+            (held_names self.old).entities (name_of name ∷ [])) }
         ensures common_stay { (held_names self.new).common ≡ (held_names self.old).common }
         ensures actions_stay { (held_names self.new).actions ≡ (held_names self.old).actions }
         ensures refused { OnErr result (held_names self.new ≡ held_names self.old) }
@@ -100,7 +103,8 @@ impl AllDefs {
     /// Adds the name to those of common types. Out of memory is the only refusal, after which all
     /// names are as before.
     pub fn mark_as_defined_as_common_type(&mut self, name: InternalName) -> M<()>
-        ensures added { OnOk result (HasAlso (held_names self.new).common (held_names self.old).common (name_of name ∷ [])) }
+        ensures added { OnOk result (HasAlso (held_names self.new).common
+            (held_names self.old).common (name_of name ∷ [])) }
         ensures entities_stay { (held_names self.new).entities ≡ (held_names self.old).entities }
         ensures actions_stay { (held_names self.new).actions ≡ (held_names self.old).actions }
         ensures refused { OnErr result (held_names self.new ≡ held_names self.old) }
@@ -145,7 +149,8 @@ fn add_actions<N, A>(uids: &mut BTreeSet<EntityUID>, defs: &ActionsDef<N, A>) ->
 impl AllDefs {
     /// Adds what a definition itself declares.
     fn add_definition<N, A>(&mut self, definition: &ValidatorNamespaceDef<N, A>) -> M<()>
-        ensures { OnOk result (HoldsAlso (held_names self.new) (held_names self.old) (definition_names N A definition.now)) }
+        ensures { OnOk result (HoldsAlso (held_names self.new) (held_names self.old)
+            (definition_names N A definition.now)) }
     {
         add_common_types(&mut self.common_defs, &definition.common_types)?;
         add_entity_types(&mut self.entity_defs, &definition.entity_types)?;
@@ -154,7 +159,8 @@ impl AllDefs {
 
     /// Adds what a fragment itself declares.
     fn add_fragment<N, A>(&mut self, fragment: &ValidatorSchemaFragment<N, A>) -> M<()>
-        ensures { OnOk result (HoldsAlso (held_names self.new) (held_names self.old) (fragment_names N A fragment.now)) }
+        ensures { OnOk result (HoldsAlso (held_names self.new) (held_names self.old)
+            (fragment_names N A fragment.now)) }
     {
         for definition in &fragment.definitions {
             self.add_definition(definition)?;
@@ -179,7 +185,8 @@ impl AllDefs {
     /// What the fragments themselves declare, without types of actions, built-in types and
     /// aliases. Out of memory is the only refusal.
     pub fn new<N, A>(alloc: Global, fragments: &[ValidatorSchemaFragment<N, A>]) -> M<Self>
-        ensures { IfOk result (λ defs. HoldsJust (held_names defs) (declared_names N A fragments.now)) }
+        ensures { IfOk result (λ defs.
+            HoldsJust (held_names defs) (declared_names N A fragments.now)) }
     {
         let mut defs = AllDefs::none(alloc);
         for fragment in fragments {
@@ -190,7 +197,8 @@ impl AllDefs {
 
     /// What one fragment itself declares. Out of memory is the only refusal.
     pub fn single_fragment<N, A>(alloc: Global, fragment: &ValidatorSchemaFragment<N, A>) -> M<Self>
-        ensures { IfOk result (λ defs. HoldsJust (held_names defs) (fragment_names N A fragment.now)) }
+        ensures { IfOk result (λ defs.
+            HoldsJust (held_names defs) (fragment_names N A fragment.now)) }
     {
         let mut defs = AllDefs::none(alloc);
         defs.add_fragment(fragment)?;
@@ -202,10 +210,13 @@ impl AllDefs {
     /// The same names, and among those of entity types also the type of each action. Out of
     /// memory is the only refusal.
     pub fn with_action_types(self) -> M<Self>
-        ensures entities { IfOk result (λ defs. HasAlso (held_names defs).entities (held_names self).entities
+        ensures entities { IfOk result (λ defs.
+            HasAlso (held_names defs).entities (held_names self).entities
             (map (λ uid. uid.ty) (held_names self).actions)) }
-        ensures common_stay { IfOk result (λ defs. (held_names defs).common ≡ (held_names self).common) }
-        ensures actions_stay { IfOk result (λ defs. (held_names defs).actions ≡ (held_names self).actions) }
+        ensures common_stay { IfOk result (λ defs.
+            (held_names defs).common ≡ (held_names self).common) }
+        ensures actions_stay { IfOk result (λ defs.
+            (held_names defs).actions ≡ (held_names self).actions) }
     {
         let AllDefs {
             mut entity_defs,

@@ -43,7 +43,8 @@ fn shared_name(
     kind: ReferenceType,
     name: &InternalName,
 ) -> M<Option<InternalName>>
-    ensures { IfOk result (StandsWhere name_of (name_of name.now) (IsDefined (held_names all_defs.now) kind (name_of name.now))) }
+    ensures { IfOk result (StandsWhere name_of (name_of name.now)
+        (IsDefined (held_names all_defs.now) kind (name_of name.now))) }
 {
     match declared(all_defs, kind, name) {
         None => Ok(None),
@@ -59,8 +60,10 @@ fn first_defined(
     all_defs: &AllDefs,
 ) -> M<Option<InternalName>>
     ensures { IfOk result (λ found. MatchOption found
-        ((name : PlainName) → Contains (names_of names.now) name → ¬ IsDefined (held_names all_defs.now) kind name)
-        (λ name. IsFirst (IsDefined (held_names all_defs.now) kind) (names_of names.now) (name_of name))) }
+        ((name : PlainName) → Contains (names_of names.now) name
+        → ¬ IsDefined (held_names all_defs.now) kind name)
+        (λ name. IsFirst (IsDefined (held_names all_defs.now) kind) (names_of names.now)
+        (name_of name))) }
 {
     if let Some(name) = shared_name(all_defs, kind, &names.head)? {
         return Ok(Some(name));
@@ -81,8 +84,10 @@ pub(crate) fn resolve_at(
     kind: ReferenceType,
     all_defs: &AllDefs,
 ) -> Result<InternalName, QualifyError>
-    ensures resolved { IfOk result (λ found. ResolvesTo (held_names all_defs.now) (positional_reference kind name) (name_of found)) }
-    ensures refused { IfErr result (IsRefused (held_names all_defs.now) (positional_reference kind name)) }
+    ensures resolved { IfOk result (λ found.
+        ResolvesTo (held_names all_defs.now) (positional_reference kind name) (name_of found)) }
+    ensures refused { IfErr result
+        (IsRefused (held_names all_defs.now) (positional_reference kind name)) }
 {
     match first_defined(name.possibilities(), kind, all_defs)? {
         Some(found) => Ok(found),
@@ -107,7 +112,8 @@ pub trait ResolveName {
     /// It is refused with `TypeNotDefined`, which holds the reference itself, if there is none,
     /// or with `Memory` if memory runs out.
     fn resolve(self, all_defs: &AllDefs) -> Result<InternalName, QualifyError>
-        ensures resolved { IfOk result (λ name. ResolvesTo (held_names all_defs.now) (reference self) (name_of name)) }
+        ensures resolved { IfOk result (λ name.
+            ResolvesTo (held_names all_defs.now) (reference self) (name_of name)) }
         ensures refused { IfErr result (IsRefused (held_names all_defs.now) (reference self)) };
 }
 
@@ -128,7 +134,8 @@ pub fn resolve_all<N: ResolveName + Drop>(
 ) -> Result<Vec<InternalName>, QualifyError>
     ensures resolved { IfOk result (λ found. HoldsPairwise (ResolvesTo (held_names all_defs.now))
         (map N.reference names.items) (map name_of found.items)) }
-    ensures refused { IfErr result (IsRefusedAmong (held_names all_defs.now) (Contains (map N.reference names.items))) }
+    ensures refused { IfErr result
+        (IsRefusedAmong (held_names all_defs.now) (Contains (map N.reference names.items))) }
 {
     let mut resolved = Vec::new(all_defs.alloc);
     for name in names {

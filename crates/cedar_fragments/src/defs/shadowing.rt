@@ -21,8 +21,10 @@ impl AllDefs {
     /// The unqualified name of a type that would shadow a name, if there is one.
     fn shadowed_by(&self, name: &InternalName) -> M<Option<InternalName>>
         ensures { IfOk result (λ found. MatchOption found
-            ((plain : PlainName) → Contains (type_names (held_names self.now)) plain → ¬ ShadowsType plain (name_of name.now))
-            (λ plain. Contains (type_names (held_names self.now)) (name_of plain) × ShadowsType (name_of plain) (name_of name.now))) }
+            ((plain : PlainName) → Contains (type_names (held_names self.now)) plain
+            → ¬ ShadowsType plain (name_of name.now))
+            (λ plain. Contains (type_names (held_names self.now)) (name_of plain)
+            × ShadowsType (name_of plain) (name_of name.now))) }
     {
         if name.is_unqualified() || name.is_reserved() {
             return Ok(None);
@@ -39,8 +41,10 @@ impl AllDefs {
 
     /// Refuses a type that would shadow one of some.
     fn check_types(&self, names: &BTreeSet<InternalName>) -> Result<(), SchemaError>
-        requires { (name : PlainName) → Contains (map name_of names.now.keys) name → Contains (type_names (held_names self.now)) name }
-        ensures none { OnOk result (NoTypeShadows (type_names (held_names self.now)) (map name_of names.now.keys)) }
+        requires { (name : PlainName) → Contains (map name_of names.now.keys) name
+            → Contains (type_names (held_names self.now)) name }
+        ensures none { OnOk result (NoTypeShadows (type_names (held_names self.now))
+            (map name_of names.now.keys)) }
         ensures fault { IfErr result (λ error. (fault_of error ≡ out_of_memory)
             ⊎ IsShadowing (held_names self.now) (fault_of error)) }
     {
@@ -57,8 +61,10 @@ impl AllDefs {
     /// The actions whose types are unqualified, by id.
     fn plain_actions(&self) -> M<BTreeMap<String, EntityUID>>
         ensures each { IfOk result (λ plain.
-            AllByRecursion (λ entry. IsPlainAction (held_names self.now).actions (string_bytes entry.0) (uid_of entry.1)) plain.entries) }
-        ensures all { IfOk result (λ plain. (uid : PlainUid) → Contains (held_names self.now).actions uid → IsUnqualified uid.ty
+            AllByRecursion (λ entry. IsPlainAction (held_names self.now).actions
+            (string_bytes entry.0) (uid_of entry.1)) plain.entries) }
+        ensures all { IfOk result (λ plain.
+            (uid : PlainUid) → Contains (held_names self.now).actions uid → IsUnqualified uid.ty
             → Contains (map (λ entry. string_bytes entry.0) plain.entries) uid.eid) }
     {
         let mut plain = BTreeMap::new(self.alloc);
@@ -105,7 +111,8 @@ impl AllDefs {
     ///   unqualified type first
     /// - `Memory`: memory ran out
     pub fn rfc_70_shadowing_checks(&self) -> Result<(), SchemaError>
-        ensures types { OnOk result (NoTypeShadows (type_names (held_names self.now)) (type_names (held_names self.now))) }
+        ensures types { OnOk result (NoTypeShadows (type_names (held_names self.now))
+            (type_names (held_names self.now))) }
         ensures actions { OnOk result (NoActionShadows (held_names self.now).actions) }
         ensures fault { IfErr result (λ error. (fault_of error ≡ out_of_memory)
             ⊎ IsShadowing (held_names self.now) (fault_of error)) }

@@ -84,7 +84,8 @@ pub struct ActionParent<A> {
 impl<N, A> ActionsDef<N, A> {
     /// No actions.
     pub fn new(alloc: Global) -> Self
-        ensures { (refer : ReferenceType → N → Reference) (refer_action : ReferenceType → A → Reference)
+        ensures { (refer : ReferenceType → N → Reference)
+            (refer_action : ReferenceType → A → Reference)
             → action_fragment_declarations N refer A refer_action result ≡ [] }
     {
         ActionsDef {
@@ -114,7 +115,8 @@ fn action_parent(
     written: ActionEntityUID<RawName>,
 ) -> M<ActionParent<ConditionalName>>
     ensures { IfOk result (λ it. fragment_parent Conditional positional_reference it
-        ≡ parent_action Raw (raw_reference (namespace_name namespace.entry)) (namespace_name namespace.entry) written) }
+        ≡ parent_action Raw (raw_reference (namespace_name namespace.entry))
+        (namespace_name namespace.entry) written) }
 {
     let ActionEntityUID { id, ty, loc } = written;
     let name = match ty {
@@ -132,7 +134,8 @@ fn action_parents(
     written: Option<Vec<ActionEntityUID<RawName>>>,
 ) -> M<Vec<ActionParent<ConditionalName>>>
     ensures { IfOk result (λ it. map (fragment_parent Conditional positional_reference) it.items
-        ≡ parent_actions Raw (raw_reference (namespace_name namespace.entry)) (namespace_name namespace.entry) written) }
+        ≡ parent_actions Raw (raw_reference (namespace_name namespace.entry))
+        (namespace_name namespace.entry) written) }
 {
     let mut parents = Vec::new(alloc);
     let Some(written) = written else {
@@ -170,7 +173,8 @@ fn written_requests(
     written: ApplySpec<RawName>,
 ) -> M<ActionRequests<ConditionalName>>
     ensures { IfOk result (λ it. fragment_requests Conditional positional_reference (Some it)
-        ≡ applies_to Raw (raw_reference (namespace_name namespace.entry)) (namespace_name namespace.entry) (Some written)) }
+        ≡ applies_to Raw (raw_reference (namespace_name namespace.entry))
+        (namespace_name namespace.entry) (Some written)) }
 {
     let ApplySpec {
         principal_types,
@@ -197,7 +201,8 @@ fn action_requests(
     written: Option<ApplySpec<RawName>>,
 ) -> M<ActionRequests<ConditionalName>>
     ensures { IfOk result (λ it. fragment_requests Conditional positional_reference (Some it)
-        ≡ applies_to Raw (raw_reference (namespace_name namespace.entry)) (namespace_name namespace.entry) written) }
+        ≡ applies_to Raw (raw_reference (namespace_name namespace.entry))
+        (namespace_name namespace.entry) written) }
 {
     match written {
         Some(written) => written_requests(alloc, namespace, written),
@@ -213,8 +218,11 @@ impl ActionFragment<ConditionalName, ConditionalName> {
         written: ActionType<RawName>,
     ) -> M<Self>
         requires { written.attributes ≡ None }
-        ensures { IfOk result (λ it. action_fragment_body Conditional positional_reference Conditional positional_reference it
-            ≡ action_body Raw (raw_reference (namespace_name namespace.entry)) (namespace_name namespace.entry) written) }
+        ensures { IfOk result (λ it.
+            action_fragment_body Conditional positional_reference Conditional positional_reference
+            it
+            ≡ action_body Raw (raw_reference (namespace_name namespace.entry))
+            (namespace_name namespace.entry) written) }
     {
         let ActionType {
             applies_to,
@@ -244,11 +252,14 @@ fn action_uid(
     id: String,
     loc: Option<Loc>,
 ) -> Result<EntityUID, SchemaError>
-    ensures ty { IfOk result (λ uid. (uid_of uid).ty ≡ name_within (namespace_name namespace.entry) action_word) }
+    ensures ty { IfOk result (λ uid.
+        (uid_of uid).ty ≡ name_within (namespace_name namespace.entry) action_word) }
     ensures eid { IfOk result (λ uid. (uid_of uid).eid ≡ string_bytes id) }
-    ensures unreserved { OnOk result (¬ Contains (path_within (namespace_name namespace.entry)) reserved_word) }
+    ensures unreserved { OnOk result
+        (¬ Contains (path_within (namespace_name namespace.entry)) reserved_word) }
     ensures fault { IfErr result (λ error. (fault_of error ≡ out_of_memory)
-        ⊎ ((fault_of error ≡ reserved_name (name_within (namespace_name namespace.entry) action_word))
+        ⊎ ((fault_of error ≡ reserved_name
+        (name_within (namespace_name namespace.entry) action_word))
         × Contains (path_within (namespace_name namespace.entry)) reserved_word)) }
 {
     let name = full_name(alloc, namespace, action_id(alloc)?, loc)?;
@@ -263,8 +274,10 @@ fn actions_with_attributes(
     alloc: Global,
     written: &BTreeMap<String, ActionType<RawName>>,
 ) -> M<Vec<String>>
-    ensures listed { IfOk result (λ ids. map string_bytes ids.items ≡ with_attributes written.now.entries) }
-    ensures in_order { IfOk result (λ ids. IsStrictlySortedBy text_cmp (map string_bytes ids.items)) }
+    ensures listed { IfOk result (λ ids.
+        map string_bytes ids.items ≡ with_attributes written.now.entries) }
+    ensures in_order { IfOk result (λ ids.
+        IsStrictlySortedBy text_cmp (map string_bytes ids.items)) }
 {
     let mut ids = Vec::new(alloc);
     for (id, action) in written {
@@ -282,15 +295,21 @@ impl ActionsDef<ConditionalName, ConditionalName> {
         namespace: Option<&InternalName>,
         written: BTreeMap<String, ActionType<RawName>>,
     ) -> Result<Self, SchemaError>
-        ensures declarations { IfOk result (λ it. action_fragment_declarations Conditional positional_reference Conditional positional_reference it
-            ≡ action_declarations Raw (raw_reference (namespace_name namespace.entry)) (namespace_name namespace.entry) written.entries) }
+        ensures declarations { IfOk result (λ it.
+            action_fragment_declarations Conditional positional_reference Conditional
+            positional_reference it
+            ≡ action_declarations Raw (raw_reference (namespace_name namespace.entry))
+            (namespace_name namespace.entry) written.entries) }
         ensures sound { OnOk result (AllByRecursion IsSound
-            (action_declarations Raw (raw_reference (namespace_name namespace.entry)) (namespace_name namespace.entry) written.entries)) }
+            (action_declarations Raw (raw_reference (namespace_name namespace.entry))
+            (namespace_name namespace.entry) written.entries)) }
         ensures fault { IfErr result (λ error. (fault_of error ≡ out_of_memory)
-            ⊎ IsDefinitionFault (action_declarations Raw (raw_reference (namespace_name namespace.entry)) (namespace_name namespace.entry)
+            ⊎ IsDefinitionFault (action_declarations Raw
+            (raw_reference (namespace_name namespace.entry)) (namespace_name namespace.entry)
             written.entries) (fault_of error)) }
         ensures all_named { IfErr result (λ error. NamesAllWithAttributes
-            (action_declarations Raw (raw_reference (namespace_name namespace.entry)) (namespace_name namespace.entry) written.entries)
+            (action_declarations Raw (raw_reference (namespace_name namespace.entry))
+            (namespace_name namespace.entry) written.entries)
             (namespace_name namespace.entry) (fault_of error)) }
     {
         let ids = actions_with_attributes(alloc, &written)?;

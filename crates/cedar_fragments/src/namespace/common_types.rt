@@ -49,9 +49,12 @@ impl CommonTypeDefs<ConditionalName> {
         namespace: Option<&InternalName>,
         written: BTreeMap<CommonTypeId, CommonType<RawName>>,
     ) -> M<Self>
-        ensures declarations { IfOk result (λ it. common_type_declarations Conditional positional_reference it
-            ≡ common_declarations Raw (raw_reference (namespace_name namespace.entry)) (namespace_name namespace.entry) written.entries) }
-        ensures located { IfOk result (λ it. located_common_names Conditional (common_type_defs Conditional it)
+        ensures declarations { IfOk result (λ it.
+            common_type_declarations Conditional positional_reference it
+            ≡ common_declarations Raw (raw_reference (namespace_name namespace.entry))
+            (namespace_name namespace.entry) written.entries) }
+        ensures located { IfOk result (λ it.
+            located_common_names Conditional (common_type_defs Conditional it)
             ≡ written_common_names (namespace_name namespace.entry) written.entries) }
     {
         let mut defs = Vec::new(alloc);

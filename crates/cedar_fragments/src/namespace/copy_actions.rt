@@ -17,8 +17,11 @@ use cedar_names::json_schema::{FragmentName, copied_names};
 impl<N: FragmentName + Drop> ActionRequests<N> {
     /// Equal requests with the same locations. Out of memory is the only refusal.
     pub fn clone(&self) -> M<Self>
-        ensures requests { IfOk result (λ copy. ShowsSame (RefersAlike N N.is_alike) (fragment_requests N) (Some self.now) (Some copy)) }
-        ensures locs { IfOk result (λ copy. ShowsSame (LocatesAlike N N.is_alike) (requests_locs N) (Some self.now) (Some copy)) }
+        ensures requests { IfOk result (λ copy.
+            ShowsSame (RefersAlike N N.is_alike) (fragment_requests N) (Some self.now)
+            (Some copy)) }
+        ensures locs { IfOk result (λ copy.
+            ShowsSame (LocatesAlike N N.is_alike) (requests_locs N) (Some self.now) (Some copy)) }
     {
         Ok(ActionRequests {
             principals: copied_names(&self.principals)?,
@@ -32,8 +35,10 @@ impl<N: FragmentName + Drop> ActionRequests<N> {
 fn copied_requests<N: FragmentName + Drop>(
     requests: &Option<ActionRequests<N>>,
 ) -> M<Option<ActionRequests<N>>>
-    ensures requests { IfOk result (ShowsSame (RefersAlike N N.is_alike) (fragment_requests N) requests.now) }
-    ensures locs { IfOk result (ShowsSame (LocatesAlike N N.is_alike) (requests_locs N) requests.now) }
+    ensures requests { IfOk result
+        (ShowsSame (RefersAlike N N.is_alike) (fragment_requests N) requests.now) }
+    ensures locs { IfOk result (ShowsSame (LocatesAlike N N.is_alike)
+        (requests_locs N) requests.now) }
 {
     match requests {
         None => Ok(None),
@@ -44,8 +49,10 @@ fn copied_requests<N: FragmentName + Drop>(
 impl<A: FragmentName + Drop> ActionParent<A> {
     /// An equal parent with the same locations. Out of memory is the only refusal.
     pub fn clone(&self) -> M<Self>
-        ensures reference { IfOk result (ShowsSame (RefersAlike A A.is_alike) (fragment_parent A) self.now) }
-        ensures locs { IfOk result (ShowsSame (LocatesAlike A A.is_alike) (parent_locs A) self.now) }
+        ensures reference { IfOk result
+            (ShowsSame (RefersAlike A A.is_alike) (fragment_parent A) self.now) }
+        ensures locs { IfOk result (ShowsSame (LocatesAlike A A.is_alike)
+            (parent_locs A) self.now) }
     {
         Ok(ActionParent {
             id: self.id.clone()?,
@@ -60,7 +67,8 @@ impl<N: FragmentName + Drop, A: FragmentName + Drop> ActionFragment<N, A> {
     pub fn clone(&self) -> M<Self>
         ensures body { IfOk result (DeclaresSame N N.is_alike A A.is_alike
             (λ (refer : ReferenceType → N → Reference). action_fragment_body N refer A) self.now) }
-        ensures locs { IfOk result (LocatesSame N N.is_alike A A.is_alike (λ (locs : N → Locs). action_fragment_locs N locs A) self.now) }
+        ensures locs { IfOk result (LocatesSame N N.is_alike A A.is_alike
+            (λ (locs : N → Locs). action_fragment_locs N locs A) self.now) }
     {
         Ok(ActionFragment {
             requests: copied_requests(&self.requests)?,
@@ -74,8 +82,10 @@ impl<N: FragmentName + Drop, A: FragmentName + Drop> ActionDef<N, A> {
     /// An equal action with the same locations. Out of memory is the only refusal.
     pub fn clone(&self) -> M<Self>
         ensures declaration { IfOk result (DeclaresSame N N.is_alike A A.is_alike
-            (λ (refer : ReferenceType → N → Reference). action_fragment_declaration N refer A) self.now) }
-        ensures locs { IfOk result (LocatesSame N N.is_alike A A.is_alike (λ (locs : N → Locs). action_def_locs N locs A) self.now) }
+            (λ (refer : ReferenceType → N → Reference).
+            action_fragment_declaration N refer A) self.now) }
+        ensures locs { IfOk result (LocatesSame N N.is_alike A A.is_alike
+            (λ (locs : N → Locs). action_def_locs N locs A) self.now) }
     {
         Ok(ActionDef {
             uid: self.uid.clone()?,
@@ -88,8 +98,10 @@ impl<N: FragmentName + Drop, A: FragmentName + Drop> ActionsDef<N, A> {
     /// Equal actions with the same locations, in their order. Out of memory is the only refusal.
     pub fn clone(&self) -> M<Self>
         ensures declarations { IfOk result (DeclaresSame N N.is_alike A A.is_alike
-            (λ (refer : ReferenceType → N → Reference). action_fragment_declarations N refer A) self.now) }
-        ensures locs { IfOk result (LocatesSame N N.is_alike A A.is_alike (λ (locs : N → Locs). actions_locs N locs A) self.now) }
+            (λ (refer : ReferenceType → N → Reference).
+            action_fragment_declarations N refer A) self.now) }
+        ensures locs { IfOk result (LocatesSame N N.is_alike A A.is_alike
+            (λ (locs : N → Locs). actions_locs N locs A) self.now) }
     {
         let defs = copied_items(&self.defs, ActionDef::clone)?;
         Ok(ActionsDef { defs })

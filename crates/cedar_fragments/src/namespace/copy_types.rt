@@ -31,8 +31,10 @@ fn copied_tags<N: FragmentName + Drop>(tags: &Option<Type<N>>) -> M<Option<Type<
 impl<N: FragmentName + Drop> CommonTypeDef<N> {
     /// An equal common type with the same locations. Out of memory is the only refusal.
     pub fn clone(&self) -> M<Self>
-        ensures declaration { IfOk result (ShowsSame (RefersAlike N N.is_alike) (common_type_declaration N) self.now) }
-        ensures locs { IfOk result (ShowsSame (LocatesAlike N N.is_alike) (common_type_locs N) self.now) }
+        ensures declaration { IfOk result
+            (ShowsSame (RefersAlike N N.is_alike) (common_type_declaration N) self.now) }
+        ensures locs { IfOk result (ShowsSame (LocatesAlike N N.is_alike)
+            (common_type_locs N) self.now) }
         ensures name { IfOk result (λ copy. located_name copy.name ≡ located_name self.now.name) }
     {
         Ok(CommonTypeDef {
@@ -46,8 +48,10 @@ impl<N: FragmentName + Drop> CommonTypeDefs<N> {
     /// Equal common types with the same locations, in their order. Out of memory is the only
     /// refusal.
     pub fn clone(&self) -> M<Self>
-        ensures declarations { IfOk result (ShowsSame (RefersAlike N N.is_alike) (common_type_declarations N) self.now) }
-        ensures locs { IfOk result (ShowsSame (LocatesAlike N N.is_alike) (common_types_locs N) self.now) }
+        ensures declarations { IfOk result
+            (ShowsSame (RefersAlike N N.is_alike) (common_type_declarations N) self.now) }
+        ensures locs { IfOk result (ShowsSame (LocatesAlike N N.is_alike)
+            (common_types_locs N) self.now) }
         ensures names { IfOk result (λ copy. located_common_names N (common_type_defs N copy)
             ≡ located_common_names N (common_type_defs N self.now)) }
     {
@@ -59,8 +63,10 @@ impl<N: FragmentName + Drop> CommonTypeDefs<N> {
 impl<N: FragmentName + Drop> EntityTypeFragment<N> {
     /// Equal declarations with the same locations. Out of memory is the only refusal.
     pub fn clone(&self) -> M<Self>
-        ensures body { IfOk result (ShowsSame (RefersAlike N N.is_alike) (fragment_body N) self.now) }
-        ensures locs { IfOk result (ShowsSame (LocatesAlike N N.is_alike) (entity_fragment_locs N) self.now) }
+        ensures body { IfOk result (ShowsSame (RefersAlike N N.is_alike)
+            (fragment_body N) self.now) }
+        ensures locs { IfOk result (ShowsSame (LocatesAlike N N.is_alike)
+            (entity_fragment_locs N) self.now) }
     {
         match self {
             EntityTypeFragment::Standard {
@@ -84,8 +90,10 @@ impl<N: FragmentName + Drop> EntityTypeFragment<N> {
 impl<N: FragmentName + Drop> EntityTypeDef<N> {
     /// An equal entity type with the same locations. Out of memory is the only refusal.
     pub fn clone(&self) -> M<Self>
-        ensures declaration { IfOk result (ShowsSame (RefersAlike N N.is_alike) (entity_type_declaration N) self.now) }
-        ensures locs { IfOk result (ShowsSame (LocatesAlike N N.is_alike) (entity_type_locs N) self.now) }
+        ensures declaration { IfOk result
+            (ShowsSame (RefersAlike N N.is_alike) (entity_type_declaration N) self.now) }
+        ensures locs { IfOk result (ShowsSame (LocatesAlike N N.is_alike)
+            (entity_type_locs N) self.now) }
     {
         Ok(EntityTypeDef {
             name: self.name.clone()?,
@@ -98,8 +106,10 @@ impl<N: FragmentName + Drop> EntityTypesDef<N> {
     /// Equal entity types with the same locations, in their order. Out of memory is the only
     /// refusal.
     pub fn clone(&self) -> M<Self>
-        ensures declarations { IfOk result (ShowsSame (RefersAlike N N.is_alike) (entity_type_declarations N) self.now) }
-        ensures locs { IfOk result (ShowsSame (LocatesAlike N N.is_alike) (entity_types_locs N) self.now) }
+        ensures declarations { IfOk result
+            (ShowsSame (RefersAlike N N.is_alike) (entity_type_declarations N) self.now) }
+        ensures locs { IfOk result (ShowsSame (LocatesAlike N N.is_alike)
+            (entity_types_locs N) self.now) }
     {
         let defs = copied_items(&self.defs, EntityTypeDef::clone)?;
         Ok(EntityTypesDef { defs })

@@ -35,7 +35,8 @@ impl<N, A> ValidatorNamespaceDef<N, A> {
     /// The namespace's name, or None for the empty one.
     pub fn namespace(&self) -> Option<&InternalName>
         ensures name { namespace_name result ≡ definition_namespace N A self.now }
-        ensures located { option_map located_name (option_copied result) ≡ definition_name N A self.now }
+        ensures located { option_map located_name (option_copied result)
+            ≡ definition_name N A self.now }
     {
         self.namespace.as_ref()
     }
@@ -66,17 +67,24 @@ impl ValidatorNamespaceDef<ConditionalName, ConditionalName> {
     ) -> Result<Self, SchemaError>
         ensures declarations { IfOk result (λ it. conditional_definition it
             ≡ raw_declarations (option_map name_of namespace) definition) }
-        ensures namespace { IfOk result (λ it. definition_namespace Conditional Conditional it ≡ option_map name_of namespace) }
+        ensures namespace { IfOk result (λ it.
+            definition_namespace Conditional Conditional it ≡ option_map name_of namespace) }
         ensures common_types { IfOk result (λ it. definition_common_names Conditional Conditional it
             ≡ written_common_names (option_map name_of namespace) definition.common_types.entries) }
-        ensures name { IfOk result (λ it. definition_name Conditional Conditional it ≡ option_map located_name namespace) }
-        ensures loc { IfOk result (λ it. definition_loc Conditional Conditional it ≡ definition.loc) }
-        ensures sound { OnOk result (AllByRecursion IsSound (raw_declarations (option_map name_of namespace) definition)) }
-        ensures no_fault { OnOk result (HasNoDefinitionFault (raw_declarations (option_map name_of namespace) definition)) }
+        ensures name { IfOk result (λ it.
+            definition_name Conditional Conditional it ≡ option_map located_name namespace) }
+        ensures loc { IfOk result (λ it.
+            definition_loc Conditional Conditional it ≡ definition.loc) }
+        ensures sound { OnOk result (AllByRecursion IsSound
+            (raw_declarations (option_map name_of namespace) definition)) }
+        ensures no_fault { OnOk result
+            (HasNoDefinitionFault (raw_declarations (option_map name_of namespace) definition)) }
         ensures fault { IfErr result (λ error. (fault_of error ≡ out_of_memory)
-            ⊎ IsDefinitionFault (raw_declarations (option_map name_of namespace) definition) (fault_of error)) }
+            ⊎ IsDefinitionFault (raw_declarations (option_map name_of namespace) definition)
+            (fault_of error)) }
         ensures all_named { IfErr result (λ error. NamesAllWithAttributes
-            (raw_declarations (option_map name_of namespace) definition) (option_map name_of namespace) (fault_of error)) }
+            (raw_declarations (option_map name_of namespace) definition)
+            (option_map name_of namespace) (fault_of error)) }
     {
         let NamespaceDefinition {
             common_types,

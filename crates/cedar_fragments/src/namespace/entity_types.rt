@@ -69,7 +69,8 @@ pub enum EntityTypeFragment<N> {
 impl<N> EntityTypesDef<N> {
     /// No entity types.
     pub fn new(alloc: Global) -> Self
-        ensures { (refer : ReferenceType → N → Reference) → entity_type_declarations N refer result ≡ [] }
+        ensures { (refer : ReferenceType → N → Reference)
+            → entity_type_declarations N refer result ≡ [] }
     {
         EntityTypesDef {
             defs: Vec::new(alloc),
@@ -88,7 +89,8 @@ impl<N> EntityTypeFragment<N> {
     /// The entity types whose entities may be direct parents of an entity of this type; an
     /// enumerated type has none.
     pub fn parents(&self) -> &[N]
-        ensures { (refer : ReferenceType → N → Reference) → map (refer entity) result.now ≡ entity_parents (fragment_body N refer self.now) }
+        ensures { (refer : ReferenceType → N → Reference)
+            → map (refer entity) result.now ≡ entity_parents (fragment_body N refer self.now) }
     {
         match self {
             EntityTypeFragment::Standard { parents, .. } => parents.as_slice(),
@@ -140,8 +142,10 @@ fn standard_fragment(
     written: StandardEntityType<RawName>,
 ) -> M<EntityTypeFragment<ConditionalName>>
     ensures { IfOk result (λ it. fragment_body Conditional positional_reference it
-        ≡ standard (map (raw_reference (namespace_name namespace.entry) entity) written.member_of_types.items)
-        (raw_expr (namespace_name namespace.entry) written.shape.0) (option_map (raw_expr (namespace_name namespace.entry)) written.tags)) }
+        ≡ standard (map (raw_reference
+        (namespace_name namespace.entry) entity) written.member_of_types.items)
+        (raw_expr (namespace_name namespace.entry) written.shape.0)
+        (option_map (raw_expr (namespace_name namespace.entry)) written.tags)) }
 {
     let StandardEntityType {
         member_of_types,
@@ -193,13 +197,18 @@ fn entity_type_name(
     id: UnreservedId,
     loc: Option<Loc>,
 ) -> Result<EntityType, SchemaError>
-    ensures name { IfOk result (λ ty. type_name ty ≡ name_within (namespace_name namespace.entry) (unreserved_id_text id)) }
-    ensures no_action { OnOk result (¬ IsActionType (name_within (namespace_name namespace.entry) (unreserved_id_text id))) }
-    ensures unreserved { OnOk result (¬ Contains (path_within (namespace_name namespace.entry)) reserved_word) }
+    ensures name { IfOk result (λ ty.
+        type_name ty ≡ name_within (namespace_name namespace.entry) (unreserved_id_text id)) }
+    ensures no_action { OnOk result
+        (¬ IsActionType (name_within (namespace_name namespace.entry) (unreserved_id_text id))) }
+    ensures unreserved { OnOk result
+        (¬ Contains (path_within (namespace_name namespace.entry)) reserved_word) }
     ensures fault { IfErr result (λ error. (fault_of error ≡ out_of_memory)
-        ⊎ (((fault_of error ≡ action_entity_type (name_within (namespace_name namespace.entry) (unreserved_id_text id)))
+        ⊎ (((fault_of error ≡ action_entity_type
+        (name_within (namespace_name namespace.entry) (unreserved_id_text id)))
         × IsActionType (name_within (namespace_name namespace.entry) (unreserved_id_text id)))
-        ⊎ ((fault_of error ≡ reserved_name (name_within (namespace_name namespace.entry) (unreserved_id_text id)))
+        ⊎ ((fault_of error ≡ reserved_name
+        (name_within (namespace_name namespace.entry) (unreserved_id_text id)))
         × Contains (path_within (namespace_name namespace.entry)) reserved_word))) }
 {
     let name = full_name(alloc, namespace, id.into_id(), loc)?;
@@ -221,12 +230,16 @@ impl EntityTypesDef<ConditionalName> {
         namespace: Option<&InternalName>,
         written: BTreeMap<UnreservedId, json_schema::EntityType<RawName>>,
     ) -> Result<Self, SchemaError>
-        ensures declarations { IfOk result (λ it. entity_type_declarations Conditional positional_reference it
-            ≡ entity_declarations Raw (raw_reference (namespace_name namespace.entry)) (namespace_name namespace.entry) written.entries) }
+        ensures declarations { IfOk result (λ it.
+            entity_type_declarations Conditional positional_reference it
+            ≡ entity_declarations Raw (raw_reference (namespace_name namespace.entry))
+            (namespace_name namespace.entry) written.entries) }
         ensures sound { OnOk result (AllByRecursion IsSound
-            (entity_declarations Raw (raw_reference (namespace_name namespace.entry)) (namespace_name namespace.entry) written.entries)) }
+            (entity_declarations Raw (raw_reference (namespace_name namespace.entry))
+            (namespace_name namespace.entry) written.entries)) }
         ensures fault { IfErr result (λ error. (fault_of error ≡ out_of_memory)
-            ⊎ IsDefinitionFault (entity_declarations Raw (raw_reference (namespace_name namespace.entry)) (namespace_name namespace.entry)
+            ⊎ IsDefinitionFault (entity_declarations Raw
+            (raw_reference (namespace_name namespace.entry)) (namespace_name namespace.entry)
             written.entries) (fault_of error)) }
         ensures no_actions { IfErr result (λ error. NamesNoAttributes (fault_of error)) }
     {

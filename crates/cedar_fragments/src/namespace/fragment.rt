@@ -56,14 +56,18 @@ impl ValidatorSchemaFragment<ConditionalName, ConditionalName> {
     ) -> Result<Self, SchemaError>
         ensures declarations { IfOk result (λ it. conditional_fragment it ≡ raw_fragment fragment) }
         ensures pairwise { IfOk result (λ it. conditional_pairwise it ≡ raw_pairwise fragment) }
-        ensures located { IfOk result (λ it. located_namespaces Conditional Conditional it ≡ raw_located_namespaces fragment) }
-        ensures common_types { IfOk result (λ it. fragment_common_names Conditional Conditional it ≡ raw_common_names fragment) }
-        ensures namespaces { IfOk result (λ it. named_namespaces Conditional Conditional it ≡ raw_namespaces fragment) }
+        ensures located { IfOk result (λ it.
+            located_namespaces Conditional Conditional it ≡ raw_located_namespaces fragment) }
+        ensures common_types { IfOk result (λ it.
+            fragment_common_names Conditional Conditional it ≡ raw_common_names fragment) }
+        ensures namespaces { IfOk result (λ it.
+            named_namespaces Conditional Conditional it ≡ raw_namespaces fragment) }
         ensures sound { OnOk result (AllByRecursion IsSound (raw_fragment fragment)) }
         ensures no_fault { OnOk result (HasNoDefinitionFault (raw_fragment fragment)) }
         ensures fault { IfErr result (λ error. (fault_of error ≡ out_of_memory)
             ⊎ IsDefinitionFault (raw_fragment fragment) (fault_of error)) }
-        ensures all_named { IfErr result (λ error. NamesAllOfADefinition (fragment ∷ []) (fault_of error)) }
+        ensures all_named { IfErr result (λ error.
+            NamesAllOfADefinition (fragment ∷ []) (fault_of error)) }
     {
         let mut definitions = Vec::new(alloc);
         for (name, written) in fragment.0 {

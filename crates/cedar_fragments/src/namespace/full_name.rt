@@ -11,7 +11,8 @@ use std::alloc::Global;
 
 /// The path of what is declared in a namespace.
 fn namespace_path(alloc: Global, namespace: Option<&InternalName>) -> M<Vec<Id>>
-    ensures { IfOk result (λ path. map id_text path.items ≡ path_within (namespace_name namespace.entry)) }
+    ensures { IfOk result (λ path.
+        map id_text path.items ≡ path_within (namespace_name namespace.entry)) }
 {
     let mut path = Vec::new(alloc);
     let Some(namespace) = namespace else {
@@ -32,7 +33,8 @@ pub(crate) fn full_name(
     id: Id,
     loc: Option<Loc>,
 ) -> M<InternalName>
-    ensures name { IfOk result (λ name. name_of name ≡ name_within (namespace_name namespace.entry) (id_text id)) }
+    ensures name { IfOk result (λ name.
+        name_of name ≡ name_within (namespace_name namespace.entry) (id_text id)) }
     ensures loc { IfOk result (λ name. name_loc name ≡ loc) }
 {
     InternalName::new(id, namespace_path(alloc, namespace)?, loc).into_shared()

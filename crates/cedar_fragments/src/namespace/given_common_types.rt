@@ -31,7 +31,8 @@ fn given_def(
     namespace: Option<&InternalName>,
     definition: (UnreservedId, Type<ConditionalName>),
 ) -> M<CommonTypeDef<ConditionalName>>
-    ensures { IfOk result (λ def. declared_as (name_of def.name) (common_type (positional_expr def.ty))
+    ensures { IfOk result (λ def. declared_as (name_of def.name)
+        (common_type (positional_expr def.ty))
         ≡ given_common_type (namespace_name namespace.entry) definition) }
 {
     let (id, ty) = definition;
@@ -61,8 +62,10 @@ fn only_common_types(
     namespace: Option<InternalName>,
     common_types: CommonTypeDefs<ConditionalName>,
 ) -> ValidatorNamespaceDef<ConditionalName, ConditionalName>
-    ensures declarations { conditional_definition result ≡ common_type_declarations Conditional positional_reference common_types }
-    ensures namespace { definition_namespace Conditional Conditional result ≡ option_map name_of namespace }
+    ensures declarations { conditional_definition result
+        ≡ common_type_declarations Conditional positional_reference common_types }
+    ensures namespace { definition_namespace Conditional Conditional result
+        ≡ option_map name_of namespace }
 {
     ValidatorNamespaceDef {
         namespace,
@@ -83,7 +86,8 @@ impl ValidatorNamespaceDef<ConditionalName, ConditionalName> {
     ) -> Result<Self, SchemaError>
         ensures declarations { IfOk result (λ it. conditional_definition it
             ≡ given_common_types (option_map name_of namespace) definitions.entries) }
-        ensures namespace { IfOk result (λ it. definition_namespace Conditional Conditional it ≡ option_map name_of namespace) }
+        ensures namespace { IfOk result (λ it.
+            definition_namespace Conditional Conditional it ≡ option_map name_of namespace) }
         ensures fault { IfErr result (λ error. fault_of error ≡ out_of_memory) }
     {
         let common_types = given_defs(alloc, lend(&namespace), definitions)?;
@@ -99,7 +103,8 @@ impl ValidatorNamespaceDef<ConditionalName, ConditionalName> {
     ) -> Result<Self, SchemaError>
         ensures declarations { IfOk result (λ it. conditional_definition it
             ≡ given_common_type (option_map name_of namespace) definition ∷ []) }
-        ensures namespace { IfOk result (λ it. definition_namespace Conditional Conditional it ≡ option_map name_of namespace) }
+        ensures namespace { IfOk result (λ it.
+            definition_namespace Conditional Conditional it ≡ option_map name_of namespace) }
         ensures fault { IfErr result (λ error. fault_of error ≡ out_of_memory) }
     {
         let def = given_def(alloc, lend(&namespace), definition)?;

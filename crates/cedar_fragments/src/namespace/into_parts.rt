@@ -31,8 +31,10 @@ impl<N, A> ValidatorNamespaceDef<N, A> {
     /// The common types, the entity types and the actions that are declared.
     pub fn into_parts(self) -> (CommonTypeDefs<N>, EntityTypesDef<N>, ActionsDef<N, A>)
         ensures { (refer : Kind → N → Reference) (refer_action : Kind → A → Reference)
-            → definition_declarations N refer A refer_action self ≡ common_type_declarations N refer result.0
-            ++ entity_type_declarations N refer result.1 ++ action_fragment_declarations N refer A refer_action result.2 }
+            → definition_declarations N refer A refer_action self
+            ≡ common_type_declarations N refer result.0
+            ++ entity_type_declarations N refer result.1
+            ++ action_fragment_declarations N refer A refer_action result.2 }
     {
         let ValidatorNamespaceDef {
             common_types,
@@ -48,7 +50,8 @@ impl<N> CommonTypeDefs<N> {
     /// The common types, in order.
     pub fn into_defs(self) -> Vec<CommonTypeDef<N>>
         ensures { (refer : Kind → N → Reference)
-            → common_type_declarations N refer self ≡ map (common_type_declaration N refer) result.items }
+            → common_type_declarations N refer self
+            ≡ map (common_type_declaration N refer) result.items }
     {
         self.defs
     }
@@ -58,7 +61,8 @@ impl<N> EntityTypesDef<N> {
     /// The entity types, in order.
     pub fn into_defs(self) -> Vec<EntityTypeDef<N>>
         ensures { (refer : Kind → N → Reference)
-            → entity_type_declarations N refer self ≡ map (entity_type_declaration N refer) result.items }
+            → entity_type_declarations N refer self
+            ≡ map (entity_type_declaration N refer) result.items }
     {
         self.defs
     }

@@ -58,10 +58,12 @@ impl<N: Drop, A: Drop> ValidatorSchemaFragment<N, A> {
         alloc: Global,
         items: I,
     ) -> M<Self>
-        requires { (it : I.IntoIter) → I.into_iter_gives items it → I.IntoIter.can_next it × IsFinite (I.IntoIter.remaining it) }
+        requires { (it : I.IntoIter) → I.into_iter_gives items it
+            → I.IntoIter.can_next it × IsFinite (I.IntoIter.remaining it) }
         ensures { IfOk result (λ fragment. (it : I.IntoIter) × (definitions : List (Definition N A))
             × I.into_iter_gives items it × Drains I.IntoIter.next_gives it definitions
-            × ((refer : Kind → N → Reference) (refer_action : Kind → A → Reference) → fragment_declarations N refer A refer_action fragment
+            × ((refer : Kind → N → Reference) (refer_action : Kind → A → Reference)
+            → fragment_declarations N refer A refer_action fragment
             ≡ flat_map (definition_declarations N refer A refer_action) definitions)
             × (fragment_namespaces N A fragment ≡ map (definition_namespace N A) definitions)) }
     {

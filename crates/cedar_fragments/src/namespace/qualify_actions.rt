@@ -36,9 +36,11 @@ use cedar_names::json_schema::{ActionEntityUID, ConditionalName, ReferenceType};
 /// declares the action, at the location of the name.
 fn action_type(name: &InternalName, id: &String, all_defs: &AllDefs) -> M<Option<EntityType>>
     ensures { IfOk result (λ found. MatchOption found
-        (¬ Contains (held_names all_defs.now).actions (record { ty = name_of name.now; eid = string_bytes id.now }))
+        (¬ Contains (held_names all_defs.now).actions
+        (record { ty = name_of name.now; eid = string_bytes id.now }))
         (λ ty. (type_name ty ≡ name_of name.now)
-        × Contains (held_names all_defs.now).actions (record { ty = name_of name.now; eid = string_bytes id.now }))) }
+        × Contains (held_names all_defs.now).actions
+        (record { ty = name_of name.now; eid = string_bytes id.now }))) }
 {
     let loc = name.loc();
     let Some(name) = Name::new(name.clone()?) else {
@@ -59,8 +61,10 @@ fn first_action_type(
 ) -> M<Option<EntityType>>
     ensures { IfOk result (λ found. MatchOption found
         ((name : PlainName) → Contains (names_of names.now) name
-        → ¬ Contains (held_names all_defs.now).actions (record { ty = name; eid = string_bytes id.now }))
-        (λ ty. IsFirst (λ name. Contains (held_names all_defs.now).actions (record { ty = name; eid = string_bytes id.now }))
+        → ¬ Contains (held_names all_defs.now).actions
+        (record { ty = name; eid = string_bytes id.now }))
+        (λ ty. IsFirst (λ name. Contains (held_names all_defs.now).actions
+        (record { ty = name; eid = string_bytes id.now }))
         (names_of names.now) (type_name ty))) }
 {
     if let Some(ty) = action_type(&names.head, id, all_defs)? {
@@ -80,10 +84,13 @@ fn qualify_parent(
     all_defs: &AllDefs,
 ) -> Result<ActionParent<EntityType>, SchemaError>
     ensures resolved { IfOk result (λ it. ResolvesParent (held_names all_defs.now)
-        (fragment_parent Conditional positional_reference parent) (fragment_parent ActionEntityType resolved_action_type it)) }
-    ensures locs { IfOk result (λ it. parent_locs ActionEntityType no_locs it ≡ parent_locs Conditional no_locs parent) }
+        (fragment_parent Conditional positional_reference parent)
+        (fragment_parent ActionEntityType resolved_action_type it)) }
+    ensures locs { IfOk result (λ it.
+        parent_locs ActionEntityType no_locs it ≡ parent_locs Conditional no_locs parent) }
     ensures fault { IfErr result (λ error. IsUnresolvable (held_names all_defs.now)
-        (λ reference. ⊥) (λ it. fragment_parent Conditional positional_reference parent ≡ it) (λ reference. ⊥) (fault_of error)) }
+        (λ reference. ⊥) (λ it. fragment_parent Conditional positional_reference parent ≡ it)
+        (λ reference. ⊥) (fault_of error)) }
 {
     let ActionParent { id, ty, loc } = parent;
     match first_action_type(ty.possibilities(), &id, all_defs)? {
@@ -108,11 +115,14 @@ fn qualify_parents(
     all_defs: &AllDefs,
 ) -> Result<Vec<ActionParent<EntityType>>, SchemaError>
     ensures resolved { IfOk result (λ it. HoldsPairwise (ResolvesParent (held_names all_defs.now))
-        (map (fragment_parent Conditional positional_reference) parents.items) (map (fragment_parent ActionEntityType resolved_action_type) it.items)) }
+        (map (fragment_parent Conditional positional_reference) parents.items)
+        (map (fragment_parent ActionEntityType resolved_action_type) it.items)) }
     ensures locs { IfOk result (λ it. flat_map (parent_locs ActionEntityType no_locs) it.items
         ≡ flat_map (parent_locs Conditional no_locs) parents.items) }
     ensures fault { IfErr result (λ error. IsUnresolvable (held_names all_defs.now)
-        (λ reference. ⊥) (Contains (map (fragment_parent Conditional positional_reference) parents.items)) (λ reference. ⊥) (fault_of error)) }
+        (λ reference. ⊥) (Contains (map
+        (fragment_parent Conditional positional_reference) parents.items)) (λ reference.
+        ⊥) (fault_of error)) }
 {
     let mut qualified = Vec::new(all_defs.alloc);
     for parent in parents {
@@ -127,11 +137,16 @@ fn qualify_requested(
     names: Vec<ConditionalName>,
     all_defs: &AllDefs,
 ) -> Result<Vec<InternalName>, SchemaError>
-    ensures resolved { IfOk result (λ it. HoldsPairwise (ResolvesReference (held_names all_defs.now))
-        (map (positional_reference entity) names.items) (map (resolved_reference entity) it.items)) }
-    ensures unreserved { OnOk result (NoneIsReserved (held_names all_defs.now) (Contains (map (positional_reference entity) names.items))) }
+    ensures resolved { IfOk result (λ it.
+        HoldsPairwise (ResolvesReference (held_names all_defs.now))
+        (map (positional_reference entity) names.items)
+        (map (resolved_reference entity) it.items)) }
+    ensures unreserved { OnOk result
+        (NoneIsReserved (held_names all_defs.now)
+        (Contains (map (positional_reference entity) names.items))) }
     ensures fault { IfErr result (λ error. IsUnresolvable (held_names all_defs.now)
-        (Contains (map (positional_reference entity) names.items)) (λ parent. ⊥) (Contains (map (positional_reference entity) names.items)) (fault_of error)) }
+        (Contains (map (positional_reference entity) names.items)) (λ parent.
+        ⊥) (Contains (map (positional_reference entity) names.items)) (fault_of error)) }
 {
     let qualified = qualify_entity_types(names, all_defs)?;
     for name in &qualified {
@@ -148,13 +163,18 @@ fn qualify_requests(
     all_defs: &AllDefs,
 ) -> Result<ActionRequests<InternalName>, SchemaError>
     ensures resolved { IfOk result (λ it. ResolvesRequests (held_names all_defs.now)
-        (fragment_requests Conditional positional_reference (Some requests)) (fragment_requests Full resolved_reference (Some it))) }
-    ensures locs { IfOk result (λ it. requests_locs Full no_locs (Some it) ≡ requests_locs Conditional no_locs (Some requests)) }
+        (fragment_requests Conditional positional_reference (Some requests))
+        (fragment_requests Full resolved_reference (Some it))) }
+    ensures locs { IfOk result (λ it.
+        requests_locs Full no_locs (Some it) ≡ requests_locs Conditional no_locs (Some requests)) }
     ensures unreserved { OnOk result (NoneIsReserved (held_names all_defs.now)
-        (IsPrincipalOrResource (fragment_requests Conditional positional_reference (Some requests)))) }
+        (IsPrincipalOrResource (fragment_requests Conditional positional_reference
+        (Some requests)))) }
     ensures fault { IfErr result (λ error. IsUnresolvable (held_names all_defs.now)
-        (HasToResolveFor (fragment_requests Conditional positional_reference (Some requests))) (λ parent. ⊥)
-        (IsPrincipalOrResource (fragment_requests Conditional positional_reference (Some requests))) (fault_of error)) }
+        (HasToResolveFor (fragment_requests Conditional positional_reference (Some requests)))
+        (λ parent. ⊥)
+        (IsPrincipalOrResource (fragment_requests Conditional positional_reference (Some requests)))
+        (fault_of error)) }
 {
     let ActionRequests {
         principals,
@@ -185,14 +205,20 @@ impl ActionFragment<ConditionalName, ConditionalName> {
         all_defs: &AllDefs,
     ) -> Result<ActionFragment<InternalName, EntityType>, SchemaError>
         ensures resolved { IfOk result (λ it. ResolvesBody (held_names all_defs.now)
-            (action (action_fragment_body Conditional positional_reference Conditional positional_reference self))
-            (action (action_fragment_body Full resolved_reference ActionEntityType resolved_action_type it))) }
-        ensures locs { IfOk result (λ it. action_fragment_locs Full no_locs ActionEntityType no_locs it
+            (action (action_fragment_body Conditional positional_reference Conditional
+            positional_reference self))
+            (action (action_fragment_body Full resolved_reference ActionEntityType
+            resolved_action_type it))) }
+        ensures locs { IfOk result (λ it.
+            action_fragment_locs Full no_locs ActionEntityType no_locs it
             ≡ action_fragment_locs Conditional no_locs Conditional no_locs self) }
         ensures unreserved { OnOk result (NoneIsReserved (held_names all_defs.now)
-            (IsRequestedIn (action (action_fragment_body Conditional positional_reference Conditional positional_reference self)))) }
+            (IsRequestedIn
+            (action (action_fragment_body Conditional positional_reference Conditional
+            positional_reference self)))) }
         ensures fault { IfErr result (λ error. IsUnresolvableIn (held_names all_defs.now)
-            (action (action_fragment_body Conditional positional_reference Conditional positional_reference self)) (fault_of error)) }
+            (action (action_fragment_body Conditional positional_reference Conditional
+            positional_reference self)) (fault_of error)) }
     {
         let ActionFragment {
             requests,
@@ -226,14 +252,19 @@ impl ActionsDef<ConditionalName, ConditionalName> {
         all_defs: &AllDefs,
     ) -> Result<ActionsDef<InternalName, EntityType>, SchemaError>
         ensures resolved { IfOk result (λ it. ResolvesBag (held_names all_defs.now)
-            (action_fragment_declarations Conditional positional_reference Conditional positional_reference self)
-            (action_fragment_declarations Full resolved_reference ActionEntityType resolved_action_type it)) }
+            (action_fragment_declarations Conditional positional_reference Conditional
+            positional_reference self)
+            (action_fragment_declarations Full resolved_reference ActionEntityType
+            resolved_action_type it)) }
         ensures locs { IfOk result (λ it. actions_locs Full no_locs ActionEntityType no_locs it
             ≡ actions_locs Conditional no_locs Conditional no_locs self) }
         ensures unreserved { OnOk result (NoneIsReserved (held_names all_defs.now)
-            (IsRequested (action_fragment_declarations Conditional positional_reference Conditional positional_reference self))) }
+            (IsRequested
+            (action_fragment_declarations Conditional positional_reference Conditional
+            positional_reference self))) }
         ensures fault { IfErr result (λ error. IsUnresolvableBag (held_names all_defs.now)
-            (action_fragment_declarations Conditional positional_reference Conditional positional_reference self) (fault_of error)) }
+            (action_fragment_declarations Conditional positional_reference Conditional
+            positional_reference self) (fault_of error)) }
     {
         let mut defs = Vec::new(all_defs.alloc);
         for def in self.defs {

@@ -34,14 +34,24 @@ impl ValidatorNamespaceDef<ConditionalName, ConditionalName> {
         self,
         all_defs: &AllDefs,
     ) -> Result<ValidatorNamespaceDef<InternalName, EntityType>, SchemaError>
-        ensures resolved { IfOk result (λ it. ResolvesBag (held_names all_defs.now) (conditional_definition self) (resolved_definition it)) }
-        ensures namespace { IfOk result (λ it. definition_namespace Full ActionEntityType it ≡ definition_namespace Conditional Conditional self) }
-        ensures name { IfOk result (λ it. definition_name Full ActionEntityType it ≡ definition_name Conditional Conditional self) }
-        ensures loc { IfOk result (λ it. definition_loc Full ActionEntityType it ≡ definition_loc Conditional Conditional self) }
+        ensures resolved { IfOk result (λ it.
+            ResolvesBag (held_names all_defs.now) (conditional_definition self)
+            (resolved_definition it)) }
+        ensures namespace { IfOk result (λ it.
+            definition_namespace Full ActionEntityType it
+            ≡ definition_namespace Conditional Conditional self) }
+        ensures name { IfOk result (λ it.
+            definition_name Full ActionEntityType it
+            ≡ definition_name Conditional Conditional self) }
+        ensures loc { IfOk result (λ it.
+            definition_loc Full ActionEntityType it ≡ definition_loc Conditional Conditional self) }
         ensures locs { IfOk result (λ it. definition_locs Full no_locs ActionEntityType no_locs it
             ≡ definition_locs Conditional no_locs Conditional no_locs self) }
-        ensures unreserved { OnOk result (NoneIsReserved (held_names all_defs.now) (IsRequested (conditional_definition self))) }
-        ensures fault { IfErr result (λ error. IsUnresolvableBag (held_names all_defs.now) (conditional_definition self) (fault_of error)) }
+        ensures unreserved { OnOk result
+            (NoneIsReserved (held_names all_defs.now) (IsRequested (conditional_definition self))) }
+        ensures fault { IfErr result (λ error.
+            IsUnresolvableBag (held_names all_defs.now) (conditional_definition self)
+            (fault_of error)) }
     {
         let ValidatorNamespaceDef {
             namespace,
@@ -77,12 +87,22 @@ impl ValidatorSchemaFragment<ConditionalName, ConditionalName> {
         self,
         all_defs: &AllDefs,
     ) -> Result<ValidatorSchemaFragment<InternalName, EntityType>, SchemaError>
-        ensures resolved { IfOk result (λ it. ResolvesBag (held_names all_defs.now) (conditional_fragment self) (resolved_fragment it)) }
-        ensures pairwise { IfOk result (λ it. HoldsPairwise (ResolvesBag (held_names all_defs.now)) (conditional_pairwise self) (resolved_in_turn it)) }
-        ensures located { IfOk result (λ it. located_namespaces Full ActionEntityType it ≡ located_namespaces Conditional Conditional self) }
-        ensures locs { IfOk result (λ it. locs_pairwise Full ActionEntityType it ≡ locs_pairwise Conditional Conditional self) }
-        ensures unreserved { OnOk result (NoneIsReserved (held_names all_defs.now) (IsRequested (conditional_fragment self))) }
-        ensures fault { IfErr result (λ error. IsUnresolvableBag (held_names all_defs.now) (conditional_fragment self) (fault_of error)) }
+        ensures resolved { IfOk result (λ it.
+            ResolvesBag (held_names all_defs.now) (conditional_fragment self)
+            (resolved_fragment it)) }
+        ensures pairwise { IfOk result (λ it.
+            HoldsPairwise (ResolvesBag (held_names all_defs.now)) (conditional_pairwise self)
+            (resolved_in_turn it)) }
+        ensures located { IfOk result (λ it.
+            located_namespaces Full ActionEntityType it
+            ≡ located_namespaces Conditional Conditional self) }
+        ensures locs { IfOk result (λ it.
+            locs_pairwise Full ActionEntityType it ≡ locs_pairwise Conditional Conditional self) }
+        ensures unreserved { OnOk result
+            (NoneIsReserved (held_names all_defs.now) (IsRequested (conditional_fragment self))) }
+        ensures fault { IfErr result (λ error.
+            IsUnresolvableBag (held_names all_defs.now) (conditional_fragment self)
+            (fault_of error)) }
     {
         let mut definitions = Vec::new(all_defs.alloc);
         for definition in self.definitions {

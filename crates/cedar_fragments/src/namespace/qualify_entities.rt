@@ -33,8 +33,10 @@ impl CommonTypeDefs<ConditionalName> {
         all_defs: &AllDefs,
     ) -> Result<CommonTypeDefs<InternalName>, QualifyError>
         ensures resolved { IfOk result (λ it. ResolvesBag (held_names all_defs.now)
-            (common_type_declarations Conditional positional_reference self) (common_type_declarations Full resolved_reference it)) }
-        ensures locs { IfOk result (λ it. common_types_locs Full no_locs it ≡ common_types_locs Conditional no_locs self) }
+            (common_type_declarations Conditional positional_reference self)
+            (common_type_declarations Full resolved_reference it)) }
+        ensures locs { IfOk result (λ it.
+            common_types_locs Full no_locs it ≡ common_types_locs Conditional no_locs self) }
         ensures refused { IfErr result (IsRefusedAmong (held_names all_defs.now)
             (HasToResolve (common_type_declarations Conditional positional_reference self))) }
     {
@@ -53,10 +55,14 @@ fn qualify_tags(
     tags: Option<Type<ConditionalName>>,
     all_defs: &AllDefs,
 ) -> Result<Option<Type<InternalName>>, QualifyError>
-    ensures resolved { IfOk result (λ it. ResolvesTags (held_names all_defs.now) (option_map positional_expr tags) (option_map resolved_expr it)) }
-    ensures locs { IfOk result (λ it. tags_locs Full no_locs it ≡ tags_locs Conditional no_locs tags) }
+    ensures resolved { IfOk result (λ it.
+        ResolvesTags (held_names all_defs.now) (option_map positional_expr tags)
+        (option_map resolved_expr it)) }
+    ensures locs { IfOk result (λ it.
+        tags_locs Full no_locs it ≡ tags_locs Conditional no_locs tags) }
     ensures refused { IfErr result (IsRefusedAmong (held_names all_defs.now)
-        (λ reference. (expr : Expr) × (option_map positional_expr tags ≡ Some expr) × Refers expr reference)) }
+        (λ reference. (expr : Expr) × (option_map positional_expr tags ≡ Some expr)
+        × Refers expr reference)) }
 {
     match tags {
         None => Ok(None),
@@ -75,8 +81,10 @@ impl EntityTypeFragment<ConditionalName> {
         all_defs: &AllDefs,
     ) -> Result<EntityTypeFragment<InternalName>, QualifyError>
         ensures resolved { IfOk result (λ it. ResolvesEntityBody (held_names all_defs.now)
-            (fragment_body Conditional positional_reference self) (fragment_body Full resolved_reference it)) }
-        ensures locs { IfOk result (λ it. entity_fragment_locs Full no_locs it ≡ entity_fragment_locs Conditional no_locs self) }
+            (fragment_body Conditional positional_reference self)
+            (fragment_body Full resolved_reference it)) }
+        ensures locs { IfOk result (λ it.
+            entity_fragment_locs Full no_locs it ≡ entity_fragment_locs Conditional no_locs self) }
         ensures refused { IfErr result (IsRefusedAmong (held_names all_defs.now)
             (HasToResolveIn (entity_type (fragment_body Conditional positional_reference self)))) }
     {
@@ -112,8 +120,10 @@ impl EntityTypesDef<ConditionalName> {
         all_defs: &AllDefs,
     ) -> Result<EntityTypesDef<InternalName>, QualifyError>
         ensures resolved { IfOk result (λ it. ResolvesBag (held_names all_defs.now)
-            (entity_type_declarations Conditional positional_reference self) (entity_type_declarations Full resolved_reference it)) }
-        ensures locs { IfOk result (λ it. entity_types_locs Full no_locs it ≡ entity_types_locs Conditional no_locs self) }
+            (entity_type_declarations Conditional positional_reference self)
+            (entity_type_declarations Full resolved_reference it)) }
+        ensures locs { IfOk result (λ it.
+            entity_types_locs Full no_locs it ≡ entity_types_locs Conditional no_locs self) }
         ensures refused { IfErr result (IsRefusedAmong (held_names all_defs.now)
             (HasToResolve (entity_type_declarations Conditional positional_reference self))) }
     {

@@ -28,9 +28,12 @@ pub(crate) fn qualify_type(
     ty: Type<ConditionalName>,
     all_defs: &AllDefs,
 ) -> Result<Type<InternalName>, QualifyError>
-    ensures resolved { IfOk result (λ it. Resolves (held_names all_defs.now) (positional_expr ty) (resolved_expr it)) }
-    ensures locs { IfOk result (λ it. type_locs Full no_locs it ≡ type_locs Conditional no_locs ty) }
-    ensures refused { IfErr result (IsRefusedAmong (held_names all_defs.now) (Refers (positional_expr ty))) }
+    ensures resolved { IfOk result (λ it.
+        Resolves (held_names all_defs.now) (positional_expr ty) (resolved_expr it)) }
+    ensures locs { IfOk result (λ it.
+        type_locs Full no_locs it ≡ type_locs Conditional no_locs ty) }
+    ensures refused { IfErr result
+        (IsRefusedAmong (held_names all_defs.now) (Refers (positional_expr ty))) }
 {
     match ty {
         Type::Plain { ty, loc } => {
@@ -50,9 +53,12 @@ fn qualify_variant(
     ty: TypeVariant<ConditionalName>,
     all_defs: &AllDefs,
 ) -> Result<TypeVariant<InternalName>, QualifyError>
-    ensures resolved { IfOk result (λ it. Resolves (held_names all_defs.now) (positional_variant ty) (resolved_variant it)) }
-    ensures locs { IfOk result (λ it. variant_locs Full no_locs it ≡ variant_locs Conditional no_locs ty) }
-    ensures refused { IfErr result (IsRefusedAmong (held_names all_defs.now) (Refers (positional_variant ty))) }
+    ensures resolved { IfOk result (λ it.
+        Resolves (held_names all_defs.now) (positional_variant ty) (resolved_variant it)) }
+    ensures locs { IfOk result (λ it.
+        variant_locs Full no_locs it ≡ variant_locs Conditional no_locs ty) }
+    ensures refused { IfErr result
+        (IsRefusedAmong (held_names all_defs.now) (Refers (positional_variant ty))) }
 {
     match ty {
         TypeVariant::String => Ok(TypeVariant::String),
@@ -85,9 +91,12 @@ fn qualify_record(
     record_type: RecordType<ConditionalName>,
     all_defs: &AllDefs,
 ) -> Result<RecordType<InternalName>, QualifyError>
-    ensures resolved { IfOk result (λ it. Resolves (held_names all_defs.now) (positional_record record_type) (resolved_record it)) }
-    ensures locs { IfOk result (λ it. record_locs Full no_locs it ≡ record_locs Conditional no_locs record_type) }
-    ensures refused { IfErr result (IsRefusedAmong (held_names all_defs.now) (Refers (positional_record record_type))) }
+    ensures resolved { IfOk result (λ it.
+        Resolves (held_names all_defs.now) (positional_record record_type) (resolved_record it)) }
+    ensures locs { IfOk result (λ it.
+        record_locs Full no_locs it ≡ record_locs Conditional no_locs record_type) }
+    ensures refused { IfErr result
+        (IsRefusedAmong (held_names all_defs.now) (Refers (positional_record record_type))) }
 {
     let RecordType {
         attributes: written,
@@ -111,9 +120,13 @@ pub(crate) fn qualify_entity_types(
     names: Vec<ConditionalName>,
     all_defs: &AllDefs,
 ) -> Result<Vec<InternalName>, QualifyError>
-    ensures resolved { IfOk result (λ it. HoldsPairwise (ResolvesReference (held_names all_defs.now))
-        (map (positional_reference entity) names.items) (map (resolved_reference entity) it.items)) }
-    ensures refused { IfErr result (IsRefusedAmong (held_names all_defs.now) (Contains (map (positional_reference entity) names.items))) }
+    ensures resolved { IfOk result (λ it.
+        HoldsPairwise (ResolvesReference (held_names all_defs.now))
+        (map (positional_reference entity) names.items)
+        (map (resolved_reference entity) it.items)) }
+    ensures refused { IfErr result
+        (IsRefusedAmong (held_names all_defs.now)
+        (Contains (map (positional_reference entity) names.items))) }
 {
     let mut qualified = Vec::new(all_defs.alloc);
     for name in names {

@@ -57,7 +57,8 @@ pub struct ActionEntityUID<N> {
 
 /// Writes what the type of an action may stand for, behind the action's id.
 fn write_type<W: fmt::Write>(ty: &Option<ConditionalName>, f: &mut fmt::Formatter<W>) -> fmt::Result
-    ensures { WritesOnOk W.write_str_gives f.old result (written_type_text (option_map conditional_reference ty.now)) f.new }
+    ensures { WritesOnOk W.write_str_gives f.old result
+        (written_type_text (option_map conditional_reference ty.now)) f.new }
 {
     match ty {
         Some(ty) => {
@@ -73,7 +74,8 @@ fn write_type<W: fmt::Write>(ty: &Option<ConditionalName>, f: &mut fmt::Formatte
 impl fmt::Display for ActionEntityUID<ConditionalName> {
     ghost use Rattle.std.specs.Prelude.{Some};
 
-    ghost output = { λ it. Some (action_reference_text (string_bytes it.id) (option_map conditional_reference it.ty)) };
+    ghost output = { λ it. Some (action_reference_text (string_bytes it.id)
+        (option_map conditional_reference it.ty)) };
 
     fn fmt<W: fmt::Write>(&self, f: &mut fmt::Formatter<W>) -> fmt::Result {
         write!(f, "{}", Quoted(self.id.as_str()))?;

@@ -49,7 +49,8 @@ impl CommonTypeId {
     /// of Cedar's own, as `new` tells them, or out of memory.
     pub fn from_str(alloc: Global, text: &str) -> Result<Self, NameFault>
         ensures id { IfOk result (λ id. common_type_text id ≡ text.now) }
-        ensures fault { IfErr result (IsNameFault IsIdentifier (λ text. text ≡ reserved_word) IsReservedTypeWord text.now) }
+        ensures fault { IfErr result (IsNameFault IsIdentifier (λ text.
+            text ≡ reserved_word) IsReservedTypeWord text.now) }
     {
         let id = UnreservedId::from_str(alloc, text)?;
         if is_reserved_word(id.as_str()) {

@@ -106,7 +106,8 @@ impl ConditionalName {
 
 /// Writes names, each with ` or ` before it.
 fn write_others<W: fmt::Write>(names: &[InternalName], f: &mut fmt::Formatter<W>) -> fmt::Result
-    ensures { WritesOnOk W.write_str_gives f.old result (each_after (codes " or ") (map name_text (map name_of names.now))) f.new }
+    ensures { WritesOnOk W.write_str_gives f.old result
+        (each_after (codes " or ") (map name_text (map name_of names.now))) f.new }
 {
     for name in names {
         write!(f, " or {name}")?;
@@ -119,7 +120,8 @@ pub(crate) fn write_possibilities<W: fmt::Write>(
     reference: &ConditionalName,
     f: &mut fmt::Formatter<W>,
 ) -> fmt::Result
-    ensures { WritesOnOk W.write_str_gives f.old result (possibilities_text (possibilities_of reference.now)) f.new }
+    ensures { WritesOnOk W.write_str_gives f.old result
+        (possibilities_text (possibilities_of reference.now)) f.new }
 {
     write!(f, "{}", reference.possibilities.head)?;
     write_others(reference.possibilities.tail.as_slice(), f)

@@ -84,7 +84,8 @@ fn copy_record<N: FragmentName + Drop>(record_type: &RecordType<N>) -> M<RecordT
 impl<N: FragmentName + Drop> Type<N> {
     /// An equal type with the same locations. Out of memory is the only refusal.
     pub fn clone(&self) -> M<Self>
-        ensures written { IfOk result (ShowsSame (RefersAlike N N.is_alike) (type_expr N) self.now) }
+        ensures written { IfOk result (ShowsSame (RefersAlike N N.is_alike)
+            (type_expr N) self.now) }
         ensures locs { IfOk result (ShowsSame (LocatesAlike N N.is_alike) (type_locs N) self.now) }
     {
         copy_type(self)

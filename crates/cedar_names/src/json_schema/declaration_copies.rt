@@ -128,7 +128,8 @@ fn copied_attributes(attributes: &BTreeMap<String, Value>) -> M<BTreeMap<String,
 fn copied_groups<N: FragmentName + Drop>(
     groups: &Vec<ActionEntityUID<N>>,
 ) -> M<Vec<ActionEntityUID<N>>>
-    ensures { IfOk result (λ copies. HoldsPairwise (IsActionReferenceCopy N N.is_alike) groups.now.items copies.items) }
+    ensures { IfOk result (λ copies.
+        HoldsPairwise (IsActionReferenceCopy N N.is_alike) groups.now.items copies.items) }
 {
     copied_items(groups, ActionEntityUID::clone)
 }

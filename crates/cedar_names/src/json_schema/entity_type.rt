@@ -8,8 +8,8 @@ use cedar_below::{Eid, Loc, NonEmpty};
 pub struct EntityType<N> {
     /// What is declared of the entities of this type.
     pub kind: EntityTypeKind<N>,
-    /// Whether the declaration is external: the type is defined elsewhere, and only its name and its
-    /// `memberOf` types count here.
+    /// Whether the declaration is external: the type is defined elsewhere, and only its name and
+    /// its `memberOf` types count here.
     pub external: bool,
     /// Where the declaration was written, if that is known.
     pub loc: Option<Loc>,

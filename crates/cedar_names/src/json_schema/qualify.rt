@@ -20,8 +20,10 @@ fn qualify_type(
     ty: Type<RawName>,
     namespace: Option<&InternalName>,
 ) -> M<Type<ConditionalName>>
-    ensures own { IfOk result (λ it. conditional_expr it ≡ raw_expr (namespace_name namespace.entry) ty) }
-    ensures placed { IfOk result (λ it. positional_expr it ≡ raw_expr (namespace_name namespace.entry) ty) }
+    ensures own { IfOk result (λ it.
+        conditional_expr it ≡ raw_expr (namespace_name namespace.entry) ty) }
+    ensures placed { IfOk result (λ it.
+        positional_expr it ≡ raw_expr (namespace_name namespace.entry) ty) }
 {
     match ty {
         Type::Plain { ty, loc } => {
@@ -43,8 +45,10 @@ fn qualify_variant(
     ty: TypeVariant<RawName>,
     namespace: Option<&InternalName>,
 ) -> M<TypeVariant<ConditionalName>>
-    ensures own { IfOk result (λ it. conditional_variant it ≡ raw_variant (namespace_name namespace.entry) ty) }
-    ensures placed { IfOk result (λ it. positional_variant it ≡ raw_variant (namespace_name namespace.entry) ty) }
+    ensures own { IfOk result (λ it.
+        conditional_variant it ≡ raw_variant (namespace_name namespace.entry) ty) }
+    ensures placed { IfOk result (λ it.
+        positional_variant it ≡ raw_variant (namespace_name namespace.entry) ty) }
 {
     match ty {
         TypeVariant::String => Ok(TypeVariant::String),
@@ -80,8 +84,10 @@ fn qualify_record(
     record_type: RecordType<RawName>,
     namespace: Option<&InternalName>,
 ) -> M<RecordType<ConditionalName>>
-    ensures own { IfOk result (λ it. conditional_record it ≡ raw_record (namespace_name namespace.entry) record_type) }
-    ensures placed { IfOk result (λ it. positional_record it ≡ raw_record (namespace_name namespace.entry) record_type) }
+    ensures own { IfOk result (λ it.
+        conditional_record it ≡ raw_record (namespace_name namespace.entry) record_type) }
+    ensures placed { IfOk result (λ it.
+        positional_record it ≡ raw_record (namespace_name namespace.entry) record_type) }
 {
     let RecordType {
         attributes: written,
@@ -108,7 +114,8 @@ impl Type<RawName> {
         alloc: Global,
         namespace: Option<&InternalName>,
     ) -> M<Type<ConditionalName>>
-        ensures written { IfOk result (λ it. conditional_expr it ≡ raw_expr (namespace_name namespace.entry) self) }
+        ensures written { IfOk result (λ it.
+            conditional_expr it ≡ raw_expr (namespace_name namespace.entry) self) }
         ensures fits { IfOk result ReferencesFit }
     {
         qualify_type(alloc, self, namespace)

@@ -60,7 +60,8 @@ fn write_others<W: fmt::Write>(
     f: &mut fmt::Formatter<W>,
 ) -> fmt::Result
     ensures { WritesOnOk W.write_str_gives f.old result
-        (each_after (codes ", ") (map undeclared_text (map conditional_reference references.now))) f.new }
+        (each_after (codes ", ") (map undeclared_text
+        (map conditional_reference references.now))) f.new }
 {
     for reference in references {
         write!(f, ", {}", Undeclared(reference))?;
@@ -71,7 +72,8 @@ fn write_others<W: fmt::Write>(
 /// Prints for each reference the kind of type and the names that were looked for, in order, as
 /// `no entity type is declared as N::T or T, no type is declared as U`.
 impl fmt::Display for TypeNotDefinedError {
-    ghost output = { λ error. Some (undeclared_types_text (map conditional_reference (items_of error.undefined_types))) };
+    ghost output = { λ error. Some
+        (undeclared_types_text (map conditional_reference (items_of error.undefined_types))) };
 
     fn fmt<W: fmt::Write>(&self, f: &mut fmt::Formatter<W>) -> fmt::Result {
         write!(f, "{}", Undeclared(&self.undefined_types.head))?;

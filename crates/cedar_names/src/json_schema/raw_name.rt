@@ -25,7 +25,8 @@ pub struct RawName(InternalName);
 
 /// The name in a namespace that has the base name and the location of another.
 fn name_in(alloc: Global, namespace: &InternalName, name: &InternalName) -> M<InternalName>
-    ensures name { IfOk result (λ full. name_of full ≡ name_within (Some (name_of namespace.now)) (name_of name.now).base) }
+    ensures name { IfOk result (λ full.
+        name_of full ≡ name_within (Some (name_of namespace.now)) (name_of name.now).base) }
     ensures loc { IfOk result (λ full. name_loc full ≡ name_loc name.now) }
 {
     let mut path = Vec::new(alloc);
@@ -83,7 +84,8 @@ impl RawName {
     /// with the namespace before it, and a qualified name itself. In the empty namespace, None, it
     /// is the name itself.
     pub fn qualify_with(self, alloc: Global, namespace: Option<&InternalName>) -> M<InternalName>
-        ensures name { IfOk result (λ full. name_of full ≡ qualified_name (namespace_name namespace.entry) (raw_name self)) }
+        ensures name { IfOk result (λ full.
+            name_of full ≡ qualified_name (namespace_name namespace.entry) (raw_name self)) }
         ensures loc { IfOk result (λ full. name_loc full ≡ raw_loc self) }
     {
         match namespace {
@@ -103,7 +105,8 @@ impl RawName {
     ) -> M<ConditionalName>
         ensures reference { IfOk result (λ name. conditional_reference name
             ≡ reference_to (namespace_name namespace.entry) reference_type (raw_name self)) }
-        ensures locs { IfOk result (λ name. possibility_locs name ≡ map (λ _. raw_loc self) (possibilities_of name)) }
+        ensures locs { IfOk result (λ name.
+            possibility_locs name ≡ map (λ _. raw_loc self) (possibilities_of name)) }
     {
         match namespace {
             Some(namespace) if self.0.is_unqualified() => {

@@ -48,7 +48,8 @@ fn variant_references_fit(ty: &TypeVariant<ConditionalName>) -> bool
 /// Whether the references in a record type fit their positions.
 #[cycle(references_fit)]
 fn record_references_fit(record_type: &RecordType<ConditionalName>) -> bool
-    ensures { IsTrue result ↔ (positional_record record_type.now ≡ conditional_record record_type.now) }
+    ensures { IsTrue result ↔ (positional_record record_type.now
+        ≡ conditional_record record_type.now) }
 {
     for (_name, attribute) in &record_type.attributes {
         if !type_references_fit(&attribute.ty) {

@@ -16,6 +16,6 @@ returns c =
     let P : Bool → Type 0 = λ found. Decides found (Contains (lub_names c.args.self.now) (type_name ty)) in
     let Q : List EntityType → Type 0 = λ types. IsSearchInRange r (length types)
     × IsBinarySearchResult (λ y. (entity_type_ord.ghosts).cmp y ty) types r in
-    let both = subst Q c.deref.ensures.value (c.binary_search.ensures.bound, c.binary_search.ensures.position) in
+    let both = subst Q c.as_slice.ensures (c.binary_search.ensures.bound, c.binary_search.ensures.position) in
     subst P (sym c.is_ok.ensures.value)
     (searched-Decides (lub_types c.args.self.now) c.args.self.now.sorted_by_name ty r both.0 both.1)

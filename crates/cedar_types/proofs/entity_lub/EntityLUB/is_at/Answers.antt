@@ -11,6 +11,6 @@ returns-then-place-types c =
     let x = c.index-types-place.result in
     let P : Bool → Type 0 = λ b. Decides b (type_name x ≡ type_name c.args.ty.now) in
     let Q : List EntityType → Type 0 = λ types. Decides c.eq.result (IsTypeAt types c.args.place (type_name c.args.ty.now)) in
-    subst Q c.as_slice-types.ensures.value
+    subst Q c.as_slice-types.ensures
     (name_at-Decides c.as_slice-types.result.now c.args.place x c.args.ty.now c.eq.result c.index-types-place.is c.if-place-types.true
     (subst P (sym c.eq.ensures) (entity_type_eq-same x c.args.ty.now)))

@@ -21,7 +21,7 @@ returns-then-is_at c =
     let there = sought-Decides type_name type_name name_cmp name_cmp-total (lub_types other) other.sorted_by_name c.loop-ty.at c.seek-at.result c.ty-item.result _ ahead
     c.seek-at.ensures.passed c.seek-at.ensures.stays c.is_at.result c.is_at.ensures in (
       λ wrong. absurd (false≢true wrong),
-      λ apart. absurd (subst P (sym c.deref-ty-items.ensures.value) apart
+      λ apart. absurd (subst P (sym c.as_slice-ty-items.ensures) apart
           (type_name c.ty-item.result) (Contains-names _ c.loop-ty.ty-index c.ty-item.result c.loop-ty-test.true
           c.ty-item.is) (there.0 c.if-is_at.true)),
     )
@@ -33,7 +33,7 @@ loop-ty-preserved c =
     let ahead = subst Q (drop-at _ c.loop-ty.ty-index c.ty-item.result c.loop-ty-test.true c.ty-item.is) c.loop-ty.invariant.1 in
     let there = sought-Decides type_name type_name name_cmp name_cmp-total (lub_types other) other.sorted_by_name c.loop-ty.at c.seek-at.result c.ty-item.result _ ahead
     c.seek-at.ensures.passed c.seek-at.ensures.stays c.is_at.result c.is_at.ensures in (
-      AreDisjoint-more c.deref-ty-items.result.now (lub_names other) c.loop-ty.ty-index c.ty-item.result
+      AreDisjoint-more c.as_slice-ty-items.result.now (lub_names other) c.loop-ty.ty-index c.ty-item.result
           c.loop-ty-test.true c.ty-item.is c.loop-ty.invariant.0
           (λ among. false≢true (sym c.if-is_at.false ∙ there.1 among)),
       sought-next type_name type_name name_cmp name_cmp-total (lub_types other) other.sorted_by_name c.loop-ty.at c.seek-at.result c.ty-item.result _ ahead
@@ -43,7 +43,7 @@ loop-ty-preserved c =
 pub returns : goal.returns
 returns c =
     let P : List EntityType → Type 0 = λ types. AreDisjoint (map type_name types) (lub_names c.args.other.now) in (
-      λ _. subst P (take_all c.loop-ty.ty-index c.deref-ty-items.result.now c.loop-ty-test.false
-          ∙ c.deref-ty-items.ensures.value) c.loop-ty.invariant.0,
+      λ _. subst P (take_all c.loop-ty.ty-index c.as_slice-ty-items.result.now c.loop-ty-test.false
+          ∙ c.as_slice-ty-items.ensures) c.loop-ty.invariant.0,
       λ _. refl,
     )

@@ -1,22 +1,32 @@
-use Rattle.std.proofs.Common.{ap, map}
+use Rattle.std.proofs.Common.{◌≡◌, ◌++◌, List, ap, map, subst, sym, ◌∙◌}
+use Rattle.std.proofs.lemmas.Result.{IfOk-weaker}
 use Rattle.cedar_below.specs.EntityType.{type_name}
+use Rattle.cedar_below.specs.PlainName.{PlainName}
+use Rattle.cedar_type_rules.specs.EntityUnion.{IsUnionOf}
 use Rattle.cedar_types.proofs.MergedLemmas.{IsStrictlySortedBy-distinct, IsUnionOf-merged, IsUnionOf-nonempty}
+use Rattle.cedar_types.specs.EntityLUB.{lub_names, lub_types}
 use Rattle.cedar_types.proofs.entity_lub.EntityLUB.least_upper_bound.Goals as goal
 
-pub invariant_of-result-clause-nonempty : goal.invariant_of-result-clause-nonempty
-invariant_of-result-clause-nonempty c none =
-    let union = IsUnionOf-merged c.args.self.now.lub_elements.items c.args.other.now.lub_elements.items _ c.in_ok-both.both.items
-    c.dedup.new.self.items _ c.in_ok-both_types.ensures c.in_ok-both.ensures.permutation c.dedup.ensures.filtered
-    c.in_ok-clone_all.ensures in
-    IsUnionOf-nonempty c.args.self.now.lub_elements.items _ _ union c.args.self.now.nonempty (ap (map type_name) none)
+pub of_sorted-requires-clause-nonempty : goal.of_sorted-requires-clause-nonempty
+of_sorted-requires-clause-nonempty c none =
+    let both : map (λ ty. ty.now) c.in_ok-both_types.field-0.items ≡ lub_types c.args.self.now ++ lub_types c.args.other.now =
+    c.in_ok-both_types.ensures ∙ (λ i. (c.value-types.ensures i).items ++ (c.value.ensures i).items) in
+    let union = IsUnionOf-merged (lub_types c.args.self.now) (lub_types c.args.other.now) c.in_ok-both_types.field-0.items
+    c.in_ok-both.both.items c.dedup.new.self.items _ both c.in_ok-both.ensures.permutation c.dedup.ensures.filtered
+    c.in_ok-share_all.ensures in
+    IsUnionOf-nonempty (lub_types c.args.self.now) _ _ union c.args.self.now.nonempty (ap (map type_name) none)
 
-pub invariant_of-result-clause-sorted_by_name : goal.invariant_of-result-clause-sorted_by_name
-invariant_of-result-clause-sorted_by_name c =
+pub of_sorted-requires-clause-sorted : goal.of_sorted-requires-clause-sorted
+of_sorted-requires-clause-sorted c =
     IsStrictlySortedBy-distinct c.in_ok-both.both.items c.dedup.new.self.items _ c.in_ok-both.ensures.sorted
-    c.dedup.ensures.filtered c.in_ok-clone_all.ensures
+    c.dedup.ensures.filtered c.in_ok-share_all.ensures
 
 pub returns : goal.returns
 returns c =
-    IsUnionOf-merged c.args.self.now.lub_elements.items c.args.other.now.lub_elements.items _ c.in_ok-both.both.items
-    c.dedup.new.self.items _ c.in_ok-both_types.ensures c.in_ok-both.ensures.permutation c.dedup.ensures.filtered
-    c.in_ok-clone_all.ensures
+    let P : List PlainName → Type 0 = IsUnionOf (lub_names c.args.self.now) (lub_names c.args.other.now) in
+    let both : map (λ ty. ty.now) c.in_ok-both_types.field-0.items ≡ lub_types c.args.self.now ++ lub_types c.args.other.now =
+    c.in_ok-both_types.ensures ∙ (λ i. (c.value-types.ensures i).items ++ (c.value.ensures i).items) in
+    let union = IsUnionOf-merged (lub_types c.args.self.now) (lub_types c.args.other.now) c.in_ok-both_types.field-0.items
+    c.in_ok-both.both.items c.dedup.new.self.items _ both c.in_ok-both.ensures.permutation c.dedup.ensures.filtered
+    c.in_ok-share_all.ensures in
+    IfOk-weaker c.of_sorted.result _ _ (λ lub same. subst P (ap (map type_name) (sym same)) union) c.of_sorted.ensures

@@ -28,8 +28,10 @@ pub(crate) enum Scenario {
     Show(&'static [&'static str]),
     /// To build two actions in two namespaces, one below the other.
     Namespaces,
-    /// To copy a fragment.
+    /// To copy a fragment as it is written.
     CopyFragment,
+    /// To copy a fragment whose references say what they may stand for.
+    CopyQualified,
     /// To validate a chain of entity types.
     Validate,
     /// To ask something of that chain.
@@ -81,6 +83,7 @@ pub(crate) const SCENARIOS: &[(&str, Scenario)] = &[
     ("write-back", Scenario::Ask(Question::WriteBack)),
     ("copy", Scenario::Ask(Question::Copy)),
     ("copy-fragment", Scenario::CopyFragment),
+    ("copy-qualified", Scenario::CopyQualified),
 ];
 
 /// The scenario of a word, if there is one.

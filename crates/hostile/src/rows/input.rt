@@ -16,8 +16,8 @@ pub(crate) enum Input {
     /// An entity type with an attribute of the first of as many common types, each a record of two
     /// of the next and the last one of whole numbers.
     Doubling(usize),
-    /// An entity type with an attribute of the first of as many common types, each a set of the next
-    /// and the last one of whole numbers.
+    /// An entity type with an attribute of the first of as many common types, each a set of the
+    /// next and the last one of whole numbers.
     Sets(usize),
     /// As many actions, each below the next and the last below the first.
     ActionRing(usize),

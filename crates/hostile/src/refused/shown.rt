@@ -3,7 +3,7 @@
 ghost use Rattle.cedar_below.specs.Extensions.{extension_types};
 ghost use Rattle.cedar_below.specs.TypeNames.{TypeNamesFit};
 
-use crate::stop::Stop;
+use crate::refused::stop::Stop;
 use cedar_schema::below::Extensions;
 use cedar_schema::{SchemaError, ValidatorSchema};
 use schema_commands::{lines_or_refusal, run};

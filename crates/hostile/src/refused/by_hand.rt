@@ -1,8 +1,8 @@
 //! A schema that is put together by hand: three entity types in a chain, and two actions.
 
-use crate::names::{action_uid, entity_type, entity_types};
-use crate::shown::{no_extensions, shown};
-use crate::stop::Stop;
+use crate::refused::names::{action_uid, entity_type, entity_types};
+use crate::refused::shown::{no_extensions, shown};
+use crate::refused::stop::Stop;
 use cedar_schema::below::{EntityUID, M};
 use cedar_schema::{
     AttributeType, Attributes, OpenTag, Type, ValidatorActionId, ValidatorEntityType,

@@ -1,11 +1,11 @@
 //! What is asked of a schema that was put together by hand.
 
-use crate::by_hand::{chain, elsewhere};
-use crate::names::{action_uid, entity_type};
-use crate::scenario::Question;
-use crate::shown::{no_extensions, shown};
-use crate::stop::{Stop, refused_where};
-use crate::typed::union;
+use crate::refused::by_hand::{chain, elsewhere};
+use crate::refused::names::{action_uid, entity_type};
+use crate::refused::scenario::Question;
+use crate::refused::shown::{no_extensions, shown};
+use crate::refused::stop::{Stop, refused_where};
+use crate::refused::typed::union;
 use cedar_schema::below::M;
 use cedar_schema::lookup::KnownAttrs;
 use cedar_schema::{CompleteError, Type, ValidatorSchema};

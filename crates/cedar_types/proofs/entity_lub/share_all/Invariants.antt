@@ -1,6 +1,6 @@
 use Rattle.std.proofs.Common.{◌≡◌, map, take}
 use Rattle.cedar_below.specs.EntityType.{type_name}
-use Rattle.cedar_types.proofs.entity_lub.clone_all.Given as goal
+use Rattle.cedar_types.proofs.entity_lub.share_all.Given as goal
 
 abbrev pub invariant-loop-ty : goal.invariant-loop-ty
 invariant-loop-ty l = map type_name l.copy.items ≡ map (λ ty. type_name ty.now) (take l.ty-index l.ty-items)

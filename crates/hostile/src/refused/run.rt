@@ -2,20 +2,20 @@
 
 ghost use Rattle.std.specs.Prelude.{◌≡◌, ◌⊎◌};
 
-use crate::asked::answer;
-use crate::by_hand::validated;
-use crate::declared::{copied_fragment, namespaces};
-use crate::left::{Kind, closed, edges_added, names_marked};
-use crate::scenario::{SCENARIOS, Scenario, scenario_of};
-use crate::shown::printed;
-use crate::stop::Stop;
-use crate::typed::{core_type, reduced};
+use crate::refused::asked::answer;
+use crate::refused::by_hand::validated;
+use crate::refused::declared::{copied_fragment, copied_qualified, namespaces};
+use crate::refused::left::{Kind, closed, edges_added, names_marked};
+use crate::refused::scenario::{SCENARIOS, Scenario, scenario_of};
+use crate::refused::shown::printed;
+use crate::refused::stop::Stop;
+use crate::refused::typed::{core_type, reduced};
 use std::alloc::Global;
 use std::io;
 use std::io::Write;
 
 /// How to call the program.
-const USAGE: &str = "usage: refused | refused WORD\n";
+const USAGE: &str = "usage: hostile | hostile WORD\n";
 
 /// The whole answer of a scenario.
 fn done(alloc: Global, scenario: Scenario) -> Result<String, Stop> {
@@ -23,6 +23,7 @@ fn done(alloc: Global, scenario: Scenario) -> Result<String, Stop> {
         Scenario::Show(words) => printed(alloc, words),
         Scenario::Namespaces => namespaces(alloc),
         Scenario::CopyFragment => copied_fragment(alloc),
+        Scenario::CopyQualified => copied_qualified(alloc),
         Scenario::Validate => validated(alloc),
         Scenario::Ask(question) => answer(alloc, question),
         Scenario::Reduce => reduced(alloc),

@@ -1,6 +1,6 @@
 //! Names with numbers.
 
-use crate::stop::Stop;
+use crate::refused::stop::Stop;
 use cedar_schema::below::{Eid, EntityType, EntityUID, InternalName};
 use std::alloc::Global;
 use std::ops::Range;

@@ -1,7 +1,7 @@
 //! Two actions in two namespaces, one below the other, as fragments.
 
-use crate::shown::{no_extensions, shown};
-use crate::stop::Stop;
+use crate::refused::shown::{no_extensions, shown};
+use crate::refused::stop::Stop;
 use cedar_schema::ValidatorSchema;
 use cedar_schema::below::Name;
 use cedar_schema::json_schema::{
@@ -92,22 +92,35 @@ pub(crate) fn namespaces(alloc: Global) -> Result<String, Stop> {
     )
 }
 
-/// The text of a copy of a fragment, which is to be that of the fragment.
-fn copied(
-    alloc: Global,
-    fragment: &ValidatorSchemaFragment<ConditionalName, ConditionalName>,
-) -> Result<String, Stop> {
-    let shown = format!(in alloc; "{fragment:?}\n")?;
-    let copied = format!(in alloc; "{:?}\n", fragment.clone()?)?;
-    if shown == copied {
+/// The text of a copy, which is to be that of what is copied.
+fn same(copied: String, shown: &str) -> Result<String, Stop> {
+    if copied.as_str() == shown {
         Ok(copied)
     } else {
         Err(Stop::Changed)
     }
 }
 
-/// The text of a copy of the fragment of one action.
+/// The text of a copy of a fragment as it is written, of one action.
 pub(crate) fn copied_fragment(alloc: Global) -> Result<String, Stop> {
+    let fragment = lower(alloc)?;
+    let shown = format!(in alloc; "{fragment:?}\n")?;
+    let copy = fragment.clone()?;
+    same(format!(in alloc; "{copy:?}\n")?, shown.as_str())
+}
+
+/// The text of a copy of a fragment whose references say what they may stand for.
+fn copied(
+    alloc: Global,
+    fragment: &ValidatorSchemaFragment<ConditionalName, ConditionalName>,
+) -> Result<String, Stop> {
+    let shown = format!(in alloc; "{fragment:?}\n")?;
+    let copy = fragment.clone()?;
+    same(format!(in alloc; "{copy:?}\n")?, shown.as_str())
+}
+
+/// The text of a copy of the fragment of one action, whose references say what they may stand for.
+pub(crate) fn copied_qualified(alloc: Global) -> Result<String, Stop> {
     match ValidatorSchemaFragment::from_schema_fragment(alloc, lower(alloc)?) {
         Ok(fragment) => copied(alloc, &fragment),
         Err(refused) => shown(alloc, Err(refused)),

@@ -1,7 +1,7 @@
 //! The rows: what a schema is built of, what is asked of it, and what may be answered.
 
-use crate::asked::{Question, answer};
-use crate::input::{Input, text_of};
+use crate::rows::asked::{Question, answer};
+use crate::rows::input::{Input, text_of};
 use std::alloc::Global;
 use std::test::Fail;
 
@@ -18,7 +18,8 @@ pub(crate) enum Expected {
     Actions(usize, usize),
 }
 
-/// A row: its name, what a schema is built of, what is asked of the schema, and what may be answered.
+/// A row: its name, what a schema is built of, what is asked of the schema, and what may be
+/// answered.
 pub(crate) type Row = (&'static str, Input, Question, Expected);
 
 /// A type that is shadowed, and a name that nothing declares.

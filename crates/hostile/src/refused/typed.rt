@@ -1,8 +1,8 @@
 //! Types that are joined, and what they are without unions.
 
-use crate::by_hand::attributes;
-use crate::names::entity_type;
-use crate::stop::Stop;
+use crate::refused::by_hand::attributes;
+use crate::refused::names::entity_type;
+use crate::refused::stop::Stop;
 use cedar_schema::below::ValidationMode;
 use cedar_schema::{OpenTag, Type, core_type_of};
 use std::alloc::Global;

@@ -1,8 +1,8 @@
 //! Calls that change what they are given, and what stands after a growth of theirs was refused.
 
-use crate::by_hand::external;
-use crate::names::{entity_type, entity_types, internal_names};
-use crate::stop::{Stop, refused_where};
+use crate::refused::by_hand::external;
+use crate::refused::names::{entity_type, entity_types, internal_names};
+use crate::refused::stop::{Stop, refused_where};
 use cedar_schema::below::{EntityType, InternalName, M};
 use cedar_schema::defs::AllDefs;
 use cedar_schema::{TCNode, TcError, ValidatorEntityType, compute_tc};
