@@ -6,19 +6,17 @@ abbrev pub type_piece_names : List Text
 type_piece_names =
     codes "subtype-closed-strict" ∷ codes "subtype-closed-permissive" ∷ codes "subtype-open-strict"
     ∷ codes "subtype-open-permissive" ∷ codes "look-up" ∷ codes "membership" ∷ codes "print"
-    ∷ codes "equality"
-    ∷ codes "copy" ∷ codes "union-inclusion" ∷ codes "union-disjointness" ∷ codes "union-joins"
-    ∷ codes "join-strict"
-    ∷ codes "join-permissive" ∷ codes "separation" ∷ []
+    ∷ codes "equality" ∷ codes "copy" ∷ codes "union-inclusion" ∷ codes "union-disjointness"
+    ∷ codes "union-joins" ∷ codes "join-strict" ∷ codes "join-permissive" ∷ codes "separation" ∷ []
 
 -- the names of the pieces of work on schemas
 abbrev pub schema_piece_names : List Text
 schema_piece_names =
     codes "build-whole" ∷ codes "build-split" ∷ codes "build-common-chain" ∷ codes "close-chain"
     ∷ codes "close-ring" ∷ codes "close-star" ∷ codes "close-trees" ∷ codes "schema-look-up"
-    ∷ codes "environments"
-    ∷ codes "known-attributes" ∷ codes "validate" ∷ codes "write-back" ∷ codes "build-environments"
-    ∷ codes "copy-schema" ∷ codes "scale" ∷ []
+    ∷ codes "environments" ∷ codes "known-attributes" ∷ codes "validate" ∷ codes "write-back"
+    ∷ codes "build-environments" ∷ codes "build-flood" ∷ codes "build-apart" ∷ codes "copy-schema"
+    ∷ codes "scale" ∷ []
 
 -- the text is the name of a piece of work
 abbrev pub IsPieceName : Text → Type 0

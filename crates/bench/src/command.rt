@@ -49,6 +49,8 @@ fn schema_piece_named(name: &str) -> Option<Piece>
         "validate" => Some(Piece::Validate),
         "write-back" => Some(Piece::ConvertBack),
         "build-environments" => Some(Piece::BuildEnvironments),
+        "build-flood" => Some(Piece::BuildFlood),
+        "build-apart" => Some(Piece::BuildApart),
         "copy-schema" => Some(Piece::CopySchema),
         "scale" => Some(Piece::Scale),
         _ => None,

@@ -1,5 +1,5 @@
-//! Tests of fragments, of the names that they declare and define, of what references resolve to,
-//! and of common types that are elaborated.
+//! Tests of fragments and of their plain data, of the names that they declare and define, of what
+//! references resolve to, and of common types that are elaborated.
 #![tactic(auto)]
 
 #[cfg(test)]
@@ -12,6 +12,8 @@ mod declarations;
 mod given;
 #[cfg(test)]
 mod parts;
+#[cfg(test)]
+mod plain;
 #[cfg(test)]
 mod qualification;
 #[cfg(test)]

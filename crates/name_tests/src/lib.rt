@@ -1,11 +1,9 @@
-//! Tests of names, values and the plain data of fragments.
+//! Tests of names, values and references as they are written.
 #![tactic(auto)]
 
 #[cfg(test)]
 mod below;
 #[cfg(test)]
 mod names;
-#[cfg(test)]
-mod plain;
 #[cfg(test)]
 mod reading;

@@ -1,4 +1,4 @@
-use Rattle.std.proofs.Common.{List, map, subst, ◌∙◌, ⊎_elim, Contains}
+use Rattle.std.proofs.Common.{List, map, subst, ◌∙◌, ⊎_elim, Contains, inl, inr, refl}
 use Rattle.std.proofs.IntoIterSteps.{All-taken}
 use Rattle.std.proofs.lemmas.Result.{err_from_is_err_and}
 use Rattle.cedar_schema_elements.specs.ActionKind.{kind_principals, kind_resources}
@@ -11,16 +11,34 @@ use Rattle.cedar_below.specs.PlainName.{PlainName}
 use Rattle.cedar_below.specs.declared.entity_type.EntityType.{EntityType}
 use Rattle.cedar_below.specs.declared.entity_uid.EntityUID.{EntityUID}
 use Rattle.cedar_below.specs.declared.internal_name.InternalName.{InternalName}
+use Rattle.cedar_declarations.specs.Fault.{Fault}
 use Rattle.cedar_declarations.specs.Mentions.{HasOpenRecord}
 use Rattle.cedar_declarations.specs.SchemaError.{fault_of}
 use Rattle.cedar_declarations.specs.ResolvedExpr.{resolved_expr, resolved_reference}
+use Rattle.cedar_names.specs.ActionBody.{requests}
 use Rattle.cedar_names.specs.Expr.{Expr}
 use Rattle.cedar_names.specs.declared.json_schema.reference_type.ReferenceType.TheVariants.{Entity}
 use Rattle.cedar_types.specs.Meaning.{ty_of}
 use Rattle.cedar_builder.proofs.ActionsElaborated.{SameItems-none, kind_elaborated, name_among, named_by, principals_fault, resources_fault}
-use Rattle.cedar_builder.specs.ActionSteps.{IsRequestTypeFault, names_in}
+use Rattle.cedar_builder.specs.ActionSteps.{IsRequestTypeFault, IsRequestsFault, names_in}
 use Rattle.cedar_elaboration.specs.Scope.{CoversExtensions}
 use Rattle.cedar_builder.proofs.action_requests.elaborated_definition.Goals as goal
+
+pub returns-in_err-context-clause-fault : goal.returns-in_err-context-clause-fault
+returns-in_err-context-clause-fault c =
+    let it = c.args.requests.now in
+    let P : Fault → Type 0 = IsRequestsFault c.args.scope.now (names_in c.args.entity_types.now) (uid_of c.args.uid)
+    (requests (map (resolved_reference Entity) it.principals.items) (map (resolved_reference Entity) it.resources.items)
+    (resolved_expr it.context)) in
+    let at_fault : P (fault_of c.in_err-context.field-0.0) = ⊎_elim
+    (λ wanting. inl wanting)
+    (λ others. ⊎_elim
+    (λ refused. inr (inl (resolved_expr it.context, refl, refused)))
+    (λ none. inr (inr (inl none)))
+    others)
+    c.in_err-context.ensures.fault in
+    let p = err_from_is_err_and c.from_residual.result c.from_residual.ensures.1 in
+    rw (p.1, p.2) at_fault
 
 pub returns-in_err-principals-clause-fault : goal.returns-in_err-principals-clause-fault
 returns-in_err-principals-clause-fault c =

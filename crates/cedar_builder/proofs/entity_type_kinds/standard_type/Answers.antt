@@ -35,6 +35,18 @@ returns-in_err-attributes-clause-fault c =
     let p = err_from_is_err_and c.from_residual.result c.from_residual.ensures.1 in
     rw (p.1, p.2) at_fault
 
+pub returns-in_err-tags-clause-fault : goal.returns-in_err-tags-clause-fault
+returns-in_err-tags-clause-fault c =
+    let P : Fault → Type 0 = λ fault. (parents : List Reference) → IsBodyFault c.args.scope.now (type_name c.args.name)
+    (standard parents (resolved_expr c.args.shape.now) (option_map resolved_expr c.args.tags.now)) fault in
+    let at_fault : P (fault_of c.in_err-tags.field-0.0) = λ parents.
+    ⊎_elim
+    (λ wanting. inl wanting)
+    (λ refused. inr (inl (refused.0, inr refused.1, refused.2)))
+    c.in_err-tags.ensures.fault in
+    let p = err_from_is_err_and c.from_residual-in_err-tags.result c.from_residual-in_err-tags.ensures.1 in
+    rw (p.1, p.2) at_fault
+
 pub returns-clause-elaborates : goal.returns-clause-elaborates
 returns-clause-elaborates c = λ parents.
     let made = c.in_ok-new_standard in

@@ -32,7 +32,7 @@ returns c =
         descendants = subst Below ran.1.shows ran.1.says.met.1.1.1.1.0;
       };
       key_loc = ran.0.says.met.1.0 ∙ ap uid_loc ran.0.shows;
-      key_type_loc = ran.0.says.met.1.1 ∙ ap uid_type_loc ran.0.shows;
+      key_type_loc = ran.0.says.met.1.1.0 ∙ ap uid_type_loc ran.0.shows;
       name_loc = ran.1.says.met.1.0 ∙ ap name_loc ran.1.shows;
       name_type_loc = ran.1.says.met.1.1.0 ∙ ap name_type_loc ran.1.shows;
       loc = ran.1.says.met.1.1.1.1.1 ∙ ap action_loc ran.1.shows;

@@ -31,7 +31,7 @@ returns c =
         kind = ap (λ (each : PlainEntityType). each.kind) same;
         descendants = subst P ran.1.shows ran.1.says.met.1.1.1.0;
       };
-      key_loc = ran.0.says.met.1 ∙ ap type_loc ran.0.shows;
+      key_loc = ran.0.says.met.1.0 ∙ ap type_loc ran.0.shows;
       name_loc = ran.1.says.met.1.0 ∙ ap name_loc ran.1.shows;
       attributes = λ name. ran.1.says.met.1.1.0 name ∙ ap (λ each. located_at name (attributes_of each)) ran.1.shows;
       loc = ran.1.says.met.1.1.1.1 ∙ ap (λ each. each.loc) ran.1.shows;

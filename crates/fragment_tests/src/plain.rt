@@ -133,10 +133,31 @@ fn sets(alloc: Global, levels: u32) -> M<Type<RawName>> {
     Ok(ty)
 }
 
+/// Lets go of so many sets in one another, the outermost first, so that it takes no stack.
+fn let_go(ty: Type<RawName>, levels: u32) {
+    let mut ty = ty;
+    for _ in 0..levels {
+        ty = match ty {
+            Type::Plain {
+                ty: TypeVariant::Set { element },
+                ..
+            } => Box::into_inner(element),
+            other => other,
+        };
+    }
+}
+
 #[test]
 fn deep_types_are_told_from_others(rt: HostRuntime) -> Result<(), Fail> {
     let ty = sets(rt.alloc(), 1_000)?;
-    holds(!ty.is_nested_at_most(128), "more than 128 levels")?;
     holds(!ty.is_nested_at_most(999), "more than 999 levels")?;
     holds(ty.is_nested_at_most(1_000), "1,000 levels")
+}
+
+#[test]
+fn types_are_gone_down_no_further_than_asked(rt: HostRuntime) -> Result<(), Fail> {
+    let ty = sets(rt.alloc(), 50_000)?;
+    let is_within = ty.is_nested_at_most(128);
+    let_go(ty, 50_000);
+    holds(!is_within, "more than 128 levels")
 }
