@@ -1,0 +1,56 @@
+-- Members that are read one after another into a map.
+use Rattle.std.proofs.Common.{◌≡◌, ℕ, ◌+◌, ◌≤◌, List, [], ◌∷◌, length, drop, drop_of_length-le, map, Option, Some, None, option_and_then, Bor, Global, refl, ap, sym, ◌∙◌}
+use Rattle.std.specs.BTreeMap.{insert_entry}
+use Rattle.std.specs.declared.cmp.Ordering.{Ordering}
+use Rattle.json.specs.Json.{Json}
+use Rattle.json.specs.Value.{members_view, value_view}
+use Rattle.json.specs.declared.value.Value.{Value}
+use Rattle.cedar_below.specs.Text.{Text}
+use Rattle.cedar_json.proofs.MapLemmas.{seen-insert}
+use Rattle.cedar_json.specs.DefinitionFormat.{entries_of}
+
+abbrev Held : Type 0
+Held = Bor Text × Value Global
+
+module _ {K X L Y : Type 0} (R : K → K → Ordering) (S : L → L → Ordering) (shown_key : K → L) (shown : X → Y)
+    (same_order : (a b : K) → R a b ≡ S (shown_key a) (shown_key b)) (key : Text → Option L) (describes : Json → Option Y) where
+  abbrev plain : List (K × X) → List (L × Y)
+  plain entries = map (λ entry. (shown_key entry.0, shown entry.1)) entries
+
+  -- where no member is left, all were read
+  pub all_entries : (xs all : List Held) (index : ℕ) (entries : List (K × X)) → xs ≡ all → length xs ≤ index
+      → entries_of S key describes (members_view all) [] ≡ entries_of S key describes (members_view (drop index all)) (plain entries)
+      → entries_of S key describes (members_view all) [] ≡ Some (plain entries)
+  all_entries xs all index entries same end so_far =
+      so_far ∙ ap (λ ys. entries_of S key describes (members_view (drop index ys)) (plain entries)) (sym same)
+      ∙ ap (λ ys. entries_of S key describes (members_view ys) (plain entries)) (drop_of_length-le xs end)
+
+  -- at a member
+  module _ (all : List Held) (index : ℕ) (x : Held) (entries : List (K × X)) (here : drop index all ≡ x ∷ drop (index + 1) all)
+      (so_far : entries_of S key describes (members_view all) [] ≡ entries_of S key describes (members_view (drop index all)) (plain entries)) where
+    abbrev put_before : Option L → Option Y → Option (List (L × Y))
+    put_before k o =
+        option_and_then
+        (λ l. option_and_then (λ it. entries_of S key describes (members_view (drop (index + 1) all)) (insert_entry S (plain entries) l it)) o) k
+
+    step : entries_of S key describes (members_view all) [] ≡ put_before (key x.0.now) (describes (value_view x.1))
+    step = so_far ∙ ap (λ ys. entries_of S key describes (members_view ys) (plain entries)) here
+
+    pub no_key : key x.0.now ≡ None → entries_of S key describes (members_view all) [] ≡ None
+    no_key e = step ∙ ap (λ k. put_before k (describes (value_view x.1))) e
+
+    none_put : (k : Option L) → put_before k None ≡ None
+    none_put None = refl
+    none_put (Some l) = refl
+
+    pub no_entry : describes (value_view x.1) ≡ None → entries_of S key describes (members_view all) [] ≡ None
+    no_entry e = step ∙ ap (put_before (key x.0.now)) e ∙ none_put (key x.0.now)
+
+    pub entry_more : (k : K) (it : X) (new : List (K × X)) → key x.0.now ≡ Some (shown_key k) → describes (value_view x.1) ≡ Some (shown it)
+        → new ≡ insert_entry R entries k it
+        → entries_of S key describes (members_view all) [] ≡ entries_of S key describes (members_view (drop (index + 1) all)) (plain new)
+    entry_more k it new named is grown =
+        step ∙ ap (λ l. put_before l (describes (value_view x.1))) named ∙ ap (put_before (Some (shown_key k))) is
+        ∙ ap (entries_of S key describes (members_view (drop (index + 1) all)))
+        (sym (seen-insert R S shown_key shown same_order entries k it))
+        ∙ ap (λ es. entries_of S key describes (members_view (drop (index + 1) all)) (plain es)) (sym grown)

@@ -1,0 +1,9 @@
+pub mod ActionLemmas
+pub mod DefinitionLemmas
+pub mod FieldLemmas
+pub mod ListLemmas
+pub mod MapLemmas
+pub mod NameLemmas
+pub mod NumberLemmas
+pub mod TypeLemmas
+pub mod ValueLemmas

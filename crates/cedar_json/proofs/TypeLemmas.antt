@@ -1,0 +1,199 @@
+-- The definition of types by look-ups.
+use Rattle.std.proofs.Common.{◌≡◌, ℕ, ◌+◌, ◌<◌, ◌≤◌, length, drop, drop_of_length-le, get_or, BTreeMap, List, [], ◌∷◌, Bool, true, false, cond, Option, Some, None, option_map, option_and_then, codes, string_bytes, string_cmp, Bor, String, Global, refl, ap, ap₂, sym, ◌∙◌}
+use Rattle.std.proofs.lemmas.List.{drop_more}
+use Rattle.std.specs.BTreeMap.{insert_entry}
+use Rattle.std.specs.Str.{bytes_eq}
+use Rattle.json.specs.Json.{Json, null, boolean, number, string, array, object, Members, no_members, member}
+use Rattle.json.specs.Find.{as_object, get, get_member, later_or}
+use Rattle.json.specs.Value.{value_view, members_view}
+use Rattle.json.specs.declared.value.Value.{Value}
+use Rattle.cedar_below.specs.declared.loc.Loc.{Loc}
+use Rattle.cedar_below.specs.Text.{Text, text_cmp}
+use Rattle.cedar_names.proofs.ExprLemmas.{record_type_expr-made}
+use Rattle.cedar_names.specs.Expr.{Expr, members_from, record_expr}
+use Rattle.cedar_names.specs.PlainMembers.{plain_members}
+use Rattle.cedar_names.specs.RawExpr.{raw_attribute, raw_expr, raw_record, raw_reference}
+use Rattle.cedar_names.specs.TypeExpr.{type_step, variant_step, record_step, attribute_step}
+use Rattle.cedar_names.specs.declared.json_schema.raw_name.RawName.{RawName}
+use Rattle.cedar_names.specs.declared.json_schema.type_of.RecordType.{roll-RecordType}
+use Rattle.cedar_names.specs.declared.json_schema.type_of.Type.{«Type»}
+use Rattle.cedar_names.specs.declared.json_schema.type_of.TypeOfAttribute.{TypeOfAttribute, roll-TypeOfAttribute, fold-roll-TypeOfAttribute}
+use Rattle.cedar_json.proofs.MapLemmas.{seen-insert}
+use Rattle.cedar_json.specs.Fields.{annotations_fit, flag_or}
+use Rattle.cedar_json.specs.TypeFormat.{Attributes, attributes_field, element_field, attribute_by, attribute_of, attributes_held, attributes_in, attributes_of, element_of, later_field, if_so, type_by, type_of, type_with}
+use Rattle.cedar_json.specs.declared.fault.Row.TheVariants.{OfType, OfAttribute}
+
+-- a walk for a field is a look-up
+pub later : {A : Type 0} (f : Json → Option A) (o : Option Json) (found : Option A) (b : Bool) (j : Json)
+    → found ≡ option_and_then f o → later_field o found (cond b (f j) None) ≡ option_and_then f (later_or o (cond b (Some j) None))
+later f (Some k) found b j h = h
+later f None found true j h = refl
+later f None found false j h = refl
+
+element_of-get : (ms : Members) → element_of ms ≡ option_and_then type_of (get_member (codes "element") ms)
+unfolding type_of
+element_of-get no_members = refl
+element_of-get (member key j rest) =
+    later type_of (get_member (codes "element") rest) (element_of rest) (bytes_eq key (codes "element")) j (element_of-get rest)
+
+attributes_in-get : (ms : Members) → attributes_in ms ≡ option_and_then attributes_held (get_member (codes "attributes") ms)
+unfolding type_of
+attributes_in-get no_members = refl
+attributes_in-get (member key j rest) =
+    later attributes_held (get_member (codes "attributes") rest) (attributes_in rest) (bytes_eq key (codes "attributes")) j (attributes_in-get rest)
+
+-- the type that a value describes, by its fields
+pub type_of-with : (j : Json) → type_of j ≡ type_with OfType j
+unfolding type_of
+type_of-with null = refl
+type_of-with (boolean b) = refl
+type_of-with (number s) = refl
+type_of-with (string s) = refl
+type_of-with (array js) = refl
+type_of-with (object ms) = ap₂ (type_by OfType (object ms)) (element_of-get ms) (attributes_in-get ms)
+
+-- the attribute that a value describes, by its fields
+pub attribute_of-with : (j : Json) → attribute_of j ≡ attribute_by j (type_with OfAttribute j)
+unfolding type_of
+attribute_of-with null = refl
+attribute_of-with (boolean b) = refl
+attribute_of-with (number s) = refl
+attribute_of-with (string s) = refl
+attribute_of-with (array js) = refl
+attribute_of-with (object ms) =
+    ap (attribute_by (object ms)) (ap₂ (type_by OfAttribute (object ms)) (element_of-get ms) (attributes_in-get ms))
+
+-- the attributes that a value holds are those of its members
+attributes_held-object : (j : Json) → attributes_held j ≡ option_and_then (λ ms. attributes_of ms []) (as_object j)
+unfolding type_of
+attributes_held-object null = refl
+attributes_held-object (boolean b) = refl
+attributes_held-object (number s) = refl
+attributes_held-object (string s) = refl
+attributes_held-object (array js) = refl
+attributes_held-object (object ms) = refl
+
+pub attributes_held-found : (o : Option Json)
+    → option_and_then attributes_held o ≡ option_and_then (λ ms. attributes_of ms []) (option_and_then as_object o)
+attributes_held-found None = refl
+attributes_held-found (Some j) = attributes_held-object j
+
+-- no member describes no more attributes
+pub attributes_of-none : (before : Attributes) → attributes_of no_members before ≡ Some before
+unfolding type_of
+attributes_of-none before = refl
+
+-- a member describes one more
+pub attributes_of-member : (key : Text) (j : Json) (rest : Members) (before : Attributes)
+    → attributes_of (member key j rest) before ≡ option_and_then (λ it. attributes_of rest (insert_entry text_cmp before key it)) (attribute_of j)
+unfolding type_of
+attributes_of-member key j rest before = refl
+
+abbrev Entries : Type 0
+Entries = List (String Global × TypeOfAttribute RawName)
+
+-- what an attribute stands for that is made of its parts
+pub raw_attribute-made : (ty : «Type» RawName) (required : Bool) (loc : Option Loc)
+    → raw_attribute None (roll-TypeOfAttribute RawName (record { ty = ty; required = required; loc = loc })) ≡ (required, raw_expr None ty)
+raw_attribute-made ty required loc =
+    fold-roll-TypeOfAttribute RawName Expr Expr Expr (Bool × Expr) (type_step RawName (raw_reference None)) (variant_step RawName (raw_reference None))
+    (record_step RawName (raw_reference None)) (attribute_step RawName (raw_reference None)) (record { ty = ty; required = required; loc = loc })
+
+-- what a record type stands for that is made of its parts
+pub raw_record-made : (attributes : BTreeMap (String Global) (TypeOfAttribute RawName)) (additional : Bool)
+    → raw_record None (roll-RecordType RawName (record { attributes = attributes; additional_attributes = additional }))
+    ≡ record_expr (members_from (plain_members None attributes.entries)) additional
+raw_record-made attributes additional =
+    record_type_expr-made RawName (raw_reference None) (record { attributes = attributes; additional_attributes = additional })
+
+-- an attribute over whether its annotations fit, its type, and whether it is required
+abbrev by_parts : Bool → Option Expr → Option Bool → Option (Bool × Expr)
+by_parts test ty flag = option_and_then {U = Bool × Expr} (λ required. if_so test (option_map (λ t. (required, t)) ty)) flag
+
+none_fit : (ty : Option Expr) (flag : Option Bool) → by_parts false ty flag ≡ None
+none_fit ty None = refl
+none_fit ty (Some required) = refl
+
+none_typed : (test : Bool) (flag : Option Bool) → by_parts test None flag ≡ None
+none_typed test None = refl
+none_typed true (Some required) = refl
+none_typed false (Some required) = refl
+
+-- an attribute by its fields
+module _ (j : Json) where
+  abbrev flag : Option Bool
+  flag = flag_or true (get (codes "required") j)
+
+  abbrev fits : Bool
+  fits = annotations_fit (get (codes "annotations") j)
+
+  abbrev ty : Option Expr
+  ty = type_with OfAttribute j
+
+  pub no_required : flag ≡ None → attribute_of j ≡ None
+  no_required e = attribute_of-with j ∙ ap (by_parts fits ty) e
+
+  pub no_annotations : fits ≡ false → attribute_of j ≡ None
+  no_annotations e = attribute_of-with j ∙ ap (λ test. by_parts test ty flag) e ∙ none_fit ty flag
+
+  pub no_type : ty ≡ None → attribute_of j ≡ None
+  no_type e = attribute_of-with j ∙ ap (λ t. by_parts fits t flag) e ∙ none_typed fits flag
+
+  pub attribute_read : (required : Bool) (it : Expr) → flag ≡ Some required → fits ≡ true → ty ≡ Some it → attribute_of j ≡ Some (required, it)
+  attribute_read required it is_flagged is_fit is_typed =
+      attribute_of-with j ∙ ap (by_parts fits ty) is_flagged
+      ∙ ap (λ test. by_parts test ty (Some required)) is_fit ∙ ap (λ t. by_parts true t (Some required)) is_typed
+
+abbrev Held : Type 0
+Held = Bor Text × Value Global
+
+-- the member at an index, and those after it
+pub members_from_index : (xs all : List Held) (index : ℕ) (x : Held) → xs ≡ all → index < length xs → x ≡ get_or xs index x
+    → drop index all ≡ x ∷ drop (index + 1) all
+members_from_index xs all index x same within is =
+    ap (drop index) (sym same) ∙ drop_more xs index x within ∙ ap (λ y. y ∷ drop (index + 1) xs) (sym is)
+    ∙ ap (λ ys. x ∷ drop (index + 1) ys) same
+
+-- attributes that are read one after another
+module _ (all : List Held) (index : ℕ) (x : Held) (entries : Entries) (here : drop index all ≡ x ∷ drop (index + 1) all)
+    (so_far : attributes_of (members_view all) [] ≡ attributes_of (members_view (drop index all)) (plain_members None entries)) where
+  abbrev put_before : Option (Bool × Expr) → Option Attributes
+  put_before = option_and_then (λ it. attributes_of (members_view (drop (index + 1) all)) (insert_entry text_cmp (plain_members None entries) x.0.now it))
+
+  step : attributes_of (members_view all) [] ≡ put_before (attribute_of (value_view x.1))
+  step = so_far ∙ ap (λ ys. attributes_of (members_view ys) (plain_members None entries)) here
+      ∙ attributes_of-member x.0.now (value_view x.1) (members_view (drop (index + 1) all)) (plain_members None entries)
+
+  pub no_attribute : attribute_of (value_view x.1) ≡ None → attributes_of (members_view all) [] ≡ None
+  no_attribute e = step ∙ ap put_before e
+
+  pub one_more : (key : String Global) (it : TypeOfAttribute RawName) (new : Entries) → attribute_of (value_view x.1) ≡ Some (raw_attribute None it)
+      → string_bytes key ≡ x.0.now → new ≡ insert_entry string_cmp entries key it
+      → attributes_of (members_view all) [] ≡ attributes_of (members_view (drop (index + 1) all)) (plain_members None new)
+  one_more key it new is_read named grown =
+      step ∙ ap put_before is_read
+      ∙ ap (λ name. attributes_of (members_view (drop (index + 1) all)) (insert_entry text_cmp (plain_members None entries) name (raw_attribute None it)))
+      (sym named)
+      ∙ ap (attributes_of (members_view (drop (index + 1) all))) (sym (seen-insert string_cmp text_cmp string_bytes (raw_attribute None) (λ a b. refl) entries key it))
+      ∙ ap (λ es. attributes_of (members_view (drop (index + 1) all)) (plain_members None es)) (sym grown)
+
+-- where no member is left, all were read
+pub all_read : (xs all : List Held) (index : ℕ) (entries : Entries) → xs ≡ all → length xs ≤ index
+    → attributes_of (members_view all) [] ≡ attributes_of (members_view (drop index all)) (plain_members None entries)
+    → attributes_of (members_view all) [] ≡ Some (plain_members None entries)
+all_read xs all index entries same end so_far =
+    so_far ∙ ap (λ ys. attributes_of (members_view (drop index ys)) (plain_members None entries)) (sym same)
+    ∙ ap (λ ys. attributes_of (members_view ys) (plain_members None entries)) (drop_of_length-le xs end)
+    ∙ attributes_of-none (plain_members None entries)
+
+-- the type that a field describes that holds a value
+pub element_field-held : (j k : Json) → get (codes "element") j ≡ Some k → element_field j ≡ type_with OfType k
+element_field-held j k held = ap (option_and_then type_of) held ∙ type_of-with k
+
+-- the attributes that a field describes that holds an object
+pub attributes_field-held : (j : Json) (ms : Members) → option_and_then as_object (get (codes "attributes") j) ≡ Some ms
+    → attributes_field j ≡ attributes_of ms []
+attributes_field-held j ms held = attributes_held-found (get (codes "attributes") j) ∙ ap (option_and_then (λ (m : Members). attributes_of m [])) held
+
+pub attributes_field-none : (j : Json) → option_and_then as_object (get (codes "attributes") j) ≡ None → attributes_field j ≡ None
+attributes_field-none j none = attributes_held-found (get (codes "attributes") j) ∙ ap (option_and_then (λ (m : Members). attributes_of m [])) none

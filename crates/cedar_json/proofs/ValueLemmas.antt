@@ -1,0 +1,320 @@
+-- The definition of values by look-ups.
+use Rattle.std.proofs.Common.{◌≡◌, ◌≢◌, ℕ, ℤ, ◌+◌, ◌<◌, arith, rules, FitsSigned, of_z, to_z, to_z-of_z, w64, Vec, BTreeMap, ◌≤◌, List, [], ◌∷◌, ◌++◌, length, drop, drop_of_length-le, map, Bool, true, false, cond, Option, Some, None, option_map, option_and_then, codes, string_bytes, string_cmp, Bor, String, Global, refl, ap, sym, ◌∙◌}
+use Rattle.std.proofs.lemmas.List.{length-append}
+use Rattle.std.specs.BTreeMap.{insert_entry}
+use Rattle.std.specs.Str.{bytes_eq}
+use Rattle.json.proofs.Trees.{view-Array}
+use Rattle.json.specs.Find.{as_number, get, get_member}
+use Rattle.json.specs.Json.{Json, null, boolean, number, string, array, object, Items, no_items, item, Members, no_members, member}
+use Rattle.json.specs.Tree.{json_tokens, members_tokens}
+use Rattle.json.specs.Value.{items_view, members_view, value_view}
+use Rattle.json.specs.declared.value.Value.{Value, the_lemmas}
+use Rattle.json.specs.declared.value.Value as kit
+use Rattle.cedar_below.proofs.TreeLemmas.{tree_of-call, tree_of-record}
+use Rattle.cedar_below.proofs.ValueCopies.{tree_of-text, tree_of-truth}
+use Rattle.cedar_below.specs.Name.{plain_name}
+use Rattle.cedar_below.specs.PlainName.{PlainName}
+use Rattle.cedar_below.specs.declared.name.Name.{Name}
+use Rattle.cedar_below.specs.RestrictedExpr.{tree_of, tree_step, trees_of}
+use Rattle.cedar_below.specs.Text.{Text, text_cmp}
+use Rattle.cedar_below.specs.Tree.{Tree, Trees, call_value, no_tree, number_value, set_value, text_value, tree, truth_value, uid_value}
+use Rattle.cedar_below.specs.declared.value.RestrictedExpr.{RestrictedExpr, fold-roll-RestrictedExpr, roll-RestrictedExpr}
+use Rattle.cedar_below.specs.declared.value.RestrictedExpr.TheOpen as layer
+use Rattle.cedar_below.specs.declared.value.RestrictedExpr.TheVariants as expr
+use Rattle.cedar_json.proofs.MapLemmas.{seen-insert}
+use Rattle.cedar_json.proofs.TypeLemmas.{later}
+use Rattle.cedar_json.specs.Fields.{has_only, known_fields, text_held}
+use Rattle.cedar_json.specs.TypeFormat.{if_so}
+use Rattle.cedar_json.specs.WholeNumber.{whole_number}
+use Rattle.cedar_json.specs.WrittenName.{plain_name_in}
+use Rattle.cedar_json.specs.declared.fault.Row.TheVariants.{OfCall}
+use Rattle.cedar_json.specs.ValueFormat.{Pairs, argument_of, call_by, call_in, call_of, first_call, object_by, pairs_of, record_of_pairs, sole_held, uid_in, value_of, values_of}
+
+argument_of-get : (ms : Members) → argument_of ms ≡ option_and_then value_of (get_member (codes "arg") ms)
+unfolding value_of
+argument_of-get no_members = refl
+argument_of-get (member key j rest) =
+    later value_of (get_member (codes "arg") rest) (argument_of rest) (bytes_eq key (codes "arg")) j (argument_of-get rest)
+
+-- the call that a value describes, by its fields
+pub call_in-with : (j : Json) → call_in j ≡ call_by j (option_and_then value_of (get (codes "arg") j))
+unfolding value_of
+call_in-with null = refl
+call_in-with (boolean b) = refl
+call_in-with (number s) = refl
+call_in-with (string s) = refl
+call_in-with (array js) = refl
+call_in-with (object ms) = ap (call_by (object ms)) (argument_of-get ms)
+
+first_call-sole : (name : Text) (ms : Members) (k : Json) → sole_held name ms ≡ Some k → first_call ms ≡ call_in k
+unfolding value_of
+first_call-sole name no_members k e = absurd (cc)
+first_call-sole name (member key j no_members) k e = by (bytes_eq key name) e
+  where
+    by : (test : Bool) → cond test (Some j) None ≡ Some k → call_in j ≡ call_in k
+    by true e = let same : j ≡ k = cc in ap call_in same
+    by false e = absurd (cc)
+first_call-sole name (member key j (member other l rest)) k e = absurd (cc)
+
+-- what the one member holds is what its field does
+pub sole_held-get : (name : Text) (ms : Members) (k : Json) → sole_held name ms ≡ Some k → get_member name ms ≡ Some k
+sole_held-get name no_members k e = absurd (cc)
+sole_held-get name (member key j no_members) k e = e
+sole_held-get name (member key j (member other l rest)) k e = absurd (cc)
+
+-- an object by its members
+abbrev by_members : Members → Option Json → Option Json → Option Tree
+by_members ms uid extension = object_by uid extension (first_call ms) (pairs_of ms [])
+
+value_of-object : (ms : Members) → value_of (object ms) ≡ by_members ms (sole_held (codes "__entity") ms) (sole_held (codes "__extn") ms)
+unfolding value_of
+value_of-object ms = refl
+
+pub value_of-entity : (ms : Members) (k : Json) → sole_held (codes "__entity") ms ≡ Some k → value_of (object ms) ≡ option_map uid_value (uid_in k)
+value_of-entity ms k e = value_of-object ms ∙ ap (λ o. by_members ms o (sole_held (codes "__extn") ms)) e
+
+pub value_of-call : (ms : Members) (k : Json) → sole_held (codes "__entity") ms ≡ None → sole_held (codes "__extn") ms ≡ Some k
+    → value_of (object ms) ≡ call_in k
+value_of-call ms k none e =
+    value_of-object ms ∙ ap (λ o. by_members ms o (sole_held (codes "__extn") ms)) none ∙ ap (λ o. by_members ms None o) e
+    ∙ first_call-sole (codes "__extn") ms k e
+
+pub value_of-record : (ms : Members) → sole_held (codes "__entity") ms ≡ None → sole_held (codes "__extn") ms ≡ None
+    → value_of (object ms) ≡ option_map record_of_pairs (pairs_of ms [])
+value_of-record ms none neither =
+    value_of-object ms ∙ ap (λ o. by_members ms o (sole_held (codes "__extn") ms)) none ∙ ap (λ o. by_members ms None o) neither
+
+-- values before others in a row
+abbrev pub before : List RestrictedExpr → Trees → Trees
+before [] rest = rest
+before (expr ∷ exprs) rest = tree (tree_of expr) (before exprs rest)
+
+before-none : (exprs : List RestrictedExpr) → before exprs no_tree ≡ trees_of exprs
+before-none [] = refl
+before-none (expr ∷ exprs) = ap (tree (tree_of expr)) (before-none exprs)
+
+before-push : (exprs : List RestrictedExpr) (expr : RestrictedExpr) (rest : Trees)
+    → before exprs (tree (tree_of expr) rest) ≡ before (exprs ++ expr ∷ []) rest
+before-push [] expr rest = refl
+before-push (first ∷ exprs) expr rest = ap (tree (tree_of first)) (before-push exprs expr rest)
+
+pushed : (exprs : List RestrictedExpr) (expr : RestrictedExpr) (o : Option Trees)
+    → option_map (before exprs) (option_map (λ others. tree (tree_of expr) others) o) ≡ option_map (before (exprs ++ expr ∷ [])) o
+pushed exprs expr None = refl
+pushed exprs expr (Some rest) = ap Some (before-push exprs expr rest)
+
+values_of-item : (j : Json) (rest : Items)
+    → values_of (item j rest) ≡ option_and_then (λ value. option_map (λ others. tree value others) (values_of rest)) (value_of j)
+unfolding value_of
+values_of-item j rest = refl
+
+values_of-none : values_of no_items ≡ Some no_tree
+unfolding value_of
+values_of-none = refl
+
+pub nothing_read : (o : Option Trees) → o ≡ option_map (before []) o
+nothing_read None = refl
+nothing_read (Some rest) = refl
+
+-- where no item is left, all were read
+pub all_values : (xs all : List (Value Global)) (index : ℕ) (exprs : List RestrictedExpr) → xs ≡ all → length xs ≤ index
+    → values_of (items_view all) ≡ option_map (before exprs) (values_of (items_view (drop index all)))
+    → values_of (items_view all) ≡ Some (trees_of exprs)
+all_values xs all index exprs same end so_far =
+    so_far ∙ ap (λ ys. option_map (before exprs) (values_of (items_view (drop index ys)))) (sym same)
+    ∙ ap (λ ys. option_map (before exprs) (values_of (items_view ys))) (drop_of_length-le xs end)
+    ∙ ap (option_map (before exprs)) values_of-none ∙ ap Some (before-none exprs)
+
+-- at an item
+module _ (all : List (Value Global)) (index : ℕ) (x : Value Global) (exprs : List RestrictedExpr)
+    (here : drop index all ≡ x ∷ drop (index + 1) all)
+    (so_far : values_of (items_view all) ≡ option_map (before exprs) (values_of (items_view (drop index all)))) where
+  abbrev rest : Option Trees
+  rest = values_of (items_view (drop (index + 1) all))
+
+  abbrev with_value : Option Tree → Option Trees
+  with_value o = option_map (before exprs) (option_and_then (λ value. option_map (λ others. tree value others) rest) o)
+
+  step : values_of (items_view all) ≡ with_value (value_of (value_view x))
+  step = so_far ∙ ap (λ ys. option_map (before exprs) (values_of (items_view ys))) here
+      ∙ ap (option_map (before exprs)) (values_of-item (value_view x) (items_view (drop (index + 1) all)))
+
+  pub no_value : value_of (value_view x) ≡ None → values_of (items_view all) ≡ None
+  no_value e = step ∙ ap with_value e
+
+  pub value_more : (expr : RestrictedExpr) (new : List RestrictedExpr) → value_of (value_view x) ≡ Some (tree_of expr) → new ≡ exprs ++ expr ∷ []
+      → values_of (items_view all) ≡ option_map (before new) rest
+  value_more expr new is grown = step ∙ ap with_value is ∙ pushed exprs expr rest ∙ ap (λ es. option_map (before es) rest) (sym grown)
+
+abbrev Held : Type 0
+Held = Bor Text × Value Global
+
+abbrev Entries : Type 0
+Entries = List (String Global × RestrictedExpr)
+
+-- what pairs stand for
+abbrev pub shown : Entries → Pairs
+shown entries = map (λ entry. (string_bytes entry.0, tree_of entry.1)) entries
+
+pub pairs_of-member : (key : Text) (j : Json) (rest : Members) (pairs : Pairs)
+    → pairs_of (member key j rest) pairs ≡ option_and_then (λ value. pairs_of rest (insert_entry text_cmp pairs key value)) (value_of j)
+unfolding value_of
+pairs_of-member key j rest pairs = refl
+
+pub pairs_of-none : (pairs : Pairs) → pairs_of no_members pairs ≡ Some pairs
+unfolding value_of
+pairs_of-none pairs = refl
+
+-- where no member is left, all were read
+pub all_pairs : (xs all : List Held) (index : ℕ) (entries : Entries) → xs ≡ all → length xs ≤ index
+    → pairs_of (members_view all) [] ≡ pairs_of (members_view (drop index all)) (shown entries)
+    → pairs_of (members_view all) [] ≡ Some (shown entries)
+all_pairs xs all index entries same end so_far =
+    so_far ∙ ap (λ ys. pairs_of (members_view (drop index ys)) (shown entries)) (sym same)
+    ∙ ap (λ ys. pairs_of (members_view ys) (shown entries)) (drop_of_length-le xs end)
+    ∙ pairs_of-none (shown entries)
+
+-- at a member
+module _ (all : List Held) (index : ℕ) (x : Held) (entries : Entries) (here : drop index all ≡ x ∷ drop (index + 1) all)
+    (so_far : pairs_of (members_view all) [] ≡ pairs_of (members_view (drop index all)) (shown entries)) where
+  abbrev put_before : Option Tree → Option Pairs
+  put_before = option_and_then (λ value. pairs_of (members_view (drop (index + 1) all)) (insert_entry text_cmp (shown entries) x.0.now value))
+
+  pair_step : pairs_of (members_view all) [] ≡ put_before (value_of (value_view x.1))
+  pair_step = so_far ∙ ap (λ ys. pairs_of (members_view ys) (shown entries)) here
+      ∙ pairs_of-member x.0.now (value_view x.1) (members_view (drop (index + 1) all)) (shown entries)
+
+  pub no_pair : value_of (value_view x.1) ≡ None → pairs_of (members_view all) [] ≡ None
+  no_pair e = pair_step ∙ ap put_before e
+
+  pub pair_more : (key : String Global) (expr : RestrictedExpr) (new : Entries) → value_of (value_view x.1) ≡ Some (tree_of expr)
+      → string_bytes key ≡ x.0.now → new ≡ insert_entry string_cmp entries key expr
+      → pairs_of (members_view all) [] ≡ pairs_of (members_view (drop (index + 1) all)) (shown new)
+  pair_more key expr new is named grown =
+      pair_step ∙ ap put_before is
+      ∙ ap (λ name. pairs_of (members_view (drop (index + 1) all)) (insert_entry text_cmp (shown entries) name (tree_of expr))) (sym named)
+      ∙ ap (pairs_of (members_view (drop (index + 1) all)))
+      (sym (seen-insert string_cmp text_cmp string_bytes tree_of (λ a b. refl) entries key expr))
+      ∙ ap (λ es. pairs_of (members_view (drop (index + 1) all)) (shown es)) (sym grown)
+
+value_of-null : value_of null ≡ None
+unfolding value_of
+value_of-null = refl
+
+value_of-boolean : (b : Bool) → value_of (boolean b) ≡ Some (truth_value b)
+unfolding value_of
+value_of-boolean b = refl
+
+value_of-number : (s : Text) → value_of (number s) ≡ option_map number_value (whole_number s)
+unfolding value_of
+value_of-number s = refl
+
+value_of-string : (s : Text) → value_of (string s) ≡ Some (text_value s)
+unfolding value_of
+value_of-string s = refl
+
+value_of-array : (js : Items) → value_of (array js) ≡ option_map set_value (values_of js)
+unfolding value_of
+value_of-array js = refl
+
+view-Null : value_view {A = Global} kit.Null ≡ null
+view-Null = search (rules, the_lemmas)
+
+view-Bool : (b : Bool) → value_view {A = Global} (kit.Bool b) ≡ boolean b
+view-Bool b = search (rules, the_lemmas)
+
+view-Number : (s : Bor Text) → value_view {A = Global} (kit.Number s) ≡ number s.now
+view-Number s = search (rules, the_lemmas)
+
+view-String : (s : Bor Text) → value_view {A = Global} (kit.String s) ≡ string s.now
+view-String s = search (rules, the_lemmas)
+
+-- the rows of values that hold no others
+pub null_row : (v : Value Global) → v ≡ kit.Null → value_of (value_view v) ≡ None
+null_row v is = ap (λ x. value_of (value_view x)) is ∙ ap value_of view-Null ∙ value_of-null
+
+pub truth_row : (v : Value Global) (b : Bool) → v ≡ kit.Bool b → value_of (value_view v) ≡ Some (tree_of (expr.Bool b))
+truth_row v b is =
+    ap (λ x. value_of (value_view x)) is ∙ ap value_of (view-Bool b) ∙ value_of-boolean b ∙ ap Some (sym (tree_of-truth b))
+
+pub number_row : (v : Value Global) (s : Bor Text) → v ≡ kit.Number s
+    → value_of (value_view v) ≡ option_map number_value (option_and_then whole_number (as_number (value_view v)))
+number_row v s is =
+    ap (λ x. value_of (value_view x)) is ∙ ap value_of (view-Number s) ∙ value_of-number s.now
+    ∙ sym (ap (λ x. option_map number_value (option_and_then whole_number (as_number (value_view x)))) is
+    ∙ ap (λ j. option_map number_value (option_and_then whole_number (as_number j))) (view-Number s))
+
+pub text_row : (v : Value Global) (s : Bor Text) (text : String Global) → v ≡ kit.String s → string_bytes text ≡ s.now
+    → value_of (value_view v) ≡ Some (tree_of (expr.String text))
+text_row v s text is named =
+    ap (λ x. value_of (value_view x)) is ∙ ap value_of (view-String s) ∙ value_of-string s.now
+    ∙ ap (λ t. Some (text_value t)) (sym named) ∙ ap Some (sym (tree_of-text text))
+
+pub array_row : (v : Value Global) (items : Vec (Value Global) Global) → v ≡ kit.Array items
+    → value_of (value_view v) ≡ option_map set_value (values_of (items_view items.items))
+array_row v items is =
+    ap (λ x. value_of (value_view x)) is ∙ ap value_of (view-Array items) ∙ value_of-array (items_view items.items)
+
+pub number_read : (whole : ℤ) → FitsSigned w64 whole → number_value whole ≡ tree_of (expr.Long (to_z w64 (of_z w64 whole)))
+number_read whole fits =
+    sym (ap (λ z. tree_of (expr.Long z)) (to_z-of_z fits) ∙ ap tree_of (sym (expr.rolls-Long whole))
+    ∙ (let e : tree_of (roll-RestrictedExpr (layer.Long whole)) ≡ number_value whole =
+    fold-roll-RestrictedExpr Tree tree_step (layer.Long whole) in e))
+
+pub record_read : (pairs : BTreeMap (String Global) RestrictedExpr) → record_of_pairs (shown pairs.entries) ≡ tree_of (expr.Record pairs)
+record_read pairs = sym (tree_of-record pairs)
+
+-- a call by its fields
+module _ (j : Json) where
+  abbrev function : Option PlainName
+  function = option_and_then plain_name_in (text_held (codes "fn") j)
+
+  abbrev argument : Option Tree
+  argument = option_and_then value_of (get (codes "arg") j)
+
+  pub call_other : has_only (known_fields OfCall j) j ≡ false → call_in j ≡ None
+  call_other e = call_in-with j ∙ ap (λ test. if_so test (call_of function argument)) e
+
+  none_by : (test : Bool) → if_so {A = Tree} test None ≡ None
+  none_by true = refl
+  none_by false = refl
+
+  pub call_no_function : function ≡ None → call_in j ≡ None
+  call_no_function e =
+      call_in-with j ∙ ap (λ f. if_so (has_only (known_fields OfCall j) j) (call_of f argument)) e ∙ none_by (has_only (known_fields OfCall j) j)
+
+  no_call : (f : Option PlainName) → call_of f None ≡ None
+  no_call None = refl
+  no_call (Some name) = refl
+
+  pub call_no_argument : argument ≡ None → call_in j ≡ None
+  call_no_argument e =
+      call_in-with j ∙ ap (λ a. if_so (has_only (known_fields OfCall j) j) (call_of function a)) e
+      ∙ ap (λ c. if_so (has_only (known_fields OfCall j) j) c) (no_call function) ∙ none_by (has_only (known_fields OfCall j) j)
+
+  pub call_read : (name : Name) (args : Vec RestrictedExpr Global) (it : RestrictedExpr) → has_only (known_fields OfCall j) j ≡ true
+      → function ≡ Some (plain_name name) → argument ≡ Some (tree_of it) → args.items ≡ it ∷ []
+      → call_in j ≡ Some (tree_of (expr.ExtensionCall name args))
+  call_read name args it known named valued listed =
+      call_in-with j ∙ ap (λ test. if_so test (call_of function argument)) known
+      ∙ ap (λ f. call_of f argument) named ∙ ap (λ a. call_of (Some (plain_name name)) a) valued
+      ∙ ap (λ es. Some (call_value (plain_name name) (trees_of es))) (sym listed) ∙ ap Some (sym (tree_of-call name args))
+
+-- what an object that isn't one of a single member with the key holds
+pub sole_held-many : (name : Text) (xs : List Held) → length xs ≢ 1 → sole_held name (members_view xs) ≡ None
+sole_held-many name [] many = refl
+sole_held-many name (x ∷ []) many = absurd (many refl)
+sole_held-many name (x ∷ y ∷ xs) many = refl
+
+sole_held-smaller_by : (name key : Text) (j k : Json) (test : Bool) → cond test (Some j) None ≡ Some k
+    → length (json_tokens k) < length (members_tokens (member key j no_members))
+sole_held-smaller_by name key j k true e =
+    let same : j ≡ k = cc in
+    omega (arith, length-append (json_tokens j) (members_tokens no_members), ap (λ x. length (json_tokens x)) same)
+sole_held-smaller_by name key j k false e = absurd (cc)
+
+-- what the one member holds is smaller than the members
+pub sole_held-smaller : (name : Text) (ms : Members) (k : Json) → sole_held name ms ≡ Some k → length (json_tokens k) < length (members_tokens ms)
+sole_held-smaller name no_members k e = absurd (cc)
+sole_held-smaller name (member key j no_members) k e = sole_held-smaller_by name key j k (bytes_eq key name) e
+sole_held-smaller name (member key j (member other l rest)) k e = absurd (cc)

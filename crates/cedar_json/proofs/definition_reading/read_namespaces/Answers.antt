@@ -1,0 +1,38 @@
+use Rattle.std.proofs.Common.{option_map, rules}
+use Rattle.std.proofs.lemmas.Result.{err_from_is_err_and}
+use Rattle.json.specs.Json.{object}
+use Rattle.json.specs.Value.{members_view, value_view}
+use Rattle.std.specs.Option.{option_cmp}
+use Rattle.cedar_below.specs.Name.{plain_name}
+use Rattle.cedar_below.specs.PlainName.{name_cmp}
+use Rattle.cedar_below.specs.contracts.name.NameOrd.TheImpl as name_ord
+use Rattle.cedar_json.proofs.NameLemmas.{namespace_order}
+use Rattle.cedar_json.specs.DefinitionFormat.{definition_of, namespace_key, written_definition}
+use Rattle.cedar_json.proofs.DefinitionLemmas.{entry_more}
+use Rattle.cedar_json.proofs.FieldLemmas.{nth_member-is}
+use Rattle.cedar_json.proofs.TypeLemmas.{members_from_index}
+use Rattle.cedar_json.proofs.definition_reading.read_namespaces.Goals as goal
+
+pub returns-in_err-name-clause-place : goal.returns-in_err-name-clause-place
+returns-in_err-name-clause-place c =
+    let x = c.member-item.result in
+    let here = nth_member-is c.deref-member-items.result.now c.args.members.now.items c.loop-index.index x c.deref-member-items.ensures.value
+    c.loop-index-test.true c.member-item.is in
+    let p = err_from_is_err_and c.from_residual.result c.from_residual.ensures.1 in
+    rw (p.1, p.2) (c.in_err-name.ensures.place (object (members_view c.args.members.now.items)) (value_view x.1) here)
+
+pub returns-in-Err-clause-place : goal.returns-in-Err-clause-place
+returns-in-Err-clause-place c =
+    let x = c.member-item.result in
+    let here = nth_member-is c.deref-member-items.result.now c.args.members.now.items c.loop-index.index x c.deref-member-items.ensures.value
+    c.loop-index-test.true c.member-item.is in
+    c.in_member.ensures.place (object (members_view c.args.members.now.items)) (x.0.now, value_view x.1) here c.in-Err.ensures.place
+
+pub loop-index-preserved : goal.loop-index-preserved
+loop-index-preserved c =
+    let x = c.member-item.result in
+    let all = c.args.members.now.items in
+    let here = members_from_index c.deref-member-items.result.now all c.loop-index.index x c.deref-member-items.ensures.value c.loop-index-test.true
+    c.member-item.is in
+    entry_more (option_cmp ((name_ord.ghosts).cmp)) (option_cmp name_cmp) (option_map plain_name) written_definition namespace_order namespace_key definition_of all c.loop-index.index x c.loop-index.all.entries here c.loop-index.invariant
+    c.in_ok-name.name c.in-Ok.it c.put.new.map.entries c.in_ok-name.ensures.value c.in-Ok.ensures.value (search rules)

@@ -1,0 +1,126 @@
+use Rattle.std.proofs.Common.{◌+◌, ◌*◌, ◌<◌, length, Some, None, option_map, codes, ap, sym, subst, ◌∙◌, arith, rules}
+use Rattle.std.proofs.lemmas.Result.{err_from_is_err_and}
+use Rattle.json.proofs.Trees.{member_smaller}
+use Rattle.json.specs.Find.{get}
+use Rattle.json.specs.Json.{object}
+use Rattle.json.specs.Tree.{json_tokens, members_tokens}
+use Rattle.json.specs.Value.{value_view, members_view}
+use Rattle.cedar_names.specs.Expr.{members_from, record_expr}
+use Rattle.cedar_names.specs.PlainMembers.{plain_members}
+use Rattle.cedar_names.specs.RawExpr.{raw_expr}
+use Rattle.cedar_json.proofs.FieldLemmas.{get-smaller, nth_member-is, object_field-smaller, object_held}
+use Rattle.cedar_json.proofs.TypeLemmas.{all_read, attribute_read, attributes_field-held, attributes_field-none, element_field-held, members_from_index, no_annotations, no_attribute, no_required, no_type, one_more, raw_attribute-made, raw_record-made}
+use Rattle.cedar_json.proofs.type_reading.+type_reading.Goals as goal
+use Rattle.cedar_json.specs.TypeFormat.{additional_field, record_of}
+
+pub read_attribute-returns-in_err-required-clause-value : goal.read_attribute-returns-in_err-required-clause-value
+read_attribute-returns-in_err-required-clause-value t c =
+    let p = err_from_is_err_and c.from_residual.result c.from_residual.ensures.1 in
+    rw (p.1, p.2) (λ other. no_required (value_view c.args.value.now) c.in_err-required.ensures.value)
+
+pub read_attribute-returns-in_err-check_annotations-clause-value : goal.read_attribute-returns-in_err-check_annotations-clause-value
+read_attribute-returns-in_err-check_annotations-clause-value t c =
+    let p = err_from_is_err_and c.from_residual-in_err-check_annotations.result c.from_residual-in_err-check_annotations.ensures.1 in
+    rw (p.1, p.2) (λ other. no_annotations (value_view c.args.value.now) c.in_err-check_annotations.ensures.value)
+
+pub read_attribute-returns-in_err-ty-clause-value : goal.read_attribute-returns-in_err-ty-clause-value
+read_attribute-returns-in_err-ty-clause-value t c =
+    let p = err_from_is_err_and c.from_residual-in_err-ty.result c.from_residual-in_err-ty.ensures.1 in
+    rw (p.1, p.2) (λ other. no_type (value_view c.args.value.now) (c.in_err-ty.ensures.value other))
+
+pub read_attribute-returns-clause-value : goal.read_attribute-returns-clause-value
+read_attribute-returns-clause-value t c =
+    attribute_read (value_view c.args.value.now) c.in_ok-required.required (raw_expr None c.in_ok-ty.ty) c.in_ok-required.ensures.value
+    c.in_ok-check_annotations.ensures.value c.in_ok-ty.ensures.value
+    ∙ ap Some (sym (raw_attribute-made c.in_ok-ty.ty c.in_ok-required.required None))
+
+pub read_attributes-read_attribute-requires : goal.read_attributes-read_attribute-requires
+read_attributes-read_attribute-requires t c =
+    let xs = c.deref-member-items.result.now in
+    let x = c.member-item.result in
+    let below : length (json_tokens (value_view x.1)) < length (members_tokens (members_view c.args.members.now.items)) =
+    subst (λ ys. length (json_tokens (value_view x.1)) < length (members_tokens (members_view ys))) c.deref-member-items.ensures.value
+    (subst (λ y. length (json_tokens (value_view y.1)) < length (members_tokens (members_view xs))) (sym c.member-item.is) (member_smaller xs c.loop-index.index x c.loop-index-test.true)) in
+    let smaller : 3 * length (json_tokens (value_view x.1)) + 2 < 3 * length (members_tokens (members_view c.args.members.now.items)) = omega (arith, below) in
+    search rules
+
+pub read_attributes-returns-in-Err-clause-value : goal.read_attributes-returns-in-Err-clause-value
+read_attributes-returns-in-Err-clause-value t c =
+    let x = c.member-item.result in
+    let all = c.args.members.now.items in
+    let here = members_from_index c.deref-member-items.result.now all c.loop-index.index x c.deref-member-items.ensures.value c.loop-index-test.true
+    c.member-item.is in
+    λ other. no_attribute all c.loop-index.index x c.loop-index.attributes.entries here c.loop-index.invariant
+    (c.in-Err.ensures.value (c.in_member.ensures.memory other))
+
+pub read_attributes-returns-in-Err-clause-place : goal.read_attributes-returns-in-Err-clause-place
+read_attributes-returns-in-Err-clause-place t c =
+    let x = c.member-item.result in
+    let here = nth_member-is c.deref-member-items.result.now c.args.members.now.items c.loop-index.index x c.deref-member-items.ensures.value
+    c.loop-index-test.true c.member-item.is in
+    c.in_member.ensures.place (object (members_view c.args.members.now.items)) (x.0.now, value_view x.1) here c.in-Err.ensures.place
+
+pub read_attributes-loop-index-preserved : goal.read_attributes-loop-index-preserved
+read_attributes-loop-index-preserved t c =
+    let x = c.member-item.result in
+    let all = c.args.members.now.items in
+    let here = members_from_index c.deref-member-items.result.now all c.loop-index.index x c.deref-member-items.ensures.value c.loop-index-test.true
+    c.member-item.is in
+    one_more all c.loop-index.index x c.loop-index.attributes.entries here c.loop-index.invariant c.in_ok-from_str-in-Ok.field-0 c.in-Ok.attribute
+    c.put.new.map.entries c.in-Ok.ensures.value c.in_ok-from_str-in-Ok.ensures.ok (search rules)
+
+pub read_attributes-returns-clause-value : goal.read_attributes-returns-clause-value
+read_attributes-returns-clause-value t c =
+    all_read c.deref-member-items.result.now c.args.members.now.items c.loop-index.index c.loop-index.attributes.entries
+    c.deref-member-items.ensures.value c.loop-index-test.false c.loop-index.invariant
+
+pub read_element-read_type_of-requires : goal.read_element-read_type_of-requires
+read_element-read_type_of-requires t c =
+    let below : length (json_tokens (value_view c.in_ok-field.field-0.now)) < length (json_tokens (value_view c.args.value.now)) =
+    get-smaller (codes "element") _ _ c.in_ok-field.ensures.value in
+    let smaller : 3 * length (json_tokens (value_view c.in_ok-field.field-0.now)) + 1 < 3 * length (json_tokens (value_view c.args.value.now)) =
+    omega (arith, below) in
+    search rules
+
+pub read_element-returns-in-Ok-clause-value : goal.read_element-returns-in-Ok-clause-value
+read_element-returns-in-Ok-clause-value t c =
+    element_field-held (value_view c.args.value.now) (value_view c.in_ok-field.field-0.now) c.in_ok-field.ensures.value ∙ c.in-Ok.ensures.value
+
+pub read_element-returns-in-Err-clause-value : goal.read_element-returns-in-Err-clause-value
+read_element-returns-in-Err-clause-value t c =
+    λ other. element_field-held (value_view c.args.value.now) (value_view c.in_ok-field.field-0.now) c.in_ok-field.ensures.value
+    ∙ c.in-Err.ensures.value (c.within.ensures.memory other)
+
+pub read_record-returns-in_err-members-clause-value : goal.read_record-returns-in_err-members-clause-value
+read_record-returns-in_err-members-clause-value t c =
+    let j = value_view c.args.value.now in
+    let p = err_from_is_err_and c.from_residual-in_err-members.result c.from_residual-in_err-members.ensures.1 in
+    rw (p.1, p.2) (λ other. ap (record_of (additional_field j)) (attributes_field-none j c.in_err-members.ensures.value))
+
+pub read_record-read_attributes-requires : goal.read_record-read_attributes-requires
+read_record-read_attributes-requires t c =
+    let below : length (members_tokens (members_view c.in_ok-members.members.now.items)) < length (json_tokens (value_view c.args.value.now)) =
+    object_field-smaller (codes "attributes") _ _ c.in_ok-members.ensures.value in
+    let smaller : 3 * length (members_tokens (members_view c.in_ok-members.members.now.items)) < 3 * length (json_tokens (value_view c.args.value.now)) =
+    omega (arith, below) in
+    search rules
+
+pub read_record-returns-in-Ok-clause-value : goal.read_record-returns-in-Ok-clause-value
+read_record-returns-in-Ok-clause-value t c =
+    let j = value_view c.args.value.now in
+    let all = plain_members None c.in-Ok.attributes.entries in
+    ap (record_of (additional_field j)) (attributes_field-held j _ c.in_ok-members.ensures.value ∙ c.in-Ok.ensures.value)
+    ∙ ap (option_map (record_expr (members_from all))) c.in_ok-additional_attributes.ensures.value
+    ∙ ap Some (sym (raw_record-made c.in-Ok.attributes c.in_ok-additional_attributes.additional_attributes))
+
+pub read_record-returns-in-Err-clause-value : goal.read_record-returns-in-Err-clause-value
+read_record-returns-in-Err-clause-value t c =
+    let j = value_view c.args.value.now in
+    λ other. ap (record_of (additional_field j)) (attributes_field-held j _ c.in_ok-members.ensures.value
+    ∙ c.in-Err.ensures.value (c.within.ensures.memory other))
+
+pub read_record-returns-in-Err-clause-place : goal.read_record-returns-in-Err-clause-place
+read_record-returns-in-Err-clause-place t c =
+    let j = value_view c.args.value.now in
+    let ms = members_view c.in_ok-members.members.now.items in
+    c.within.ensures.place j (object ms) (object_held (get (codes "attributes") j) ms c.in_ok-members.ensures.value) c.in-Err.ensures.place

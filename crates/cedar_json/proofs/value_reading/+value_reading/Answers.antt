@@ -1,0 +1,193 @@
+use Rattle.std.proofs.Common.{◌+◌, ◌*◌, ◌<◌, FitsSigned, w64, length, Some, ap, codes, option_and_then, option_map, subst, sym, ◌∙◌, arith, rules}
+use Rattle.std.proofs.lemmas.Result.{err_from_is_err_and}
+use Rattle.json.proofs.Trees.{item_smaller, member_smaller}
+use Rattle.json.specs.Json.{array, object}
+use Rattle.json.specs.Tree.{items_tokens, json_tokens, members_tokens}
+use Rattle.json.specs.Value.{items_view, members_view, value_view}
+use Rattle.cedar_below.proofs.TreeLemmas.{tree_of-set, tree_of-uid}
+use Rattle.cedar_below.specs.Tree.{number_value, set_value, uid_value}
+use Rattle.cedar_json.proofs.FieldLemmas.{get-smaller, nth_member-is}
+use Rattle.cedar_json.proofs.ListLemmas.{get_item-is, items_from_index}
+use Rattle.cedar_json.proofs.TypeLemmas.{members_from_index}
+use Rattle.cedar_json.proofs.ValueLemmas.{all_pairs, all_values, array_row, call_no_argument, call_no_function, call_other, call_read, no_pair, no_value, null_row, number_read, number_row, pair_more, record_read, text_row, truth_row, value_more, value_of-call, value_of-entity, value_of-record}
+use Rattle.cedar_json.proofs.value_reading.+value_reading.Goals as goal
+use Rattle.cedar_json.specs.ValueFormat.{record_of_pairs, value_of}
+
+pub read_call-returns-in_err-check_fields-clause-value : goal.read_call-returns-in_err-check_fields-clause-value
+read_call-returns-in_err-check_fields-clause-value t c =
+    let p = err_from_is_err_and c.from_residual.result c.from_residual.ensures.1 in
+    rw (p.1, p.2) (λ other. call_other (value_view c.args.value.now) c.in_err-check_fields.ensures.value)
+
+pub read_call-returns-in_err-function-clause-value : goal.read_call-returns-in_err-function-clause-value
+read_call-returns-in_err-function-clause-value t c =
+    let p = err_from_is_err_and c.from_residual-in_err-function.result c.from_residual-in_err-function.ensures.1 in
+    rw (p.1, p.2) (λ other. call_no_function (value_view c.args.value.now) (c.in_err-function.ensures.value other))
+
+pub read_call-returns-in_err-field-clause-value : goal.read_call-returns-in_err-field-clause-value
+read_call-returns-in_err-field-clause-value t c =
+    let p = err_from_is_err_and c.from_residual-in_err-field.result c.from_residual-in_err-field.ensures.1 in
+    rw (p.1, p.2) (λ other. call_no_argument (value_view c.args.value.now) (ap (option_and_then value_of) c.in_err-field.ensures.value))
+
+pub read_call-read_expr-requires : goal.read_call-read_expr-requires
+read_call-read_expr-requires t c =
+    let below : length (json_tokens (value_view c.in_ok-field.field-0.now)) < length (json_tokens (value_view c.args.value.now)) =
+    get-smaller (codes "arg") _ _ c.in_ok-field.ensures.value in
+    let smaller : 4 * length (json_tokens (value_view c.in_ok-field.field-0.now)) < 4 * length (json_tokens (value_view c.args.value.now)) + 1 =
+    omega (arith, below) in
+    search rules
+
+pub read_call-returns-in_ok-vec-in-Ok-clause-value : goal.read_call-returns-in_ok-vec-in-Ok-clause-value
+read_call-returns-in_ok-vec-in-Ok-clause-value t c =
+    call_read (value_view c.args.value.now) c.in_ok-function.function c.in_ok-vec-in-Ok.field-0 c.in-Ok.argument
+    c.in_ok-check_fields.ensures.value c.in_ok-function.ensures.value
+    (ap (option_and_then value_of) c.in_ok-field.ensures.value ∙ c.in-Ok.ensures.value) c.in_ok-vec-in-Ok.ensures.items
+
+pub read_call-returns-in-Err-clause-value : goal.read_call-returns-in-Err-clause-value
+read_call-returns-in-Err-clause-value t c =
+    λ other. call_no_argument (value_view c.args.value.now)
+    (ap (option_and_then value_of) c.in_ok-field.ensures.value ∙ c.in-Err.ensures.value (c.within.ensures.memory other))
+
+pub read_expr-returns-in_err-read_exprs-in-Array-clause-value : goal.read_expr-returns-in_err-read_exprs-in-Array-clause-value
+read_expr-returns-in_err-read_exprs-in-Array-clause-value t c =
+    let p = err_from_is_err_and c.from_residual-in_err-read_exprs-in-Array.result c.from_residual-in_err-read_exprs-in-Array.ensures.1 in
+    rw (p.1, p.2) (λ other. array_row c.args.value.now c.in-Array.items c.in-Array.is
+    ∙ ap (option_map set_value) (c.in_err-read_exprs-in-Array.ensures.value other))
+
+pub read_expr-returns-in-Null-clause-value : goal.read_expr-returns-in-Null-clause-value
+read_expr-returns-in-Null-clause-value t c = λ _. null_row c.args.value.now c.in-Null.is
+
+pub read_expr-returns-in-Bool-clause-value : goal.read_expr-returns-in-Bool-clause-value
+read_expr-returns-in-Bool-clause-value t c = truth_row c.args.value.now c.in-Bool.flag c.in-Bool.is
+
+pub read_expr-returns-in-Some-clause-value : goal.read_expr-returns-in-Some-clause-value
+read_expr-returns-in-Some-clause-value t c =
+    let fits : FitsSigned w64 c.in-Some.number = search rules in
+    number_row c.args.value.now c.in-Number.field-0 c.in-Number.is ∙ ap (option_map number_value) (sym c.in-Some.ensures)
+    ∙ ap Some (number_read c.in-Some.number fits)
+
+pub read_expr-returns-in-None-clause-value : goal.read_expr-returns-in-None-clause-value
+read_expr-returns-in-None-clause-value t c =
+    λ _. number_row c.args.value.now c.in-Number.field-0 c.in-Number.is ∙ ap (option_map number_value) (sym c.in-None.ensures)
+
+pub read_expr-returns-in_ok-from_str-in-String-clause-value : goal.read_expr-returns-in_ok-from_str-in-String-clause-value
+read_expr-returns-in_ok-from_str-in-String-clause-value t c =
+    text_row c.args.value.now c.in-String.text c.in_ok-from_str-in-String.field-0 c.in-String.is c.in_ok-from_str-in-String.ensures.ok
+
+pub read_expr-returns-in_ok-read_exprs-in-Array-clause-value : goal.read_expr-returns-in_ok-read_exprs-in-Array-clause-value
+read_expr-returns-in_ok-read_exprs-in-Array-clause-value t c =
+    array_row c.args.value.now c.in-Array.items c.in-Array.is ∙ ap (option_map set_value) c.in_ok-read_exprs-in-Array.ensures.value
+    ∙ ap Some (sym (tree_of-set c.in_ok-read_exprs-in-Array.field-0))
+
+pub read_exprs-read_expr-requires : goal.read_exprs-read_expr-requires
+read_exprs-read_expr-requires t c =
+    let xs = c.deref-item-items.result.now in
+    let x = c.item-item.result in
+    let below : length (json_tokens (value_view x)) < length (items_tokens (items_view c.args.items.now.items)) =
+    subst (λ ys. length (json_tokens (value_view x)) < length (items_tokens (items_view ys))) c.deref-item-items.ensures.value
+    (subst (λ y. length (json_tokens (value_view y)) < length (items_tokens (items_view xs))) (sym c.item-item.is) (item_smaller xs c.loop-index.index x c.loop-index-test.true)) in
+    let smaller : 4 * length (json_tokens (value_view x)) < 4 * length (items_tokens (items_view c.args.items.now.items)) = omega (arith, below) in
+    search rules
+
+pub read_exprs-returns-in-Err-clause-value : goal.read_exprs-returns-in-Err-clause-value
+read_exprs-returns-in-Err-clause-value t c =
+    let x = c.item-item.result in
+    let here = items_from_index c.deref-item-items.result.now c.args.items.now.items c.loop-index.index x c.deref-item-items.ensures.value
+    c.loop-index-test.true c.item-item.is in
+    λ other. no_value c.args.items.now.items c.loop-index.index x c.loop-index.exprs.items here c.loop-index.invariant
+    (c.in-Err.ensures.value (c.in_item.ensures.memory other))
+
+pub read_exprs-returns-in-Err-clause-place : goal.read_exprs-returns-in-Err-clause-place
+read_exprs-returns-in-Err-clause-place t c =
+    let x = c.item-item.result in
+    let here = get_item-is c.deref-item-items.result.now c.args.items.now.items c.loop-index.index x c.deref-item-items.ensures.value
+    c.loop-index-test.true c.item-item.is in
+    c.in_item.ensures.place (array (items_view c.args.items.now.items)) (value_view x) here c.in-Err.ensures.place
+
+pub read_exprs-loop-index-preserved : goal.read_exprs-loop-index-preserved
+read_exprs-loop-index-preserved t c =
+    let x = c.item-item.result in
+    let here = items_from_index c.deref-item-items.result.now c.args.items.now.items c.loop-index.index x c.deref-item-items.ensures.value
+    c.loop-index-test.true c.item-item.is in
+    value_more c.args.items.now.items c.loop-index.index x c.loop-index.exprs.items here c.loop-index.invariant c.in-Ok.expr c.push.new.self.items
+    c.in-Ok.ensures.value (search rules)
+
+pub read_exprs-returns-clause-value : goal.read_exprs-returns-clause-value
+read_exprs-returns-clause-value t c =
+    all_values c.deref-item-items.result.now c.args.items.now.items c.loop-index.index c.loop-index.exprs.items
+    c.deref-item-items.ensures.value c.loop-index-test.false c.loop-index.invariant
+
+pub read_pairs-read_expr-requires : goal.read_pairs-read_expr-requires
+read_pairs-read_expr-requires t c =
+    let xs = c.deref-member-items.result.now in
+    let x = c.member-item.result in
+    let below : length (json_tokens (value_view x.1)) < length (members_tokens (members_view c.args.members.now.items)) =
+    subst (λ ys. length (json_tokens (value_view x.1)) < length (members_tokens (members_view ys))) c.deref-member-items.ensures.value
+    (subst (λ y. length (json_tokens (value_view y.1)) < length (members_tokens (members_view xs))) (sym c.member-item.is) (member_smaller xs c.loop-index.index x c.loop-index-test.true)) in
+    let smaller : 4 * length (json_tokens (value_view x.1)) < 4 * length (members_tokens (members_view c.args.members.now.items)) + 1 = omega (arith, below) in
+    search rules
+
+pub read_pairs-returns-in-Err-clause-value : goal.read_pairs-returns-in-Err-clause-value
+read_pairs-returns-in-Err-clause-value t c =
+    let x = c.member-item.result in
+    let all = c.args.members.now.items in
+    let here = members_from_index c.deref-member-items.result.now all c.loop-index.index x c.deref-member-items.ensures.value c.loop-index-test.true
+    c.member-item.is in
+    λ other. no_pair all c.loop-index.index x c.loop-index.pairs.entries here c.loop-index.invariant
+    (c.in-Err.ensures.value (c.in_member.ensures.memory other))
+
+pub read_pairs-returns-in-Err-clause-place : goal.read_pairs-returns-in-Err-clause-place
+read_pairs-returns-in-Err-clause-place t c =
+    let x = c.member-item.result in
+    let here = nth_member-is c.deref-member-items.result.now c.args.members.now.items c.loop-index.index x c.deref-member-items.ensures.value
+    c.loop-index-test.true c.member-item.is in
+    c.in_member.ensures.place (object (members_view c.args.members.now.items)) (x.0.now, value_view x.1) here c.in-Err.ensures.place
+
+pub read_pairs-loop-index-preserved : goal.read_pairs-loop-index-preserved
+read_pairs-loop-index-preserved t c =
+    let x = c.member-item.result in
+    let all = c.args.members.now.items in
+    let here = members_from_index c.deref-member-items.result.now all c.loop-index.index x c.deref-member-items.ensures.value c.loop-index-test.true
+    c.member-item.is in
+    pair_more all c.loop-index.index x c.loop-index.pairs.entries here c.loop-index.invariant c.in_ok-from_str-in-Ok.field-0 c.in-Ok.expr
+    c.put.new.map.entries c.in-Ok.ensures.value c.in_ok-from_str-in-Ok.ensures.ok (search rules)
+
+pub read_pairs-returns-clause-value : goal.read_pairs-returns-clause-value
+read_pairs-returns-clause-value t c =
+    all_pairs c.deref-member-items.result.now c.args.members.now.items c.loop-index.index c.loop-index.pairs.entries
+    c.deref-member-items.ensures.value c.loop-index-test.false c.loop-index.invariant
+
+pub read_object-returns-in-Ok-clause-value : goal.read_object-returns-in-Ok-clause-value
+read_object-returns-in-Ok-clause-value t c =
+    let ms = members_view c.args.members.now.items in
+    value_of-entity ms (value_view c.in-Some.held.now) (sym c.in-Some.ensures) ∙ ap (option_map uid_value) c.in-Ok.ensures.value
+    ∙ ap Some (sym (tree_of-uid c.in-Ok.uid))
+
+pub read_object-returns-in-Err-clause-value : goal.read_object-returns-in-Err-clause-value
+read_object-returns-in-Err-clause-value t c =
+    let ms = members_view c.args.members.now.items in
+    λ other. value_of-entity ms (value_view c.in-Some.held.now) (sym c.in-Some.ensures)
+    ∙ ap (option_map uid_value) (c.in-Err.ensures.value (c.within.ensures.memory other))
+
+pub read_object-returns-in-Ok-read_call-clause-value : goal.read_object-returns-in-Ok-read_call-clause-value
+read_object-returns-in-Ok-read_call-clause-value t c =
+    let ms = members_view c.args.members.now.items in
+    value_of-call ms (value_view c.in-Some-sole.held.now) (sym c.in_default.ensures) (sym c.in-Some-sole.ensures) ∙ c.in-Ok-read_call.ensures.value
+
+pub read_object-returns-in-Err-read_call-clause-value : goal.read_object-returns-in-Err-read_call-clause-value
+read_object-returns-in-Err-read_call-clause-value t c =
+    let ms = members_view c.args.members.now.items in
+    λ other. value_of-call ms (value_view c.in-Some-sole.held.now) (sym c.in_default.ensures) (sym c.in-Some-sole.ensures)
+    ∙ c.in-Err-read_call.ensures.value (c.within-in-Err-read_call.ensures.memory other)
+
+pub read_object-returns-in_err-read_pairs-clause-value : goal.read_object-returns-in_err-read_pairs-clause-value
+read_object-returns-in_err-read_pairs-clause-value t c =
+    let ms = members_view c.args.members.now.items in
+    let p = err_from_is_err_and c.from_residual.result c.from_residual.ensures.1 in
+    rw (p.1, p.2) (λ other. value_of-record ms (sym c.in_default.ensures) (sym c.in_default-sole.ensures)
+    ∙ ap (option_map record_of_pairs) (c.in_err-read_pairs.ensures.value other))
+
+pub read_object-returns-clause-value : goal.read_object-returns-clause-value
+read_object-returns-clause-value t c =
+    let ms = members_view c.args.members.now.items in
+    value_of-record ms (sym c.in_default.ensures) (sym c.in_default-sole.ensures)
+    ∙ ap (option_map record_of_pairs) c.in_ok-read_pairs.ensures.value ∙ ap Some (record_read c.in_ok-read_pairs.field-0)

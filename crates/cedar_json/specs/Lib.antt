@@ -1,0 +1,11 @@
+pub mod ActionFormat
+pub mod DefinitionFormat
+pub mod EntityFormat
+pub mod Fields
+pub mod Lists
+pub mod Place
+pub mod TextFormat
+pub mod TypeFormat
+pub mod ValueFormat
+pub mod WholeNumber
+pub mod WrittenName

@@ -1,0 +1,60 @@
+//! Annotations, which are read and dropped.
+
+ghost use Rattle.std.specs.Prelude.{◌≡◌, ◌≢◌, Some, None, true, false, MatchResult, IfErr, codes};
+ghost use Rattle.json.specs.Find.{get};
+ghost use Rattle.json.specs.Json.{Json, object};
+ghost use Rattle.json.specs.Value.{value_view, members_view};
+ghost use Rattle.cedar_json.specs.Fields.{annotations_fit, are_annotations, is_text_or_null};
+ghost use Rattle.cedar_json.specs.Place.{IsTrueOf};
+
+use crate::fault::{Fault, FaultKind, Wanted};
+use crate::fields::members_of;
+use crate::spelling::is_identifier;
+use json::Value;
+use std::alloc::Global;
+
+/// Whether a value is a text or `null`.
+fn is_text_or_null(value: &Value<'_>) -> bool
+    ensures { result ≡ is_text_or_null (value_view value.now) }
+{
+    matches!(value, Value::Null | Value::String(_))
+}
+
+/// Refuses members that are no annotations.
+fn check_annotation_members(alloc: Global, members: &Vec<(&str, Value<'_>)>) -> Result<(), Fault>
+    ensures value { MatchResult result
+        (λ _. are_annotations (members_view members.now.items) ≡ true)
+        (λ _. are_annotations (members_view members.now.items) ≡ false) }
+    ensures place { IfErr result
+        (λ fault. IsTrueOf fault (object (members_view members.now.items))) }
+{
+    for (index, member) in members.iter().enumerate() {
+        if !is_identifier(member.0) {
+            return Err(Fault::here(alloc, FaultKind::KeyIsNoId(index)));
+        }
+        if !is_text_or_null(&member.1) {
+            return Err(Fault::here(alloc, FaultKind::Wants(Wanted::TextOrNull)).in_member(index));
+        }
+    }
+    Ok(())
+}
+
+/// Refuses an object whose field `annotations` holds no annotations: an object of identifiers with
+/// texts or `null`. The field may be absent.
+pub(crate) fn check_annotations(alloc: Global, value: &Value<'_>) -> Result<(), Fault>
+    ensures value { MatchResult result
+        (λ _. annotations_fit (get (codes "annotations") (value_view value.now)) ≡ true)
+        (λ _. annotations_fit (get (codes "annotations") (value_view value.now)) ≡ false) }
+    ensures place { IfErr result (λ fault. IsTrueOf fault (value_view value.now)) }
+{
+    let Some(held) = value.get("annotations") else {
+        return Ok(());
+    };
+    let Some(members) = members_of(held) else {
+        return Err(Fault::here(alloc, FaultKind::Wants(Wanted::Object)).within("annotations"));
+    };
+    match check_annotation_members(alloc, members) {
+        Ok(()) => Ok(()),
+        Err(fault) => Err(fault.within("annotations")),
+    }
+}

@@ -1,0 +1,109 @@
+//! Names and identifiers that texts spell.
+
+ghost use Rattle.std.specs.Prelude.{◌≡◌, ◌≢◌, Some, None, true, false, MatchResult, IfErr};
+ghost use Rattle.std.specs.List.{list_all};
+ghost use Rattle.json.specs.Find.{as_str};
+ghost use Rattle.json.specs.Json.{Json};
+ghost use Rattle.cedar_below.specs.Identifier.{begins_identifier, is_identifier_byte, is_identifier_start, is_identifier_text};
+ghost use Rattle.cedar_below.specs.Name.{plain_name};
+ghost use Rattle.cedar_below.specs.UnreservedId.{unreserved_id_text};
+ghost use Rattle.cedar_names.specs.RawName.{raw_name};
+ghost use Rattle.cedar_json.specs.Place.{IsTrueOf};
+ghost use Rattle.cedar_json.specs.WrittenName.{is_unreserved, plain_name_in, spelled_name};
+
+use crate::fault::{Fault, FaultKind};
+use cedar_below::{Name, NameFault, UnreservedId};
+use cedar_names::json_schema::RawName;
+use std::alloc::Global;
+
+/// Whether a byte may begin an identifier: an ASCII letter or `_`.
+fn is_start(byte: u8) -> bool
+    ensures { result ≡ is_identifier_start byte }
+{
+    byte.is_ascii_alphabetic() || byte == b'_'
+}
+
+/// Whether the first byte of a text may begin an identifier.
+fn has_start(text: &[u8]) -> bool
+    ensures { result ≡ begins_identifier text.now }
+{
+    match text {
+        [] => false,
+        [first, ..] => is_start(*first),
+    }
+}
+
+/// Whether each byte of a text may stand in an identifier: an ASCII letter, a digit or `_`.
+fn has_inner(text: &[u8]) -> bool
+    ensures { result ≡ list_all is_identifier_byte text.now }
+{
+    text.iter()
+        .all(|byte| is_start(*byte) || byte.is_ascii_digit())
+}
+
+/// Whether a text is an identifier: a nonempty text of ASCII letters, digits and `_` that does not
+/// begin with a digit.
+pub(crate) fn is_identifier(text: &str) -> bool
+    ensures { result ≡ is_identifier_text text.now }
+{
+    has_start(text.as_bytes()) && has_inner(text.as_bytes())
+}
+
+/// The name that a text spells.
+pub(crate) fn read_name(alloc: Global, text: &str) -> Result<RawName, Fault>
+    ensures value { MatchResult result
+        (λ name. spelled_name text.now ≡ Some (raw_name name))
+        (λ fault. fault ≢ Fault.Memory → spelled_name text.now ≡ None) }
+    ensures place { IfErr result (λ fault. (j : Json) → as_str j ≡ Some text.now
+        → IsTrueOf fault j) }
+{
+    match RawName::from_str(alloc, text) {
+        Ok(name) => Ok(name),
+        Err(fault) => match fault {
+            NameFault::Memory(_) => Err(Fault::Memory),
+            NameFault::NotAName(_) | NameFault::Reserved | NameFault::NoCommonType => {
+                Err(Fault::here(alloc, FaultKind::NoName))
+            }
+        },
+    }
+}
+
+/// The identifier other than the reserved word that a text spells.
+pub(crate) fn read_unreserved_id(alloc: Global, text: &str) -> Result<UnreservedId, Fault>
+    ensures value { MatchResult result
+        (λ id. (is_unreserved text.now ≡ true) × (unreserved_id_text id ≡ text.now))
+        (λ fault. fault ≢ Fault.Memory → is_unreserved text.now ≡ false) }
+    ensures place { IfErr result (λ fault. (j : Json) → as_str j ≡ Some text.now
+        → IsTrueOf fault j) }
+{
+    match UnreservedId::from_str(alloc, text) {
+        Ok(id) => Ok(id),
+        Err(fault) => match fault {
+            NameFault::Memory(_) => Err(Fault::Memory),
+            NameFault::Reserved => Err(Fault::here(alloc, FaultKind::ReservedId)),
+            NameFault::NotAName(_) | NameFault::NoCommonType => {
+                Err(Fault::here(alloc, FaultKind::NoId))
+            }
+        },
+    }
+}
+
+/// The name that isn't reserved which a text spells.
+pub(crate) fn read_plain_name(alloc: Global, text: &str) -> Result<Name, Fault>
+    ensures value { MatchResult result
+        (λ name. plain_name_in text.now ≡ Some (plain_name name))
+        (λ fault. fault ≢ Fault.Memory → plain_name_in text.now ≡ None) }
+    ensures place { IfErr result (λ fault. (j : Json) → as_str j ≡ Some text.now
+        → IsTrueOf fault j) }
+{
+    match Name::from_str(alloc, text) {
+        Ok(name) => Ok(name),
+        Err(fault) => match fault {
+            NameFault::Memory(_) => Err(Fault::Memory),
+            NameFault::Reserved => Err(Fault::here(alloc, FaultKind::ReservedName)),
+            NameFault::NotAName(_) | NameFault::NoCommonType => {
+                Err(Fault::here(alloc, FaultKind::NoName))
+            }
+        },
+    }
+}

@@ -1,0 +1,187 @@
+//! Reading values of Cedar.
+
+ghost use Rattle.std.specs.Prelude.{◌≡◌, ◌≢◌, [], Some, None, MatchResult, IfErr, option_map, option_and_then};
+ghost use Rattle.json.specs.Find.{as_number};
+ghost use Rattle.json.specs.Json.{array, object};
+ghost use Rattle.json.specs.Value.{items_view, members_view, value_view};
+ghost use Rattle.cedar_below.specs.EntityUID.{uid_of};
+ghost use Rattle.cedar_below.specs.Name.{plain_name};
+ghost use Rattle.cedar_below.specs.RestrictedExpr.{tree_of, trees_of};
+ghost use Rattle.cedar_json.specs.Fields.{text_held};
+ghost use Rattle.cedar_json.specs.Place.{IsTrueOf};
+ghost use Rattle.cedar_json.specs.ValueFormat.{call_in, pairs_of, sole_held, uid_in, value_of, values_of, written_exprs};
+ghost use Rattle.cedar_json.specs.WholeNumber.{whole_number};
+ghost use Rattle.cedar_json.specs.WrittenName.{plain_name_in};
+
+use crate::fault::{Fault, FaultKind, Row, Wanted};
+use crate::fields::{check_fields, field, text_field};
+use crate::spelling::read_plain_name;
+use cedar_below::{Eid, EntityType, EntityUID, Name, RestrictedExpr, put};
+use json::Value;
+use std::alloc::Global;
+use std::collections::BTreeMap;
+
+/// The whole number of 64 bits that a number is.
+fn whole_number(value: &Value<'_>) -> Option<i64>
+    ensures { result ≡ option_and_then whole_number (as_number (value_view value.now)) }
+{
+    let text = value.as_number()?;
+    if text == "-0" {
+        return None;
+    }
+    value.as_i64()
+}
+
+/// What the one member of an object holds, where its key is the name.
+fn sole<'v, 'a>(members: &'v Vec<(&'a str, Value<'a>)>, name: &str) -> Option<&'v Value<'a>>
+    ensures { option_map (λ held. value_view held.now) result
+        ≡ sole_held name.now (members_view members.now.items) }
+{
+    if members.len() != 1 {
+        return None;
+    }
+    let member = &members[0];
+    if member.0 == name {
+        Some(&member.1)
+    } else {
+        None
+    }
+}
+
+/// The name that isn't reserved which a field spells.
+fn plain_name_field(alloc: Global, value: &Value<'_>, name: &'static str) -> Result<Name, Fault>
+    ensures value { MatchResult result
+        (λ found. option_and_then plain_name_in (text_held name.now (value_view value.now))
+        ≡ Some (plain_name found))
+        (λ fault. fault ≢ Fault.Memory
+        → option_and_then plain_name_in (text_held name.now (value_view value.now)) ≡ None) }
+    ensures place { IfErr result (λ fault. IsTrueOf fault (value_view value.now)) }
+{
+    let text = text_field(alloc, value, name)?;
+    match read_plain_name(alloc, text) {
+        Ok(found) => Ok(found),
+        Err(fault) => Err(fault.within(name)),
+    }
+}
+
+/// The uid that a value describes.
+fn read_uid(alloc: Global, value: &Value<'_>) -> Result<EntityUID, Fault>
+    ensures value { MatchResult result
+        (λ uid. uid_in (value_view value.now) ≡ Some (uid_of uid))
+        (λ fault. fault ≢ Fault.Memory → uid_in (value_view value.now) ≡ None) }
+    ensures place { IfErr result (λ fault. IsTrueOf fault (value_view value.now)) }
+{
+    check_fields(alloc, value, Row::OfEntityUid)?;
+    let name = plain_name_field(alloc, value, "type")?;
+    let id = text_field(alloc, value, "id")?;
+    let eid = Eid(String::from_str(alloc, id)?);
+    Ok(EntityUID::new(EntityType::new(name), eid, None))
+}
+
+/// The value that a JSON value describes.
+#[cycle(value_reading)]
+pub(crate) fn read_expr(alloc: Global, value: &Value<'_>) -> Result<RestrictedExpr, Fault>
+    ensures value { MatchResult result
+        (λ expr. value_of (value_view value.now) ≡ Some (tree_of expr))
+        (λ fault. fault ≢ Fault.Memory → value_of (value_view value.now) ≡ None) }
+    ensures place { IfErr result (λ fault. IsTrueOf fault (value_view value.now)) }
+{
+    match value {
+        Value::Null => Err(Fault::here(alloc, FaultKind::Wants(Wanted::NoNull))),
+        Value::Bool(flag) => Ok(RestrictedExpr::Bool(*flag)),
+        Value::Number(_) => match whole_number(value) {
+            Some(number) => Ok(RestrictedExpr::Long(number)),
+            None => Err(Fault::here(alloc, FaultKind::NoLong)),
+        },
+        Value::String(text) => Ok(RestrictedExpr::String(String::from_str(alloc, *text)?)),
+        Value::Array(items) => Ok(RestrictedExpr::Set(read_exprs(alloc, items)?)),
+        Value::Object(members) => read_object(alloc, members),
+    }
+}
+
+/// The values that some items describe.
+#[cycle(value_reading)]
+fn read_exprs(alloc: Global, items: &Vec<Value<'_>>) -> Result<Vec<RestrictedExpr>, Fault>
+    ensures value { MatchResult result
+        (λ exprs. values_of (items_view items.now.items) ≡ Some (trees_of exprs.items))
+        (λ fault. fault ≢ Fault.Memory → values_of (items_view items.now.items) ≡ None) }
+    ensures place { IfErr result (λ fault. IsTrueOf fault (array (items_view items.now.items))) }
+{
+    let mut exprs = Vec::new(alloc);
+    for (index, item) in items.iter().enumerate() {
+        match read_expr(alloc, item) {
+            Ok(expr) => exprs.push(expr)?,
+            Err(fault) => return Err(fault.in_item(index)),
+        }
+    }
+    Ok(exprs)
+}
+
+/// The value that an object describes.
+#[cycle(value_reading)]
+fn read_object<'a>(
+    alloc: Global,
+    members: &Vec<(&'a str, Value<'a>)>,
+) -> Result<RestrictedExpr, Fault>
+    ensures value { MatchResult result
+        (λ expr. value_of (object (members_view members.now.items)) ≡ Some (tree_of expr))
+        (λ fault. fault ≢ Fault.Memory → value_of (object (members_view members.now.items))
+        ≡ None) }
+    ensures place { IfErr result
+        (λ fault. IsTrueOf fault (object (members_view members.now.items))) }
+{
+    if let Some(held) = sole(members, "__entity") {
+        return match read_uid(alloc, held) {
+            Ok(uid) => Ok(RestrictedExpr::EntityUid(uid)),
+            Err(fault) => Err(fault.within("__entity")),
+        };
+    }
+    if let Some(held) = sole(members, "__extn") {
+        return match read_call(alloc, held) {
+            Ok(call) => Ok(call),
+            Err(fault) => Err(fault.within("__extn")),
+        };
+    }
+    Ok(RestrictedExpr::Record(read_pairs(alloc, members)?))
+}
+
+/// The call that a value describes.
+#[cycle(value_reading)]
+fn read_call(alloc: Global, value: &Value<'_>) -> Result<RestrictedExpr, Fault>
+    ensures value { MatchResult result
+        (λ expr. call_in (value_view value.now) ≡ Some (tree_of expr))
+        (λ fault. fault ≢ Fault.Memory → call_in (value_view value.now) ≡ None) }
+    ensures place { IfErr result (λ fault. IsTrueOf fault (value_view value.now)) }
+{
+    check_fields(alloc, value, Row::OfCall)?;
+    let function = plain_name_field(alloc, value, "fn")?;
+    match read_expr(alloc, field(alloc, value, "arg")?) {
+        Ok(argument) => Ok(RestrictedExpr::ExtensionCall {
+            function,
+            args: vec![in alloc; argument]?,
+        }),
+        Err(fault) => Err(fault.within("arg")),
+    }
+}
+
+/// The values that some members describe.
+#[cycle(value_reading)]
+fn read_pairs<'a>(
+    alloc: Global,
+    members: &Vec<(&'a str, Value<'a>)>,
+) -> Result<BTreeMap<String, RestrictedExpr>, Fault>
+    ensures value { MatchResult result
+        (λ all. pairs_of (members_view members.now.items) [] ≡ Some (written_exprs all))
+        (λ fault. fault ≢ Fault.Memory → pairs_of (members_view members.now.items) [] ≡ None) }
+    ensures place { IfErr result
+        (λ fault. IsTrueOf fault (object (members_view members.now.items))) }
+{
+    let mut pairs = BTreeMap::new(alloc);
+    for (index, member) in members.iter().enumerate() {
+        match read_expr(alloc, &member.1) {
+            Ok(expr) => put(&mut pairs, String::from_str(alloc, member.0)?, expr)?,
+            Err(fault) => return Err(fault.in_member(index)),
+        }
+    }
+    Ok(pairs)
+}
