@@ -10,10 +10,9 @@ const REQUESTS: &[(&str, &str, &str)] = &[
         "entity User in Group; entity Group; entity Photo in Album; entity Album; \
          action view_photo P User,Group R Photo",
         "action Action::\"view_photo\" defined; context Action::\"view_photo\" {}; descendant Album Photo; \
-         descendant Group User; entity Album standard; entity Group standard; entity Photo standard;
-         \
-         entity User standard;
-         env Group Action::\"view_photo\" Photo; env User Action::\"view_photo\" Photo",
+         descendant Group User; entity Album standard; entity Group standard; entity Photo standard; \
+         entity User standard; env Group Action::\"view_photo\" Photo; \
+         env User Action::\"view_photo\" Photo",
     ),
     (
         "two actions are for their own requests",

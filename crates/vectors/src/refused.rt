@@ -192,8 +192,8 @@ const OF_ACTIONS: &[(&str, &str, &str)] = &[
         "types of actions as parents in two namespaces",
         "entity U in Action; N: entity V in Action; action a; N: action b",
         "refused: UndeclaredEntityTypes Action or refused: UndeclaredEntityTypes N::Action or \
-         refused: UndeclaredEntityTypes Action N::Action or refused: UndeclaredEntityTypes N::Action
-         Action",
+         refused: UndeclaredEntityTypes Action N::Action or \
+         refused: UndeclaredEntityTypes N::Action Action",
     ),
     (
         "an external entity type with the base name of actions' types",
