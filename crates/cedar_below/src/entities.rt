@@ -10,10 +10,19 @@ use std::collections::BTreeMap;
 use std::collections::btree_map::Values;
 
 /// Entities by uid: at most one of each uid, in uid order.
-#[derive(Debug, Drop)]
+#[derive(Debug)]
 pub struct Entities {
     entities: BTreeMap<EntityUID, Entity>,
     ghost keyed: { IsKeyed entities },
+}
+
+// Written out: proofs of what holds entities then see one call, and nothing of their parts.
+impl Drop for Entities {
+    fn drop(self) {
+        let Entities {
+            entities: _entities,
+        } = self;
+    }
 }
 
 impl Entities {

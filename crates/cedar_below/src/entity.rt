@@ -13,12 +13,24 @@ use std::collections::btree_set::Iter;
 use std::collections::{BTreeMap, BTreeSet};
 
 /// An entity: its uid, its attributes, its tags, and the uids of its ancestors.
-#[derive(Debug, Drop)]
+#[derive(Debug)]
 pub struct Entity {
     uid: EntityUID,
     attrs: BTreeMap<String, Value>,
     tags: BTreeMap<String, Value>,
     ancestors: BTreeSet<EntityUID>,
+}
+
+// Written out: proofs of what holds entities then see one call, and nothing of their parts.
+impl Drop for Entity {
+    fn drop(self) {
+        let Entity {
+            uid: _uid,
+            attrs: _attrs,
+            tags: _tags,
+            ancestors: _ancestors,
+        } = self;
+    }
 }
 
 impl Entity {

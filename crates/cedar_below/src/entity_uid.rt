@@ -25,13 +25,24 @@ use std::fmt;
 ///
 /// Equality, order and hash ignore the location, and whether the uid is shared. Uids order by type,
 /// and then by the id's bytes.
-#[derive(Debug, Drop)]
+#[derive(Debug)]
 #[derive_where(PartialEq, Eq, PartialOrd, Ord, Hash)]
 pub struct EntityUID {
     ty: EntityType,
     eid: Held<Eid>,
     #[derive_where(skip(EqHashOrd))]
     loc: Option<Loc>,
+}
+
+// Written out: proofs of what holds uids then see one call, and nothing of their parts.
+impl Drop for EntityUID {
+    fn drop(self) {
+        let EntityUID {
+            ty: _ty,
+            eid: _eid,
+            loc: _,
+        } = self;
+    }
 }
 
 /// Why a text without quotes is not the beginning of a uid, or not all that stands before its id.
@@ -82,10 +93,11 @@ impl EntityUID {
         ensures shared { IfOk result (λ shared. IsTrue (is_uid_shared shared)) }
     {
         let alloc = *self.eid.value().0.allocator();
+        let EntityUID { ty, eid, loc } = self;
         Ok(EntityUID {
-            ty: self.ty.into_shared()?,
-            eid: self.eid.into_shared(alloc)?,
-            loc: self.loc,
+            ty: ty.into_shared()?,
+            eid: eid.into_shared(alloc)?,
+            loc,
         })
     }
 

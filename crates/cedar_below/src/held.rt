@@ -24,7 +24,6 @@ enum Form<T> {
 /// A value that has one owner, or is shared by several.
 ///
 /// Equality, order, hash and `Debug` are those of the value, whatever the form.
-#[derive(Drop)]
 pub struct Held<T> {
     form: Form<T>,
 }
@@ -35,6 +34,13 @@ impl<T> Model for Held<T> {
     ghost Value = { Kept T };
 
     ghost view = { λ held. kept held.form };
+}
+
+// Written out: proofs see one call where a derived drop shows them each form.
+impl<T: Drop> Drop for Held<T> {
+    fn drop(self) {
+        let Held { form: _form } = self;
+    }
 }
 
 impl<T> Held<T> {
@@ -65,7 +71,8 @@ impl<T: Drop> Held<T> {
         ensures value { IfOk result (λ shared. shared.value ≡ self.value) }
         ensures form { IfOk result (λ shared. shared.is_shared ≡ true) }
     {
-        match self.form {
+        let Held { form } = self;
+        match form {
             Form::Owned(value) => Ok(Held {
                 form: Form::Shared(Rc::new(alloc, value)?),
             }),
@@ -80,7 +87,8 @@ impl<T: Drop> Held<T> {
         ensures owned { self.is_shared ≡ false → result ≡ Some self.value }
         ensures shared { self.is_shared ≡ true → result ≡ None }
     {
-        match self.form {
+        let Held { form } = self;
+        match form {
             Form::Owned(value) => Some(value),
             Form::Shared(_) => None,
         }

@@ -23,12 +23,21 @@ pub(crate) struct NameParts {
 ///
 /// Equality, order and hash ignore the location, and whether the name is shared. Names order by
 /// base name, and then by path.
-#[derive(Drop)]
 #[derive_where(PartialEq, Eq, PartialOrd, Ord, Hash)]
 pub struct InternalName {
     parts: Held<NameParts>,
     #[derive_where(skip(EqHashOrd))]
     loc: Option<Loc>,
+}
+
+// Written out: proofs of what holds names then see one call, and nothing of their parts.
+impl Drop for InternalName {
+    fn drop(self) {
+        let InternalName {
+            parts: _parts,
+            loc: _,
+        } = self;
+    }
 }
 
 /// Equal identifiers in the same order.
@@ -86,9 +95,10 @@ impl InternalName {
         ensures shared { IfOk result (λ shared. IsTrue (is_name_shared shared)) }
     {
         let alloc = *self.parts.value().path.allocator();
+        let InternalName { parts, loc } = self;
         Ok(InternalName {
-            parts: self.parts.into_shared(alloc)?,
-            loc: self.loc,
+            parts: parts.into_shared(alloc)?,
+            loc,
         })
     }
 
@@ -119,7 +129,8 @@ impl InternalName {
         ensures loc { name_loc result ≡ loc }
         ensures shared { is_name_shared result ≡ is_name_shared self }
     {
-        InternalName { loc, ..self }
+        let InternalName { parts, loc: _ } = self;
+        InternalName { parts, loc }
     }
 
     /// Whether the path is empty.

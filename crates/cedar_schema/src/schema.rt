@@ -43,7 +43,6 @@ use std::collections::BTreeMap;
 /// An entity type or an action is located where it is defined, or else where an external
 /// declaration of it stands, and so is whatever lends its name. Equality ignores locations, and
 /// what is shown of fragments.
-#[derive(Drop)]
 #[derive_where(Debug, PartialEq, Eq)]
 pub struct ValidatorSchema {
     pub(crate) entity_types: BTreeMap<EntityType, ValidatorEntityType>,
@@ -69,6 +68,19 @@ pub struct ValidatorSchema {
         (entities_of action_entities)) ∥₁ },
     ghost types_located: { types.AreLocatedAsKeys entity_types.entries },
     ghost actions_located: { action.AreLocatedAsKeys action_ids.entries },
+}
+
+// Written out: proofs of what holds a schema then see one call, and nothing of their parts.
+impl Drop for ValidatorSchema {
+    fn drop(self) {
+        let ValidatorSchema {
+            entity_types: _entity_types,
+            action_ids: _action_ids,
+            action_entities: _action_entities,
+            environments: _environments,
+            located: _located,
+        } = self;
+    }
 }
 
 impl ValidatorSchema {
@@ -395,16 +407,23 @@ impl ValidatorSchema {
         ensures keys { IfOk result (λ schema.
             AreKeysLocated (schema_entries schema) (action_entries schema)) }
     {
+        let ValidatorSchema {
+            entity_types,
+            action_ids,
+            action_entities: _entities,
+            environments: _environments,
+            located,
+        } = self;
         let Validated {
             entity_types,
             actions,
             action_entities,
-        } = validate(alloc, self.entity_types, self.action_ids, extensions)?;
+        } = validate(alloc, entity_types, action_ids, extensions)?;
         let parts = SchemaParts {
             entity_types,
             actions,
             action_entities,
-            located: self.located,
+            located,
         };
         Ok(ValidatorSchema::from_parts(alloc, parts)?)
     }

@@ -15,7 +15,6 @@ use std::default::Emptied;
 /// An action of a schema: it is for some requests, or it is external.
 ///
 /// Equality ignores the location.
-#[derive(Drop)]
 #[derive_where(Debug, PartialEq, Eq)]
 pub struct ValidatorActionId {
     pub(crate) name: EntityUID,
@@ -27,6 +26,19 @@ pub struct ValidatorActionId {
     #[derive_where(skip)]
     no_types: HashSet<EntityType>,
     ghost without_types: { hash_set_len no_types ≡ 0 },
+}
+
+// Written out: proofs of what holds actions then see one call, and nothing of their parts.
+impl Drop for ValidatorActionId {
+    fn drop(self) {
+        let ValidatorActionId {
+            name: _name,
+            kind: _kind,
+            descendants: _descendants,
+            loc: _,
+            no_types: _no_types,
+        } = self;
+    }
 }
 
 impl ValidatorActionId {

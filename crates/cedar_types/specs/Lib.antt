@@ -8,4 +8,5 @@ pub mod Located
 pub mod Meaning
 pub mod MembershipAnswer
 pub mod Samples
+pub mod TypesInOrder
 pub mod WellFormedTypes

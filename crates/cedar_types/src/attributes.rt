@@ -29,10 +29,18 @@ use std::rc::Rc;
 /// The attributes of a record type or an entity type by name, in the names' order.
 ///
 /// Copies share them.
-#[derive(Debug, Drop, PartialEq, Eq, PartialOrd, Ord, Hash)]
+#[derive(Debug, PartialEq, Eq, PartialOrd, Ord, Hash)]
 #[cycle(types)]
 pub struct Attributes {
     pub(crate) attrs: Rc<ByName<AttributeType>>,
+}
+
+// Written out: proofs of what holds attributes then see one call, and nothing of their parts.
+impl Drop for Attributes {
+    #[cycle(types)]
+    fn drop(self) {
+        let Attributes { attrs: _attrs } = self;
+    }
 }
 
 /// An attribute: the type of its values, and whether it has to be there.

@@ -1,9 +1,10 @@
 //! Unions of entity types.
 
 ghost use Rattle.std.specs.Prelude.{◌≡◌, ◌≢◌, ◌++◌, [], length, map, true, IfOk};
-ghost use Rattle.std.specs.List.Sorted.{IsPermutation, IsSorted, IsStrictlySortedBy, IsStrictlySortedBy-prop};
+ghost use Rattle.std.specs.List.Sorted.{IsPermutation, IsSorted, IsStrictlySortedBy};
 ghost use Rattle.cedar_below.specs.EntityType.{type_name};
 ghost use Rattle.cedar_below.specs.PlainName.{name_cmp};
+ghost use Rattle.cedar_types.specs.TypesInOrder.{AreInOrder, AreInOrder-prop};
 
 use cedar_below::{EntityType, Held, M};
 use itertools::Itertools;
@@ -13,13 +14,21 @@ use std::slice;
 
 /// A union of entity types: a nonempty set of them, in order and without repeats. Several are
 /// shared, so that a copy of their union is a count.
-#[derive(Debug, Drop, PartialEq, Eq, PartialOrd, Ord, Hash)]
+#[derive(Debug, PartialEq, Eq, PartialOrd, Ord, Hash)]
 pub struct EntityLUB {
     lub_elements: Held<Vec<EntityType>>,
     ghost nonempty: { lub_elements.value.items ≢ [] },
-    ghost sorted_by_name: { IsStrictlySortedBy name_cmp
-        (map type_name lub_elements.value.items) } by { IsStrictlySortedBy-prop name_cmp (map type_name lub_elements.value.items) },
+    ghost sorted_by_name: { AreInOrder lub_elements.value.items } by { AreInOrder-prop lub_elements.value.items },
     ghost single_owned: { lub_elements.is_shared ≡ true → length lub_elements.value.items ≢ 1 },
+}
+
+// Written out: proofs of what holds unions then see one call, and nothing of their parts.
+impl Drop for EntityLUB {
+    fn drop(self) {
+        let EntityLUB {
+            lub_elements: _lub_elements,
+        } = self;
+    }
 }
 
 /// Equal entity types in the same order.
@@ -123,7 +132,8 @@ impl EntityLUB {
         ensures name { option_map type_name result ≡ only_name (lub_names self) }
         ensures ty { result ≡ only_type (lub_types self) }
     {
-        let mut types = self.lub_elements.into_owned()?;
+        let EntityLUB { lub_elements } = self;
+        let mut types = lub_elements.into_owned()?;
         if types.len() == 1 { types.pop() } else { None }
     }
 

@@ -1,6 +1,6 @@
 //! Schemas as sorted lines of text.
 #![tactic(auto)]
 
-pub use lines::{lines_of, uid_text};
+pub use lines::{escaped, escaped_lines_of, lines_of, uid_text};
 
 mod lines;

@@ -19,10 +19,20 @@ use std::fmt;
 /// a type.
 ///
 /// Equality and hash ignore the locations of the names.
-#[derive(Debug, Drop, PartialEq, Eq, Hash)]
+#[derive(Debug, PartialEq, Eq, Hash)]
 pub struct ConditionalName {
     possibilities: NonEmpty<InternalName>,
     reference_type: ReferenceType,
+}
+
+// Written out: proofs of what holds references then see one call, and nothing of their parts.
+impl Drop for ConditionalName {
+    fn drop(self) {
+        let ConditionalName {
+            possibilities: _possibilities,
+            reference_type: _,
+        } = self;
+    }
 }
 
 /// Equal names in the same order with the same locations.
@@ -76,7 +86,11 @@ impl ConditionalName {
         ensures names { names_of result ≡ possibilities_of self }
         ensures locs { locs_of result ≡ possibility_locs self }
     {
-        self.possibilities
+        let ConditionalName {
+            possibilities,
+            reference_type: _,
+        } = self;
+        possibilities
     }
 
     /// What kind of type the reference may name.

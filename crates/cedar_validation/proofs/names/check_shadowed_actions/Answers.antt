@@ -33,22 +33,6 @@ loop-uid-preserved c =
     (ap (λ (it : PlainName). it.path) c.new-plain.ensures.ty ∙ c.in_ok-ty.ensures.path)
     (c.new-plain.ensures.eid ∙ (c.in_ok-clone.ensures ∙ c.eid.ensures)) absent)
 
-pub loop-uid-preserved-else-contains_key : goal.loop-uid-preserved-else-contains_key
-loop-uid-preserved-else-contains_key c =
-    let parts = c.args.parts.now in
-    let actions = parts.actions.entries in
-    let key = c.in-Some.uid.now in
-    let plain = c.new-plain.result in
-    let among = checking_here (ShadowsNoAction parts) (keys_of actions) _ _ key c.in-Some.ensures.steps c.loop-uid.invariant in
-    let absent = λ (there : HasAction (plain_parts parts) (uid_of plain)).
-    false≢true (sym c.if-contains_key.false ∙ (c.contains_key.ensures ∙ (action_stands actions plain).1 there)) in
-    checking_more (ShadowsNoAction parts) (keys_of actions) _ _ key c.in-Some.ensures.steps c.loop-uid.invariant
-    (no_action_shadows parts key (uid_of plain) (key_with_uid actions key among)
-    (ap (λ (it : PlainName). it.base) c.new-plain.ensures.ty ∙ (c.in_ok-ty.ensures.base
-    ∙ ap (λ (it : PlainName). it.base) c.entity_type-in-loop-uid.ensures.name))
-    (ap (λ (it : PlainName). it.path) c.new-plain.ensures.ty ∙ c.in_ok-ty.ensures.path)
-    (c.new-plain.ensures.eid ∙ (c.in_ok-clone.ensures ∙ c.eid.ensures)) absent)
-
 pub loop-uid-preserved-then-is_unqualified : goal.loop-uid-preserved-then-is_unqualified
 loop-uid-preserved-then-is_unqualified c =
     let parts = c.args.parts.now in

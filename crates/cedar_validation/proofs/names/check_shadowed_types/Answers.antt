@@ -27,16 +27,6 @@ loop-name-preserved c =
     c.loop-name.invariant
     (no_type_shadows parts c.in-Some.name.now (type_name c.in_ok-plain.plain) c.in_ok-plain.ensures.base c.in_ok-plain.ensures.path absent)
 
-pub loop-name-preserved-else-contains_key : goal.loop-name-preserved-else-contains_key
-loop-name-preserved-else-contains_key c =
-    let parts = c.args.parts.now in
-    let absent = λ (there : HasEntityType (plain_parts parts) (type_name c.in_ok-plain.plain)).
-    false≢true (sym c.if-contains_key.false
-    ∙ (c.contains_key.ensures ∙ (type_stands parts.entity_types.entries c.in_ok-plain.plain).1 there)) in
-    checking_more (ShadowsNoType parts) (keys_of parts.entity_types.entries) _ _ c.in-Some.name.now c.in-Some.ensures.steps
-    c.loop-name.invariant
-    (no_type_shadows parts c.in-Some.name.now (type_name c.in_ok-plain.plain) c.in_ok-plain.ensures.base c.in_ok-plain.ensures.path absent)
-
 pub loop-name-preserved-then-is_unqualified : goal.loop-name-preserved-then-is_unqualified
 loop-name-preserved-then-is_unqualified c =
     let parts = c.args.parts.now in
