@@ -23,7 +23,7 @@ is_among_append key (x ∷ xs) ys =
     ap (λ b. bytes_eq key x || b) (is_among_append key xs ys) ∙ sym (or_assoc (bytes_eq key x) (is_among key xs) (is_among key ys))
 
 -- the member at an index of some members
-nth_member-view : (xs : List (Bor Text × Value Global)) (index : ℕ) (x : Bor Text × Value Global) → index < length xs
+pub nth_member-view : (xs : List (Bor Text × Value Global)) (index : ℕ) (x : Bor Text × Value Global) → index < length xs
     → nth_member index (members_view xs) ≡ Some ((get_or xs index x).0.now, value_view (get_or xs index x).1)
 nth_member-view [] index x within = absurd (omega (arith, within))
 nth_member-view (first ∷ rest) zero x within = refl

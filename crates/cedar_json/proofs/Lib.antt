@@ -1,6 +1,8 @@
 pub mod ActionLemmas
 pub mod DefinitionLemmas
+pub mod ExtensionLemmas
 pub mod FieldLemmas
+pub mod KeyLemmas
 pub mod ListLemmas
 pub mod MapLemmas
 pub mod NameLemmas

@@ -149,53 +149,55 @@ module _ (all : List (Value Global)) (index : ℕ) (x : Value Global) (exprs : L
 abbrev Held : Type 0
 Held = Bor Text × Value Global
 
-abbrev Entries : Type 0
-Entries = List (String Global × RestrictedExpr)
-
--- what pairs stand for
-abbrev pub shown : Entries → Pairs
-shown entries = map (λ entry. (string_bytes entry.0, tree_of entry.1)) entries
-
-pub pairs_of-member : (key : Text) (j : Json) (rest : Members) (pairs : Pairs)
-    → pairs_of (member key j rest) pairs ≡ option_and_then (λ value. pairs_of rest (insert_entry text_cmp pairs key value)) (value_of j)
+pub pairs_of-member : (key : Text) (j : Json) (others : Members) (pairs : Pairs)
+    → pairs_of (member key j others) pairs ≡ option_and_then (λ value. pairs_of others (insert_entry text_cmp pairs key value)) (value_of j)
 unfolding value_of
-pairs_of-member key j rest pairs = refl
+pairs_of-member key j others pairs = refl
 
 pub pairs_of-none : (pairs : Pairs) → pairs_of no_members pairs ≡ Some pairs
 unfolding value_of
 pairs_of-none pairs = refl
 
--- where no member is left, all were read
-pub all_pairs : (xs all : List Held) (index : ℕ) (entries : Entries) → xs ≡ all → length xs ≤ index
-    → pairs_of (members_view all) [] ≡ pairs_of (members_view (drop index all)) (shown entries)
-    → pairs_of (members_view all) [] ≡ Some (shown entries)
-all_pairs xs all index entries same end so_far =
-    so_far ∙ ap (λ ys. pairs_of (members_view (drop index ys)) (shown entries)) (sym same)
-    ∙ ap (λ ys. pairs_of (members_view ys) (shown entries)) (drop_of_length-le xs end)
-    ∙ pairs_of-none (shown entries)
+-- over values of some form, each with the tree that it stands for
+module _ {X : Type 0} (tree_for : X → Tree) where
+  abbrev Entries : Type 0
+  Entries = List (String Global × X)
 
--- at a member
-module _ (all : List Held) (index : ℕ) (x : Held) (entries : Entries) (here : drop index all ≡ x ∷ drop (index + 1) all)
-    (so_far : pairs_of (members_view all) [] ≡ pairs_of (members_view (drop index all)) (shown entries)) where
-  abbrev put_before : Option Tree → Option Pairs
-  put_before = option_and_then (λ value. pairs_of (members_view (drop (index + 1) all)) (insert_entry text_cmp (shown entries) x.0.now value))
+  -- what pairs stand for
+  abbrev pub shown : Entries → Pairs
+  shown entries = map (λ entry. (string_bytes entry.0, tree_for entry.1)) entries
 
-  pair_step : pairs_of (members_view all) [] ≡ put_before (value_of (value_view x.1))
-  pair_step = so_far ∙ ap (λ ys. pairs_of (members_view ys) (shown entries)) here
-      ∙ pairs_of-member x.0.now (value_view x.1) (members_view (drop (index + 1) all)) (shown entries)
+  -- where no member is left, all were read
+  pub all_pairs : (xs all : List Held) (index : ℕ) (entries : Entries) → xs ≡ all → length xs ≤ index
+      → pairs_of (members_view all) [] ≡ pairs_of (members_view (drop index all)) (shown entries)
+      → pairs_of (members_view all) [] ≡ Some (shown entries)
+  all_pairs xs all index entries same end so_far =
+      so_far ∙ ap (λ ys. pairs_of (members_view (drop index ys)) (shown entries)) (sym same)
+      ∙ ap (λ ys. pairs_of (members_view ys) (shown entries)) (drop_of_length-le xs end)
+      ∙ pairs_of-none (shown entries)
 
-  pub no_pair : value_of (value_view x.1) ≡ None → pairs_of (members_view all) [] ≡ None
-  no_pair e = pair_step ∙ ap put_before e
+  -- at a member
+  module _ (all : List Held) (index : ℕ) (x : Held) (entries : Entries) (here : drop index all ≡ x ∷ drop (index + 1) all)
+      (so_far : pairs_of (members_view all) [] ≡ pairs_of (members_view (drop index all)) (shown entries)) where
+    abbrev put_before : Option Tree → Option Pairs
+    put_before = option_and_then (λ value. pairs_of (members_view (drop (index + 1) all)) (insert_entry text_cmp (shown entries) x.0.now value))
 
-  pub pair_more : (key : String Global) (expr : RestrictedExpr) (new : Entries) → value_of (value_view x.1) ≡ Some (tree_of expr)
-      → string_bytes key ≡ x.0.now → new ≡ insert_entry string_cmp entries key expr
-      → pairs_of (members_view all) [] ≡ pairs_of (members_view (drop (index + 1) all)) (shown new)
-  pair_more key expr new is named grown =
-      pair_step ∙ ap put_before is
-      ∙ ap (λ name. pairs_of (members_view (drop (index + 1) all)) (insert_entry text_cmp (shown entries) name (tree_of expr))) (sym named)
-      ∙ ap (pairs_of (members_view (drop (index + 1) all)))
-      (sym (seen-insert string_cmp text_cmp string_bytes tree_of (λ a b. refl) entries key expr))
-      ∙ ap (λ es. pairs_of (members_view (drop (index + 1) all)) (shown es)) (sym grown)
+    pair_step : pairs_of (members_view all) [] ≡ put_before (value_of (value_view x.1))
+    pair_step = so_far ∙ ap (λ ys. pairs_of (members_view ys) (shown entries)) here
+        ∙ pairs_of-member x.0.now (value_view x.1) (members_view (drop (index + 1) all)) (shown entries)
+
+    pub no_pair : value_of (value_view x.1) ≡ None → pairs_of (members_view all) [] ≡ None
+    no_pair e = pair_step ∙ ap put_before e
+
+    pub pair_more : (key : String Global) (value : X) (new : Entries) → value_of (value_view x.1) ≡ Some (tree_for value)
+        → string_bytes key ≡ x.0.now → new ≡ insert_entry string_cmp entries key value
+        → pairs_of (members_view all) [] ≡ pairs_of (members_view (drop (index + 1) all)) (shown new)
+    pair_more key value new is named grown =
+        pair_step ∙ ap put_before is
+        ∙ ap (λ name. pairs_of (members_view (drop (index + 1) all)) (insert_entry text_cmp (shown entries) name (tree_for value))) (sym named)
+        ∙ ap (pairs_of (members_view (drop (index + 1) all)))
+        (sym (seen-insert string_cmp text_cmp string_bytes tree_for (λ a b. refl) entries key value))
+        ∙ ap (λ es. pairs_of (members_view (drop (index + 1) all)) (shown es)) (sym grown)
 
 value_of-null : value_of null ≡ None
 unfolding value_of
@@ -261,7 +263,7 @@ number_read whole fits =
     ∙ (let e : tree_of (roll-RestrictedExpr (layer.Long whole)) ≡ number_value whole =
     fold-roll-RestrictedExpr Tree tree_step (layer.Long whole) in e))
 
-pub record_read : (pairs : BTreeMap (String Global) RestrictedExpr) → record_of_pairs (shown pairs.entries) ≡ tree_of (expr.Record pairs)
+pub record_read : (pairs : BTreeMap (String Global) RestrictedExpr) → record_of_pairs (shown tree_of pairs.entries) ≡ tree_of (expr.Record pairs)
 record_read pairs = sym (tree_of-record pairs)
 
 -- a call by its fields

@@ -1,9 +1,13 @@
 pub mod ActionFormat
+pub mod CedarExtensions
 pub mod DefinitionFormat
 pub mod EntityFormat
+pub mod ExtensionRows
 pub mod Fields
 pub mod Lists
+pub mod Nesting
 pub mod Place
+pub mod Repeats
 pub mod TextFormat
 pub mod TypeFormat
 pub mod ValueFormat

@@ -1,5 +1,5 @@
 -- Names and identifiers as texts spell them.
-use Rattle.std.specs.Prelude.{ℕ, Bool, false, not, ◌==◌, ◌&&◌, ◌||◌, List, [], ◌∷◌, Option, Some, None, option_map, option_and_then, cond}
+use Rattle.std.specs.Prelude.{ℕ, Bool, not, ◌==◌, ◌&&◌, ◌||◌, List, [], ◌∷◌, Option, Some, None, option_map, option_and_then, cond}
 use Rattle.std.specs.Str.{bytes_eq}
 use Rattle.cedar_below.specs.Identifier.{is_identifier_text, reserved_word}
 use Rattle.cedar_below.specs.PlainName.{PlainName}

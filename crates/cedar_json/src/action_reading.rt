@@ -16,6 +16,7 @@ use crate::annotations::check_annotations;
 use crate::entity_reading::{read_reference, read_references, shape_field};
 use crate::fault::{Fault, FaultKind, Row, Wanted};
 use crate::fields::{array_items, check_fields, field, flag_field, members_of, text_field};
+use crate::place_table::Cursor;
 use crate::value_reading::read_expr;
 use cedar_below::{Value as CedarValue, put};
 use cedar_names::json_schema::{ActionEntityUID, ActionType, ApplySpec, RawName};
@@ -35,7 +36,11 @@ fn written<'v, 'a>(value: &'v Value<'a>, name: &str) -> Option<&'v Value<'a>>
 }
 
 /// The name of a parent's type that the field `type` spells, or None where it is absent.
-fn parent_type_field(alloc: Global, value: &Value<'_>) -> Result<Option<RawName>, Fault>
+fn parent_type_field(
+    alloc: Global,
+    value: &Value<'_>,
+    cursor: Cursor<'_>,
+) -> Result<Option<RawName>, Fault>
     ensures value { MatchResult result
         (λ ty. optional entity_reference (get (codes "type") (value_view value.now))
         ≡ Some (option_map (raw_reference None Entity) ty))
@@ -45,7 +50,7 @@ fn parent_type_field(alloc: Global, value: &Value<'_>) -> Result<Option<RawName>
 {
     match written(value, "type") {
         None => Ok(None),
-        Some(held) => match read_reference(alloc, held) {
+        Some(held) => match read_reference(alloc, held, cursor.field(value, "type")) {
             Ok(name) => Ok(Some(name)),
             Err(fault) => Err(fault.within("type")),
         },
@@ -53,7 +58,11 @@ fn parent_type_field(alloc: Global, value: &Value<'_>) -> Result<Option<RawName>
 }
 
 /// The parent that a value describes.
-fn read_parent(alloc: Global, value: &Value<'_>) -> Result<ActionEntityUID<RawName>, Fault>
+fn read_parent(
+    alloc: Global,
+    value: &Value<'_>,
+    cursor: Cursor<'_>,
+) -> Result<ActionEntityUID<RawName>, Fault>
     ensures value { MatchResult result
         (λ it. parent_of (value_view value.now) ≡ Some (written_parent it))
         (λ fault. fault ≢ Fault.Memory → parent_of (value_view value.now) ≡ None) }
@@ -61,11 +70,11 @@ fn read_parent(alloc: Global, value: &Value<'_>) -> Result<ActionEntityUID<RawNa
 {
     check_fields(alloc, value, Row::OfParent)?;
     let text = text_field(alloc, value, "id")?;
-    let ty = parent_type_field(alloc, value)?;
+    let ty = parent_type_field(alloc, value, cursor)?;
     Ok(ActionEntityUID {
         id: String::from_str(alloc, text)?,
         ty,
-        loc: None,
+        loc: cursor.loc(),
     })
 }
 
@@ -73,6 +82,7 @@ fn read_parent(alloc: Global, value: &Value<'_>) -> Result<ActionEntityUID<RawNa
 fn read_parent_items(
     alloc: Global,
     items: &Vec<Value<'_>>,
+    cursor: Cursor<'_>,
 ) -> Result<Vec<ActionEntityUID<RawName>>, Fault>
     ensures value { MatchResult result
         (λ parents. all_of parent_of (items_view items.now.items)
@@ -81,30 +91,37 @@ fn read_parent_items(
     ensures place { IfErr result (λ fault. IsTrueOf fault (array (items_view items.now.items))) }
 {
     let mut parents = Vec::new(alloc);
+    let mut at = cursor.first();
     for (index, item) in items.iter().enumerate() {
-        match read_parent(alloc, item) {
+        match read_parent(alloc, item, at) {
             Ok(parent) => parents.push(parent)?,
             Err(fault) => return Err(fault.in_item(index)),
         }
+        at = at.next();
     }
     Ok(parents)
 }
 
 /// The parents that an array lists.
-fn read_parents(alloc: Global, value: &Value<'_>) -> Result<Vec<ActionEntityUID<RawName>>, Fault>
+fn read_parents(
+    alloc: Global,
+    value: &Value<'_>,
+    cursor: Cursor<'_>,
+) -> Result<Vec<ActionEntityUID<RawName>>, Fault>
     ensures value { MatchResult result
         (λ parents. parents_of (value_view value.now) ≡ Some (map written_parent parents.items))
         (λ fault. fault ≢ Fault.Memory → parents_of (value_view value.now) ≡ None) }
     ensures place { IfErr result (λ fault. IsTrueOf fault (value_view value.now)) }
 {
     let items = array_items(alloc, value)?;
-    read_parent_items(alloc, items)
+    read_parent_items(alloc, items, cursor)
 }
 
 /// The groups that the field `memberOf` lists, or None where it is absent.
 fn member_of_field(
     alloc: Global,
     value: &Value<'_>,
+    cursor: Cursor<'_>,
 ) -> Result<Option<Vec<ActionEntityUID<RawName>>>, Fault>
     ensures value { MatchResult result
         (λ parents. optional parents_of (get (codes "memberOf") (value_view value.now))
@@ -115,7 +132,7 @@ fn member_of_field(
 {
     match written(value, "memberOf") {
         None => Ok(None),
-        Some(held) => match read_parents(alloc, held) {
+        Some(held) => match read_parents(alloc, held, cursor.field(value, "memberOf")) {
             Ok(parents) => Ok(Some(parents)),
             Err(fault) => Err(fault.within("memberOf")),
         },
@@ -127,6 +144,7 @@ fn references_field(
     alloc: Global,
     value: &Value<'_>,
     name: &'static str,
+    cursor: Cursor<'_>,
 ) -> Result<Vec<RawName>, Fault>
     ensures value { MatchResult result
         (λ names. option_and_then references_in (get name.now (value_view value.now))
@@ -136,23 +154,27 @@ fn references_field(
     ensures place { IfErr result (λ fault. IsTrueOf fault (value_view value.now)) }
 {
     let held = field(alloc, value, name)?;
-    match read_references(alloc, held) {
+    match read_references(alloc, held, cursor.field(value, name)) {
         Ok(names) => Ok(names),
         Err(fault) => Err(fault.within(name)),
     }
 }
 
 /// The requests that a value describes.
-fn read_requests(alloc: Global, value: &Value<'_>) -> Result<ApplySpec<RawName>, Fault>
+fn read_requests(
+    alloc: Global,
+    value: &Value<'_>,
+    cursor: Cursor<'_>,
+) -> Result<ApplySpec<RawName>, Fault>
     ensures value { MatchResult result
         (λ it. requests_of (value_view value.now) ≡ Some (written_requests it))
         (λ fault. fault ≢ Fault.Memory → requests_of (value_view value.now) ≡ None) }
     ensures place { IfErr result (λ fault. IsTrueOf fault (value_view value.now)) }
 {
     check_fields(alloc, value, Row::OfAppliesTo)?;
-    let principal_types = references_field(alloc, value, "principalTypes")?;
-    let resource_types = references_field(alloc, value, "resourceTypes")?;
-    let context = shape_field(alloc, value, "context")?;
+    let principal_types = references_field(alloc, value, "principalTypes", cursor)?;
+    let resource_types = references_field(alloc, value, "resourceTypes", cursor)?;
+    let context = shape_field(alloc, value, "context", cursor)?;
     Ok(ApplySpec {
         principal_types,
         resource_types,
@@ -161,7 +183,11 @@ fn read_requests(alloc: Global, value: &Value<'_>) -> Result<ApplySpec<RawName>,
 }
 
 /// The requests that the field `appliesTo` describes, or None where it is absent.
-fn applies_to_field(alloc: Global, value: &Value<'_>) -> Result<Option<ApplySpec<RawName>>, Fault>
+fn applies_to_field(
+    alloc: Global,
+    value: &Value<'_>,
+    cursor: Cursor<'_>,
+) -> Result<Option<ApplySpec<RawName>>, Fault>
     ensures value { MatchResult result
         (λ it. optional requests_of (get (codes "appliesTo") (value_view value.now))
         ≡ Some (option_map written_requests it))
@@ -171,7 +197,7 @@ fn applies_to_field(alloc: Global, value: &Value<'_>) -> Result<Option<ApplySpec
 {
     match written(value, "appliesTo") {
         None => Ok(None),
-        Some(held) => match read_requests(alloc, held) {
+        Some(held) => match read_requests(alloc, held, cursor.field(value, "appliesTo")) {
             Ok(it) => Ok(Some(it)),
             Err(fault) => Err(fault.within("appliesTo")),
         },
@@ -237,7 +263,11 @@ fn attributes_field(
 }
 
 /// The declaration of an action that a value describes.
-pub(crate) fn read_action(alloc: Global, value: &Value<'_>) -> Result<ActionType<RawName>, Fault>
+pub(crate) fn read_action(
+    alloc: Global,
+    value: &Value<'_>,
+    cursor: Cursor<'_>,
+) -> Result<ActionType<RawName>, Fault>
     ensures value { MatchResult result
         (λ it. action_of (value_view value.now) ≡ Some (written_action it))
         (λ fault. fault ≢ Fault.Memory → action_of (value_view value.now) ≡ None) }
@@ -246,15 +276,15 @@ pub(crate) fn read_action(alloc: Global, value: &Value<'_>) -> Result<ActionType
     check_fields(alloc, value, Row::OfAction)?;
     check_annotations(alloc, value)?;
     let attributes = attributes_field(alloc, value)?;
-    let applies_to = applies_to_field(alloc, value)?;
-    let member_of = member_of_field(alloc, value)?;
+    let applies_to = applies_to_field(alloc, value, cursor)?;
+    let member_of = member_of_field(alloc, value, cursor)?;
     let external = flag_field(alloc, value, "external", false)?;
     Ok(ActionType {
         attributes,
         applies_to,
         member_of,
         external,
-        loc: None,
-        defn_loc: None,
+        loc: cursor.key_loc(),
+        defn_loc: cursor.loc(),
     })
 }

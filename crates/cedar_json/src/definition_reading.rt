@@ -22,8 +22,9 @@ use crate::annotations::check_annotations;
 use crate::entity_reading::read_entity_type;
 use crate::fault::{Fault, FaultKind, Row, Wanted};
 use crate::fields::{check_fields, members_of, object_field};
+use crate::place_table::Cursor;
 use crate::type_reading::read_type_of;
-use cedar_below::{Name, NameFault, UnreservedId, put};
+use cedar_below::{Loc, Name, NameFault, UnreservedId, put};
 use cedar_names::json_schema::{
     ActionType, CommonType, CommonTypeId, EntityType, Fragment, NamespaceDefinition, RawName,
 };
@@ -72,8 +73,13 @@ fn read_common_key(alloc: Global, key: &str, index: usize) -> Result<CommonTypeI
     }
 }
 
-/// The namespace that the key of the member at an index names.
-fn read_namespace_key(alloc: Global, key: &str, index: usize) -> Result<Option<Name>, Fault>
+/// The namespace that the key of the member at an index names, with the location.
+fn read_namespace_key(
+    alloc: Global,
+    key: &str,
+    index: usize,
+    loc: Option<Loc>,
+) -> Result<Option<Name>, Fault>
     ensures value { MatchResult result
         (λ name. namespace_key key.now ≡ Some (option_map plain_name name))
         (λ fault. fault ≢ Fault.Memory → namespace_key key.now ≡ None) }
@@ -85,7 +91,7 @@ fn read_namespace_key(alloc: Global, key: &str, index: usize) -> Result<Option<N
         return Ok(None);
     }
     match Name::from_str(alloc, key) {
-        Ok(name) => Ok(Some(name)),
+        Ok(name) => Ok(Some(name.with_loc(loc))),
         Err(fault) => match fault {
             NameFault::Memory(_) => Err(Fault::Memory),
             NameFault::Reserved => Err(Fault::here(alloc, FaultKind::KeyIsReservedName(index))),
@@ -97,21 +103,27 @@ fn read_namespace_key(alloc: Global, key: &str, index: usize) -> Result<Option<N
 }
 
 /// The common type that a value describes.
-fn read_common_type(alloc: Global, value: &Value<'_>) -> Result<CommonType<RawName>, Fault>
+fn read_common_type(
+    alloc: Global,
+    value: &Value<'_>,
+    cursor: Cursor<'_>,
+) -> Result<CommonType<RawName>, Fault>
     ensures value { MatchResult result
         (λ it. common_type_of (value_view value.now) ≡ Some (raw_expr None it.ty))
         (λ fault. fault ≢ Fault.Memory → common_type_of (value_view value.now) ≡ None) }
     ensures place { IfErr result (λ fault. IsTrueOf fault (value_view value.now)) }
 {
     check_annotations(alloc, value)?;
-    let ty = read_type_of(alloc, value, Row::OfCommonType)?;
-    Ok(CommonType { ty, loc: None })
+    let ty = read_type_of(alloc, value, Row::OfCommonType, cursor)?;
+    let loc = cursor.key_loc();
+    Ok(CommonType { ty, loc })
 }
 
 /// The common types that some members describe.
 fn read_common_types(
     alloc: Global,
     members: &Vec<(&str, Value<'_>)>,
+    cursor: Cursor<'_>,
 ) -> Result<BTreeMap<CommonTypeId, CommonType<RawName>>, Fault>
     ensures value { MatchResult result
         (λ all. entries_of text_cmp common_key common_type_of (members_view members.now.items) []
@@ -123,12 +135,14 @@ fn read_common_types(
         (λ fault. IsTrueOf fault (object (members_view members.now.items))) }
 {
     let mut all = BTreeMap::new(alloc);
+    let mut at = cursor.first();
     for (index, member) in members.iter().enumerate() {
         let id = read_common_key(alloc, member.0, index)?;
-        match read_common_type(alloc, &member.1) {
+        match read_common_type(alloc, &member.1, at) {
             Ok(it) => put(&mut all, id, it)?,
             Err(fault) => return Err(fault.in_member(index)),
         }
+        at = at.next();
     }
     Ok(all)
 }
@@ -137,6 +151,7 @@ fn read_common_types(
 fn read_entity_types(
     alloc: Global,
     members: &Vec<(&str, Value<'_>)>,
+    cursor: Cursor<'_>,
 ) -> Result<BTreeMap<UnreservedId, EntityType<RawName>>, Fault>
     ensures value { MatchResult result
         (λ all. entries_of text_cmp id_key entity_of (members_view members.now.items) []
@@ -147,12 +162,14 @@ fn read_entity_types(
         (λ fault. IsTrueOf fault (object (members_view members.now.items))) }
 {
     let mut all = BTreeMap::new(alloc);
+    let mut at = cursor.first();
     for (index, member) in members.iter().enumerate() {
         let id = read_id_key(alloc, member.0, index)?;
-        match read_entity_type(alloc, &member.1) {
+        match read_entity_type(alloc, &member.1, at) {
             Ok(it) => put(&mut all, id, it)?,
             Err(fault) => return Err(fault.in_member(index)),
         }
+        at = at.next();
     }
     Ok(all)
 }
@@ -161,6 +178,7 @@ fn read_entity_types(
 fn read_actions(
     alloc: Global,
     members: &Vec<(&str, Value<'_>)>,
+    cursor: Cursor<'_>,
 ) -> Result<BTreeMap<String, ActionType<RawName>>, Fault>
     ensures value { MatchResult result
         (λ all. entries_of text_cmp Some action_of (members_view members.now.items) []
@@ -171,12 +189,14 @@ fn read_actions(
         (λ fault. IsTrueOf fault (object (members_view members.now.items))) }
 {
     let mut all = BTreeMap::new(alloc);
+    let mut at = cursor.first();
     for (index, member) in members.iter().enumerate() {
         let id = String::from_str(alloc, member.0)?;
-        match read_action(alloc, &member.1) {
+        match read_action(alloc, &member.1, at) {
             Ok(it) => put(&mut all, id, it)?,
             Err(fault) => return Err(fault.in_member(index)),
         }
+        at = at.next();
     }
     Ok(all)
 }
@@ -185,6 +205,7 @@ fn read_actions(
 fn common_types_field(
     alloc: Global,
     value: &Value<'_>,
+    cursor: Cursor<'_>,
 ) -> Result<BTreeMap<CommonTypeId, CommonType<RawName>>, Fault>
     ensures value { MatchResult result
         (λ all. field_or [] common_types_in (get (codes "commonTypes") (value_view value.now))
@@ -197,7 +218,7 @@ fn common_types_field(
         return Ok(BTreeMap::new(alloc));
     }
     let members = object_field(alloc, value, "commonTypes")?;
-    match read_common_types(alloc, members) {
+    match read_common_types(alloc, members, cursor.field(value, "commonTypes")) {
         Ok(all) => Ok(all),
         Err(fault) => Err(fault.within("commonTypes")),
     }
@@ -207,6 +228,7 @@ fn common_types_field(
 fn entity_types_field(
     alloc: Global,
     value: &Value<'_>,
+    cursor: Cursor<'_>,
 ) -> Result<BTreeMap<UnreservedId, EntityType<RawName>>, Fault>
     ensures value { MatchResult result
         (λ all. option_and_then entity_types_in (get (codes "entityTypes") (value_view value.now))
@@ -217,7 +239,7 @@ fn entity_types_field(
     ensures place { IfErr result (λ fault. IsTrueOf fault (value_view value.now)) }
 {
     let members = object_field(alloc, value, "entityTypes")?;
-    match read_entity_types(alloc, members) {
+    match read_entity_types(alloc, members, cursor.field(value, "entityTypes")) {
         Ok(all) => Ok(all),
         Err(fault) => Err(fault.within("entityTypes")),
     }
@@ -227,6 +249,7 @@ fn entity_types_field(
 fn actions_field(
     alloc: Global,
     value: &Value<'_>,
+    cursor: Cursor<'_>,
 ) -> Result<BTreeMap<String, ActionType<RawName>>, Fault>
     ensures value { MatchResult result
         (λ all. option_and_then actions_in (get (codes "actions") (value_view value.now))
@@ -236,14 +259,18 @@ fn actions_field(
     ensures place { IfErr result (λ fault. IsTrueOf fault (value_view value.now)) }
 {
     let members = object_field(alloc, value, "actions")?;
-    match read_actions(alloc, members) {
+    match read_actions(alloc, members, cursor.field(value, "actions")) {
         Ok(all) => Ok(all),
         Err(fault) => Err(fault.within("actions")),
     }
 }
 
 /// The definition of a namespace that a value describes.
-fn read_definition(alloc: Global, value: &Value<'_>) -> Result<NamespaceDefinition<RawName>, Fault>
+fn read_definition(
+    alloc: Global,
+    value: &Value<'_>,
+    cursor: Cursor<'_>,
+) -> Result<NamespaceDefinition<RawName>, Fault>
     ensures value { MatchResult result
         (λ it. definition_of (value_view value.now) ≡ Some (written_definition it))
         (λ fault. fault ≢ Fault.Memory → definition_of (value_view value.now) ≡ None) }
@@ -251,14 +278,14 @@ fn read_definition(alloc: Global, value: &Value<'_>) -> Result<NamespaceDefiniti
 {
     check_fields(alloc, value, Row::OfDefinition)?;
     check_annotations(alloc, value)?;
-    let common_types = common_types_field(alloc, value)?;
-    let entity_types = entity_types_field(alloc, value)?;
-    let actions = actions_field(alloc, value)?;
+    let common_types = common_types_field(alloc, value, cursor)?;
+    let entity_types = entity_types_field(alloc, value, cursor)?;
+    let actions = actions_field(alloc, value, cursor)?;
     Ok(NamespaceDefinition {
         common_types,
         entity_types,
         actions,
-        loc: None,
+        loc: cursor.loc(),
     })
 }
 
@@ -266,6 +293,7 @@ fn read_definition(alloc: Global, value: &Value<'_>) -> Result<NamespaceDefiniti
 fn read_namespaces(
     alloc: Global,
     members: &Vec<(&str, Value<'_>)>,
+    cursor: Cursor<'_>,
 ) -> Result<BTreeMap<Option<Name>, NamespaceDefinition<RawName>>, Fault>
     ensures value { MatchResult result
         (λ all. entries_of (option_cmp name_cmp) namespace_key definition_of
@@ -278,18 +306,24 @@ fn read_namespaces(
         (λ fault. IsTrueOf fault (object (members_view members.now.items))) }
 {
     let mut all = BTreeMap::new(alloc);
+    let mut at = cursor.first();
     for (index, member) in members.iter().enumerate() {
-        let name = read_namespace_key(alloc, member.0, index)?;
-        match read_definition(alloc, &member.1) {
+        let name = read_namespace_key(alloc, member.0, index, at.key_loc())?;
+        match read_definition(alloc, &member.1, at) {
             Ok(it) => put(&mut all, name, it)?,
             Err(fault) => return Err(fault.in_member(index)),
         }
+        at = at.next();
     }
     Ok(all)
 }
 
 /// The fragment that a value describes.
-pub(crate) fn read_fragment(alloc: Global, value: &Value<'_>) -> Result<Fragment<RawName>, Fault>
+pub(crate) fn read_fragment(
+    alloc: Global,
+    value: &Value<'_>,
+    cursor: Cursor<'_>,
+) -> Result<Fragment<RawName>, Fault>
     ensures value { MatchResult result
         (λ it. fragment_of (value_view value.now) ≡ Some (written_fragment it))
         (λ fault. fault ≢ Fault.Memory → fragment_of (value_view value.now) ≡ None) }
@@ -298,5 +332,5 @@ pub(crate) fn read_fragment(alloc: Global, value: &Value<'_>) -> Result<Fragment
     let Some(members) = members_of(value) else {
         return Err(Fault::here(alloc, FaultKind::Wants(Wanted::Object)));
     };
-    Ok(Fragment(read_namespaces(alloc, members)?))
+    Ok(Fragment(read_namespaces(alloc, members, cursor)?))
 }

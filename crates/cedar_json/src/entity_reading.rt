@@ -16,6 +16,7 @@ ghost use Rattle.cedar_json.specs.Place.{IsTrueOf};
 use crate::annotations::check_annotations;
 use crate::fault::{Fault, FaultKind, Row};
 use crate::fields::{array_items, check_fields, flag_field, text};
+use crate::place_table::Cursor;
 use crate::spelling::read_name;
 use crate::type_reading::{plain_type, read_type};
 use cedar_below::{Eid, NonEmpty};
@@ -28,18 +29,26 @@ use std::alloc::Global;
 use std::collections::BTreeMap;
 
 /// The name of an entity type that a value spells.
-pub(crate) fn read_reference(alloc: Global, value: &Value<'_>) -> Result<RawName, Fault>
+pub(crate) fn read_reference(
+    alloc: Global,
+    value: &Value<'_>,
+    cursor: Cursor<'_>,
+) -> Result<RawName, Fault>
     ensures value { MatchResult result
         (λ name. entity_reference (value_view value.now) ≡ Some (raw_reference None Entity name))
         (λ fault. fault ≢ Fault.Memory → entity_reference (value_view value.now) ≡ None) }
     ensures place { IfErr result (λ fault. IsTrueOf fault (value_view value.now)) }
 {
     let text = text(alloc, value)?;
-    read_name(alloc, text)
+    read_name(alloc, text, cursor.loc())
 }
 
 /// The names of entity types that some values spell.
-fn read_reference_items(alloc: Global, items: &Vec<Value<'_>>) -> Result<Vec<RawName>, Fault>
+fn read_reference_items(
+    alloc: Global,
+    items: &Vec<Value<'_>>,
+    cursor: Cursor<'_>,
+) -> Result<Vec<RawName>, Fault>
     ensures value { MatchResult result
         (λ names. all_of entity_reference (items_view items.now.items)
         ≡ Some (map (raw_reference None Entity) names.items))
@@ -48,17 +57,23 @@ fn read_reference_items(alloc: Global, items: &Vec<Value<'_>>) -> Result<Vec<Raw
     ensures place { IfErr result (λ fault. IsTrueOf fault (array (items_view items.now.items))) }
 {
     let mut names = Vec::new(alloc);
+    let mut at = cursor.first();
     for (index, item) in items.iter().enumerate() {
-        match read_reference(alloc, item) {
+        match read_reference(alloc, item, at) {
             Ok(name) => names.push(name)?,
             Err(fault) => return Err(fault.in_item(index)),
         }
+        at = at.next();
     }
     Ok(names)
 }
 
 /// The names of entity types that an array lists.
-pub(crate) fn read_references(alloc: Global, value: &Value<'_>) -> Result<Vec<RawName>, Fault>
+pub(crate) fn read_references(
+    alloc: Global,
+    value: &Value<'_>,
+    cursor: Cursor<'_>,
+) -> Result<Vec<RawName>, Fault>
     ensures value { MatchResult result
         (λ names. references_in (value_view value.now)
         ≡ Some (map (raw_reference None Entity) names.items))
@@ -66,7 +81,7 @@ pub(crate) fn read_references(alloc: Global, value: &Value<'_>) -> Result<Vec<Ra
     ensures place { IfErr result (λ fault. IsTrueOf fault (value_view value.now)) }
 {
     let items = array_items(alloc, value)?;
-    read_reference_items(alloc, items)
+    read_reference_items(alloc, items, cursor)
 }
 
 /// The ids that some values are.
@@ -103,7 +118,11 @@ fn read_choices(alloc: Global, value: &Value<'_>) -> Result<NonEmpty<Eid>, Fault
 }
 
 /// The parents that the field `memberOfTypes` lists; none where it is absent.
-fn parents_field(alloc: Global, value: &Value<'_>) -> Result<Vec<RawName>, Fault>
+fn parents_field(
+    alloc: Global,
+    value: &Value<'_>,
+    cursor: Cursor<'_>,
+) -> Result<Vec<RawName>, Fault>
     ensures value { MatchResult result
         (λ names. parents_in (get (codes "memberOfTypes") (value_view value.now))
         ≡ Some (map (raw_reference None Entity) names.items))
@@ -113,7 +132,7 @@ fn parents_field(alloc: Global, value: &Value<'_>) -> Result<Vec<RawName>, Fault
 {
     match value.get("memberOfTypes") {
         None => Ok(Vec::new(alloc)),
-        Some(held) => match read_references(alloc, held) {
+        Some(held) => match read_references(alloc, held, cursor.field(value, "memberOfTypes")) {
             Ok(names) => Ok(names),
             Err(fault) => Err(fault.within("memberOfTypes")),
         },
@@ -126,6 +145,7 @@ pub(crate) fn shape_field(
     alloc: Global,
     value: &Value<'_>,
     name: &'static str,
+    cursor: Cursor<'_>,
 ) -> Result<AttributesOrContext<RawName>, Fault>
     ensures value { MatchResult result
         (λ shape. shape_in (get name.now (value_view value.now)) ≡ Some (raw_expr None shape.0))
@@ -133,8 +153,11 @@ pub(crate) fn shape_field(
     ensures place { IfErr result (λ fault. IsTrueOf fault (value_view value.now)) }
 {
     match value.get(name) {
-        None => Ok(AttributesOrContext(plain_type(TypeVariant::Record(empty_record(alloc))))),
-        Some(held) => match read_type(alloc, held) {
+        None => {
+            let record = TypeVariant::Record(empty_record(alloc));
+            Ok(AttributesOrContext(plain_type(record, None)))
+        }
+        Some(held) => match read_type(alloc, held, cursor.field(value, name)) {
             Ok(ty) => Ok(AttributesOrContext(ty)),
             Err(fault) => Err(fault.within(name)),
         },
@@ -152,7 +175,11 @@ fn empty_record(alloc: Global) -> RecordType<RawName>
 }
 
 /// The type of the tags that the field `tags` describes, or None where it is absent.
-fn tags_field(alloc: Global, value: &Value<'_>) -> Result<Option<Type<RawName>>, Fault>
+fn tags_field(
+    alloc: Global,
+    value: &Value<'_>,
+    cursor: Cursor<'_>,
+) -> Result<Option<Type<RawName>>, Fault>
     ensures value { MatchResult result
         (λ tags. tags_in (get (codes "tags") (value_view value.now))
         ≡ Some (option_map (raw_expr None) tags))
@@ -162,7 +189,7 @@ fn tags_field(alloc: Global, value: &Value<'_>) -> Result<Option<Type<RawName>>,
 {
     match value.get("tags") {
         None => Ok(None),
-        Some(held) => match read_type(alloc, held) {
+        Some(held) => match read_type(alloc, held, cursor.field(value, "tags")) {
             Ok(ty) => Ok(Some(ty)),
             Err(fault) => Err(fault.within("tags")),
         },
@@ -170,15 +197,19 @@ fn tags_field(alloc: Global, value: &Value<'_>) -> Result<Option<Type<RawName>>,
 }
 
 /// What a declaration says that lists no ids.
-fn read_standard(alloc: Global, value: &Value<'_>) -> Result<StandardEntityType<RawName>, Fault>
+fn read_standard(
+    alloc: Global,
+    value: &Value<'_>,
+    cursor: Cursor<'_>,
+) -> Result<StandardEntityType<RawName>, Fault>
     ensures value { MatchResult result
         (λ it. standard_of (value_view value.now) ≡ Some (written_kind (kind.Standard it)))
         (λ fault. fault ≢ Fault.Memory → standard_of (value_view value.now) ≡ None) }
     ensures place { IfErr result (λ fault. IsTrueOf fault (value_view value.now)) }
 {
-    let member_of_types = parents_field(alloc, value)?;
-    let shape = shape_field(alloc, value, "shape")?;
-    let tags = tags_field(alloc, value)?;
+    let member_of_types = parents_field(alloc, value, cursor)?;
+    let shape = shape_field(alloc, value, "shape", cursor)?;
+    let tags = tags_field(alloc, value, cursor)?;
     Ok(StandardEntityType {
         member_of_types,
         shape,
@@ -187,7 +218,11 @@ fn read_standard(alloc: Global, value: &Value<'_>) -> Result<StandardEntityType<
 }
 
 /// What a declaration says by its field `enum`.
-fn read_kind(alloc: Global, value: &Value<'_>) -> Result<EntityTypeKind<RawName>, Fault>
+fn read_kind(
+    alloc: Global,
+    value: &Value<'_>,
+    cursor: Cursor<'_>,
+) -> Result<EntityTypeKind<RawName>, Fault>
     ensures value { MatchResult result
         (λ kind. body_by (value_view value.now) (get (codes "enum") (value_view value.now))
         ≡ Some (written_kind kind))
@@ -197,7 +232,7 @@ fn read_kind(alloc: Global, value: &Value<'_>) -> Result<EntityTypeKind<RawName>
 {
     let Some(held) = value.get("enum") else {
         check_fields(alloc, value, Row::OfEntityType)?;
-        return Ok(EntityTypeKind::Standard(read_standard(alloc, value)?));
+        return Ok(EntityTypeKind::Standard(read_standard(alloc, value, cursor)?));
     };
     check_fields(alloc, value, Row::OfEnumeratedType)?;
     match read_choices(alloc, held) {
@@ -210,18 +245,19 @@ fn read_kind(alloc: Global, value: &Value<'_>) -> Result<EntityTypeKind<RawName>
 pub(crate) fn read_entity_type(
     alloc: Global,
     value: &Value<'_>,
+    cursor: Cursor<'_>,
 ) -> Result<EntityType<RawName>, Fault>
     ensures value { MatchResult result
         (λ it. entity_of (value_view value.now) ≡ Some (written_entity it))
         (λ fault. fault ≢ Fault.Memory → entity_of (value_view value.now) ≡ None) }
     ensures place { IfErr result (λ fault. IsTrueOf fault (value_view value.now)) }
 {
-    let kind = read_kind(alloc, value)?;
+    let kind = read_kind(alloc, value, cursor)?;
     let external = flag_field(alloc, value, "external", false)?;
     check_annotations(alloc, value)?;
     Ok(EntityType {
         kind,
         external,
-        loc: None,
+        loc: cursor.key_loc(),
     })
 }

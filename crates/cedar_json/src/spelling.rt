@@ -12,7 +12,7 @@ ghost use Rattle.cedar_json.specs.Place.{IsTrueOf};
 ghost use Rattle.cedar_json.specs.WrittenName.{is_unreserved, plain_name_in, spelled_name};
 
 use crate::fault::{Fault, FaultKind};
-use cedar_below::{Name, NameFault, UnreservedId};
+use cedar_below::{Loc, Name, NameFault, UnreservedId};
 use cedar_names::json_schema::RawName;
 use std::alloc::Global;
 
@@ -49,8 +49,8 @@ pub(crate) fn is_identifier(text: &str) -> bool
     has_start(text.as_bytes()) && has_inner(text.as_bytes())
 }
 
-/// The name that a text spells.
-pub(crate) fn read_name(alloc: Global, text: &str) -> Result<RawName, Fault>
+/// The name that a text spells, with the location.
+pub(crate) fn read_name(alloc: Global, text: &str, loc: Option<Loc>) -> Result<RawName, Fault>
     ensures value { MatchResult result
         (λ name. spelled_name text.now ≡ Some (raw_name name))
         (λ fault. fault ≢ Fault.Memory → spelled_name text.now ≡ None) }
@@ -58,7 +58,7 @@ pub(crate) fn read_name(alloc: Global, text: &str) -> Result<RawName, Fault>
         → IsTrueOf fault j) }
 {
     match RawName::from_str(alloc, text) {
-        Ok(name) => Ok(name),
+        Ok(name) => Ok(RawName::new(name.into_internal().with_loc(loc))),
         Err(fault) => match fault {
             NameFault::Memory(_) => Err(Fault::Memory),
             NameFault::NotAName(_) | NameFault::Reserved | NameFault::NoCommonType => {

@@ -1,11 +1,18 @@
 //! Fragments, read from texts.
 
-ghost use Rattle.std.specs.Prelude.{◌≢◌, IfErr, IfOk};
-ghost use Rattle.cedar_json.specs.DefinitionFormat.{WrittenFragment, written_fragment};
+ghost use Rattle.std.specs.Prelude.{◌≡◌, ◌≢◌, Some, IfErr, IfOk, IsSomeAnd};
+ghost use Rattle.json.specs.Json.{document};
+ghost use Rattle.json.specs.Strict.{HasUniqueKeys};
+ghost use Rattle.json.specs.Value.{value_view};
+ghost use Rattle.cedar_json.specs.DefinitionFormat.{WrittenFragment, fragment_of, written_fragment};
 ghost use Rattle.cedar_json.specs.TextFormat.{Describes, IsFaultOf};
 
 use crate::definition_reading::read_fragment;
-use crate::fault::{Fault, FaultKind, Step};
+use crate::fault::{Fault, FaultKind};
+use crate::place_table::Places;
+use crate::repeated_keys::{Repeat, check_keys};
+use crate::stop::stop_of;
+use crate::value_place::{Place, faulty_key, place_at};
 use cedar_names::json_schema::{Fragment, RawName};
 use json::{Error, Scratch, Value};
 use std::alloc::Global;
@@ -15,14 +22,30 @@ use std::alloc::Global;
 pub enum JsonSchemaFault {
     /// The text has 2^32 - 1 bytes or more.
     TooLong,
+    /// The bytes are no UTF-8.
+    NotUtf8 {
+        /// How many of them are UTF-8: all those before the first that isn't part of a character.
+        valid_up_to: usize,
+    },
     /// The text is no JSON, or nests deeper than 128 levels.
-    NotJson,
+    NotJson {
+        /// How many bytes stand before what can't stand where it does: all of them where the text
+        /// ends too early.
+        up_to: usize,
+        /// Whether an array or an object begins there that is nested too deep.
+        too_deep: bool,
+    },
     /// A key comes twice in one object, after unescaping.
-    TwiceInObject,
+    TwiceInObject {
+        /// The object, located at the second key.
+        at: Place,
+        /// The index of a member whose key is that of an earlier member too.
+        member: usize,
+    },
     /// A value of the text isn't as the format wants it.
     OutOfShape {
-        /// The steps to the value, the last of them first.
-        at: Vec<Step>,
+        /// The value.
+        at: Place,
         /// What is wrong with the value.
         fault: FaultKind,
     },
@@ -30,13 +53,84 @@ pub enum JsonSchemaFault {
     Memory,
 }
 
-/// The fragment that a text describes in Cedar's JSON schema format. It has no locations.
+/// The refusal of a text that is no JSON.
+fn not_json(alloc: Global, text: &str) -> JsonSchemaFault
+    requires { document text.now ≡ None }
+    ensures { IsFaultOf text.now result }
+{
+    match stop_of(alloc, text) {
+        Ok(stop) => JsonSchemaFault::NotJson {
+            up_to: stop.up_to,
+            too_deep: stop.too_deep,
+        },
+        Err(_) => JsonSchemaFault::Memory,
+    }
+}
+
+/// The refusal of a text in which an object has a key twice.
+fn twice_in_object(alloc: Global, text: &str, source: u32) -> JsonSchemaFault
+    requires { IsSomeAnd (document text.now) (λ j. ¬ HasUniqueKeys j) }
+    ensures { IsFaultOf text.now result }
+{
+    let mut scratch = Scratch::new(alloc);
+    let Ok(value) = Value::parse(alloc, text, &mut scratch) else {
+        return JsonSchemaFault::Memory;
+    };
+    let Ok(places) = Places::of(alloc, text, source) else {
+        return JsonSchemaFault::Memory;
+    };
+    match check_keys(alloc, &value) {
+        Ok(()) => unreachable!(),
+        Err(Repeat::At(steps, member)) => {
+            match place_at(alloc, &value, places.cursor(), steps, Some(member)) {
+                Ok(at) => JsonSchemaFault::TwiceInObject { at, member },
+                Err(_) => JsonSchemaFault::Memory,
+            }
+        }
+        Err(Repeat::Memory) => JsonSchemaFault::Memory,
+    }
+}
+
+/// The fragment that the value of a text describes.
+fn fragment_in(
+    alloc: Global,
+    text: &str,
+    source: u32,
+    value: &Value<'_>,
+) -> Result<Fragment<RawName>, JsonSchemaFault>
+    requires { document text.now ≡ Some (value_view value.now) }
+    ensures fragment { IfOk result
+        (λ it. fragment_of (value_view value.now) ≡ Some (written_fragment it)) }
+    ensures fault { IfErr result (IsFaultOf text.now) }
+    ensures exact { IfErr result (λ fault. fault ≢ JsonSchemaFault.Memory
+        → fragment_of (value_view value.now) ≡ None) }
+{
+    let Ok(places) = Places::of(alloc, text, source) else {
+        return Err(JsonSchemaFault::Memory);
+    };
+    match read_fragment(alloc, value, places.cursor()) {
+        Ok(fragment) => Ok(fragment),
+        Err(Fault::At(steps, fault)) => {
+            match place_at(alloc, value, places.cursor(), steps, faulty_key(fault)) {
+                Ok(at) => Err(JsonSchemaFault::OutOfShape { at, fault }),
+                Err(_) => Err(JsonSchemaFault::Memory),
+            }
+        }
+        Err(Fault::Memory) => Err(JsonSchemaFault::Memory),
+    }
+}
+
+/// The fragment that a text describes in Cedar's JSON schema format.
 ///
 /// A text is refused exactly where it describes none, each time with a reason that is true of it:
 /// `TooLong` from 2^32 - 1 bytes on, `NotJson` where it is no JSON or nests deeper than 128 levels,
 /// `TwiceInObject` where some object has a key twice, and `OutOfShape` with the place of a value
 /// and with what is wrong with it. Memory may run out.
-pub fn fragment_from_json(alloc: Global, text: &str) -> Result<Fragment<RawName>, JsonSchemaFault>
+pub fn fragment_from_json(
+    alloc: Global,
+    text: &str,
+    source: u32,
+) -> Result<Fragment<RawName>, JsonSchemaFault>
     ensures fragment { IfOk result (λ it. Describes text.now (written_fragment it)) }
     ensures fault { IfErr result (IsFaultOf text.now) }
     ensures exact { IfErr result (λ fault. fault ≢ JsonSchemaFault.Memory
@@ -47,13 +141,32 @@ pub fn fragment_from_json(alloc: Global, text: &str) -> Result<Fragment<RawName>
     }
     let mut scratch = Scratch::new(alloc);
     match Value::parse_strict(alloc, text, &mut scratch) {
-        Ok(value) => match read_fragment(alloc, &value) {
-            Ok(fragment) => Ok(fragment),
-            Err(Fault::At(at, fault)) => Err(JsonSchemaFault::OutOfShape { at, fault }),
-            Err(Fault::Memory) => Err(JsonSchemaFault::Memory),
-        },
-        Err(Error::Invalid) => Err(JsonSchemaFault::NotJson),
-        Err(Error::DuplicateKey) => Err(JsonSchemaFault::TwiceInObject),
+        Ok(value) => fragment_in(alloc, text, source, &value),
+        Err(Error::Invalid) => Err(not_json(alloc, text)),
+        Err(Error::DuplicateKey) => Err(twice_in_object(alloc, text, source)),
         Err(Error::OutOfMemory | Error::TooLong) => Err(JsonSchemaFault::Memory),
+    }
+}
+
+/// The fragment that bytes describe in Cedar's JSON schema format: as `fragment_from_json` of the
+/// text that they are. Bytes that are no UTF-8 are refused with `NotUtf8`.
+pub fn fragment_from_slice(
+    alloc: Global,
+    bytes: &[u8],
+    source: u32,
+) -> Result<Fragment<RawName>, JsonSchemaFault>
+    ensures fragment { IfOk result (λ it. Describes bytes.now (written_fragment it)) }
+    ensures fault { IfErr result (IsFaultOf bytes.now) }
+    ensures exact { IfErr result (λ fault. fault ≢ JsonSchemaFault.Memory
+        → (it : WrittenFragment) → Describes bytes.now it → ⊥) }
+{
+    if bytes.len() >= u32::MAX as usize {
+        return Err(JsonSchemaFault::TooLong);
+    }
+    match std::str::from_utf8(bytes) {
+        Ok(text) => fragment_from_json(alloc, text, source),
+        Err(fault) => Err(JsonSchemaFault::NotUtf8 {
+            valid_up_to: fault.valid_up_to(),
+        }),
     }
 }

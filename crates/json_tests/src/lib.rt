@@ -2,4 +2,14 @@
 #![tactic(auto)]
 
 #[cfg(test)]
+mod locations;
+#[cfg(test)]
+mod no_json;
+#[cfg(test)]
+mod refusals;
+#[cfg(test)]
 mod rows;
+#[cfg(test)]
+mod table;
+#[cfg(test)]
+mod texts;

@@ -1,4 +1,4 @@
-use Rattle.std.proofs.Common.{◌≢◌, Some, ap, arith, length, option_map, ◌∙◌}
+use Rattle.std.proofs.Common.{◌≢◌, Some, ap, arith, length, option_map, sym, ◌∙◌}
 use Rattle.cedar_json.proofs.NameLemmas.{namespace_key-name, no_plain_name, plain_name_in-none, plain_name_in-read, plain_name_in-reserved, reserved_name}
 use Rattle.cedar_json.proofs.definition_reading.read_namespace_key.Goals as goal
 
@@ -7,6 +7,7 @@ returns-in-Ok-clause-value c =
     let key = c.args.key.now in
     let some : length key ≢ 0 = grind arith in
     namespace_key-name key some ∙ ap (option_map Some) (plain_name_in-read c.in-Ok.name key c.in-Ok.ensures.name)
+    ∙ ap (λ name. Some (Some name)) (sym c.with_loc.ensures.name)
 
 pub returns-in-Reserved-clause-value : goal.returns-in-Reserved-clause-value
 returns-in-Reserved-clause-value c =

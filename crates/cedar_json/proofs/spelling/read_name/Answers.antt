@@ -1,10 +1,12 @@
-use Rattle.std.proofs.Common.{IsSomeAnd, subst, sym}
+use Rattle.std.proofs.Common.{IsSomeAnd, Some, ap, subst, sym, ◌∙◌}
 use Rattle.cedar_below.specs.NameText.{IsNameText}
 use Rattle.cedar_json.proofs.NameLemmas.{no_name, spelled_name-none, spelled_raw}
 use Rattle.cedar_json.proofs.spelling.read_name.Goals as goal
 
 pub returns-in-Ok-clause-value : goal.returns-in-Ok-clause-value
-returns-in-Ok-clause-value c = spelled_raw c.in-Ok.name c.args.text.now c.in-Ok.ensures.name
+returns-in-Ok-clause-value c =
+    spelled_raw c.in-Ok.name c.args.text.now c.in-Ok.ensures.name
+    ∙ ap Some (sym (c.new.ensures.name ∙ c.with_loc.ensures.name ∙ c.into_internal.ensures.name))
 
 pub returns-in-NotAName : goal.returns-in-NotAName
 returns-in-NotAName c =

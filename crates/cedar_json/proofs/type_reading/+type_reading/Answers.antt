@@ -32,7 +32,7 @@ pub read_attribute-returns-clause-value : goal.read_attribute-returns-clause-val
 read_attribute-returns-clause-value t c =
     attribute_read (value_view c.args.value.now) c.in_ok-required.required (raw_expr None c.in_ok-ty.ty) c.in_ok-required.ensures.value
     c.in_ok-check_annotations.ensures.value c.in_ok-ty.ensures.value
-    ∙ ap Some (sym (raw_attribute-made c.in_ok-ty.ty c.in_ok-required.required None))
+    ∙ ap Some (sym (raw_attribute-made c.in_ok-ty.ty c.in_ok-required.required c.key_loc.result))
 
 pub read_attributes-read_attribute-requires : goal.read_attributes-read_attribute-requires
 read_attributes-read_attribute-requires t c =
@@ -76,19 +76,19 @@ read_attributes-returns-clause-value t c =
 
 pub read_element-read_type_of-requires : goal.read_element-read_type_of-requires
 read_element-read_type_of-requires t c =
-    let below : length (json_tokens (value_view c.in_ok-field.field-0.now)) < length (json_tokens (value_view c.args.value.now)) =
-    get-smaller (codes "element") _ _ c.in_ok-field.ensures.value in
-    let smaller : 3 * length (json_tokens (value_view c.in_ok-field.field-0.now)) + 1 < 3 * length (json_tokens (value_view c.args.value.now)) =
+    let below : length (json_tokens (value_view c.in_ok-held.held.now)) < length (json_tokens (value_view c.args.value.now)) =
+    get-smaller (codes "element") _ _ c.in_ok-held.ensures.value in
+    let smaller : 3 * length (json_tokens (value_view c.in_ok-held.held.now)) + 1 < 3 * length (json_tokens (value_view c.args.value.now)) =
     omega (arith, below) in
     search rules
 
 pub read_element-returns-in-Ok-clause-value : goal.read_element-returns-in-Ok-clause-value
 read_element-returns-in-Ok-clause-value t c =
-    element_field-held (value_view c.args.value.now) (value_view c.in_ok-field.field-0.now) c.in_ok-field.ensures.value ∙ c.in-Ok.ensures.value
+    element_field-held (value_view c.args.value.now) (value_view c.in_ok-held.held.now) c.in_ok-held.ensures.value ∙ c.in-Ok.ensures.value
 
 pub read_element-returns-in-Err-clause-value : goal.read_element-returns-in-Err-clause-value
 read_element-returns-in-Err-clause-value t c =
-    λ other. element_field-held (value_view c.args.value.now) (value_view c.in_ok-field.field-0.now) c.in_ok-field.ensures.value
+    λ other. element_field-held (value_view c.args.value.now) (value_view c.in_ok-held.held.now) c.in_ok-held.ensures.value
     ∙ c.in-Err.ensures.value (c.within.ensures.memory other)
 
 pub read_record-returns-in_err-members-clause-value : goal.read_record-returns-in_err-members-clause-value

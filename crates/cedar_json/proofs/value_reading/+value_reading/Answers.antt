@@ -5,6 +5,7 @@ use Rattle.json.specs.Json.{array, object}
 use Rattle.json.specs.Tree.{items_tokens, json_tokens, members_tokens}
 use Rattle.json.specs.Value.{items_view, members_view, value_view}
 use Rattle.cedar_below.proofs.TreeLemmas.{tree_of-set, tree_of-uid}
+use Rattle.cedar_below.specs.RestrictedExpr.{tree_of}
 use Rattle.cedar_below.specs.Tree.{number_value, set_value, uid_value}
 use Rattle.cedar_json.proofs.FieldLemmas.{get-smaller, nth_member-is}
 use Rattle.cedar_json.proofs.ListLemmas.{get_item-is, items_from_index}
@@ -132,7 +133,7 @@ read_pairs-returns-in-Err-clause-value t c =
     let all = c.args.members.now.items in
     let here = members_from_index c.deref-member-items.result.now all c.loop-index.index x c.deref-member-items.ensures.value c.loop-index-test.true
     c.member-item.is in
-    λ other. no_pair all c.loop-index.index x c.loop-index.pairs.entries here c.loop-index.invariant
+    λ other. no_pair tree_of all c.loop-index.index x c.loop-index.pairs.entries here c.loop-index.invariant
     (c.in-Err.ensures.value (c.in_member.ensures.memory other))
 
 pub read_pairs-returns-in-Err-clause-place : goal.read_pairs-returns-in-Err-clause-place
@@ -148,12 +149,12 @@ read_pairs-loop-index-preserved t c =
     let all = c.args.members.now.items in
     let here = members_from_index c.deref-member-items.result.now all c.loop-index.index x c.deref-member-items.ensures.value c.loop-index-test.true
     c.member-item.is in
-    pair_more all c.loop-index.index x c.loop-index.pairs.entries here c.loop-index.invariant c.in_ok-from_str-in-Ok.field-0 c.in-Ok.expr
+    pair_more tree_of all c.loop-index.index x c.loop-index.pairs.entries here c.loop-index.invariant c.in_ok-from_str-in-Ok.field-0 c.in-Ok.expr
     c.put.new.map.entries c.in-Ok.ensures.value c.in_ok-from_str-in-Ok.ensures.ok (search rules)
 
 pub read_pairs-returns-clause-value : goal.read_pairs-returns-clause-value
 read_pairs-returns-clause-value t c =
-    all_pairs c.deref-member-items.result.now c.args.members.now.items c.loop-index.index c.loop-index.pairs.entries
+    all_pairs tree_of c.deref-member-items.result.now c.args.members.now.items c.loop-index.index c.loop-index.pairs.entries
     c.deref-member-items.ensures.value c.loop-index-test.false c.loop-index.invariant
 
 pub read_object-returns-in-Ok-clause-value : goal.read_object-returns-in-Ok-clause-value

@@ -1,6 +1,7 @@
 use Rattle.std.proofs.Common.{◌≡◌, ◌+◌, ◌*◌, [], drop, length, option_map}
 use Rattle.json.specs.Tree.{items_tokens, json_tokens, members_tokens}
 use Rattle.json.specs.Value.{items_view, members_view, value_view}
+use Rattle.cedar_below.specs.RestrictedExpr.{tree_of}
 use Rattle.cedar_json.proofs.ValueLemmas.{before, shown}
 use Rattle.cedar_json.proofs.value_reading.+value_reading.Given as goal
 use Rattle.cedar_json.specs.ValueFormat.{pairs_of, values_of}
@@ -26,4 +27,4 @@ invariant-read_exprs-loop-index l =
 
 abbrev pub invariant-read_pairs-loop-index : goal.invariant-read_pairs-loop-index
 invariant-read_pairs-loop-index l =
-    pairs_of (members_view l.members.items) [] ≡ pairs_of (members_view (drop l.index l.members.items)) (shown l.pairs.entries)
+    pairs_of (members_view l.members.items) [] ≡ pairs_of (members_view (drop l.index l.members.items)) (shown tree_of l.pairs.entries)

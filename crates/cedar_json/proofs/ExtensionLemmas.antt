@@ -1,0 +1,59 @@
+-- The table of Cedar's extension functions, put into a map row by row.
+use Rattle.std.proofs.Common.{◌≡◌, ℕ, ◌+◌, ◌<◌, ◌≤◌, List, [], ◌∷◌, length, drop, drop_of_length-le, get_or, map, cond, Option, Some, option_map, Bool, true, false, refl, ap, sym, subst, ◌∙◌}
+use Rattle.std.proofs.lemmas.List.{drop_more}
+use Rattle.std.specs.BTreeMap.{insert_entry, is_at}
+use Rattle.std.specs.Map.{lookup}
+use Rattle.cedar_below.proofs.Names.{name_ord-name_cmp}
+use Rattle.cedar_below.specs.Name.{plain_name}
+use Rattle.cedar_below.specs.PlainName.{PlainName, name_cmp}
+use Rattle.cedar_below.specs.contracts.name.NameOrd.TheImpl as name_ord
+use Rattle.cedar_below.specs.declared.extension.ExtensionFunction.{ExtensionFunction}
+use Rattle.cedar_below.specs.declared.name.Name.{Name}
+use Rattle.cedar_json.proofs.MapLemmas.{seen-insert}
+use Rattle.cedar_json.specs.CedarExtensions.{Signature, signature, unqualified}
+use Rattle.cedar_json.specs.ExtensionRows.{AreRows, IsRow, inserted, row_signature}
+use Rattle.cedar_json.specs.declared.extensions.Row.{Row}
+
+abbrev pub Signatures : Type 0
+Signatures = List (PlainName × Signature)
+
+-- what a map of functions stands for
+abbrev pub shown : List (Name × ExtensionFunction) → Signatures
+shown entries = map (λ entry. (plain_name entry.0, signature entry.1)) entries
+
+seen_choice : (b : Bool) (x : ExtensionFunction) (o : Option ExtensionFunction) (rest : Option Signature) → option_map signature o ≡ rest
+    → option_map signature (cond b (Some x) o) ≡ cond b (Some (signature x)) rest
+seen_choice true x o rest e = refl
+seen_choice false x o rest e = e
+
+-- a function of the map is one of those for which it stands
+pub looked_up : (name : PlainName) (entries : List (Name × ExtensionFunction))
+    → option_map signature (lookup (is_at (λ key. name_cmp name (plain_name key))) entries) ≡ lookup (is_at (name_cmp name)) (shown entries)
+looked_up name [] = refl
+looked_up name (entry ∷ rest) =
+    seen_choice (is_at (name_cmp name) (plain_name entry.0)) entry.1 (lookup (is_at (λ key. name_cmp name (plain_name key))) rest)
+    (lookup (is_at (name_cmp name)) (shown rest)) (looked_up name rest)
+
+-- the row at an index can be spelled, and so can those after it
+pub row_at : (rows : List Row) (index : ℕ) (d : Row) → index < length rows → AreRows (drop index rows)
+    → IsRow (get_or rows index d) × AreRows (drop (index + 1) rows)
+row_at rows index d within left = subst AreRows (drop_more rows index d within) left
+
+-- a row more
+pub row_more : (rows : List Row) (index : ℕ) (d : Row) (entries new : List (Name × ExtensionFunction)) (name : Name) (function : ExtensionFunction)
+    → index < length rows → inserted (drop index rows) (shown entries) ≡ inserted rows []
+    → plain_name name ≡ unqualified (get_or rows index d).name.now → signature function ≡ row_signature (get_or rows index d)
+    → new ≡ insert_entry (name_ord.ghosts).cmp entries name function
+    → inserted (drop (index + 1) rows) (shown new) ≡ inserted rows []
+row_more rows index d entries new name function within so_far named made grown =
+    let rest = drop (index + 1) rows in
+    ap (λ es. inserted rest (shown es)) grown
+    ∙ ap (inserted rest) (seen-insert (name_ord.ghosts).cmp name_cmp plain_name signature name_ord-name_cmp entries name function)
+    ∙ ap (λ n. inserted rest (insert_entry name_cmp (shown entries) n (signature function))) named
+    ∙ ap (λ s. inserted rest (insert_entry name_cmp (shown entries) (unqualified (get_or rows index d).name.now) s)) made
+    ∙ ap (λ rs. inserted rs (shown entries)) (sym (drop_more rows index d within)) ∙ so_far
+
+-- where no row is left, all were put into the map
+pub all_put : (rows : List Row) (index : ℕ) (entries : List (Name × ExtensionFunction)) → length rows ≤ index
+    → inserted (drop index rows) (shown entries) ≡ inserted rows [] → shown entries ≡ inserted rows []
+all_put rows index entries end so_far = ap (λ rs. inserted rs (shown entries)) (sym (drop_of_length-le rows end)) ∙ so_far

@@ -1,0 +1,216 @@
+//! Where the values and the keys of a text stand.
+//!
+//! A text is read a second time for its places alone, so that a value needs no room for one. The
+//! values are numbered in the order of the text, and a cursor goes over their numbers as a reader
+//! goes over the values. No contract says that a place is the right one: tests do.
+
+ghost use Rattle.std.specs.Prelude.{length};
+
+use cedar_below::{Loc, M};
+use json::{Reader, Scratch, Token, Value};
+use std::alloc::Global;
+
+/// Some bytes of a text, from the first of them up to the one after the last.
+#[derive(Clone, Copy)]
+struct Span {
+    start: u32,
+    stop: u32,
+}
+
+/// Where a value stands.
+#[derive(Clone, Copy)]
+struct Entry {
+    /// The bytes of the value.
+    value: Span,
+    /// The bytes of its key with the quotes, where it is the value of a member.
+    key: Option<Span>,
+    /// The number of the first value behind it that isn't inside it.
+    after: u32,
+}
+
+/// Where the values of a text stand, in the order in which they begin.
+#[derive(Drop)]
+pub(crate) struct Places {
+    source: u32,
+    entries: Vec<Entry>,
+}
+
+/// Places that are being listed.
+#[derive(Drop)]
+struct Listing {
+    entries: Vec<Entry>,
+    /// The numbers of the values that have begun and not yet ended, the innermost last.
+    open: Vec<usize>,
+    /// The key of the value that comes next.
+    key: Option<Span>,
+}
+
+/// A number as 32 bits, which are enough in a text that is short enough to be read.
+fn in_32_bits(number: usize) -> u32 {
+    u32::try_from(number).unwrap_or(u32::MAX)
+}
+
+/// Where a token ends that begins at `start` and is followed by one at `next`. Behind the token
+/// stand blanks and a comma or colon at most, and no token ends with one of these.
+fn stop_before(text: &[u8], start: usize, next: usize) -> usize {
+    let mut stop = next.min(text.len());
+    while stop > start && matches!(text[stop - 1], b' ' | b'\t' | b'\n' | b'\r' | b',' | b':') {
+        stop -= 1;
+    }
+    stop
+}
+
+impl Listing {
+    /// Lists a value that begins with some bytes, and gives its number.
+    fn begin(&mut self, value: Span) -> M<usize> {
+        let number = self.entries.len();
+        self.entries.push(Entry {
+            value,
+            key: self.key,
+            after: in_32_bits(number.saturating_add(1)),
+        })?;
+        self.key = None;
+        Ok(number)
+    }
+
+    /// Ends the innermost value that is open.
+    fn end(&mut self, stop: u32) {
+        let after = in_32_bits(self.entries.len());
+        let Some(number) = self.open.pop() else {
+            return;
+        };
+        if number < self.entries.len() {
+            let entry = &mut self.entries[number];
+            entry.value.stop = stop;
+            entry.after = after;
+        }
+    }
+
+    /// Lists what a token begins or ends.
+    fn take(&mut self, token: Token<'_>, place: Span) -> M<()> {
+        match token {
+            Token::Key(_) => self.key = Some(place),
+            Token::BeginArray | Token::BeginObject => {
+                let number = self.begin(place)?;
+                self.open.push(number)?;
+            }
+            Token::EndArray | Token::EndObject => self.end(place.stop),
+            Token::String(_) | Token::Number(_) | Token::Bool(_) | Token::Null => {
+                self.begin(place)?;
+            }
+            Token::Bad => {}
+        }
+        Ok(())
+    }
+}
+
+impl Places {
+    /// The places of a text that is JSON, or out of memory.
+    pub(crate) fn of(alloc: Global, text: &str, source: u32) -> M<Places> {
+        let mut scratch = Scratch::new(alloc);
+        let mut reader = Reader::new(text, &mut scratch)?;
+        let mut listing = Listing {
+            entries: Vec::new(alloc),
+            open: Vec::new(alloc),
+            key: None,
+        };
+        let mut start = reader.offset();
+        while let Some(token) = reader.next() {
+            let next = reader.offset();
+            let place = Span {
+                start: in_32_bits(start),
+                stop: in_32_bits(stop_before(text.as_bytes(), start, next)),
+            };
+            listing.take(token, place)?;
+            start = next;
+        }
+        Ok(Places {
+            source,
+            entries: listing.entries,
+        })
+    }
+
+    /// A cursor at the value that the text is.
+    pub(crate) fn cursor(&self) -> Cursor<'_> {
+        Cursor {
+            places: self,
+            number: 0,
+        }
+    }
+
+    fn loc(&self, span: Span) -> Loc {
+        Loc {
+            source: self.source,
+            start: span.start,
+            stop: span.stop,
+        }
+    }
+}
+
+/// The number of a value of a text, which a reader has beside the value.
+#[derive(Clone, Copy)]
+pub(crate) struct Cursor<'p> {
+    places: &'p Places,
+    number: usize,
+}
+
+impl<'p> Cursor<'p> {
+    /// The entry of the value.
+    fn entry(self) -> Option<Entry> {
+        self.places.entries.get(self.number).copied()
+    }
+
+    /// Where the value stands.
+    pub(crate) fn loc(self) -> Option<Loc> {
+        let entry = self.entry()?;
+        Some(self.places.loc(entry.value))
+    }
+
+    /// Where the key of the value stands, with its quotes.
+    pub(crate) fn key_loc(self) -> Option<Loc> {
+        let key = self.entry()?.key?;
+        Some(self.places.loc(key))
+    }
+
+    /// At the first value inside the value.
+    pub(crate) fn first(self) -> Cursor<'p> {
+        Cursor {
+            places: self.places,
+            number: self.number.saturating_add(1),
+        }
+    }
+
+    /// At the value that follows the value in the same array or object.
+    pub(crate) fn next(self) -> Cursor<'p> {
+        match self.entry() {
+            Some(entry) => Cursor {
+                places: self.places,
+                number: entry.after as usize,
+            },
+            None => self,
+        }
+    }
+
+    /// At the value at an index of the array or object that the value is.
+    pub(crate) fn child(self, index: usize) -> Cursor<'p> {
+        let mut at = self.first();
+        for _ in 0..index {
+            at = at.next();
+        }
+        at
+    }
+
+    /// At the value of a field of the object that the value is.
+    pub(crate) fn field(self, value: &Value<'_>, name: &str) -> Cursor<'p> {
+        let mut at = self.first();
+        if let Value::Object(members) = value {
+            for member in members {
+                if member.0 == name {
+                    return at;
+                }
+                at = at.next();
+            }
+        }
+        at
+    }
+}

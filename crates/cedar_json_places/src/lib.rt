@@ -1,0 +1,26 @@
+//! Where a fragment was written what a refusal of the builder names.
+//!
+//! | Refusal | Place | Second place |
+//! |---|---|---|
+//! | attributes of actions | the first action of that id that has attributes | none |
+//! | open records | the first record type that admits further attributes | none |
+//! | entity types that aren't declared, types and actions that aren't defined | the reference | none |
+//! | shadowing | the declaration in a namespace | that in the empty namespace |
+//! | two definitions | the definition that was found second | none |
+//! | cycles | a declaration on the cycle | none |
+//! | shapes and contexts that are no record types | the declaration | none |
+//! | unknown extension types | the first type that names it | none |
+//! | reserved names, entity types called `Action` | the declaration or the reference | none |
+//! | external and enumerated entity types below others | the lower declaration | the upper one |
+//! | descendants and types of actions, put together by hand | the action | none |
+//! | what never comes, and memory | none | none |
+//!
+//! Names and uids in refusals have the places at which they were written. A table beside the
+//! fragment, made before it is built, has the places of what refusals name by a text alone.
+#![tactic(auto)]
+
+mod place;
+mod table;
+
+pub use place::{place_of, second_place_of};
+pub use table::{Located, Places};
