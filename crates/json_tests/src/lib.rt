@@ -13,3 +13,5 @@ mod rows;
 mod table;
 #[cfg(test)]
 mod texts;
+#[cfg(test)]
+mod written;
