@@ -1,4 +1,4 @@
-//! Rows of Cedar's JSON schema format: what is read, and what is refused where.
+//! Rows of Cedar's JSON schema format: what is read, what is refused where, and what is written.
 #![tactic(auto)]
 
 #[cfg(test)]

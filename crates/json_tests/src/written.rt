@@ -1,7 +1,8 @@
 //! Rows of the format: what is written, and what can't be.
 
 use cedar_below::{Name, RestrictedExpr, Value};
-use cedar_json::{Unwritable, WriteFault, fragment_from_json, fragment_to_json, value_to_json};
+use cedar_json::fragment_from_json;
+use cedar_json_writer::{Unwritable, WriteFault, fragment_to_json, value_to_json};
 use cedar_names::json_schema::{
     ActionType, CommonType, CommonTypeId, Fragment, NamespaceDefinition, RawName, Type, TypeVariant,
 };

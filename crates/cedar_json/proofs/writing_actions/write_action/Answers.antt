@@ -1,8 +1,0 @@
-use Rattle.cedar_json.proofs.WrittenActions.{action_free, groups_sound}
-use Rattle.cedar_json.specs.ActionFormat.{written_action}
-use Rattle.cedar_json.proofs.writing_actions.write_action.Goals as goal
-
-pub returns-clause-free : goal.returns-clause-free
-returns-clause-free c =
-    action_free (written_action c.args.it.now) c.in_ok-write_applies_to_field.ensures.free (groups_sound c.args.it.now.member_of)
-    c.in_ok-write_attributes_field.ensures.free

@@ -1,8 +1,0 @@
-use Rattle.std.proofs.Common.{None, sym, ◌∙◌}
-use Rattle.cedar_names.specs.RawExpr.{raw_expr}
-use Rattle.cedar_json.proofs.WrittenEntities.{empty_free}
-use Rattle.cedar_json.proofs.writing_entities.write_shape_field.Goals as goal
-
-pub returns-then-is_empty_record-clause-free : goal.returns-then-is_empty_record-clause-free
-returns-then-is_empty_record-clause-free c =
-    empty_free (raw_expr None c.args.ty.now) (sym c.is_empty_record.ensures ∙ c.if-is_empty_record.true)

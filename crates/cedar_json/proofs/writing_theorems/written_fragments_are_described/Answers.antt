@@ -1,7 +1,0 @@
-use Rattle.cedar_json.proofs.FragmentReadBack.{fragment_back}
-use Rattle.cedar_json.proofs.WrittenOrder.{both_none}
-use Rattle.cedar_json.specs.Flaws.{nesting_flaws, parts_flaws}
-use Rattle.cedar_json.proofs.writing_theorems.written_fragments_are_described.Goals as goal
-
-pub returns : goal.returns
-returns c it sound writable = fragment_back it sound (both_none (parts_flaws it) (nesting_flaws it) writable).0

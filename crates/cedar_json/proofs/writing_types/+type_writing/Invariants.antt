@@ -1,9 +1,0 @@
-use Rattle.cedar_names.specs.declared.json_schema.raw_name.RawName.{RawName}
-use Rattle.cedar_names.specs.declared.json_schema.type_of.RecordType.{out-RecordType}
-use Rattle.cedar_json.proofs.WritingLemmas.{SoFar}
-use Rattle.cedar_json.proofs.WrittenTypes.{attributes_shape}
-use Rattle.cedar_json.proofs.writing_types.+type_writing.Given as goal
-
-abbrev pub invariant-write_attributes-loop-name : goal.invariant-write_attributes-loop-name
-invariant-write_attributes-loop-name l =
-    SoFar attributes_shape l.initial.out l.out (out-RecordType RawName l.record_type).attributes.entries l.name-iterator

@@ -1,0 +1,15 @@
+pub mod FragmentReadBack
+pub mod NumberReadBack
+pub mod TypeReadBack
+pub mod ValueReadBack
+pub mod WritingLemmas
+pub mod WrittenActions
+pub mod WrittenDefinitions
+pub mod WrittenEntities
+pub mod WrittenKeys
+pub mod WrittenNames
+pub mod WrittenOrder
+pub mod WrittenText
+pub mod WrittenTwice
+pub mod WrittenTypes
+pub mod WrittenValues

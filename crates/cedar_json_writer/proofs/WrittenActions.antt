@@ -1,0 +1,87 @@
+-- What is written of actions.
+use Rattle.std.proofs.Common.{◌≡◌, Global, List, [], ◌∷◌, ◌++◌, map, Option, Some, None, codes, option_map, refl}
+use Rattle.std.specs.declared.vec.Vec.{Vec}
+use Rattle.json.specs.Json.{Json, object, no_members, member}
+use Rattle.json.specs.Token.{Token, begin_object, end_object, key}
+use Rattle.cedar_names.specs.ActionBody.{requests}
+use Rattle.cedar_names.specs.Expr.{Expr}
+use Rattle.cedar_names.specs.RawExpr.{raw_reference}
+use Rattle.cedar_names.specs.declared.json_schema.action_type.ActionEntityUID.{ActionEntityUID}
+use Rattle.cedar_names.specs.declared.json_schema.raw_name.RawName.{RawName}
+use Rattle.cedar_names.specs.declared.json_schema.reference_type.ReferenceType.TheVariants.{Entity}
+use Rattle.cedar_json.specs.ActionFormat.{WrittenAction, written_parent}
+use Rattle.cedar_json_writer.proofs.WritingLemmas.{field_added, fields_after, flaw_left, flaw_right, none_both, object_added}
+use Rattle.cedar_json_writer.proofs.WrittenEntities.{names_sound}
+use Rattle.cedar_json_writer.proofs.WrittenTypes.{FreeType, raw_ids}
+use Rattle.cedar_json_writer.specs.Flaws.{action_flaws, flaws_in, pairs_flaws, requests_flaws}
+use Rattle.cedar_json_writer.specs.Sound.{Each, IfThere, IsWrittenEntity, SoundAction, SoundPairs, SoundParent, SoundRequests}
+use Rattle.cedar_json_writer.specs.WrittenFields.{optional_member}
+use Rattle.cedar_json_writer.specs.Writing.{AddsField, AddsValue, IsFlawOf, IsFree}
+use Rattle.cedar_json_writer.specs.declared.fault.WriteFault.{WriteFault}
+use Rattle.cedar_names.specs.RawName.{raw_name}
+
+-- the object of requests
+pub requests_added : (old opened keyed one_of named two_of inside new : List Token) (principals resources : Json) (context : Option Json)
+    → opened ≡ old ++ begin_object ∷ [] → keyed ≡ opened ++ key (codes "principalTypes") ∷ [] → AddsValue keyed one_of principals
+    → named ≡ one_of ++ key (codes "resourceTypes") ∷ [] → AddsValue named two_of resources → AddsField two_of inside (codes "context") context
+    → new ≡ inside ++ end_object ∷ []
+    → AddsValue old new (object (member (codes "principalTypes") principals (member (codes "resourceTypes") resources
+    (optional_member (codes "context") context no_members))))
+requests_added old opened keyed one_of named two_of inside new principals resources context begun first one second two third ended =
+    let p = optional_member (codes "principalTypes") (Some principals) in
+    let r = optional_member (codes "resourceTypes") (Some resources) in
+    let c = optional_member (codes "context") context in
+    object_added old opened inside new (λ rest. p (r (c rest))) begun
+    (fields_after opened two_of inside (λ rest. p (r rest)) c
+    (fields_after opened one_of two_of p r (field_added opened keyed one_of (codes "principalTypes") principals first one)
+    (field_added one_of named two_of (codes "resourceTypes") resources second two)) third) ended
+
+pub requests_free : (principals resources : List RawName) (context : Expr) → FreeType context
+    → IsFree (requests_flaws (requests (map (raw_reference None Entity) principals) (map (raw_reference None Entity) resources) context))
+    (SoundRequests (requests (map (raw_reference None Entity) principals) (map (raw_reference None Entity) resources) context))
+requests_free principals resources context free = record {
+  flawless = free.flawless;
+  sound = (names_sound principals, names_sound resources, free.sound);
+}
+
+type_sound : (ty : Option RawName) → IfThere IsWrittenEntity (option_map (raw_reference None Entity) ty)
+type_sound None = tt
+type_sound (Some name) = (raw_name name, raw_ids name, refl)
+
+parents_sound : (parents : List (ActionEntityUID RawName)) → Each SoundParent (map written_parent parents)
+parents_sound [] = tt
+parents_sound (parent ∷ rest) = (type_sound parent.ty, parents_sound rest)
+
+pub groups_sound : (groups : Option (Vec (ActionEntityUID RawName) Global)) → IfThere (Each SoundParent) (option_map (λ parents. map written_parent parents.items) groups)
+groups_sound None = tt
+groups_sound (Some parents) = parents_sound parents.items
+
+-- the object of an action
+pub action_added : (old opened applied grouped described flagged new : List Token) (applies_to member_of attributes external : Option Json)
+    → opened ≡ old ++ begin_object ∷ [] → AddsField opened applied (codes "appliesTo") applies_to → AddsField applied grouped (codes "memberOf") member_of
+    → AddsField grouped described (codes "attributes") attributes → AddsField described flagged (codes "external") external
+    → new ≡ flagged ++ end_object ∷ []
+    → AddsValue old new (object (optional_member (codes "appliesTo") applies_to (optional_member (codes "memberOf") member_of
+    (optional_member (codes "attributes") attributes (optional_member (codes "external") external no_members)))))
+action_added old opened applied grouped described flagged new applies_to member_of attributes external begun one two three four ended =
+    let r = optional_member (codes "appliesTo") applies_to in
+    let m = optional_member (codes "memberOf") member_of in
+    let a = optional_member (codes "attributes") attributes in
+    let e = optional_member (codes "external") external in
+    object_added old opened flagged new (λ rest. r (m (a (e rest)))) begun
+    (fields_after opened described flagged (λ rest. r (m (a rest))) e
+    (fields_after opened grouped described (λ rest. r (m rest)) a (fields_after opened applied grouped r m one two) three) four) ended
+
+pub action_free : (it : WrittenAction) → IsFree (flaws_in requests_flaws it.applies_to) (IfThere SoundRequests it.applies_to)
+    → IfThere (Each SoundParent) it.member_of → IsFree (flaws_in pairs_flaws it.attributes) (IfThere SoundPairs it.attributes)
+    → IsFree (action_flaws it) (SoundAction it)
+action_free it applied grouped described = record {
+  flawless = none_both (flaws_in requests_flaws it.applies_to) (flaws_in pairs_flaws it.attributes) applied.flawless described.flawless;
+  sound = record { attributes = described.sound; applies_to = applied.sound; member_of = grouped };
+}
+
+pub requests_flaw : (it : WrittenAction) (f : WriteFault) → IsFlawOf (flaws_in requests_flaws it.applies_to) f → IsFlawOf (action_flaws it) f
+requests_flaw it f flawed = flaw_left (flaws_in requests_flaws it.applies_to) (flaws_in pairs_flaws it.attributes) f flawed
+
+pub attributes_flaw : (it : WrittenAction) (f : WriteFault) → IsFlawOf (flaws_in pairs_flaws it.attributes) f → IsFlawOf (action_flaws it) f
+attributes_flaw it f flawed = flaw_right (flaws_in requests_flaws it.applies_to) (flaws_in pairs_flaws it.attributes) f flawed

@@ -1,0 +1,53 @@
+-- What is written of entity types.
+use Rattle.std.proofs.Common.{◌≡◌, ◌≢◌, List, [], ◌∷◌, Bool, true, false, map, length, Option, Some, None, codes, refl, sym, subst}
+use Rattle.std.specs.List.Sorted.{IsStrictlySortedBy}
+use Rattle.json.specs.Token.{Token}
+use Rattle.cedar_names.specs.EntityBody.{standard}
+use Rattle.cedar_names.specs.Expr.{Expr, record_expr}
+use Rattle.cedar_names.specs.RawExpr.{raw_reference}
+use Rattle.cedar_names.specs.RawName.{raw_name}
+use Rattle.cedar_names.specs.declared.json_schema.raw_name.RawName.{RawName}
+use Rattle.cedar_names.specs.declared.json_schema.reference_type.ReferenceType.TheVariants.{Entity}
+use Rattle.cedar_json.specs.EntityFormat.{empty_record}
+use Rattle.cedar_json_writer.proofs.TypeReadBack.{empty-is}
+use Rattle.cedar_json_writer.proofs.WritingLemmas.{none_both}
+use Rattle.cedar_json_writer.proofs.WrittenTypes.{Entries, FreeType, listed, raw_ids}
+use Rattle.cedar_json_writer.specs.Flaws.{body_flaws, flaws_in, type_flaws}
+use Rattle.cedar_json_writer.specs.FragmentDocument.{parents_held, reference_array}
+use Rattle.cedar_json_writer.specs.Sound.{Each, IfThere, IsWrittenEntity, SoundBody, SoundType}
+use Rattle.cedar_json_writer.specs.TypeDocument.{is_empty_record}
+use Rattle.cedar_json_writer.specs.Writing.{AddsField, IsFree}
+
+-- a record with an attribute isn't the one without any
+pub filled_record : (entries : Entries) (additional : Bool) → length entries ≢ 0 → is_empty_record (record_expr (listed entries) additional) ≡ false
+filled_record [] additional some = absurd (some refl)
+filled_record (entry ∷ rest) true some = refl
+filled_record (entry ∷ rest) false some = refl
+
+-- the closed record without attributes is free
+record_free : FreeType empty_record
+unfolding type_flaws SoundType IsStrictlySortedBy
+record_free = record { flawless = refl; sound = (tt, tt) }
+
+pub empty_free : (ty : Expr) → is_empty_record ty ≡ true → FreeType ty
+empty_free ty e = subst FreeType (sym (empty-is ty e)) record_free
+
+-- parents that are some are written
+pub some_parents : (old new : List Token) (parents : List RawName) → length parents ≢ 0
+    → AddsField old new (codes "memberOfTypes") (Some (reference_array (map (raw_reference None Entity) parents)))
+    → AddsField old new (codes "memberOfTypes") (parents_held (map (raw_reference None Entity) parents))
+some_parents old new [] some added = absurd (some refl)
+some_parents old new (first ∷ rest) some added = added
+
+-- names as they were written are sound
+pub names_sound : (names : List RawName) → Each IsWrittenEntity (map (raw_reference None Entity) names)
+names_sound [] = tt
+names_sound (name ∷ rest) = ((raw_name name, raw_ids name, refl), names_sound rest)
+
+pub standard_free : (parents : List RawName) (shape : Expr) (tags : Option Expr) → FreeType shape
+    → IsFree (flaws_in type_flaws tags) (IfThere SoundType tags)
+    → IsFree (body_flaws (standard (map (raw_reference None Entity) parents) shape tags)) (SoundBody (standard (map (raw_reference None Entity) parents) shape tags))
+standard_free parents shape tags shaped tagged = record {
+  flawless = none_both (type_flaws shape) (flaws_in type_flaws tags) shaped.flawless tagged.flawless;
+  sound = (names_sound parents, shaped.sound, tagged.sound);
+}

@@ -1,0 +1,275 @@
+-- What is written of types, row by row.
+use Rattle.std.proofs.Common.{◌≡◌, ◌≢◌, List, [], ◌∷◌, ◌++◌, Bool, true, false, not, ◌&&◌, ◌||◌, cond, map, string_cmp, Some, None, Contains, codes, string_bytes, refl, ap, sym, subst, ◌∙◌, arith}
+use Rattle.std.proofs.lemmas.Slice.Eq.{bytes_eq-Decides}
+use Rattle.std.specs.List.Sorted.{IsStrictlySortedBy}
+use Rattle.std.specs.Map.{keys_of}
+use Rattle.std.specs.Str.{bytes_eq}
+use Rattle.std.specs.declared.alloc.Global.{Global}
+use Rattle.std.specs.declared.string.String.{String}
+use Rattle.json.specs.Json.{object, string, Members, no_members, member}
+use Rattle.json.specs.Token.{Token, begin_object, end_object, key}
+use Rattle.cedar_below.proofs.NameReading.{ids_are_identifiers}
+use Rattle.cedar_below.proofs.Ordered.{IsStrictlySortedBy-map}
+use Rattle.cedar_below.specs.Identifier.{is_identifier_text, reserved_word}
+use Rattle.cedar_below.specs.NameText.{IsOfIdentifiers}
+use Rattle.cedar_below.specs.PlainName.{PlainName, name_text}
+use Rattle.cedar_below.specs.Text.{Text, text_cmp}
+use Rattle.cedar_below.specs.UnreservedId.{unreserved_id_text}
+use Rattle.cedar_below.specs.declared.unreserved_id.UnreservedId.{UnreservedId}
+use Rattle.cedar_names.specs.Expr.{Expr, text_expr, long_expr, truth_expr, set_expr, record_expr, named, extension_expr, members_from, Members as AttributeList}
+use Rattle.cedar_names.specs.PlainMembers.{plain_members}
+use Rattle.cedar_names.specs.RawExpr.{raw_attribute, raw_reference}
+use Rattle.cedar_names.specs.RawName.{raw_name}
+use Rattle.cedar_names.specs.declared.json_schema.raw_name.RawName.{RawName}
+use Rattle.cedar_names.specs.declared.json_schema.reference_type.ReferenceType.TheVariants.{Common, Entity, CommonOrEntity}
+use Rattle.cedar_names.specs.declared.json_schema.type_of.TypeOfAttribute.{TypeOfAttribute}
+use Rattle.cedar_json.proofs.NameLemmas.{spelled_name-text}
+use Rattle.cedar_json.specs.DefinitionFormat.{id_key}
+use Rattle.cedar_json.specs.Fields.{is_among}
+use Rattle.cedar_json.specs.WrittenName.{is_unreserved, spelled_name}
+use Rattle.cedar_json_writer.proofs.WritingLemmas.{MembersShape, field_added, fields_after, object_added}
+use Rattle.cedar_json_writer.specs.Flaws.{attributes_flaws, type_flaws, type_word, type_words}
+use Rattle.cedar_json_writer.specs.Sound.{Each, SoundAttributes, SoundType, attribute_names}
+use Rattle.cedar_json_writer.specs.TypeDocument.{attribute_document, attribute_members, type_document, type_members}
+use Rattle.cedar_json_writer.specs.WrittenFields.{flag_held, optional_member}
+use Rattle.cedar_json_writer.specs.Writing.{AddsField, AddsFields, AddsValue, IsFlawOf, IsFree}
+use Rattle.cedar_json_writer.specs.declared.fault.WriteFault.{WriteFault}
+
+-- a written name is of identifiers
+pub raw_ids : (name : RawName) → IsOfIdentifiers (raw_name name)
+raw_ids name = (name.0.parts.value.id.identifier, ids_are_identifiers name.0.parts.value.path.items)
+
+-- the text spells the name with no path
+abbrev IsBase : Text → Type 0
+IsBase text = spelled_name text ≡ Some (record { base = text; path = [] })
+
+base_apart : (name : PlainName) (word : Text) (test : Bool) → bytes_eq (name_text name) word ≡ test → spelled_name (name_text name) ≡ Some name
+    → IsBase word → name.path ≢ [] → test ≡ false
+base_apart name word true same spelled base qualified =
+    let names : Some name ≡ Some (record { base = word; path = [] }) =
+    sym spelled ∙ ap spelled_name ((bytes_eq-Decides (name_text name) word).0 same) ∙ base in
+    let is : name ≡ record { base = word; path = [] } = cc in
+    absurd (qualified (ap (λ (n : PlainName). n.path) is))
+base_apart name word false same spelled base qualified = refl
+
+bases_apart : (name : PlainName) (words : List Text) → spelled_name (name_text name) ≡ Some name → Each IsBase words → name.path ≢ []
+    → is_among (name_text name) words ≡ false
+bases_apart name [] spelled bases qualified = refl
+bases_apart name (word ∷ words) spelled bases qualified =
+    ap (λ test. test || is_among (name_text name) words)
+    (base_apart name word (bytes_eq (name_text name) word) refl spelled bases.0 qualified)
+    ∙ bases_apart name words spelled bases.1 qualified
+
+-- a name with a path prints as no word
+pub qualified_apart : (name : RawName) → (raw_name name).path ≢ [] → is_among (name_text (raw_name name)) type_words ≡ false
+qualified_apart name qualified =
+    bases_apart (raw_name name) type_words (spelled_name-text (raw_name name) (raw_ids name))
+    (refl, (refl, (refl, (refl, (refl, (refl, (refl, (refl, tt)))))))) qualified
+
+both_true : (a b : Bool) → a ≡ true → b ≡ true → (a && b) ≡ true
+both_true a b first second = ap (λ test. test && b) first ∙ second
+
+not_reserved : (text : Text) (test : Bool) → bytes_eq text reserved_word ≡ test → text ≢ reserved_word → not test ≡ true
+not_reserved text true same other = absurd (other ((bytes_eq-Decides text reserved_word).0 same))
+not_reserved text false same other = refl
+
+-- an id that isn't reserved is one
+pub unreserved-is : (id : UnreservedId) → is_unreserved (unreserved_id_text id) ≡ true
+unreserved-is id =
+    both_true (is_identifier_text (unreserved_id_text id)) (not (bytes_eq (unreserved_id_text id) reserved_word)) id.id.identifier
+    (not_reserved (unreserved_id_text id) (bytes_eq (unreserved_id_text id) reserved_word) refl id.unreserved)
+
+-- and is the key of an entity type
+pub id_key-read : (id : UnreservedId) → id_key (unreserved_id_text id) ≡ Some (unreserved_id_text id)
+id_key-read id = ap (λ test. cond test (Some (unreserved_id_text id)) None) (unreserved-is id)
+
+-- a type of which nothing is a flaw, and which is sound
+abbrev pub FreeType : Expr → Type 0
+FreeType ty = IsFree (type_flaws ty) (SoundType ty)
+
+pub text_free : FreeType text_expr
+unfolding type_flaws SoundType
+text_free = record { flawless = refl; sound = tt }
+
+pub long_free : FreeType long_expr
+unfolding type_flaws SoundType
+long_free = record { flawless = refl; sound = tt }
+
+pub truth_free : FreeType truth_expr
+unfolding type_flaws SoundType
+truth_free = record { flawless = refl; sound = tt }
+
+pub set_free : (element : Expr) → FreeType element → FreeType (set_expr element)
+unfolding type_flaws SoundType
+set_free element it = record { flawless = it.flawless; sound = it.sound }
+
+pub entity_free : (name : RawName) → FreeType (named (raw_reference None Entity name))
+unfolding type_flaws SoundType
+entity_free name = record { flawless = refl; sound = (raw_name name, raw_ids name, refl) }
+
+pub either_free : (name : RawName) → FreeType (named (raw_reference None CommonOrEntity name))
+unfolding type_flaws SoundType
+either_free name = record { flawless = refl; sound = (raw_name name, raw_ids name, refl) }
+
+pub common_free : (name : RawName) → is_among (name_text (raw_name name)) type_words ≡ false → FreeType (named (raw_reference None Common name))
+unfolding type_flaws SoundType
+common_free name other = record {
+  flawless = ap (λ test. cond test (type_word (name_text (raw_name name)) ∷ []) []) other;
+  sound = (raw_name name, raw_ids name, refl);
+}
+
+pub common_flaw : (name : RawName) (text : Text) → is_among (name_text (raw_name name)) type_words ≡ true → text ≡ name_text (raw_name name)
+    → Contains (type_flaws (named (raw_reference None Common name))) (type_word text)
+unfolding type_flaws
+common_flaw name text word same =
+    subst (λ flaws. Contains flaws (type_word text)) (sym (ap (λ test. cond test (type_word (name_text (raw_name name)) ∷ []) []) word))
+    (0, omega arith, ap type_word (sym same))
+
+-- the fields of a reference
+pub common_fields : (old new : List Token) (name : RawName)
+    → AddsField old new (codes "type") (Some (string (name_text (raw_name name))))
+    → AddsFields old new (type_members (named (raw_reference None Common name)))
+unfolding type_members
+common_fields old new name added = added
+
+-- the attributes of a record type, by their entries
+abbrev pub Entries : Type 0
+Entries = List (String Global × TypeOfAttribute RawName)
+
+abbrev pub listed : Entries → AttributeList
+listed entries = members_from (plain_members None entries)
+
+pub no_attribute_members : attribute_members (listed []) ≡ no_members
+unfolding type_members
+no_attribute_members = refl
+
+pub one_more_attribute : (entry : String Global × TypeOfAttribute RawName) (rest : Entries) → attribute_members (listed (entry ∷ rest))
+    ≡ member (string_bytes entry.0) (attribute_document (raw_attribute None entry.1).0 (raw_attribute None entry.1).1) (attribute_members (listed rest))
+unfolding type_members
+one_more_attribute entry rest = refl
+
+pub no_attribute_flaws : attributes_flaws (listed []) ≡ []
+unfolding type_flaws
+no_attribute_flaws = refl
+
+pub more_attribute_flaws : (entry : String Global × TypeOfAttribute RawName) (rest : Entries)
+    → attributes_flaws (listed (entry ∷ rest)) ≡ type_flaws (raw_attribute None entry.1).1 ++ attributes_flaws (listed rest)
+unfolding type_flaws
+more_attribute_flaws entry rest = refl
+
+pub no_attribute_sound : SoundAttributes (listed [])
+unfolding SoundType
+no_attribute_sound = tt
+
+pub more_attributes_sound : (entry : String Global × TypeOfAttribute RawName) (rest : Entries) → SoundType (raw_attribute None entry.1).1
+    → SoundAttributes (listed rest) → SoundAttributes (listed (entry ∷ rest))
+unfolding SoundType
+more_attributes_sound entry rest one others = (one, others)
+
+abbrev pub attributes_shape : MembersShape (String Global × TypeOfAttribute RawName)
+attributes_shape = record {
+  members = λ entries. attribute_members (listed entries);
+  flaws = λ entries. attributes_flaws (listed entries);
+  Sound = λ entries. SoundAttributes (listed entries);
+  text = λ entry. string_bytes entry.0;
+  document = λ entry. attribute_document (raw_attribute None entry.1).0 (raw_attribute None entry.1).1;
+  flaws_of = λ entry. type_flaws (raw_attribute None entry.1).1;
+  SoundOne = λ entry. SoundType (raw_attribute None entry.1).1;
+  no_more = no_attribute_members;
+  no_flaws = no_attribute_flaws;
+  none_sound = no_attribute_sound;
+  one_more = one_more_attribute;
+  more_flaws = more_attribute_flaws;
+  more_sound = more_attributes_sound;
+}
+
+-- the fields of a word alone
+pub text_fields : (old new : List Token) → AddsField old new (codes "type") (Some (string (codes "String"))) → AddsFields old new (type_members text_expr)
+unfolding type_members
+text_fields old new added = added
+
+pub long_fields : (old new : List Token) → AddsField old new (codes "type") (Some (string (codes "Long"))) → AddsFields old new (type_members long_expr)
+unfolding type_members
+long_fields old new added = added
+
+pub truth_fields : (old new : List Token) → AddsField old new (codes "type") (Some (string (codes "Boolean"))) → AddsFields old new (type_members truth_expr)
+unfolding type_members
+truth_fields old new added = added
+
+-- the fields of a form with a name
+abbrev pub named_members : Text → Text → Members → Members
+named_members word text rest = member (codes "type") (string word) (member (codes "name") (string text) rest)
+
+pub entity_fields : (old new : List Token) (name : RawName) → AddsFields old new (named_members (codes "Entity") (name_text (raw_name name)))
+    → AddsFields old new (type_members (named (raw_reference None Entity name)))
+unfolding type_members
+entity_fields old new name added = added
+
+pub either_fields : (old new : List Token) (name : RawName) → AddsFields old new (named_members (codes "EntityOrCommon") (name_text (raw_name name)))
+    → AddsFields old new (type_members (named (raw_reference None CommonOrEntity name)))
+unfolding type_members
+either_fields old new name added = added
+
+pub extension_fields : (old new : List Token) (name : Text) → AddsFields old new (named_members (codes "Extension") name)
+    → AddsFields old new (type_members (extension_expr name))
+unfolding type_members
+extension_fields old new name added = added
+
+pub extension_free : (name : UnreservedId) → FreeType (extension_expr (unreserved_id_text name))
+unfolding type_flaws SoundType
+extension_free name = record { flawless = refl; sound = unreserved-is name }
+
+pub set_fields : (old worded keyed new : List Token) (element : Expr) → AddsField old worded (codes "type") (Some (string (codes "Set")))
+    → keyed ≡ worded ++ key (codes "element") ∷ [] → AddsValue keyed new (type_document element) → AddsFields old new (type_members (set_expr element))
+unfolding type_members
+set_fields old worded keyed new element word is_keyed added =
+    fields_after old worded new (optional_member (codes "type") (Some (string (codes "Set"))))
+    (optional_member (codes "element") (Some (type_document element))) word
+    (field_added worded keyed new (codes "element") (type_document element) is_keyed added)
+
+pub set_flaw : (element : Expr) (f : WriteFault) → IsFlawOf (type_flaws element) f → IsFlawOf (type_flaws (set_expr element)) f
+unfolding type_flaws
+set_flaw element f is = is
+
+pub record_fields : (old worded keyed held new : List Token) (all : AttributeList) (additional : Bool)
+    → AddsField old worded (codes "type") (Some (string (codes "Record"))) → keyed ≡ worded ++ key (codes "attributes") ∷ []
+    → AddsValue keyed held (object (attribute_members all)) → AddsField held new (codes "additionalAttributes") (flag_held false additional)
+    → AddsFields old new (type_members (record_expr all additional))
+unfolding type_members
+record_fields old worded keyed held new all additional word is_keyed added flag =
+    fields_after old held new
+    (λ rest. member (codes "type") (string (codes "Record")) (member (codes "attributes") (object (attribute_members all)) rest))
+    (optional_member (codes "additionalAttributes") (flag_held false additional))
+    (fields_after old worded held (optional_member (codes "type") (Some (string (codes "Record"))))
+    (optional_member (codes "attributes") (Some (object (attribute_members all)))) word
+    (field_added worded keyed held (codes "attributes") (object (attribute_members all)) is_keyed added))
+    flag
+
+listed-names : (entries : Entries) → attribute_names (listed entries) ≡ map string_bytes (keys_of entries)
+listed-names [] = refl
+listed-names (entry ∷ rest) = ap (λ names. string_bytes entry.0 ∷ names) (listed-names rest)
+
+pub record_free : (entries : Entries) (additional : Bool) → IsStrictlySortedBy string_cmp (keys_of entries)
+    → IsFree (attributes_flaws (listed entries)) (SoundAttributes (listed entries)) → FreeType (record_expr (listed entries) additional)
+unfolding type_flaws SoundType
+record_free entries additional sorted free = record {
+  flawless = free.flawless;
+  sound = (
+    subst (IsStrictlySortedBy text_cmp) (sym (listed-names entries))
+        (IsStrictlySortedBy-map string_cmp text_cmp string_bytes (λ a b. refl) (keys_of entries) sorted),
+    free.sound,
+  );
+}
+
+pub record_flaw : (all : AttributeList) (additional : Bool) (f : WriteFault) → IsFlawOf (attributes_flaws all) f
+    → IsFlawOf (type_flaws (record_expr all additional)) f
+unfolding type_flaws
+record_flaw all additional f is = is
+
+-- the object of an attribute
+pub attribute_added : (old opened inside flagged new : List Token) (required : Bool) (ty : Expr) → opened ≡ old ++ begin_object ∷ []
+    → AddsFields opened inside (type_members ty) → AddsField inside flagged (codes "required") (flag_held true required)
+    → new ≡ flagged ++ end_object ∷ [] → AddsValue old new (attribute_document required ty)
+attribute_added old opened inside flagged new required ty begun added flag ended =
+    object_added old opened flagged new (λ rest. type_members ty (optional_member (codes "required") (flag_held true required) rest)) begun
+    (fields_after opened inside flagged (type_members ty) (optional_member (codes "required") (flag_held true required)) added flag) ended

@@ -1,0 +1,37 @@
+use Rattle.std.proofs.Common.{◌++◌, ◌∷◌, [], List, ℕ, ap, refl, ◌∙◌}
+use Rattle.std.proofs.lemmas.Result.{err_from_is_err_and}
+use Rattle.json.specs.Token.{key}
+use Rattle.cedar_json_writer.proofs.WrittenDefinitions.{declarations_free, declared_shape}
+use Rattle.std.proofs.Common.{Global, Some as some, String, string_bytes, string_cmp}
+use Rattle.cedar_below.specs.Text.{Text}
+use Rattle.cedar_json.specs.ActionFormat.{written_action}
+use Rattle.cedar_json_writer.specs.Flaws.{action_flaws}
+use Rattle.cedar_json_writer.specs.FragmentDocument.{action_document}
+use Rattle.cedar_json_writer.specs.Sound.{SoundAction}
+use Rattle.cedar_json_writer.proofs.WritingLemmas.{member_flaw, members_added, members_free, turn}
+use Rattle.cedar_json_writer.proofs.definitions.write_actions.Goals as goal
+
+pub loop-id-preserved : goal.loop-id-preserved
+loop-id-preserved c =
+    turn (declared_shape {K = String Global} string_bytes (λ (id : Text). id) written_action action_document action_flaws SoundAction) c.token.new.self c.loop-id.out c.token-in-loop-id.new.self c.write_action.new.out
+    c.args.all.now.entries c.loop-id.id-iterator c.next.new.self (c.in-Some.id.now, c.in-Some.it.now) c.loop-id.invariant
+    c.in-Some.ensures.steps (c.in_ok-token-2.ensures.ok ∙ ap (λ (text : List ℕ). c.loop-id.out ++ key text ∷ []) c.as_str.ensures.value)
+    c.in_ok-write_action.ensures.written c.in_ok-write_action.ensures.free
+
+pub returns-clause-written : goal.returns-clause-written
+returns-clause-written c =
+    members_added (declared_shape {K = String Global} string_bytes (λ (id : Text). id) written_action action_document action_flaws SoundAction) c.args.out.now c.token.new.self c.loop-id.out c.token-2.new.self
+    c.args.all.now.entries c.loop-id.id-iterator c.loop-id.invariant c.in-None.ensures.steps.0 c.in_ok-token.ensures.ok c.in_ok-token-3.ensures.ok
+
+pub returns-clause-free : goal.returns-clause-free
+returns-clause-free c =
+    declarations_free {K = String Global} string_bytes written_action action_document action_flaws SoundAction some (λ id. refl) string_cmp (λ a b. refl) c.args.all.now.entries c.into_iter-id-iterator.ensures.into_iter_gives.5
+    (members_free (declared_shape {K = String Global} string_bytes (λ (id : Text). id) written_action action_document action_flaws SoundAction) c.token.new.self c.loop-id.out c.args.all.now.entries c.loop-id.id-iterator c.loop-id.invariant
+    c.in-None.ensures.steps.0)
+
+pub returns-in_err-write_action-clause-fault : goal.returns-in_err-write_action-clause-fault
+returns-in_err-write_action-clause-fault c =
+    let f = c.in_err-write_action.field-0.0 in
+    let p = err_from_is_err_and c.from_residual-in_err-write_action.result c.from_residual-in_err-write_action.ensures.1 in
+    rw (p.1, p.2) (member_flaw (declared_shape {K = String Global} string_bytes (λ (id : Text). id) written_action action_document action_flaws SoundAction) c.token.new.self c.loop-id.out c.args.all.now.entries c.loop-id.id-iterator c.next.new.self
+    (c.in-Some.id.now, c.in-Some.it.now) f c.loop-id.invariant c.in-Some.ensures.steps c.in_err-write_action.ensures.fault)

@@ -1,0 +1,12 @@
+use Rattle.cedar_json_writer.proofs.WrittenDefinitions.{declared_shape}
+use Rattle.std.proofs.Common.{Global, String, string_bytes}
+use Rattle.cedar_below.specs.Text.{Text}
+use Rattle.cedar_json.specs.ActionFormat.{written_action}
+use Rattle.cedar_json_writer.specs.Flaws.{action_flaws}
+use Rattle.cedar_json_writer.specs.FragmentDocument.{action_document}
+use Rattle.cedar_json_writer.specs.Sound.{SoundAction}
+use Rattle.cedar_json_writer.proofs.WritingLemmas.{SoFar}
+use Rattle.cedar_json_writer.proofs.definitions.write_actions.Given as goal
+
+abbrev pub invariant-loop-id : goal.invariant-loop-id
+invariant-loop-id l = SoFar (declared_shape {K = String Global} string_bytes (λ (id : Text). id) written_action action_document action_flaws SoundAction) l.initial.out l.out l.all.entries l.id-iterator

@@ -1,0 +1,43 @@
+use Rattle.std.proofs.Common.{◌++◌, ◌∷◌, [], List, ℕ, ap, refl, ◌∙◌}
+use Rattle.std.proofs.lemmas.Result.{err_from_is_err_and}
+use Rattle.json.specs.Token.{key}
+use Rattle.cedar_json_writer.proofs.WrittenDefinitions.{declarations_free, declared_shape}
+use Rattle.cedar_names.specs.CommonTypeId.{common_type_text}
+use Rattle.cedar_names.specs.RawExpr.{raw_expr}
+use Rattle.cedar_names.specs.contracts.json_schema.common_type_id.CommonTypeIdOrd.TheImpl as common_type_ord
+use Rattle.cedar_names.specs.declared.json_schema.fragment.CommonType.{CommonType}
+use Rattle.cedar_names.specs.declared.json_schema.raw_name.RawName.{RawName}
+use Rattle.cedar_json.proofs.NameLemmas.{common_key-read}
+use Rattle.cedar_json.specs.DefinitionFormat.{common_key}
+use Rattle.cedar_json_writer.specs.Flaws.{type_flaws}
+use Rattle.cedar_json_writer.specs.Sound.{SoundType}
+use Rattle.cedar_json_writer.specs.TypeDocument.{type_document}
+use Rattle.std.proofs.Common.{None as nothing}
+use Rattle.cedar_below.specs.Text.{Text}
+use Rattle.cedar_json_writer.proofs.WritingLemmas.{member_flaw, members_added, members_free, turn}
+use Rattle.cedar_json_writer.proofs.definitions.write_common_types.Goals as goal
+
+pub loop-id-preserved : goal.loop-id-preserved
+loop-id-preserved c =
+    turn (declared_shape common_type_text (λ (id : Text). id) (λ (it : CommonType RawName). raw_expr nothing it.ty) type_document type_flaws SoundType) c.token.new.self c.loop-id.out c.token-in-loop-id.new.self c.write_type.new.out
+    c.args.all.now.entries c.loop-id.id-iterator c.next.new.self (c.in-Some.id.now, c.in-Some.it.now) c.loop-id.invariant
+    c.in-Some.ensures.steps (c.in_ok-token-2.ensures.ok ∙ ap (λ (text : List ℕ). c.loop-id.out ++ key text ∷ []) c.as_str.ensures.text)
+    c.in_ok-write_type.ensures.written c.in_ok-write_type.ensures.free
+
+pub returns-clause-written : goal.returns-clause-written
+returns-clause-written c =
+    members_added (declared_shape common_type_text (λ (id : Text). id) (λ (it : CommonType RawName). raw_expr nothing it.ty) type_document type_flaws SoundType) c.args.out.now c.token.new.self c.loop-id.out c.token-2.new.self
+    c.args.all.now.entries c.loop-id.id-iterator c.loop-id.invariant c.in-None.ensures.steps.0 c.in_ok-token.ensures.ok c.in_ok-token-3.ensures.ok
+
+pub returns-clause-free : goal.returns-clause-free
+returns-clause-free c =
+    declarations_free common_type_text (λ (it : CommonType RawName). raw_expr nothing it.ty) type_document type_flaws SoundType common_key (λ id. common_key-read id (common_type_text id) refl) ((common_type_ord.ghosts).cmp) (λ a b. refl) c.args.all.now.entries c.into_iter-id-iterator.ensures.into_iter_gives.5
+    (members_free (declared_shape common_type_text (λ (id : Text). id) (λ (it : CommonType RawName). raw_expr nothing it.ty) type_document type_flaws SoundType) c.token.new.self c.loop-id.out c.args.all.now.entries c.loop-id.id-iterator c.loop-id.invariant
+    c.in-None.ensures.steps.0)
+
+pub returns-in_err-write_type-clause-fault : goal.returns-in_err-write_type-clause-fault
+returns-in_err-write_type-clause-fault c =
+    let f = c.in_err-write_type.field-0.0 in
+    let p = err_from_is_err_and c.from_residual-in_err-write_type.result c.from_residual-in_err-write_type.ensures.1 in
+    rw (p.1, p.2) (member_flaw (declared_shape common_type_text (λ (id : Text). id) (λ (it : CommonType RawName). raw_expr nothing it.ty) type_document type_flaws SoundType) c.token.new.self c.loop-id.out c.args.all.now.entries c.loop-id.id-iterator c.next.new.self
+    (c.in-Some.id.now, c.in-Some.it.now) f c.loop-id.invariant c.in-Some.ensures.steps c.in_err-write_type.ensures.fault)

@@ -1,0 +1,15 @@
+use Rattle.cedar_json_writer.proofs.WrittenDefinitions.{declared_shape}
+use Rattle.cedar_names.specs.CommonTypeId.{common_type_text}
+use Rattle.cedar_names.specs.RawExpr.{raw_expr}
+use Rattle.cedar_names.specs.declared.json_schema.fragment.CommonType.{CommonType}
+use Rattle.cedar_names.specs.declared.json_schema.raw_name.RawName.{RawName}
+use Rattle.cedar_json_writer.specs.Flaws.{type_flaws}
+use Rattle.cedar_json_writer.specs.Sound.{SoundType}
+use Rattle.cedar_json_writer.specs.TypeDocument.{type_document}
+use Rattle.std.proofs.Common.{None as nothing}
+use Rattle.cedar_below.specs.Text.{Text}
+use Rattle.cedar_json_writer.proofs.WritingLemmas.{SoFar}
+use Rattle.cedar_json_writer.proofs.definitions.write_common_types.Given as goal
+
+abbrev pub invariant-loop-id : goal.invariant-loop-id
+invariant-loop-id l = SoFar (declared_shape common_type_text (λ (id : Text). id) (λ (it : CommonType RawName). raw_expr nothing it.ty) type_document type_flaws SoundType) l.initial.out l.out l.all.entries l.id-iterator

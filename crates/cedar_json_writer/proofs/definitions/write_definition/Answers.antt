@@ -1,0 +1,25 @@
+use Rattle.std.proofs.lemmas.Result.{err_from_is_err_and}
+use Rattle.json.specs.Json.{object}
+use Rattle.cedar_json.specs.DefinitionFormat.{written_actions, written_common_types, written_definition, written_entity_types}
+use Rattle.cedar_json_writer.proofs.WrittenDefinitions.{action_flaw, definition_added, entity_type_flaw}
+use Rattle.cedar_json_writer.specs.FragmentDocument.{action_document, common_types_held, declared_members, entity_type_document}
+use Rattle.cedar_json_writer.proofs.definitions.write_definition.Goals as goal
+
+pub returns-in_err-write_entity_types-clause-fault : goal.returns-in_err-write_entity_types-clause-fault
+returns-in_err-write_entity_types-clause-fault c =
+    let p = err_from_is_err_and c.from_residual-in_err-write_entity_types.result c.from_residual-in_err-write_entity_types.ensures.1 in
+    rw (p.1, p.2) (entity_type_flaw (written_definition c.args.it.now) _ c.in_err-write_entity_types.ensures.fault)
+
+pub returns-in_err-write_actions-clause-fault : goal.returns-in_err-write_actions-clause-fault
+returns-in_err-write_actions-clause-fault c =
+    let p = err_from_is_err_and c.from_residual-in_err-write_actions.result c.from_residual-in_err-write_actions.ensures.1 in
+    rw (p.1, p.2) (action_flaw (written_definition c.args.it.now) _ c.in_err-write_actions.ensures.fault)
+
+pub returns-clause-written : goal.returns-clause-written
+returns-clause-written c =
+    let it = c.args.it.now in
+    definition_added c.args.out.now c.token.new.self c.token-2.new.self c.write_entity_types.new.out c.token-3.new.self c.write_actions.new.out
+    c.write_common_types_field.new.out c.token-4.new.self (object (declared_members entity_type_document (written_entity_types it.entity_types)))
+    (object (declared_members action_document (written_actions it.actions))) (common_types_held (written_common_types it.common_types))
+    c.in_ok-token.ensures.ok c.in_ok-token-2.ensures.ok c.in_ok-write_entity_types.ensures.written c.in_ok-token-3.ensures.ok
+    c.in_ok-write_actions.ensures.written c.in_ok-write_common_types_field.ensures.written c.in_ok-token-4.ensures.ok

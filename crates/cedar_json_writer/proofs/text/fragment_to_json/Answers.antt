@@ -1,0 +1,44 @@
+use Rattle.std.proofs.Common.{◌≡◌, ◌++◌, IsSome, List, ℕ, ap, rules, string_bytes, subst, sym, ◌∙◌}
+use Rattle.std.proofs.lemmas.Bool.{false≢true}
+use Rattle.std.specs.Str.{IsUtf8}
+use Rattle.json.specs.Json.{document}
+use Rattle.json.specs.Lex.{tokens}
+use Rattle.json.specs.Tree.{json_tokens}
+use Rattle.cedar_json.specs.DefinitionFormat.{written_fragment}
+use Rattle.cedar_json_writer.proofs.WrittenText.{deep_text, described_text, writable_text}
+use Rattle.cedar_json_writer.specs.FragmentDocument.{fragment_document}
+use Rattle.cedar_json_writer.proofs.text.fragment_to_json.Goals as goal
+
+pub returns-then-branch-clause-writable : goal.returns-then-branch-clause-writable
+returns-then-branch-clause-writable c =
+    let it = written_fragment c.args.fragment.now in
+    let text = string_bytes c.unwrap-text.result in
+    let same : text ≡ c.into_inner.result.items = search rules in
+    let written : tokens text ≡ json_tokens (fragment_document it) =
+    ap tokens same ∙ c.into_inner.ensures.value ∙ c.in_ok-write_fragment.ensures.written
+    ∙ ap (λ l. l ++ json_tokens (fragment_document it)) c.new-out.ensures in
+    let valid : IsSome (document text) = subst (λ (bytes : List ℕ). IsSome (document bytes)) c.as_str.ensures.value (c.in_ok-is_valid.ensures.ok.0 c.if-branch.true) in
+    writable_text text it written c.in_ok-write_fragment.ensures.free.flawless valid
+
+pub returns-then-branch-clause-described : goal.returns-then-branch-clause-described
+returns-then-branch-clause-described c =
+    let it = written_fragment c.args.fragment.now in
+    let text = string_bytes c.unwrap-text.result in
+    let same : text ≡ c.into_inner.result.items = search rules in
+    let written : tokens text ≡ json_tokens (fragment_document it) =
+    ap tokens same ∙ c.into_inner.ensures.value ∙ c.in_ok-write_fragment.ensures.written
+    ∙ ap (λ l. l ++ json_tokens (fragment_document it)) c.new-out.ensures in
+    let valid : IsSome (document text) = subst (λ (bytes : List ℕ). IsSome (document bytes)) c.as_str.ensures.value (c.in_ok-is_valid.ensures.ok.0 c.if-branch.true) in
+    let utf8 : IsUtf8 text = subst IsUtf8 (sym same) c.into_inner.ensures.utf8 in
+    described_text text it utf8 written c.in_ok-write_fragment.ensures.free valid
+
+pub returns-else-branch-clause-fault : goal.returns-else-branch-clause-fault
+returns-else-branch-clause-fault c =
+    let it = written_fragment c.args.fragment.now in
+    let text = string_bytes c.unwrap-text.result in
+    let same : text ≡ c.into_inner.result.items = search rules in
+    let written : tokens text ≡ json_tokens (fragment_document it) =
+    ap tokens same ∙ c.into_inner.ensures.value ∙ c.in_ok-write_fragment.ensures.written
+    ∙ ap (λ l. l ++ json_tokens (fragment_document it)) c.new-out.ensures in
+    deep_text text it written (λ some. false≢true (sym c.if-branch.false
+    ∙ c.in_ok-is_valid.ensures.ok.1 (subst (λ (bytes : List ℕ). IsSome (document bytes)) (sym c.as_str.ensures.value) some)))

@@ -1,0 +1,141 @@
+use Rattle.std.proofs.Common.{◌≡◌, ◌++◌, ◌∷◌, [], IfErr, List, None, ℕ, ap, refl, subst, sym, ◌∙◌}
+use Rattle.std.proofs.lemmas.Result.{err_from_is_err_and}
+use Rattle.json.specs.Json.{object}
+use Rattle.json.specs.Token.{key}
+use Rattle.cedar_names.proofs.ExprLemmas.{raw_record-entries}
+use Rattle.cedar_names.proofs.VariantLemmas.{raw_variant-Boolean, raw_variant-Entity, raw_variant-Long, raw_variant-String, type-CommonTypeRef, variant-EntityOrCommon, variant-Extension}
+use Rattle.cedar_names.specs.Expr.{Expr, record_expr}
+use Rattle.cedar_names.specs.RawExpr.{raw_expr, raw_record, raw_reference, raw_variant}
+use Rattle.cedar_names.specs.declared.json_schema.raw_name.RawName.{RawName}
+use Rattle.cedar_names.specs.declared.json_schema.type_of.RecordType.{out-RecordType}
+use Rattle.cedar_json_writer.proofs.WritingLemmas.{begun, member_flaw, members_added, members_free, turn}
+use Rattle.cedar_json_writer.proofs.WrittenTypes.{FreeType, attributes_shape, either_fields, either_free, entity_fields, entity_free, extension_free, listed, long_fields, long_free, record_fields, record_flaw, record_free, set_fields, set_flaw, set_free, text_fields, text_free, truth_fields, truth_free}
+use Rattle.cedar_json_writer.specs.Flaws.{type_flaws}
+use Rattle.cedar_json_writer.specs.TypeDocument.{attribute_members, attributes_of, type_members}
+use Rattle.cedar_json_writer.specs.Writing.{AddsFields, AddsValue, IsFlawOf}
+use Rattle.cedar_json_writer.proofs.types.+type_writing.Goals as goal
+
+pub write_variant-returns-in_ok-write_text_field-in-String-clause-written : goal.write_variant-returns-in_ok-write_text_field-in-String-clause-written
+write_variant-returns-in_ok-write_text_field-in-String-clause-written t c =
+    subst (λ (ty : Expr). AddsFields c.args.out.now c.write_text_field.new.out (type_members ty))
+    (sym (ap (raw_variant None) c.in-String.is ∙ raw_variant-String None))
+    (text_fields c.args.out.now c.write_text_field.new.out c.in_ok-write_text_field-in-String.ensures)
+
+pub write_variant-returns-in_ok-write_text_field-in-String-clause-free : goal.write_variant-returns-in_ok-write_text_field-in-String-clause-free
+write_variant-returns-in_ok-write_text_field-in-String-clause-free t c =
+    subst FreeType (sym (ap (raw_variant None) c.in-String.is ∙ raw_variant-String None)) text_free
+
+pub write_variant-returns-in_ok-write_text_field-in-Long-clause-written : goal.write_variant-returns-in_ok-write_text_field-in-Long-clause-written
+write_variant-returns-in_ok-write_text_field-in-Long-clause-written t c =
+    subst (λ (ty : Expr). AddsFields c.args.out.now c.write_text_field-in-Long.new.out (type_members ty))
+    (sym (ap (raw_variant None) c.in-Long.is ∙ raw_variant-Long None))
+    (long_fields c.args.out.now c.write_text_field-in-Long.new.out c.in_ok-write_text_field-in-Long.ensures)
+
+pub write_variant-returns-in_ok-write_text_field-in-Long-clause-free : goal.write_variant-returns-in_ok-write_text_field-in-Long-clause-free
+write_variant-returns-in_ok-write_text_field-in-Long-clause-free t c =
+    subst FreeType (sym (ap (raw_variant None) c.in-Long.is ∙ raw_variant-Long None)) long_free
+
+pub write_variant-returns-in_ok-write_text_field-in-Boolean-clause-written : goal.write_variant-returns-in_ok-write_text_field-in-Boolean-clause-written
+write_variant-returns-in_ok-write_text_field-in-Boolean-clause-written t c =
+    subst (λ (ty : Expr). AddsFields c.args.out.now c.write_text_field-in-Boolean.new.out (type_members ty))
+    (sym (ap (raw_variant None) c.in-Boolean.is ∙ raw_variant-Boolean None))
+    (truth_fields c.args.out.now c.write_text_field-in-Boolean.new.out c.in_ok-write_text_field-in-Boolean.ensures)
+
+pub write_variant-returns-in_ok-write_text_field-in-Boolean-clause-free : goal.write_variant-returns-in_ok-write_text_field-in-Boolean-clause-free
+write_variant-returns-in_ok-write_text_field-in-Boolean-clause-free t c =
+    subst FreeType (sym (ap (raw_variant None) c.in-Boolean.is ∙ raw_variant-Boolean None)) truth_free
+
+pub write_variant-returns-in_ok-write_named-in-Entity-clause-written : goal.write_variant-returns-in_ok-write_named-in-Entity-clause-written
+write_variant-returns-in_ok-write_named-in-Entity-clause-written t c =
+    subst (λ (ty : Expr). AddsFields c.args.out.now c.write_named.new.out (type_members ty))
+    (sym (ap (raw_variant None) c.in-Entity.is ∙ raw_variant-Entity None c.in-Entity.name))
+    (entity_fields c.args.out.now c.write_named.new.out c.in-Entity.name c.in_ok-write_named-in-Entity.ensures)
+
+pub write_variant-returns-in_ok-write_named-in-Entity-clause-free : goal.write_variant-returns-in_ok-write_named-in-Entity-clause-free
+write_variant-returns-in_ok-write_named-in-Entity-clause-free t c =
+    subst FreeType (sym (ap (raw_variant None) c.in-Entity.is ∙ raw_variant-Entity None c.in-Entity.name)) (entity_free c.in-Entity.name)
+
+pub write_variant-returns-in_ok-write_named-in-EntityOrCommon-clause-written : goal.write_variant-returns-in_ok-write_named-in-EntityOrCommon-clause-written
+write_variant-returns-in_ok-write_named-in-EntityOrCommon-clause-written t c =
+    subst (λ (ty : Expr). AddsFields c.args.out.now c.write_named-in-EntityOrCommon.new.out (type_members ty))
+    (sym (ap (raw_variant None) c.in-EntityOrCommon.is ∙ variant-EntityOrCommon RawName (raw_reference None) c.in-EntityOrCommon.type_name))
+    (either_fields c.args.out.now c.write_named-in-EntityOrCommon.new.out c.in-EntityOrCommon.type_name c.in_ok-write_named-in-EntityOrCommon.ensures)
+
+pub write_variant-returns-in_ok-write_named-in-EntityOrCommon-clause-free : goal.write_variant-returns-in_ok-write_named-in-EntityOrCommon-clause-free
+write_variant-returns-in_ok-write_named-in-EntityOrCommon-clause-free t c =
+    subst FreeType (sym (ap (raw_variant None) c.in-EntityOrCommon.is ∙ variant-EntityOrCommon RawName (raw_reference None) c.in-EntityOrCommon.type_name)) (either_free c.in-EntityOrCommon.type_name)
+
+pub write_variant-returns-in_ok-write_extension-in-Extension-clause-free : goal.write_variant-returns-in_ok-write_extension-in-Extension-clause-free
+write_variant-returns-in_ok-write_extension-in-Extension-clause-free t c =
+    subst FreeType (sym (ap (raw_variant None) c.in-Extension.is ∙ variant-Extension RawName (raw_reference None) c.in-Extension.name))
+    (extension_free c.in-Extension.name)
+
+pub write_set-returns-clause-written : goal.write_set-returns-clause-written
+write_set-returns-clause-written t c =
+    set_fields c.args.out.now c.write_text_field.new.out c.token.new.self c.write_type.new.out (raw_expr None c.args.element.now)
+    c.in_ok-write_text_field.ensures c.in_ok-token.ensures.ok c.in_ok-write_type.ensures.written
+
+pub write_record-returns-clause-written : goal.write_record-returns-clause-written
+write_record-returns-clause-written t c =
+    let it = c.args.record_type.now in
+    let entries = (out-RecordType RawName it).attributes.entries in
+    let same : raw_record None it ≡ record_expr (listed entries) (out-RecordType RawName it).additional_attributes = raw_record-entries None it in
+    let held = subst (λ (ty : Expr). AddsValue c.token.new.self c.write_attributes.new.out (object (attribute_members (attributes_of ty)))) same
+    c.in_ok-write_attributes.ensures.written in
+    subst (λ (ty : Expr). AddsFields c.args.out.now c.write_flag.new.out (type_members ty)) (sym same)
+    (record_fields c.args.out.now c.write_text_field.new.out c.token.new.self c.write_attributes.new.out c.write_flag.new.out
+    (listed entries) (out-RecordType RawName it).additional_attributes c.in_ok-write_text_field.ensures c.in_ok-token.ensures.ok held
+    c.in_ok-write_flag.ensures)
+
+pub write_attributes-loop-name-init : goal.write_attributes-loop-name-init
+write_attributes-loop-name-init t c = begun attributes_shape _ _ _ _ refl c.into_iter-name-iterator.ensures.into_iter_gives.0
+
+pub write_attributes-loop-name-preserved : goal.write_attributes-loop-name-preserved
+write_attributes-loop-name-preserved t c =
+    turn attributes_shape c.token.new.self c.loop-name.out c.token-in-loop-name.new.self c.write_attribute.new.out
+    (out-RecordType RawName c.args.record_type.now).attributes.entries c.loop-name.name-iterator c.next.new.self
+    (c.in-Some.name.now, c.in-Some.attribute.now) c.loop-name.invariant c.in-Some.ensures.steps
+    (c.in_ok-token-2.ensures.ok ∙ ap (λ (text : List ℕ). c.loop-name.out ++ key text ∷ []) c.as_str.ensures.value)
+    c.in_ok-write_attribute.ensures.written c.in_ok-write_attribute.ensures.free
+
+pub write_attributes-returns-clause-written : goal.write_attributes-returns-clause-written
+write_attributes-returns-clause-written t c =
+    subst (λ (ty : Expr). AddsValue c.args.out.now c.token-2.new.self (object (attribute_members (attributes_of ty))))
+    (sym (raw_record-entries None c.args.record_type.now))
+    (members_added attributes_shape c.args.out.now c.token.new.self c.loop-name.out c.token-2.new.self
+    (out-RecordType RawName c.args.record_type.now).attributes.entries c.loop-name.name-iterator c.loop-name.invariant
+    c.in-None.ensures.steps.0 c.in_ok-token.ensures.ok c.in_ok-token-3.ensures.ok)
+
+pub write_attributes-returns-clause-free : goal.write_attributes-returns-clause-free
+write_attributes-returns-clause-free t c =
+    let entries = (out-RecordType RawName c.args.record_type.now).attributes.entries in
+    subst FreeType (sym (raw_record-entries None c.args.record_type.now))
+    (record_free entries (out-RecordType RawName c.args.record_type.now).additional_attributes
+    c.into_iter-name-iterator.ensures.into_iter_gives.5
+    (members_free attributes_shape c.token.new.self c.loop-name.out entries c.loop-name.name-iterator c.loop-name.invariant
+    c.in-None.ensures.steps.0))
+
+pub write_attributes-returns-in_err-write_attribute-clause-fault : goal.write_attributes-returns-in_err-write_attribute-clause-fault
+write_attributes-returns-in_err-write_attribute-clause-fault t c =
+    let it = c.args.record_type.now in
+    let entries = (out-RecordType RawName it).attributes.entries in
+    let f = c.in_err-write_attribute.field-0.0 in
+    let p = err_from_is_err_and c.from_residual-in_err-write_attribute.result c.from_residual-in_err-write_attribute.ensures.1 in
+    let flawed = member_flaw attributes_shape c.token.new.self c.loop-name.out entries c.loop-name.name-iterator c.next.new.self
+    (c.in-Some.name.now, c.in-Some.attribute.now) f c.loop-name.invariant c.in-Some.ensures.steps c.in_err-write_attribute.ensures.fault in
+    rw (p.1, p.2) (subst (λ (ty : Expr). IsFlawOf (type_flaws ty) f) (sym (raw_record-entries None it))
+    (record_flaw (listed entries) (out-RecordType RawName it).additional_attributes f flawed))
+
+pub write_fields-returns-in-CommonTypeRef-clause-fault : goal.write_fields-returns-in-CommonTypeRef-clause-fault
+write_fields-returns-in-CommonTypeRef-clause-fault t c =
+    subst (λ (ty : Expr). IfErr c.write_common.result (IsFlawOf (type_flaws ty)))
+    (sym (ap (raw_expr None) c.in-CommonTypeRef.is ∙ type-CommonTypeRef RawName (raw_reference None) c.in-CommonTypeRef.type_name _))
+    c.write_common.ensures.fault
+
+pub write_set-returns-in_err-write_type-clause-fault : goal.write_set-returns-in_err-write_type-clause-fault
+write_set-returns-in_err-write_type-clause-fault t c =
+    let p = err_from_is_err_and c.from_residual-in_err-write_type.result c.from_residual-in_err-write_type.ensures.1 in
+    rw (p.1, p.2) (set_flaw (raw_expr None c.args.element.now) _ c.in_err-write_type.ensures.fault)
+
+pub write_set-returns-clause-free : goal.write_set-returns-clause-free
+write_set-returns-clause-free t c = set_free (raw_expr None c.args.element.now) c.in_ok-write_type.ensures.free

@@ -1,0 +1,17 @@
+use Rattle.std.proofs.Common.{Some, codes, subst}
+use Rattle.json.specs.Json.{string}
+use Rattle.cedar_below.specs.PlainName.{PlainName, name_text}
+use Rattle.cedar_names.specs.RawName.{raw_name}
+use Rattle.cedar_json_writer.proofs.WritingLemmas.{fields_after}
+use Rattle.cedar_json_writer.specs.Writing.{AddsField}
+use Rattle.cedar_json_writer.specs.WrittenFields.{optional_member}
+use Rattle.cedar_json_writer.proofs.types.write_named.Goals as goal
+
+pub returns : goal.returns
+returns c =
+    fields_after c.args.out.now c.write_text_field.new.out c.write_name_field.new.out
+    (optional_member (codes "type") (Some (string c.args.word.now)))
+    (optional_member (codes "name") (Some (string (name_text (raw_name c.args.name.now)))))
+    c.in_ok-write_text_field.ensures
+    (subst (λ (n : PlainName). AddsField c.write_text_field.new.out c.write_name_field.new.out (codes "name") (Some (string (name_text n))))
+    c.as_internal.ensures.name c.in_ok-write_name_field.ensures)

@@ -1,0 +1,49 @@
+use Rattle.std.proofs.Common.{◌++◌, ◌∷◌, [], List, ℕ, ap, subst, ◌∙◌}
+use Rattle.std.proofs.lemmas.Result.{err_from_is_err_and}
+use Rattle.json.specs.Token.{key}
+use Rattle.cedar_below.specs.RestrictedExpr.{tree_of}
+use Rattle.cedar_below.specs.Tree.{Tree}
+use Rattle.cedar_below.specs.Value.{value_expr}
+use Rattle.cedar_below.specs.declared.value.RestrictedExpr.{RestrictedExpr}
+use Rattle.cedar_below.specs.declared.value.Value.{Value}
+use Rattle.cedar_json_writer.proofs.WritingLemmas.{member_flaw, members_added, members_free, turn}
+use Rattle.cedar_json_writer.proofs.WrittenValues.{FreeValue, pairs_free, pairs_shape}
+use Rattle.cedar_json_writer.specs.Flaws.{value_flaws}
+use Rattle.cedar_json_writer.specs.ValueDocument.{value_document}
+use Rattle.cedar_json_writer.specs.Writing.{AddsValue, IsFlawOf}
+use Rattle.cedar_json_writer.proofs.values.write_attribute_values.Goals as goal
+
+-- the tree that a value stands for
+abbrev view : Value → Tree
+view value = tree_of (value_expr value)
+
+pub loop-name-preserved : goal.loop-name-preserved
+loop-name-preserved c =
+    let added = subst (λ (e : RestrictedExpr). AddsValue c.token-in-loop-name.new.self c.write_value.new.out (value_document (tree_of e))) c.expr.ensures
+    c.in_ok-write_value.ensures.written in
+    let free = subst (λ (e : RestrictedExpr). FreeValue (tree_of e)) c.expr.ensures c.in_ok-write_value.ensures.free in
+    turn (pairs_shape view) c.token.new.self c.loop-name.out c.token-in-loop-name.new.self c.write_value.new.out
+    c.args.values.now.entries c.loop-name.name-iterator c.next.new.self
+    (c.in-Some.name.now, c.in-Some.value.now) c.loop-name.invariant c.in-Some.ensures.steps
+    (c.in_ok-token-2.ensures.ok ∙ ap (λ (text : List ℕ). c.loop-name.out ++ key text ∷ []) c.as_str.ensures.value)
+    added free
+
+pub returns-clause-written : goal.returns-clause-written
+returns-clause-written c =
+    members_added (pairs_shape view) c.args.out.now c.token.new.self c.loop-name.out c.token-2.new.self
+    c.args.values.now.entries c.loop-name.name-iterator c.loop-name.invariant
+    c.in-None.ensures.steps.0 c.in_ok-token.ensures.ok c.in_ok-token-3.ensures.ok
+
+pub returns-clause-free : goal.returns-clause-free
+returns-clause-free c =
+    pairs_free view c.args.values.now.entries c.into_iter-name-iterator.ensures.into_iter_gives.5
+    (members_free (pairs_shape view) c.token.new.self c.loop-name.out c.args.values.now.entries c.loop-name.name-iterator c.loop-name.invariant
+    c.in-None.ensures.steps.0)
+
+pub returns-in_err-write_value-clause-fault : goal.returns-in_err-write_value-clause-fault
+returns-in_err-write_value-clause-fault c =
+    let f = c.in_err-write_value.field-0.0 in
+    let p = err_from_is_err_and c.from_residual-in_err-write_value.result c.from_residual-in_err-write_value.ensures.1 in
+    let flawed = subst (λ (e : RestrictedExpr). IsFlawOf (value_flaws (tree_of e)) f) c.expr.ensures c.in_err-write_value.ensures.fault in
+    rw (p.1, p.2) (member_flaw (pairs_shape view) c.token.new.self c.loop-name.out c.args.values.now.entries c.loop-name.name-iterator c.next.new.self
+    (c.in-Some.name.now, c.in-Some.value.now) f c.loop-name.invariant c.in-Some.ensures.steps flawed)

@@ -1,0 +1,8 @@
+use Rattle.cedar_below.specs.EntityUID.{uid_of}
+use Rattle.cedar_json_writer.proofs.WrittenValues.{uid_added}
+use Rattle.cedar_json_writer.proofs.values.write_entity.Goals as goal
+
+pub returns : goal.returns
+returns c =
+    uid_added c.args.out.now c.token.new.self c.token-2.new.self c.write_uid.new.out c.token-3.new.self (uid_of c.args.uid.now)
+    c.in_ok-token.ensures.ok c.in_ok-token-2.ensures.ok c.in_ok-write_uid.ensures c.in_ok-token-3.ensures.ok

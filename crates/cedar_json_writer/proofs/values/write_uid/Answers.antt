@@ -1,0 +1,16 @@
+use Rattle.std.proofs.Common.{List, ℕ, Some, codes, subst, ◌∙◌}
+use Rattle.json.specs.Json.{string}
+use Rattle.cedar_below.specs.EntityUID.{uid_of}
+use Rattle.cedar_below.specs.PlainName.{PlainName, name_text}
+use Rattle.cedar_json_writer.proofs.WrittenValues.{uid_fields_added}
+use Rattle.cedar_json_writer.specs.Writing.{AddsField}
+use Rattle.cedar_json_writer.proofs.values.write_uid.Goals as goal
+
+pub returns : goal.returns
+returns c =
+    let first = subst (λ (n : PlainName). AddsField c.token.new.self c.write_name_field.new.out (codes "type") (Some (string (name_text n))))
+    (c.as_internal.ensures.name ∙ c.name.ensures.name ∙ c.entity_type.ensures.name) c.in_ok-write_name_field.ensures in
+    let second = subst (λ (text : List ℕ). AddsField c.write_name_field.new.out c.write_text_field.new.out (codes "id") (Some (string text)))
+    (c.as_str.ensures ∙ c.eid.ensures) c.in_ok-write_text_field.ensures in
+    uid_fields_added c.args.out.now c.token.new.self c.write_name_field.new.out c.write_text_field.new.out c.token-2.new.self (uid_of c.args.uid.now)
+    c.in_ok-token.ensures.ok first second c.in_ok-token-2.ensures.ok

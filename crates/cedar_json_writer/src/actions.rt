@@ -1,0 +1,161 @@
+//! Declarations of actions that are written.
+
+ghost use Rattle.std.specs.Prelude.{OnOk, IfErr, codes, map, option_map};
+ghost use Rattle.json.specs.Json.{string};
+ghost use Rattle.cedar_below.specs.PlainName.{name_text};
+ghost use Rattle.cedar_names.specs.RawName.{raw_name};
+ghost use Rattle.cedar_json.specs.ActionFormat.{written_action, written_pairs, written_parent, written_requests};
+ghost use Rattle.cedar_json_writer.specs.Flaws.{action_flaws, flaws_in, pairs_flaws, requests_flaws};
+ghost use Rattle.cedar_json_writer.specs.FragmentDocument.{action_document, pairs_document, parent_array, parent_document, requests_document};
+ghost use Rattle.cedar_json_writer.specs.Sound.{IfThere, SoundAction, SoundPairs, SoundRequests};
+ghost use Rattle.cedar_json_writer.specs.Writing.{AddsField, AddsValue, IsFlawOf, IsFree};
+
+use crate::entity_types::write_shape_field;
+use crate::fault::WriteFault;
+use crate::fields::{write_flag, write_name_field, write_names, write_text_field};
+use crate::values::write_attribute_values;
+use cedar_below::{M, Value};
+use cedar_names::json_schema::{ActionEntityUID, ActionType, ApplySpec, RawName};
+use json::{Pretty, Token};
+use std::alloc::Global;
+use std::collections::BTreeMap;
+
+/// Writes the field for the type of a parent, where one is written.
+fn write_parent_type(alloc: Global, out: &mut Pretty, ty: &Option<RawName>) -> M<()>
+    ensures { OnOk result (AddsField out.old out.new (codes "type")
+        (option_map (λ name. string (name_text (raw_name name))) ty.now)) }
+{
+    if let Some(name) = ty {
+        write_name_field(alloc, out, "type", name.as_internal())?;
+    }
+    Ok(())
+}
+
+/// Writes the object of a parent.
+fn write_parent(alloc: Global, out: &mut Pretty, it: &ActionEntityUID<RawName>) -> M<()>
+    ensures { OnOk result (AddsValue out.old out.new (parent_document (written_parent it.now))) }
+{
+    out.token(Token::BeginObject)?;
+    write_text_field(out, "id", it.id.as_str())?;
+    write_parent_type(alloc, out, &it.ty)?;
+    out.token(Token::EndObject)?;
+    Ok(())
+}
+
+/// Writes the array of some parents.
+fn write_parents(alloc: Global, out: &mut Pretty, parents: &Vec<ActionEntityUID<RawName>>) -> M<()>
+    ensures { OnOk result (AddsValue out.old out.new
+        (parent_array (map written_parent parents.now.items))) }
+{
+    out.token(Token::BeginArray)?;
+    for parent in parents {
+        write_parent(alloc, out, parent)?;
+    }
+    out.token(Token::EndArray)?;
+    Ok(())
+}
+
+/// Writes the field for parents, where some are written.
+fn write_member_of_field(
+    alloc: Global,
+    out: &mut Pretty,
+    member_of: &Option<Vec<ActionEntityUID<RawName>>>,
+) -> M<()>
+    ensures { OnOk result (AddsField out.old out.new (codes "memberOf")
+        (option_map parent_array
+        (option_map (λ parents. map written_parent parents.items) member_of.now))) }
+{
+    let Some(parents) = member_of else {
+        return Ok(());
+    };
+    out.token(Token::Key("memberOf"))?;
+    write_parents(alloc, out, parents)?;
+    Ok(())
+}
+
+/// Writes the object of the requests that an action is for.
+fn write_requests(
+    alloc: Global,
+    out: &mut Pretty,
+    it: &ApplySpec<RawName>,
+) -> Result<(), WriteFault>
+    ensures written { OnOk result (AddsValue out.old out.new
+        (requests_document (written_requests it.now))) }
+    ensures free { OnOk result (IsFree (requests_flaws (written_requests it.now))
+        (SoundRequests (written_requests it.now))) }
+    ensures fault { IfErr result (IsFlawOf (requests_flaws (written_requests it.now))) }
+{
+    out.token(Token::BeginObject)?;
+    out.token(Token::Key("principalTypes"))?;
+    write_names(alloc, out, &it.principal_types)?;
+    out.token(Token::Key("resourceTypes"))?;
+    write_names(alloc, out, &it.resource_types)?;
+    write_shape_field(alloc, out, "context", &it.context.0)?;
+    out.token(Token::EndObject)?;
+    Ok(())
+}
+
+/// Writes the field for the requests that an action is for, where they are written.
+fn write_applies_to_field(
+    alloc: Global,
+    out: &mut Pretty,
+    applies_to: &Option<ApplySpec<RawName>>,
+) -> Result<(), WriteFault>
+    ensures written { OnOk result (AddsField out.old out.new (codes "appliesTo")
+        (option_map requests_document (option_map written_requests applies_to.now))) }
+    ensures free { OnOk result
+        (IsFree (flaws_in requests_flaws (option_map written_requests applies_to.now))
+        (IfThere SoundRequests (option_map written_requests applies_to.now))) }
+    ensures fault { IfErr result
+        (IsFlawOf (flaws_in requests_flaws (option_map written_requests applies_to.now))) }
+{
+    let Some(it) = applies_to else {
+        return Ok(());
+    };
+    out.token(Token::Key("appliesTo"))?;
+    write_requests(alloc, out, it)?;
+    Ok(())
+}
+
+/// Writes the field for attributes, where some are written.
+fn write_attributes_field(
+    alloc: Global,
+    out: &mut Pretty,
+    attributes: &Option<BTreeMap<String, Value>>,
+) -> Result<(), WriteFault>
+    ensures written { OnOk result (AddsField out.old out.new (codes "attributes")
+        (option_map pairs_document (option_map written_pairs attributes.now))) }
+    ensures free { OnOk result
+        (IsFree (flaws_in pairs_flaws (option_map written_pairs attributes.now))
+        (IfThere SoundPairs (option_map written_pairs attributes.now))) }
+    ensures fault { IfErr result
+        (IsFlawOf (flaws_in pairs_flaws (option_map written_pairs attributes.now))) }
+{
+    let Some(values) = attributes else {
+        return Ok(());
+    };
+    out.token(Token::Key("attributes"))?;
+    write_attribute_values(alloc, out, values)?;
+    Ok(())
+}
+
+/// Writes the object of an action.
+pub(crate) fn write_action(
+    alloc: Global,
+    out: &mut Pretty,
+    it: &ActionType<RawName>,
+) -> Result<(), WriteFault>
+    ensures written { OnOk result (AddsValue out.old out.new
+        (action_document (written_action it.now))) }
+    ensures free { OnOk result (IsFree (action_flaws (written_action it.now))
+        (SoundAction (written_action it.now))) }
+    ensures fault { IfErr result (IsFlawOf (action_flaws (written_action it.now))) }
+{
+    out.token(Token::BeginObject)?;
+    write_applies_to_field(alloc, out, &it.applies_to)?;
+    write_member_of_field(alloc, out, &it.member_of)?;
+    write_attributes_field(alloc, out, &it.attributes)?;
+    write_flag(out, "external", false, it.external)?;
+    out.token(Token::EndObject)?;
+    Ok(())
+}

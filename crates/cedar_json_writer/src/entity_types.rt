@@ -1,0 +1,162 @@
+//! Declarations of entity types that are written.
+
+ghost use Rattle.std.specs.Prelude.{◌≡◌, None, OnOk, IfErr, codes, map, option_map};
+ghost use Rattle.cedar_names.specs.RawExpr.{raw_expr, raw_reference, raw_variant};
+ghost use Rattle.cedar_names.specs.declared.json_schema.entity_type.EntityTypeKind.TheVariants as kind;
+ghost use Rattle.cedar_names.specs.declared.json_schema.reference_type.ReferenceType.TheVariants.{Entity};
+ghost use Rattle.cedar_json.specs.EntityFormat.{written_entity, written_kind};
+ghost use Rattle.cedar_json_writer.specs.Flaws.{body_flaws, flaws_in, type_flaws};
+ghost use Rattle.cedar_json_writer.specs.FragmentDocument.{body_members, entity_type_document, parents_held};
+ghost use Rattle.cedar_json_writer.specs.Sound.{IfThere, SoundBody, SoundType};
+ghost use Rattle.cedar_json_writer.specs.TypeDocument.{is_empty_record, shape_held, type_document};
+ghost use Rattle.cedar_json_writer.specs.Writing.{AddsField, AddsFields, AddsValue, IsFlawOf, IsFree};
+
+use crate::fault::WriteFault;
+use crate::fields::{write_flag, write_ids, write_names};
+use crate::types::write_type;
+use cedar_below::M;
+use cedar_names::json_schema::{
+    EntityType, EntityTypeKind, RawName, StandardEntityType, Type, TypeVariant,
+};
+use json::{Pretty, Token};
+use std::alloc::Global;
+
+/// Whether a type variant is the closed record without attributes.
+fn is_empty_variant(ty: &TypeVariant<RawName>) -> bool
+    ensures { result ≡ is_empty_record (raw_variant None ty.now) }
+{
+    match ty {
+        TypeVariant::Record(it) => it.attributes.is_empty() && !it.additional_attributes,
+        TypeVariant::String => false,
+        TypeVariant::Long => false,
+        TypeVariant::Boolean => false,
+        TypeVariant::Set { .. } => false,
+        TypeVariant::Entity { .. } => false,
+        TypeVariant::EntityOrCommon { .. } => false,
+        TypeVariant::Extension { .. } => false,
+    }
+}
+
+/// Whether a type is the closed record without attributes.
+fn is_empty_record(ty: &Type<RawName>) -> bool
+    ensures { result ≡ is_empty_record (raw_expr None ty.now) }
+{
+    match ty {
+        Type::Plain { ty, .. } => is_empty_variant(ty),
+        Type::CommonTypeRef { .. } => false,
+    }
+}
+
+/// Writes a field for a shape or a context, where it isn't the closed record without attributes.
+pub(crate) fn write_shape_field(
+    alloc: Global,
+    out: &mut Pretty,
+    name: &str,
+    ty: &Type<RawName>,
+) -> Result<(), WriteFault>
+    ensures written { OnOk result (AddsField out.old out.new name.now
+        (shape_held (raw_expr None ty.now))) }
+    ensures free { OnOk result (IsFree (type_flaws (raw_expr None ty.now))
+        (SoundType (raw_expr None ty.now))) }
+    ensures fault { IfErr result (IsFlawOf (type_flaws (raw_expr None ty.now))) }
+{
+    if is_empty_record(ty) {
+        return Ok(());
+    }
+    out.token(Token::Key(name))?;
+    write_type(alloc, out, ty)?;
+    Ok(())
+}
+
+/// Writes the field for parents, where there are some.
+fn write_parents_field(alloc: Global, out: &mut Pretty, parents: &Vec<RawName>) -> M<()>
+    ensures { OnOk result (AddsField out.old out.new (codes "memberOfTypes")
+        (parents_held (map (raw_reference None Entity) parents.now.items))) }
+{
+    if parents.is_empty() {
+        return Ok(());
+    }
+    out.token(Token::Key("memberOfTypes"))?;
+    write_names(alloc, out, parents)?;
+    Ok(())
+}
+
+/// Writes the field for the type of the tags, where there is one.
+fn write_tags_field(
+    alloc: Global,
+    out: &mut Pretty,
+    tags: &Option<Type<RawName>>,
+) -> Result<(), WriteFault>
+    ensures written { OnOk result (AddsField out.old out.new (codes "tags")
+        (option_map type_document (option_map (raw_expr None) tags.now))) }
+    ensures free { OnOk result (IsFree (flaws_in type_flaws (option_map (raw_expr None) tags.now))
+        (IfThere SoundType (option_map (raw_expr None) tags.now))) }
+    ensures fault { IfErr result
+        (IsFlawOf (flaws_in type_flaws (option_map (raw_expr None) tags.now))) }
+{
+    let Some(ty) = tags else {
+        return Ok(());
+    };
+    out.token(Token::Key("tags"))?;
+    write_type(alloc, out, ty)?;
+    Ok(())
+}
+
+/// Writes the fields of an entity type that lists no ids.
+fn write_standard(
+    alloc: Global,
+    out: &mut Pretty,
+    it: &StandardEntityType<RawName>,
+) -> Result<(), WriteFault>
+    ensures written { OnOk result (AddsFields out.old out.new
+        (body_members (written_kind (kind.Standard it.now)))) }
+    ensures free { OnOk result (IsFree (body_flaws (written_kind (kind.Standard it.now)))
+        (SoundBody (written_kind (kind.Standard it.now)))) }
+    ensures fault { IfErr result (IsFlawOf (body_flaws (written_kind (kind.Standard it.now)))) }
+{
+    write_parents_field(alloc, out, &it.member_of_types)?;
+    write_shape_field(alloc, out, "shape", &it.shape.0)?;
+    write_tags_field(alloc, out, &it.tags)?;
+    Ok(())
+}
+
+/// Writes the fields of an entity type but for `external`.
+fn write_kind(
+    alloc: Global,
+    out: &mut Pretty,
+    kind: &EntityTypeKind<RawName>,
+) -> Result<(), WriteFault>
+    ensures written { OnOk result (AddsFields out.old out.new
+        (body_members (written_kind kind.now))) }
+    ensures free { OnOk result (IsFree (body_flaws (written_kind kind.now))
+        (SoundBody (written_kind kind.now))) }
+    ensures fault { IfErr result (IsFlawOf (body_flaws (written_kind kind.now))) }
+{
+    match kind {
+        EntityTypeKind::Standard(it) => write_standard(alloc, out, it),
+        EntityTypeKind::Enum { choices } => {
+            out.token(Token::Key("enum"))?;
+            write_ids(out, choices)?;
+            Ok(())
+        }
+    }
+}
+
+/// Writes the object of an entity type.
+pub(crate) fn write_entity_type(
+    alloc: Global,
+    out: &mut Pretty,
+    it: &EntityType<RawName>,
+) -> Result<(), WriteFault>
+    ensures written { OnOk result (AddsValue out.old out.new
+        (entity_type_document (written_entity it.now))) }
+    ensures free { OnOk result (IsFree (body_flaws (written_entity it.now).body)
+        (SoundBody (written_entity it.now).body)) }
+    ensures fault { IfErr result (IsFlawOf (body_flaws (written_entity it.now).body)) }
+{
+    out.token(Token::BeginObject)?;
+    write_kind(alloc, out, &it.kind)?;
+    write_flag(out, "external", false, it.external)?;
+    out.token(Token::EndObject)?;
+    Ok(())
+}

@@ -1,0 +1,98 @@
+//! Fields and arrays that are written.
+
+ghost use Rattle.std.specs.Prelude.{◌≡◌, ◌++◌, ◌∷◌, [], Some, None, OnOk, map};
+ghost use Rattle.json.specs.Json.{string};
+ghost use Rattle.json.specs.Tree.{items_tokens};
+ghost use Rattle.json.specs.Value.{items_of as spec_items};
+ghost use Rattle.cedar_below.specs.Eid.{eid_text};
+ghost use Rattle.cedar_below.specs.InternalName.{name_of};
+ghost use Rattle.cedar_below.specs.NonEmpty.{items_of};
+ghost use Rattle.cedar_below.specs.PlainName.{name_text};
+ghost use Rattle.cedar_names.specs.RawExpr.{raw_reference};
+ghost use Rattle.cedar_names.specs.declared.json_schema.reference_type.ReferenceType.TheVariants.{Entity};
+ghost use Rattle.cedar_json_writer.specs.FragmentDocument.{reference_array};
+ghost use Rattle.cedar_json_writer.specs.Writing.{AddsField, AddsValue};
+ghost use Rattle.cedar_json_writer.specs.WrittenFields.{flag_held, text_array};
+
+use cedar_below::{Eid, InternalName, M, NonEmpty};
+use cedar_names::json_schema::RawName;
+use json::{Pretty, Token};
+use std::alloc::Global;
+
+/// Writes a field that holds a text.
+pub(crate) fn write_text_field(out: &mut Pretty, name: &str, text: &str) -> M<()>
+    ensures { OnOk result (AddsField out.old out.new name.now (Some (string text.now))) }
+{
+    out.token(Token::Key(name))?;
+    out.token(Token::String(text))?;
+    Ok(())
+}
+
+/// Writes a field that holds a truth value, where it says what its absence doesn't.
+pub(crate) fn write_flag(out: &mut Pretty, name: &str, absent: bool, flag: bool) -> M<()>
+    ensures { OnOk result (AddsField out.old out.new name.now (flag_held absent flag)) }
+{
+    if flag != absent {
+        out.token(Token::Key(name))?;
+        out.token(Token::Bool(flag))?;
+    }
+    Ok(())
+}
+
+/// Writes a name as a text.
+pub(crate) fn write_name(alloc: Global, out: &mut Pretty, name: &InternalName) -> M<()>
+    ensures { OnOk result (AddsValue out.old out.new (string (name_text (name_of name.now)))) }
+{
+    let text = name.to_string(alloc)?;
+    out.token(Token::String(text.as_str()))?;
+    Ok(())
+}
+
+/// Writes a field that holds a name.
+pub(crate) fn write_name_field(
+    alloc: Global,
+    out: &mut Pretty,
+    field: &str,
+    name: &InternalName,
+) -> M<()>
+    ensures { OnOk result
+        (AddsField out.old out.new field.now (Some (string (name_text (name_of name.now))))) }
+{
+    out.token(Token::Key(field))?;
+    write_name(alloc, out, name)
+}
+
+/// Writes an array of names of entity types.
+pub(crate) fn write_names(alloc: Global, out: &mut Pretty, names: &Vec<RawName>) -> M<()>
+    ensures { OnOk result (AddsValue out.old out.new
+        (reference_array (map (raw_reference None Entity) names.now.items))) }
+{
+    out.token(Token::BeginArray)?;
+    for name in names {
+        write_name(alloc, out, name.as_internal())?;
+    }
+    out.token(Token::EndArray)?;
+    Ok(())
+}
+
+/// Writes some ids, and the bracket that closes their array.
+fn write_more_ids(out: &mut Pretty, ids: &Vec<Eid>) -> M<()>
+    ensures { OnOk result (out.new
+        ≡ out.old ++ items_tokens (spec_items (map string (map eid_text ids.now.items)))) }
+{
+    for id in ids {
+        out.token(Token::String(id.as_str()))?;
+    }
+    out.token(Token::EndArray)?;
+    Ok(())
+}
+
+/// Writes an array of ids.
+pub(crate) fn write_ids(out: &mut Pretty, ids: &NonEmpty<Eid>) -> M<()>
+    ensures { OnOk result (AddsValue out.old out.new
+        (text_array (map eid_text (items_of ids.now)))) }
+{
+    out.token(Token::BeginArray)?;
+    out.token(Token::String(ids.head.as_str()))?;
+    write_more_ids(out, &ids.tail)
+}

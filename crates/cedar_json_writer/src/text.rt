@@ -1,0 +1,43 @@
+//! Fragments, written as texts.
+
+ghost use Rattle.std.specs.Prelude.{◌≡◌, ◌<◌, [], IfOk, IfErr, length, string_bytes};
+ghost use Rattle.json.specs.Layout.{pretty};
+ghost use Rattle.json.specs.Tree.{json_tokens};
+ghost use Rattle.cedar_json.specs.DefinitionFormat.{written_fragment};
+ghost use Rattle.cedar_json.specs.TextFormat.{Describes, too_long};
+ghost use Rattle.cedar_json_writer.specs.Flaws.{IsWritable, fragment_flaws};
+ghost use Rattle.cedar_json_writer.specs.FragmentDocument.{fragment_document};
+ghost use Rattle.cedar_json_writer.specs.Writing.{IsFlawOf};
+
+use crate::definitions::write_fragment;
+use crate::fault::{Unwritable, WriteFault};
+use cedar_names::json_schema::{Fragment, RawName};
+use json::{Pretty, Scratch, is_valid};
+use std::alloc::Global;
+
+/// The text of a fragment in Cedar's JSON schema format (Cedar reference, JSON schema format).
+/// Each item and member stands on a line of its own, two blanks deeper for each level, and there is
+/// no line end at the end. Namespaces, declarations and attributes stand in the order of their
+/// names. A field whose value is the one that its absence means is left out.
+///
+/// The text describes the same fragment, locations apart, and `fragment_from_json` reads it back
+/// where it is shorter than 2^32 - 1 bytes. A fragment is refused as `Unwritable` exactly where the
+/// format can't say it, with what of it. Memory may run out.
+pub fn fragment_to_json(alloc: Global, fragment: &Fragment<RawName>) -> Result<String, WriteFault>
+    ensures text { IfOk result (λ text. string_bytes text
+        ≡ pretty (json_tokens (fragment_document (written_fragment fragment.now)))) }
+    ensures writable { IfOk result (λ _. IsWritable (written_fragment fragment.now)) }
+    ensures described { IfOk result (λ text. length (string_bytes text) < too_long
+        → Describes (string_bytes text) (written_fragment fragment.now)) }
+    ensures fault { IfErr result (IsFlawOf (fragment_flaws (written_fragment fragment.now))) }
+{
+    let mut out = Pretty::new(alloc);
+    write_fragment(alloc, &mut out, fragment)?;
+    let text = String::from_utf8(out.into_inner()).unwrap();
+    let mut scratch = Scratch::new(alloc);
+    if is_valid(text.as_str(), &mut scratch)? {
+        Ok(text)
+    } else {
+        Err(WriteFault::Unwritable(Unwritable::TooDeep))
+    }
+}

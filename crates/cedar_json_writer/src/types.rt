@@ -1,0 +1,231 @@
+//! Types that are written.
+
+ghost use Rattle.std.specs.Prelude.{◌≡◌, Some, None, true, false, MatchOption, OnOk, IfErr, codes};
+ghost use Rattle.json.specs.Json.{member, object, string};
+ghost use Rattle.cedar_below.specs.PlainName.{name_text};
+ghost use Rattle.cedar_below.specs.UnreservedId.{unreserved_id_text};
+ghost use Rattle.cedar_names.specs.Expr.{extension_expr, named, set_expr};
+ghost use Rattle.cedar_names.specs.RawExpr.{raw_attribute, raw_expr, raw_record, raw_reference, raw_variant};
+ghost use Rattle.cedar_names.specs.RawName.{raw_name};
+ghost use Rattle.cedar_names.specs.declared.json_schema.reference_type.ReferenceType.TheVariants.{Common};
+ghost use Rattle.cedar_json.specs.Fields.{is_among};
+ghost use Rattle.cedar_json_writer.specs.Flaws.{type_flaws, type_words};
+ghost use Rattle.cedar_json_writer.specs.Sound.{SoundType};
+ghost use Rattle.cedar_json_writer.specs.TypeDocument.{attribute_document, attribute_members, attributes_of, type_document, type_members};
+ghost use Rattle.cedar_json_writer.specs.Writing.{AddsFields, AddsValue, IsFlawOf, IsFree};
+
+use crate::fault::{Unwritable, WriteFault};
+use crate::fields::{write_flag, write_name_field, write_text_field};
+use cedar_below::{M, UnreservedId};
+use cedar_names::json_schema::{RawName, RecordType, Type, TypeOfAttribute, TypeVariant};
+use json::{Pretty, Token};
+use std::alloc::Global;
+
+/// The word that a text is, of those that say of which form a type is.
+fn type_word(text: &str) -> Option<&'static str>
+    ensures { MatchOption result (is_among text.now type_words ≡ false)
+        (λ word. (is_among text.now type_words ≡ true) × (word.now ≡ text.now)) }
+{
+    match text {
+        "String" => Some("String"),
+        "Long" => Some("Long"),
+        "Boolean" => Some("Boolean"),
+        "Set" => Some("Set"),
+        "Record" => Some("Record"),
+        "Entity" => Some("Entity"),
+        "EntityOrCommon" => Some("EntityOrCommon"),
+        "Extension" => Some("Extension"),
+        _ => None,
+    }
+}
+
+/// The word that a name prints as, of those that say of which form a type is.
+fn common_word(name: &RawName) -> Option<&'static str>
+    ensures { MatchOption result (is_among (name_text (raw_name name.now)) type_words ≡ false)
+        (λ word. (is_among (name_text (raw_name name.now)) type_words ≡ true)
+        × (word.now ≡ name_text (raw_name name.now))) }
+{
+    let name = name.as_internal();
+    if name.is_unqualified() {
+        type_word(name.basename().as_str())
+    } else {
+        None
+    }
+}
+
+/// Writes the field of a reference to a common type.
+fn write_common(alloc: Global, out: &mut Pretty, name: &RawName) -> Result<(), WriteFault>
+    ensures written { OnOk result (AddsFields out.old out.new
+        (type_members (named (raw_reference None Common name.now)))) }
+    ensures free { OnOk result (IsFree (type_flaws (named (raw_reference None Common name.now)))
+        (SoundType (named (raw_reference None Common name.now)))) }
+    ensures fault { IfErr result
+        (IsFlawOf (type_flaws (named (raw_reference None Common name.now)))) }
+{
+    if let Some(word) = common_word(name) {
+        return Err(WriteFault::Unwritable(Unwritable::TypeWord(word)));
+    }
+    write_name_field(alloc, out, "type", name.as_internal())?;
+    Ok(())
+}
+
+/// Writes the fields of a form that has a name.
+fn write_named(alloc: Global, out: &mut Pretty, word: &str, name: &RawName) -> M<()>
+    ensures { OnOk result (AddsFields out.old out.new (λ rest. member (codes "type")
+        (string word.now)
+        (member (codes "name") (string (name_text (raw_name name.now))) rest))) }
+{
+    write_text_field(out, "type", word)?;
+    write_name_field(alloc, out, "name", name.as_internal())?;
+    Ok(())
+}
+
+/// Writes the fields of an extension type.
+fn write_extension(out: &mut Pretty, name: &UnreservedId) -> M<()>
+    ensures { OnOk result (AddsFields out.old out.new
+        (type_members (extension_expr (unreserved_id_text name.now)))) }
+{
+    write_text_field(out, "type", "Extension")?;
+    write_text_field(out, "name", name.as_str())?;
+    Ok(())
+}
+
+/// Writes the fields of a type.
+#[cycle(type_writing)]
+fn write_fields(alloc: Global, out: &mut Pretty, ty: &Type<RawName>) -> Result<(), WriteFault>
+    ensures written { OnOk result (AddsFields out.old out.new
+        (type_members (raw_expr None ty.now))) }
+    ensures free { OnOk result (IsFree (type_flaws (raw_expr None ty.now))
+        (SoundType (raw_expr None ty.now))) }
+    ensures fault { IfErr result (IsFlawOf (type_flaws (raw_expr None ty.now))) }
+{
+    match ty {
+        Type::Plain { ty, .. } => write_variant(alloc, out, ty),
+        Type::CommonTypeRef { type_name, .. } => write_common(alloc, out, type_name),
+    }
+}
+
+/// Writes the fields of a type variant.
+#[cycle(type_writing)]
+fn write_variant(
+    alloc: Global,
+    out: &mut Pretty,
+    ty: &TypeVariant<RawName>,
+) -> Result<(), WriteFault>
+    ensures written { OnOk result (AddsFields out.old out.new
+        (type_members (raw_variant None ty.now))) }
+    ensures free { OnOk result (IsFree (type_flaws (raw_variant None ty.now))
+        (SoundType (raw_variant None ty.now))) }
+    ensures fault { IfErr result (IsFlawOf (type_flaws (raw_variant None ty.now))) }
+{
+    match ty {
+        TypeVariant::String => Ok(write_text_field(out, "type", "String")?),
+        TypeVariant::Long => Ok(write_text_field(out, "type", "Long")?),
+        TypeVariant::Boolean => Ok(write_text_field(out, "type", "Boolean")?),
+        TypeVariant::Set { element } => write_set(alloc, out, element),
+        TypeVariant::Record(record_type) => write_record(alloc, out, record_type),
+        TypeVariant::Entity { name } => Ok(write_named(alloc, out, "Entity", name)?),
+        TypeVariant::EntityOrCommon { type_name } => {
+            Ok(write_named(alloc, out, "EntityOrCommon", type_name)?)
+        }
+        TypeVariant::Extension { name } => Ok(write_extension(out, name)?),
+    }
+}
+
+/// Writes the fields of a set type.
+#[cycle(type_writing)]
+fn write_set(alloc: Global, out: &mut Pretty, element: &Type<RawName>) -> Result<(), WriteFault>
+    ensures written { OnOk result (AddsFields out.old out.new
+        (type_members (set_expr (raw_expr None element.now)))) }
+    ensures free { OnOk result (IsFree (type_flaws (set_expr (raw_expr None element.now)))
+        (SoundType (set_expr (raw_expr None element.now)))) }
+    ensures fault { IfErr result (IsFlawOf (type_flaws (set_expr (raw_expr None element.now)))) }
+{
+    write_text_field(out, "type", "Set")?;
+    out.token(Token::Key("element"))?;
+    write_type(alloc, out, element)?;
+    Ok(())
+}
+
+/// Writes the fields of a record type.
+#[cycle(type_writing)]
+fn write_record(
+    alloc: Global,
+    out: &mut Pretty,
+    record_type: &RecordType<RawName>,
+) -> Result<(), WriteFault>
+    ensures written { OnOk result (AddsFields out.old out.new
+        (type_members (raw_record None record_type.now))) }
+    ensures free { OnOk result (IsFree (type_flaws (raw_record None record_type.now))
+        (SoundType (raw_record None record_type.now))) }
+    ensures fault { IfErr result (IsFlawOf (type_flaws (raw_record None record_type.now))) }
+{
+    write_text_field(out, "type", "Record")?;
+    out.token(Token::Key("attributes"))?;
+    write_attributes(alloc, out, record_type)?;
+    let additional = record_type.additional_attributes;
+    write_flag(out, "additionalAttributes", false, additional)?;
+    Ok(())
+}
+
+/// Writes the object of the attributes of a record type.
+#[cycle(type_writing)]
+fn write_attributes(
+    alloc: Global,
+    out: &mut Pretty,
+    record_type: &RecordType<RawName>,
+) -> Result<(), WriteFault>
+    ensures written { OnOk result (AddsValue out.old out.new
+        (object (attribute_members (attributes_of (raw_record None record_type.now))))) }
+    ensures free { OnOk result (IsFree (type_flaws (raw_record None record_type.now))
+        (SoundType (raw_record None record_type.now))) }
+    ensures fault { IfErr result (IsFlawOf (type_flaws (raw_record None record_type.now))) }
+{
+    out.token(Token::BeginObject)?;
+    for (name, attribute) in &record_type.attributes {
+        out.token(Token::Key(name.as_str()))?;
+        write_attribute(alloc, out, attribute)?;
+    }
+    out.token(Token::EndObject)?;
+    Ok(())
+}
+
+/// Writes the object of an attribute.
+#[cycle(type_writing)]
+fn write_attribute(
+    alloc: Global,
+    out: &mut Pretty,
+    attribute: &TypeOfAttribute<RawName>,
+) -> Result<(), WriteFault>
+    ensures written { OnOk result (AddsValue out.old out.new
+        (attribute_document (raw_attribute None attribute.now).0
+        (raw_attribute None attribute.now).1)) }
+    ensures free { OnOk result (IsFree (type_flaws (raw_attribute None attribute.now).1)
+        (SoundType (raw_attribute None attribute.now).1)) }
+    ensures fault { IfErr result (IsFlawOf (type_flaws (raw_attribute None attribute.now).1)) }
+{
+    out.token(Token::BeginObject)?;
+    write_fields(alloc, out, &attribute.ty)?;
+    write_flag(out, "required", true, attribute.required)?;
+    out.token(Token::EndObject)?;
+    Ok(())
+}
+
+/// Writes the object of a type.
+#[cycle(type_writing)]
+pub(crate) fn write_type(
+    alloc: Global,
+    out: &mut Pretty,
+    ty: &Type<RawName>,
+) -> Result<(), WriteFault>
+    ensures written { OnOk result (AddsValue out.old out.new
+        (type_document (raw_expr None ty.now))) }
+    ensures free { OnOk result (IsFree (type_flaws (raw_expr None ty.now))
+        (SoundType (raw_expr None ty.now))) }
+    ensures fault { IfErr result (IsFlawOf (type_flaws (raw_expr None ty.now))) }
+{
+    out.token(Token::BeginObject)?;
+    write_fields(alloc, out, ty)?;
+    out.token(Token::EndObject)?;
+    Ok(())
+}

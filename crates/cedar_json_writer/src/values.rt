@@ -1,0 +1,225 @@
+//! Values of Cedar that are written.
+
+ghost use Rattle.std.specs.Prelude.{◌≡◌, [], true, false, MatchOption, MatchResult, OnOk, IfErr, Contains, map, string_bytes};
+ghost use Rattle.std.specs.Fmt.{signed_decimal};
+ghost use Rattle.json.specs.Json.{array, number, object};
+ghost use Rattle.cedar_below.specs.EntityUID.{uid_of};
+ghost use Rattle.cedar_below.specs.Name.{plain_name};
+ghost use Rattle.cedar_below.specs.RestrictedExpr.{entries_of, tree_of, trees_of};
+ghost use Rattle.cedar_below.specs.Tree.{call_value, entries_from, map_value, set_value, uid_value};
+ghost use Rattle.cedar_below.specs.Value.{value_expr};
+ghost use Rattle.cedar_json.specs.ActionFormat.{written_pairs};
+ghost use Rattle.cedar_json.specs.Fields.{is_among};
+ghost use Rattle.cedar_json.specs.WholeNumber.{is_long};
+ghost use Rattle.cedar_json_writer.specs.Flaws.{entries_flaws, key_flaws, pairs_flaws, value_flaws, value_keys};
+ghost use Rattle.cedar_json_writer.specs.FragmentDocument.{pairs_document};
+ghost use Rattle.cedar_json_writer.specs.Sound.{SoundPairs, SoundValue};
+ghost use Rattle.cedar_json_writer.specs.ValueDocument.{uid_document, value_document, value_members};
+ghost use Rattle.cedar_json_writer.specs.Writing.{AddsValue, IsFlawOf, IsFree, flaw_of};
+
+use crate::fault::{Unwritable, WriteFault};
+use crate::fields::{write_name_field, write_text_field};
+use cedar_below::{EntityUID, M, Name, RestrictedExpr, Value};
+use json::{Pretty, Token};
+use std::alloc::Global;
+use std::collections::BTreeMap;
+
+/// The key that a text is, of those that say that an object is an entity or a call.
+fn value_key(text: &str) -> Option<&'static str>
+    ensures { MatchOption result (is_among text.now value_keys ≡ false)
+        (λ key. (is_among text.now value_keys ≡ true) × (key.now ≡ text.now)) }
+{
+    match text {
+        "__entity" => Some("__entity"),
+        "__extn" => Some("__extn"),
+        _ => None,
+    }
+}
+
+/// Refuses a record whose one key says that it is an entity or a call.
+fn check_keys(values: &BTreeMap<String, RestrictedExpr>) -> Result<(), Unwritable>
+    ensures { MatchResult result (λ _. key_flaws (entries_of values.now) ≡ [])
+        (λ what. Contains (key_flaws (entries_of values.now)) (flaw_of what)) }
+{
+    if values.len() != 1 {
+        return Ok(());
+    }
+    match values.first_key_value() {
+        Some((name, _)) => match value_key(name.as_str()) {
+            Some(key) => Err(Unwritable::LoneKey(key)),
+            None => Ok(()),
+        },
+        None => Ok(()),
+    }
+}
+
+/// Writes a whole number.
+fn write_number(alloc: Global, out: &mut Pretty, whole: &i64) -> M<()>
+    ensures written { OnOk result (AddsValue out.old out.new (number (signed_decimal whole.now))) }
+    ensures fits { is_long whole.now ≡ true }
+{
+    let value = *whole;
+    let text = value.to_string(alloc)?;
+    out.token(Token::Number(text.as_str()))?;
+    Ok(())
+}
+
+/// Writes the object of a uid.
+pub(crate) fn write_uid(alloc: Global, out: &mut Pretty, uid: &EntityUID) -> M<()>
+    ensures { OnOk result (AddsValue out.old out.new (uid_document (uid_of uid.now))) }
+{
+    out.token(Token::BeginObject)?;
+    write_name_field(alloc, out, "type", uid.entity_type().name().as_internal())?;
+    write_text_field(out, "id", uid.eid().as_str())?;
+    out.token(Token::EndObject)?;
+    Ok(())
+}
+
+/// Writes a reference to an entity.
+fn write_entity(alloc: Global, out: &mut Pretty, uid: &EntityUID) -> M<()>
+    ensures { OnOk result (AddsValue out.old out.new
+        (value_document (uid_value (uid_of uid.now)))) }
+{
+    out.token(Token::BeginObject)?;
+    out.token(Token::Key("__entity"))?;
+    write_uid(alloc, out, uid)?;
+    out.token(Token::EndObject)?;
+    Ok(())
+}
+
+/// Writes a value.
+#[cycle(value_writing)]
+pub(crate) fn write_value(
+    alloc: Global,
+    out: &mut Pretty,
+    expr: &RestrictedExpr,
+) -> Result<(), WriteFault>
+    ensures written { OnOk result (AddsValue out.old out.new (value_document (tree_of expr.now))) }
+    ensures free { OnOk result (IsFree (value_flaws (tree_of expr.now))
+        (SoundValue (tree_of expr.now))) }
+    ensures fault { IfErr result (IsFlawOf (value_flaws (tree_of expr.now))) }
+{
+    match expr {
+        RestrictedExpr::Bool(flag) => Ok(out.token(Token::Bool(*flag))?),
+        RestrictedExpr::Long(number) => Ok(write_number(alloc, out, number)?),
+        RestrictedExpr::String(text) => Ok(out.token(Token::String(text.as_str()))?),
+        RestrictedExpr::EntityUid(uid) => Ok(write_entity(alloc, out, uid)?),
+        RestrictedExpr::Set(values) => write_values(alloc, out, values),
+        RestrictedExpr::Record(values) => write_record_value(alloc, out, values),
+        RestrictedExpr::ExtensionCall { function, args } => {
+            write_call(alloc, out, function, args)
+        }
+    }
+}
+
+/// Writes the array of some values.
+#[cycle(value_writing)]
+fn write_values(
+    alloc: Global,
+    out: &mut Pretty,
+    values: &Vec<RestrictedExpr>,
+) -> Result<(), WriteFault>
+    ensures written { OnOk result (AddsValue out.old out.new
+        (value_document (set_value (trees_of values.now.items)))) }
+    ensures free { OnOk result (IsFree (value_flaws (set_value (trees_of values.now.items)))
+        (SoundValue (set_value (trees_of values.now.items)))) }
+    ensures fault { IfErr result (IsFlawOf (value_flaws (set_value (trees_of values.now.items)))) }
+{
+    out.token(Token::BeginArray)?;
+    for value in values {
+        write_value(alloc, out, value)?;
+    }
+    out.token(Token::EndArray)?;
+    Ok(())
+}
+
+/// Writes the object of a record.
+#[cycle(value_writing)]
+fn write_record_value(
+    alloc: Global,
+    out: &mut Pretty,
+    values: &BTreeMap<String, RestrictedExpr>,
+) -> Result<(), WriteFault>
+    ensures written { OnOk result (AddsValue out.old out.new
+        (value_document (map_value (entries_of values.now)))) }
+    ensures free { OnOk result (IsFree (value_flaws (map_value (entries_of values.now)))
+        (SoundValue (map_value (entries_of values.now)))) }
+    ensures fault { IfErr result (IsFlawOf (value_flaws (map_value (entries_of values.now)))) }
+{
+    check_keys(values)?;
+    write_pairs(alloc, out, values)?;
+    Ok(())
+}
+
+/// Writes an object of some values, each under its text.
+#[cycle(value_writing)]
+fn write_pairs(
+    alloc: Global,
+    out: &mut Pretty,
+    values: &BTreeMap<String, RestrictedExpr>,
+) -> Result<(), WriteFault>
+    ensures written { OnOk result (AddsValue out.old out.new
+        (object (value_members (entries_of values.now)))) }
+    ensures free { OnOk result (IsFree (entries_flaws (entries_of values.now))
+        (SoundValue (map_value (entries_of values.now)))) }
+    ensures fault { IfErr result (IsFlawOf (entries_flaws (entries_of values.now))) }
+{
+    out.token(Token::BeginObject)?;
+    for (name, value) in values {
+        out.token(Token::Key(name.as_str()))?;
+        write_value(alloc, out, value)?;
+    }
+    out.token(Token::EndObject)?;
+    Ok(())
+}
+
+/// Writes a call.
+#[cycle(value_writing)]
+fn write_call(
+    alloc: Global,
+    out: &mut Pretty,
+    function: &Name,
+    args: &Vec<RestrictedExpr>,
+) -> Result<(), WriteFault>
+    ensures written { OnOk result (AddsValue out.old out.new
+        (value_document (call_value (plain_name function.now) (trees_of args.now.items)))) }
+    ensures free { OnOk result
+        (IsFree (value_flaws (call_value (plain_name function.now) (trees_of args.now.items)))
+        (SoundValue (call_value (plain_name function.now) (trees_of args.now.items)))) }
+    ensures fault { IfErr result (IsFlawOf
+        (value_flaws (call_value (plain_name function.now) (trees_of args.now.items)))) }
+{
+    if args.len() != 1 {
+        return Err(WriteFault::Unwritable(Unwritable::Arguments(args.len())));
+    }
+    out.token(Token::BeginObject)?;
+    out.token(Token::Key("__extn"))?;
+    out.token(Token::BeginObject)?;
+    write_name_field(alloc, out, "fn", function.as_internal())?;
+    out.token(Token::Key("arg"))?;
+    write_value(alloc, out, &args[0])?;
+    out.token(Token::EndObject)?;
+    out.token(Token::EndObject)?;
+    Ok(())
+}
+
+/// Writes the object of an action's attributes.
+pub(crate) fn write_attribute_values(
+    alloc: Global,
+    out: &mut Pretty,
+    values: &BTreeMap<String, Value>,
+) -> Result<(), WriteFault>
+    ensures written { OnOk result (AddsValue out.old out.new
+        (pairs_document (written_pairs values.now))) }
+    ensures free { OnOk result (IsFree (pairs_flaws (written_pairs values.now))
+        (SoundPairs (written_pairs values.now))) }
+    ensures fault { IfErr result (IsFlawOf (pairs_flaws (written_pairs values.now))) }
+{
+    out.token(Token::BeginObject)?;
+    for (name, value) in values {
+        out.token(Token::Key(name.as_str()))?;
+        write_value(alloc, out, value.expr())?;
+    }
+    out.token(Token::EndObject)?;
+    Ok(())
+}
