@@ -1,5 +1,5 @@
 -- What the parts of a writer do, over the tokens that are written.
-use Rattle.std.specs.Prelude.{◌≡◌, List, [], ◌++◌, Option, Contains, ⊤}
+use Rattle.std.specs.Prelude.{◌≡◌, List, [], ◌++◌, Option, Result, MatchResult, Contains, ⊤}
 use Rattle.json.specs.Json.{Json, Members}
 use Rattle.json.specs.Token.{Token}
 use Rattle.json.specs.Tree.{json_tokens, members_tokens}
@@ -44,3 +44,7 @@ AddsField old new name held = AddsFields old new (optional_member name held)
 pub record IsFree (flaws : List Flaw) (Sound : Type 0) : Type 0 where
   pub flawless : flaws ≡ []
   pub sound : Sound
+
+-- what was written is free of flaws, or the refusal names one of them or is want of memory
+abbrev pub IsChecked : {A : Type 0} → Result A WriteFault → List Flaw → Type 0 → Type 0
+IsChecked result flaws Sound = MatchResult result (λ _. IsFree flaws Sound) (IsFlawOf flaws)

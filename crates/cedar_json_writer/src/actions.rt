@@ -1,6 +1,6 @@
 //! Declarations of actions that are written.
 
-ghost use Rattle.std.specs.Prelude.{OnOk, IfErr, codes, map, option_map};
+ghost use Rattle.std.specs.Prelude.{OnOk, codes, map, option_map};
 ghost use Rattle.json.specs.Json.{string};
 ghost use Rattle.cedar_below.specs.PlainName.{name_text};
 ghost use Rattle.cedar_names.specs.RawName.{raw_name};
@@ -8,7 +8,7 @@ ghost use Rattle.cedar_json.specs.ActionFormat.{written_action, written_pairs, w
 ghost use Rattle.cedar_json_writer.specs.Flaws.{action_flaws, flaws_in, pairs_flaws, requests_flaws};
 ghost use Rattle.cedar_json_writer.specs.FragmentDocument.{action_document, pairs_document, parent_array, parent_document, requests_document};
 ghost use Rattle.cedar_json_writer.specs.Sound.{IfThere, SoundAction, SoundPairs, SoundRequests};
-ghost use Rattle.cedar_json_writer.specs.Writing.{AddsField, AddsValue, IsFlawOf, IsFree};
+ghost use Rattle.cedar_json_writer.specs.Writing.{AddsField, AddsValue, IsChecked};
 
 use crate::entity_types::write_shape_field;
 use crate::fault::WriteFault;
@@ -81,9 +81,8 @@ fn write_requests(
 ) -> Result<(), WriteFault>
     ensures written { OnOk result (AddsValue out.old out.new
         (requests_document (written_requests it.now))) }
-    ensures free { OnOk result (IsFree (requests_flaws (written_requests it.now))
-        (SoundRequests (written_requests it.now))) }
-    ensures fault { IfErr result (IsFlawOf (requests_flaws (written_requests it.now))) }
+    ensures checked { IsChecked result (requests_flaws (written_requests it.now))
+        (SoundRequests (written_requests it.now)) }
 {
     out.token(Token::BeginObject)?;
     out.token(Token::Key("principalTypes"))?;
@@ -103,11 +102,9 @@ fn write_applies_to_field(
 ) -> Result<(), WriteFault>
     ensures written { OnOk result (AddsField out.old out.new (codes "appliesTo")
         (option_map requests_document (option_map written_requests applies_to.now))) }
-    ensures free { OnOk result
-        (IsFree (flaws_in requests_flaws (option_map written_requests applies_to.now))
-        (IfThere SoundRequests (option_map written_requests applies_to.now))) }
-    ensures fault { IfErr result
-        (IsFlawOf (flaws_in requests_flaws (option_map written_requests applies_to.now))) }
+    ensures checked { IsChecked result
+        (flaws_in requests_flaws (option_map written_requests applies_to.now))
+        (IfThere SoundRequests (option_map written_requests applies_to.now)) }
 {
     let Some(it) = applies_to else {
         return Ok(());
@@ -125,11 +122,9 @@ fn write_attributes_field(
 ) -> Result<(), WriteFault>
     ensures written { OnOk result (AddsField out.old out.new (codes "attributes")
         (option_map pairs_document (option_map written_pairs attributes.now))) }
-    ensures free { OnOk result
-        (IsFree (flaws_in pairs_flaws (option_map written_pairs attributes.now))
-        (IfThere SoundPairs (option_map written_pairs attributes.now))) }
-    ensures fault { IfErr result
-        (IsFlawOf (flaws_in pairs_flaws (option_map written_pairs attributes.now))) }
+    ensures checked { IsChecked result
+        (flaws_in pairs_flaws (option_map written_pairs attributes.now))
+        (IfThere SoundPairs (option_map written_pairs attributes.now)) }
 {
     let Some(values) = attributes else {
         return Ok(());
@@ -147,9 +142,8 @@ pub(crate) fn write_action(
 ) -> Result<(), WriteFault>
     ensures written { OnOk result (AddsValue out.old out.new
         (action_document (written_action it.now))) }
-    ensures free { OnOk result (IsFree (action_flaws (written_action it.now))
-        (SoundAction (written_action it.now))) }
-    ensures fault { IfErr result (IsFlawOf (action_flaws (written_action it.now))) }
+    ensures checked { IsChecked result (action_flaws (written_action it.now))
+        (SoundAction (written_action it.now)) }
 {
     out.token(Token::BeginObject)?;
     write_applies_to_field(alloc, out, &it.applies_to)?;

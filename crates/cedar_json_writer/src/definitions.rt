@@ -1,6 +1,6 @@
 //! Definitions of namespaces, and fragments, that are written.
 
-ghost use Rattle.std.specs.Prelude.{◌≡◌, ◌++◌, ◌∷◌, [], Some, OnOk, IfErr, codes, map, option_map};
+ghost use Rattle.std.specs.Prelude.{◌≡◌, ◌++◌, ◌∷◌, [], Some, OnOk, codes, map, option_map};
 ghost use Rattle.json.specs.Json.{object};
 ghost use Rattle.json.specs.Token.{key};
 ghost use Rattle.cedar_below.specs.Name.{plain_name};
@@ -10,7 +10,7 @@ ghost use Rattle.cedar_json_writer.specs.Flaws.{action_flaws, body_flaws, declar
 ghost use Rattle.cedar_json_writer.specs.FragmentDocument.{action_document, common_types_held, declared_members, definition_document, entity_type_document, fragment_document, namespace_text};
 ghost use Rattle.cedar_json_writer.specs.Sound.{SoundAction, SoundBody, SoundDeclarations, SoundDefinition, SoundFragment, SoundType};
 ghost use Rattle.cedar_json_writer.specs.TypeDocument.{type_document};
-ghost use Rattle.cedar_json_writer.specs.Writing.{AddsField, AddsValue, IsFlawOf, IsFree};
+ghost use Rattle.cedar_json_writer.specs.Writing.{AddsField, AddsValue, IsChecked};
 
 use crate::actions::write_action;
 use crate::entity_types::write_entity_type;
@@ -32,10 +32,8 @@ fn write_common_types(
 ) -> Result<(), WriteFault>
     ensures written { OnOk result (AddsValue out.old out.new
         (object (declared_members type_document (written_common_types all.now)))) }
-    ensures free { OnOk result (IsFree (declared_flaws type_flaws (written_common_types all.now))
-        (SoundDeclarations common_key SoundType (written_common_types all.now))) }
-    ensures fault { IfErr result
-        (IsFlawOf (declared_flaws type_flaws (written_common_types all.now))) }
+    ensures checked { IsChecked result (declared_flaws type_flaws (written_common_types all.now))
+        (SoundDeclarations common_key SoundType (written_common_types all.now)) }
 {
     out.token(Token::BeginObject)?;
     for (id, it) in all {
@@ -54,10 +52,8 @@ fn write_common_types_field(
 ) -> Result<(), WriteFault>
     ensures written { OnOk result (AddsField out.old out.new (codes "commonTypes")
         (common_types_held (written_common_types all.now))) }
-    ensures free { OnOk result (IsFree (declared_flaws type_flaws (written_common_types all.now))
-        (SoundDeclarations common_key SoundType (written_common_types all.now))) }
-    ensures fault { IfErr result
-        (IsFlawOf (declared_flaws type_flaws (written_common_types all.now))) }
+    ensures checked { IsChecked result (declared_flaws type_flaws (written_common_types all.now))
+        (SoundDeclarations common_key SoundType (written_common_types all.now)) }
 {
     if all.is_empty() {
         return Ok(());
@@ -75,12 +71,10 @@ fn write_entity_types(
 ) -> Result<(), WriteFault>
     ensures written { OnOk result (AddsValue out.old out.new
         (object (declared_members entity_type_document (written_entity_types all.now)))) }
-    ensures free { OnOk result
-        (IsFree (declared_flaws (λ entity. body_flaws entity.body) (written_entity_types all.now))
+    ensures checked { IsChecked result
+        (declared_flaws (λ entity. body_flaws entity.body) (written_entity_types all.now))
         (SoundDeclarations id_key (λ entity. SoundBody entity.body)
-        (written_entity_types all.now))) }
-    ensures fault { IfErr result (IsFlawOf
-        (declared_flaws (λ entity. body_flaws entity.body) (written_entity_types all.now))) }
+        (written_entity_types all.now)) }
 {
     out.token(Token::BeginObject)?;
     for (id, it) in all {
@@ -99,10 +93,8 @@ fn write_actions(
 ) -> Result<(), WriteFault>
     ensures written { OnOk result (AddsValue out.old out.new
         (object (declared_members action_document (written_actions all.now)))) }
-    ensures free { OnOk result (IsFree (declared_flaws action_flaws (written_actions all.now))
-        (SoundDeclarations Some SoundAction (written_actions all.now))) }
-    ensures fault { IfErr result
-        (IsFlawOf (declared_flaws action_flaws (written_actions all.now))) }
+    ensures checked { IsChecked result (declared_flaws action_flaws (written_actions all.now))
+        (SoundDeclarations Some SoundAction (written_actions all.now)) }
 {
     out.token(Token::BeginObject)?;
     for (id, it) in all {
@@ -121,9 +113,8 @@ fn write_definition(
 ) -> Result<(), WriteFault>
     ensures written { OnOk result (AddsValue out.old out.new
         (definition_document (written_definition it.now))) }
-    ensures free { OnOk result (IsFree (definition_flaws (written_definition it.now))
-        (SoundDefinition (written_definition it.now))) }
-    ensures fault { IfErr result (IsFlawOf (definition_flaws (written_definition it.now))) }
+    ensures checked { IsChecked result (definition_flaws (written_definition it.now))
+        (SoundDefinition (written_definition it.now)) }
 {
     out.token(Token::BeginObject)?;
     out.token(Token::Key("entityTypes"))?;
@@ -158,9 +149,8 @@ pub(crate) fn write_fragment(
 ) -> Result<(), WriteFault>
     ensures written { OnOk result (AddsValue out.old out.new
         (fragment_document (written_fragment it.now))) }
-    ensures free { OnOk result (IsFree (parts_flaws (written_fragment it.now))
-        (SoundFragment (written_fragment it.now))) }
-    ensures fault { IfErr result (IsFlawOf (parts_flaws (written_fragment it.now))) }
+    ensures checked { IsChecked result (parts_flaws (written_fragment it.now))
+        (SoundFragment (written_fragment it.now)) }
 {
     out.token(Token::BeginObject)?;
     for (name, definition) in &it.0 {

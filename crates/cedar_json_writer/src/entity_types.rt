@@ -1,6 +1,6 @@
 //! Declarations of entity types that are written.
 
-ghost use Rattle.std.specs.Prelude.{◌≡◌, None, OnOk, IfErr, codes, map, option_map};
+ghost use Rattle.std.specs.Prelude.{◌≡◌, None, OnOk, codes, map, option_map};
 ghost use Rattle.cedar_names.specs.RawExpr.{raw_expr, raw_reference, raw_variant};
 ghost use Rattle.cedar_names.specs.declared.json_schema.entity_type.EntityTypeKind.TheVariants as kind;
 ghost use Rattle.cedar_names.specs.declared.json_schema.reference_type.ReferenceType.TheVariants.{Entity};
@@ -9,7 +9,7 @@ ghost use Rattle.cedar_json_writer.specs.Flaws.{body_flaws, flaws_in, type_flaws
 ghost use Rattle.cedar_json_writer.specs.FragmentDocument.{body_members, entity_type_document, parents_held};
 ghost use Rattle.cedar_json_writer.specs.Sound.{IfThere, SoundBody, SoundType};
 ghost use Rattle.cedar_json_writer.specs.TypeDocument.{is_empty_record, shape_held, type_document};
-ghost use Rattle.cedar_json_writer.specs.Writing.{AddsField, AddsFields, AddsValue, IsFlawOf, IsFree};
+ghost use Rattle.cedar_json_writer.specs.Writing.{AddsField, AddsFields, AddsValue, IsChecked};
 
 use crate::fault::WriteFault;
 use crate::fields::{write_flag, write_ids, write_names};
@@ -56,9 +56,8 @@ pub(crate) fn write_shape_field(
 ) -> Result<(), WriteFault>
     ensures written { OnOk result (AddsField out.old out.new name.now
         (shape_held (raw_expr None ty.now))) }
-    ensures free { OnOk result (IsFree (type_flaws (raw_expr None ty.now))
-        (SoundType (raw_expr None ty.now))) }
-    ensures fault { IfErr result (IsFlawOf (type_flaws (raw_expr None ty.now))) }
+    ensures checked { IsChecked result (type_flaws (raw_expr None ty.now))
+        (SoundType (raw_expr None ty.now)) }
 {
     if is_empty_record(ty) {
         return Ok(());
@@ -89,10 +88,8 @@ fn write_tags_field(
 ) -> Result<(), WriteFault>
     ensures written { OnOk result (AddsField out.old out.new (codes "tags")
         (option_map type_document (option_map (raw_expr None) tags.now))) }
-    ensures free { OnOk result (IsFree (flaws_in type_flaws (option_map (raw_expr None) tags.now))
-        (IfThere SoundType (option_map (raw_expr None) tags.now))) }
-    ensures fault { IfErr result
-        (IsFlawOf (flaws_in type_flaws (option_map (raw_expr None) tags.now))) }
+    ensures checked { IsChecked result (flaws_in type_flaws (option_map (raw_expr None) tags.now))
+        (IfThere SoundType (option_map (raw_expr None) tags.now)) }
 {
     let Some(ty) = tags else {
         return Ok(());
@@ -110,9 +107,8 @@ fn write_standard(
 ) -> Result<(), WriteFault>
     ensures written { OnOk result (AddsFields out.old out.new
         (body_members (written_kind (kind.Standard it.now)))) }
-    ensures free { OnOk result (IsFree (body_flaws (written_kind (kind.Standard it.now)))
-        (SoundBody (written_kind (kind.Standard it.now)))) }
-    ensures fault { IfErr result (IsFlawOf (body_flaws (written_kind (kind.Standard it.now)))) }
+    ensures checked { IsChecked result (body_flaws (written_kind (kind.Standard it.now)))
+        (SoundBody (written_kind (kind.Standard it.now))) }
 {
     write_parents_field(alloc, out, &it.member_of_types)?;
     write_shape_field(alloc, out, "shape", &it.shape.0)?;
@@ -128,9 +124,8 @@ fn write_kind(
 ) -> Result<(), WriteFault>
     ensures written { OnOk result (AddsFields out.old out.new
         (body_members (written_kind kind.now))) }
-    ensures free { OnOk result (IsFree (body_flaws (written_kind kind.now))
-        (SoundBody (written_kind kind.now))) }
-    ensures fault { IfErr result (IsFlawOf (body_flaws (written_kind kind.now))) }
+    ensures checked { IsChecked result (body_flaws (written_kind kind.now))
+        (SoundBody (written_kind kind.now)) }
 {
     match kind {
         EntityTypeKind::Standard(it) => write_standard(alloc, out, it),
@@ -150,9 +145,8 @@ pub(crate) fn write_entity_type(
 ) -> Result<(), WriteFault>
     ensures written { OnOk result (AddsValue out.old out.new
         (entity_type_document (written_entity it.now))) }
-    ensures free { OnOk result (IsFree (body_flaws (written_entity it.now).body)
-        (SoundBody (written_entity it.now).body)) }
-    ensures fault { IfErr result (IsFlawOf (body_flaws (written_entity it.now).body)) }
+    ensures checked { IsChecked result (body_flaws (written_entity it.now).body)
+        (SoundBody (written_entity it.now).body) }
 {
     out.token(Token::BeginObject)?;
     write_kind(alloc, out, &it.kind)?;

@@ -1,6 +1,6 @@
 //! Types that are written.
 
-ghost use Rattle.std.specs.Prelude.{◌≡◌, Some, None, true, false, MatchOption, OnOk, IfErr, codes};
+ghost use Rattle.std.specs.Prelude.{◌≡◌, Some, None, true, false, MatchOption, OnOk, codes};
 ghost use Rattle.json.specs.Json.{member, object, string};
 ghost use Rattle.cedar_below.specs.PlainName.{name_text};
 ghost use Rattle.cedar_below.specs.UnreservedId.{unreserved_id_text};
@@ -12,7 +12,7 @@ ghost use Rattle.cedar_json.specs.Fields.{is_among};
 ghost use Rattle.cedar_json_writer.specs.Flaws.{type_flaws, type_words};
 ghost use Rattle.cedar_json_writer.specs.Sound.{SoundType};
 ghost use Rattle.cedar_json_writer.specs.TypeDocument.{attribute_document, attribute_members, attributes_of, type_document, type_members};
-ghost use Rattle.cedar_json_writer.specs.Writing.{AddsFields, AddsValue, IsFlawOf, IsFree};
+ghost use Rattle.cedar_json_writer.specs.Writing.{AddsFields, AddsValue, IsChecked};
 
 use crate::fault::{Unwritable, WriteFault};
 use crate::fields::{write_flag, write_name_field, write_text_field};
@@ -57,10 +57,8 @@ fn common_word(name: &RawName) -> Option<&'static str>
 fn write_common(alloc: Global, out: &mut Pretty, name: &RawName) -> Result<(), WriteFault>
     ensures written { OnOk result (AddsFields out.old out.new
         (type_members (named (raw_reference None Common name.now)))) }
-    ensures free { OnOk result (IsFree (type_flaws (named (raw_reference None Common name.now)))
-        (SoundType (named (raw_reference None Common name.now)))) }
-    ensures fault { IfErr result
-        (IsFlawOf (type_flaws (named (raw_reference None Common name.now)))) }
+    ensures checked { IsChecked result (type_flaws (named (raw_reference None Common name.now)))
+        (SoundType (named (raw_reference None Common name.now))) }
 {
     if let Some(word) = common_word(name) {
         return Err(WriteFault::Unwritable(Unwritable::TypeWord(word)));
@@ -95,9 +93,8 @@ fn write_extension(out: &mut Pretty, name: &UnreservedId) -> M<()>
 fn write_fields(alloc: Global, out: &mut Pretty, ty: &Type<RawName>) -> Result<(), WriteFault>
     ensures written { OnOk result (AddsFields out.old out.new
         (type_members (raw_expr None ty.now))) }
-    ensures free { OnOk result (IsFree (type_flaws (raw_expr None ty.now))
-        (SoundType (raw_expr None ty.now))) }
-    ensures fault { IfErr result (IsFlawOf (type_flaws (raw_expr None ty.now))) }
+    ensures checked { IsChecked result (type_flaws (raw_expr None ty.now))
+        (SoundType (raw_expr None ty.now)) }
 {
     match ty {
         Type::Plain { ty, .. } => write_variant(alloc, out, ty),
@@ -114,9 +111,8 @@ fn write_variant(
 ) -> Result<(), WriteFault>
     ensures written { OnOk result (AddsFields out.old out.new
         (type_members (raw_variant None ty.now))) }
-    ensures free { OnOk result (IsFree (type_flaws (raw_variant None ty.now))
-        (SoundType (raw_variant None ty.now))) }
-    ensures fault { IfErr result (IsFlawOf (type_flaws (raw_variant None ty.now))) }
+    ensures checked { IsChecked result (type_flaws (raw_variant None ty.now))
+        (SoundType (raw_variant None ty.now)) }
 {
     match ty {
         TypeVariant::String => Ok(write_text_field(out, "type", "String")?),
@@ -137,9 +133,8 @@ fn write_variant(
 fn write_set(alloc: Global, out: &mut Pretty, element: &Type<RawName>) -> Result<(), WriteFault>
     ensures written { OnOk result (AddsFields out.old out.new
         (type_members (set_expr (raw_expr None element.now)))) }
-    ensures free { OnOk result (IsFree (type_flaws (set_expr (raw_expr None element.now)))
-        (SoundType (set_expr (raw_expr None element.now)))) }
-    ensures fault { IfErr result (IsFlawOf (type_flaws (set_expr (raw_expr None element.now)))) }
+    ensures checked { IsChecked result (type_flaws (set_expr (raw_expr None element.now)))
+        (SoundType (set_expr (raw_expr None element.now))) }
 {
     write_text_field(out, "type", "Set")?;
     out.token(Token::Key("element"))?;
@@ -156,9 +151,8 @@ fn write_record(
 ) -> Result<(), WriteFault>
     ensures written { OnOk result (AddsFields out.old out.new
         (type_members (raw_record None record_type.now))) }
-    ensures free { OnOk result (IsFree (type_flaws (raw_record None record_type.now))
-        (SoundType (raw_record None record_type.now))) }
-    ensures fault { IfErr result (IsFlawOf (type_flaws (raw_record None record_type.now))) }
+    ensures checked { IsChecked result (type_flaws (raw_record None record_type.now))
+        (SoundType (raw_record None record_type.now)) }
 {
     write_text_field(out, "type", "Record")?;
     out.token(Token::Key("attributes"))?;
@@ -177,9 +171,8 @@ fn write_attributes(
 ) -> Result<(), WriteFault>
     ensures written { OnOk result (AddsValue out.old out.new
         (object (attribute_members (attributes_of (raw_record None record_type.now))))) }
-    ensures free { OnOk result (IsFree (type_flaws (raw_record None record_type.now))
-        (SoundType (raw_record None record_type.now))) }
-    ensures fault { IfErr result (IsFlawOf (type_flaws (raw_record None record_type.now))) }
+    ensures checked { IsChecked result (type_flaws (raw_record None record_type.now))
+        (SoundType (raw_record None record_type.now)) }
 {
     out.token(Token::BeginObject)?;
     for (name, attribute) in &record_type.attributes {
@@ -200,9 +193,8 @@ fn write_attribute(
     ensures written { OnOk result (AddsValue out.old out.new
         (attribute_document (raw_attribute None attribute.now).0
         (raw_attribute None attribute.now).1)) }
-    ensures free { OnOk result (IsFree (type_flaws (raw_attribute None attribute.now).1)
-        (SoundType (raw_attribute None attribute.now).1)) }
-    ensures fault { IfErr result (IsFlawOf (type_flaws (raw_attribute None attribute.now).1)) }
+    ensures checked { IsChecked result (type_flaws (raw_attribute None attribute.now).1)
+        (SoundType (raw_attribute None attribute.now).1) }
 {
     out.token(Token::BeginObject)?;
     write_fields(alloc, out, &attribute.ty)?;
@@ -220,9 +212,8 @@ pub(crate) fn write_type(
 ) -> Result<(), WriteFault>
     ensures written { OnOk result (AddsValue out.old out.new
         (type_document (raw_expr None ty.now))) }
-    ensures free { OnOk result (IsFree (type_flaws (raw_expr None ty.now))
-        (SoundType (raw_expr None ty.now))) }
-    ensures fault { IfErr result (IsFlawOf (type_flaws (raw_expr None ty.now))) }
+    ensures checked { IsChecked result (type_flaws (raw_expr None ty.now))
+        (SoundType (raw_expr None ty.now)) }
 {
     out.token(Token::BeginObject)?;
     write_fields(alloc, out, ty)?;

@@ -1,6 +1,6 @@
 //! Values of Cedar that are written.
 
-ghost use Rattle.std.specs.Prelude.{◌≡◌, [], true, false, MatchOption, MatchResult, OnOk, IfErr, Contains, map, string_bytes};
+ghost use Rattle.std.specs.Prelude.{◌≡◌, [], true, false, MatchOption, MatchResult, OnOk, Contains, map, string_bytes};
 ghost use Rattle.std.specs.Fmt.{signed_decimal};
 ghost use Rattle.json.specs.Json.{array, number, object};
 ghost use Rattle.cedar_below.specs.EntityUID.{uid_of};
@@ -15,7 +15,7 @@ ghost use Rattle.cedar_json_writer.specs.Flaws.{entries_flaws, key_flaws, pairs_
 ghost use Rattle.cedar_json_writer.specs.FragmentDocument.{pairs_document};
 ghost use Rattle.cedar_json_writer.specs.Sound.{SoundPairs, SoundValue};
 ghost use Rattle.cedar_json_writer.specs.ValueDocument.{uid_document, value_document, value_members};
-ghost use Rattle.cedar_json_writer.specs.Writing.{AddsValue, IsFlawOf, IsFree, flaw_of};
+ghost use Rattle.cedar_json_writer.specs.Writing.{AddsValue, IsChecked, flaw_of};
 
 use crate::fault::{Unwritable, WriteFault};
 use crate::fields::{write_name_field, write_text_field};
@@ -95,9 +95,8 @@ pub(crate) fn write_value(
     expr: &RestrictedExpr,
 ) -> Result<(), WriteFault>
     ensures written { OnOk result (AddsValue out.old out.new (value_document (tree_of expr.now))) }
-    ensures free { OnOk result (IsFree (value_flaws (tree_of expr.now))
-        (SoundValue (tree_of expr.now))) }
-    ensures fault { IfErr result (IsFlawOf (value_flaws (tree_of expr.now))) }
+    ensures checked { IsChecked result (value_flaws (tree_of expr.now))
+        (SoundValue (tree_of expr.now)) }
 {
     match expr {
         RestrictedExpr::Bool(flag) => Ok(out.token(Token::Bool(*flag))?),
@@ -121,9 +120,8 @@ fn write_values(
 ) -> Result<(), WriteFault>
     ensures written { OnOk result (AddsValue out.old out.new
         (value_document (set_value (trees_of values.now.items)))) }
-    ensures free { OnOk result (IsFree (value_flaws (set_value (trees_of values.now.items)))
-        (SoundValue (set_value (trees_of values.now.items)))) }
-    ensures fault { IfErr result (IsFlawOf (value_flaws (set_value (trees_of values.now.items)))) }
+    ensures checked { IsChecked result (value_flaws (set_value (trees_of values.now.items)))
+        (SoundValue (set_value (trees_of values.now.items))) }
 {
     out.token(Token::BeginArray)?;
     for value in values {
@@ -142,9 +140,8 @@ fn write_record_value(
 ) -> Result<(), WriteFault>
     ensures written { OnOk result (AddsValue out.old out.new
         (value_document (map_value (entries_of values.now)))) }
-    ensures free { OnOk result (IsFree (value_flaws (map_value (entries_of values.now)))
-        (SoundValue (map_value (entries_of values.now)))) }
-    ensures fault { IfErr result (IsFlawOf (value_flaws (map_value (entries_of values.now)))) }
+    ensures checked { IsChecked result (value_flaws (map_value (entries_of values.now)))
+        (SoundValue (map_value (entries_of values.now))) }
 {
     check_keys(values)?;
     write_pairs(alloc, out, values)?;
@@ -160,9 +157,8 @@ fn write_pairs(
 ) -> Result<(), WriteFault>
     ensures written { OnOk result (AddsValue out.old out.new
         (object (value_members (entries_of values.now)))) }
-    ensures free { OnOk result (IsFree (entries_flaws (entries_of values.now))
-        (SoundValue (map_value (entries_of values.now)))) }
-    ensures fault { IfErr result (IsFlawOf (entries_flaws (entries_of values.now))) }
+    ensures checked { IsChecked result (entries_flaws (entries_of values.now))
+        (SoundValue (map_value (entries_of values.now))) }
 {
     out.token(Token::BeginObject)?;
     for (name, value) in values {
@@ -183,11 +179,9 @@ fn write_call(
 ) -> Result<(), WriteFault>
     ensures written { OnOk result (AddsValue out.old out.new
         (value_document (call_value (plain_name function.now) (trees_of args.now.items)))) }
-    ensures free { OnOk result
-        (IsFree (value_flaws (call_value (plain_name function.now) (trees_of args.now.items)))
-        (SoundValue (call_value (plain_name function.now) (trees_of args.now.items)))) }
-    ensures fault { IfErr result (IsFlawOf
-        (value_flaws (call_value (plain_name function.now) (trees_of args.now.items)))) }
+    ensures checked { IsChecked result
+        (value_flaws (call_value (plain_name function.now) (trees_of args.now.items)))
+        (SoundValue (call_value (plain_name function.now) (trees_of args.now.items))) }
 {
     if args.len() != 1 {
         return Err(WriteFault::Unwritable(Unwritable::Arguments(args.len())));
@@ -211,9 +205,8 @@ pub(crate) fn write_attribute_values(
 ) -> Result<(), WriteFault>
     ensures written { OnOk result (AddsValue out.old out.new
         (pairs_document (written_pairs values.now))) }
-    ensures free { OnOk result (IsFree (pairs_flaws (written_pairs values.now))
-        (SoundPairs (written_pairs values.now))) }
-    ensures fault { IfErr result (IsFlawOf (pairs_flaws (written_pairs values.now))) }
+    ensures checked { IsChecked result (pairs_flaws (written_pairs values.now))
+        (SoundPairs (written_pairs values.now)) }
 {
     out.token(Token::BeginObject)?;
     for (name, value) in values {

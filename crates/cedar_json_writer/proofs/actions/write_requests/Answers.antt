@@ -15,7 +15,7 @@ returns-clause-written c =
     c.in_ok-token.ensures.ok c.in_ok-token-2.ensures.ok c.in_ok-write_names.ensures c.in_ok-token-3.ensures.ok
     c.in_ok-write_names-2.ensures c.in_ok-write_shape_field.ensures.written c.in_ok-token-4.ensures.ok
 
-pub returns-clause-free : goal.returns-clause-free
-returns-clause-free c =
+pub returns-clause-checked : goal.returns-clause-checked
+returns-clause-checked c =
     let it = c.args.it.now in
-    requests_free it.principal_types.items it.resource_types.items (raw_expr None it.context.0) c.in_ok-write_shape_field.ensures.free
+    requests_free it.principal_types.items it.resource_types.items (raw_expr None it.context.0) c.in_ok-write_shape_field.ensures.checked

@@ -16,22 +16,22 @@ loop-id-preserved c =
     turn (declared_shape {K = String Global} string_bytes (λ (id : Text). id) written_action action_document action_flaws SoundAction) c.token.new.self c.loop-id.out c.token-in-loop-id.new.self c.write_action.new.out
     c.args.all.now.entries c.loop-id.id-iterator c.next.new.self (c.in-Some.id.now, c.in-Some.it.now) c.loop-id.invariant
     c.in-Some.ensures.steps (c.in_ok-token-2.ensures.ok ∙ ap (λ (text : List ℕ). c.loop-id.out ++ key text ∷ []) c.as_str.ensures.value)
-    c.in_ok-write_action.ensures.written c.in_ok-write_action.ensures.free
+    c.in_ok-write_action.ensures.written c.in_ok-write_action.ensures.checked
 
 pub returns-clause-written : goal.returns-clause-written
 returns-clause-written c =
     members_added (declared_shape {K = String Global} string_bytes (λ (id : Text). id) written_action action_document action_flaws SoundAction) c.args.out.now c.token.new.self c.loop-id.out c.token-2.new.self
     c.args.all.now.entries c.loop-id.id-iterator c.loop-id.invariant c.in-None.ensures.steps.0 c.in_ok-token.ensures.ok c.in_ok-token-3.ensures.ok
 
-pub returns-clause-free : goal.returns-clause-free
-returns-clause-free c =
+pub returns-clause-checked : goal.returns-clause-checked
+returns-clause-checked c =
     declarations_free {K = String Global} string_bytes written_action action_document action_flaws SoundAction some (λ id. refl) string_cmp (λ a b. refl) c.args.all.now.entries c.into_iter-id-iterator.ensures.into_iter_gives.5
     (members_free (declared_shape {K = String Global} string_bytes (λ (id : Text). id) written_action action_document action_flaws SoundAction) c.token.new.self c.loop-id.out c.args.all.now.entries c.loop-id.id-iterator c.loop-id.invariant
     c.in-None.ensures.steps.0)
 
-pub returns-in_err-write_action-clause-fault : goal.returns-in_err-write_action-clause-fault
-returns-in_err-write_action-clause-fault c =
+pub returns-in_err-write_action-clause-checked : goal.returns-in_err-write_action-clause-checked
+returns-in_err-write_action-clause-checked c =
     let f = c.in_err-write_action.field-0.0 in
     let p = err_from_is_err_and c.from_residual-in_err-write_action.result c.from_residual-in_err-write_action.ensures.1 in
     rw (p.1, p.2) (member_flaw (declared_shape {K = String Global} string_bytes (λ (id : Text). id) written_action action_document action_flaws SoundAction) c.token.new.self c.loop-id.out c.args.all.now.entries c.loop-id.id-iterator c.next.new.self
-    (c.in-Some.id.now, c.in-Some.it.now) f c.loop-id.invariant c.in-Some.ensures.steps c.in_err-write_action.ensures.fault)
+    (c.in-Some.id.now, c.in-Some.it.now) f c.loop-id.invariant c.in-Some.ensures.steps c.in_err-write_action.ensures.checked)

@@ -22,22 +22,22 @@ loop-id-preserved c =
     turn (declared_shape common_type_text (λ (id : Text). id) (λ (it : CommonType RawName). raw_expr nothing it.ty) type_document type_flaws SoundType) c.token.new.self c.loop-id.out c.token-in-loop-id.new.self c.write_type.new.out
     c.args.all.now.entries c.loop-id.id-iterator c.next.new.self (c.in-Some.id.now, c.in-Some.it.now) c.loop-id.invariant
     c.in-Some.ensures.steps (c.in_ok-token-2.ensures.ok ∙ ap (λ (text : List ℕ). c.loop-id.out ++ key text ∷ []) c.as_str.ensures.text)
-    c.in_ok-write_type.ensures.written c.in_ok-write_type.ensures.free
+    c.in_ok-write_type.ensures.written c.in_ok-write_type.ensures.checked
 
 pub returns-clause-written : goal.returns-clause-written
 returns-clause-written c =
     members_added (declared_shape common_type_text (λ (id : Text). id) (λ (it : CommonType RawName). raw_expr nothing it.ty) type_document type_flaws SoundType) c.args.out.now c.token.new.self c.loop-id.out c.token-2.new.self
     c.args.all.now.entries c.loop-id.id-iterator c.loop-id.invariant c.in-None.ensures.steps.0 c.in_ok-token.ensures.ok c.in_ok-token-3.ensures.ok
 
-pub returns-clause-free : goal.returns-clause-free
-returns-clause-free c =
+pub returns-clause-checked : goal.returns-clause-checked
+returns-clause-checked c =
     declarations_free common_type_text (λ (it : CommonType RawName). raw_expr nothing it.ty) type_document type_flaws SoundType common_key (λ id. common_key-read id (common_type_text id) refl) ((common_type_ord.ghosts).cmp) (λ a b. refl) c.args.all.now.entries c.into_iter-id-iterator.ensures.into_iter_gives.5
     (members_free (declared_shape common_type_text (λ (id : Text). id) (λ (it : CommonType RawName). raw_expr nothing it.ty) type_document type_flaws SoundType) c.token.new.self c.loop-id.out c.args.all.now.entries c.loop-id.id-iterator c.loop-id.invariant
     c.in-None.ensures.steps.0)
 
-pub returns-in_err-write_type-clause-fault : goal.returns-in_err-write_type-clause-fault
-returns-in_err-write_type-clause-fault c =
+pub returns-in_err-write_type-clause-checked : goal.returns-in_err-write_type-clause-checked
+returns-in_err-write_type-clause-checked c =
     let f = c.in_err-write_type.field-0.0 in
     let p = err_from_is_err_and c.from_residual-in_err-write_type.result c.from_residual-in_err-write_type.ensures.1 in
     rw (p.1, p.2) (member_flaw (declared_shape common_type_text (λ (id : Text). id) (λ (it : CommonType RawName). raw_expr nothing it.ty) type_document type_flaws SoundType) c.token.new.self c.loop-id.out c.args.all.now.entries c.loop-id.id-iterator c.next.new.self
-    (c.in-Some.id.now, c.in-Some.it.now) f c.loop-id.invariant c.in-Some.ensures.steps c.in_err-write_type.ensures.fault)
+    (c.in-Some.id.now, c.in-Some.it.now) f c.loop-id.invariant c.in-Some.ensures.steps c.in_err-write_type.ensures.checked)

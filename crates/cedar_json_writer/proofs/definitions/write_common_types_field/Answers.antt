@@ -8,8 +8,8 @@ use Rattle.cedar_json_writer.specs.FragmentDocument.{declared_members}
 use Rattle.cedar_json_writer.specs.TypeDocument.{type_document}
 use Rattle.cedar_json_writer.proofs.definitions.write_common_types_field.Goals as goal
 
-pub returns-then-is_empty-clause-free : goal.returns-then-is_empty-clause-free
-returns-then-is_empty-clause-free c =
+pub returns-then-is_empty-clause-checked : goal.returns-then-is_empty-clause-checked
+returns-then-is_empty-clause-checked c =
     none_free (written_common_types c.args.all.now) (no_common_types c.args.all.now (c.is_empty.ensures.0 c.if-is_empty.true))
 
 pub returns-clause-written : goal.returns-clause-written

@@ -5,15 +5,15 @@ use Rattle.cedar_json_writer.proofs.WrittenDefinitions.{action_flaw, definition_
 use Rattle.cedar_json_writer.specs.FragmentDocument.{action_document, common_types_held, declared_members, entity_type_document}
 use Rattle.cedar_json_writer.proofs.definitions.write_definition.Goals as goal
 
-pub returns-in_err-write_entity_types-clause-fault : goal.returns-in_err-write_entity_types-clause-fault
-returns-in_err-write_entity_types-clause-fault c =
+pub returns-in_err-write_entity_types-clause-checked : goal.returns-in_err-write_entity_types-clause-checked
+returns-in_err-write_entity_types-clause-checked c =
     let p = err_from_is_err_and c.from_residual-in_err-write_entity_types.result c.from_residual-in_err-write_entity_types.ensures.1 in
-    rw (p.1, p.2) (entity_type_flaw (written_definition c.args.it.now) _ c.in_err-write_entity_types.ensures.fault)
+    rw (p.1, p.2) (entity_type_flaw (written_definition c.args.it.now) _ c.in_err-write_entity_types.ensures.checked)
 
-pub returns-in_err-write_actions-clause-fault : goal.returns-in_err-write_actions-clause-fault
-returns-in_err-write_actions-clause-fault c =
+pub returns-in_err-write_actions-clause-checked : goal.returns-in_err-write_actions-clause-checked
+returns-in_err-write_actions-clause-checked c =
     let p = err_from_is_err_and c.from_residual-in_err-write_actions.result c.from_residual-in_err-write_actions.ensures.1 in
-    rw (p.1, p.2) (action_flaw (written_definition c.args.it.now) _ c.in_err-write_actions.ensures.fault)
+    rw (p.1, p.2) (action_flaw (written_definition c.args.it.now) _ c.in_err-write_actions.ensures.checked)
 
 pub returns-clause-written : goal.returns-clause-written
 returns-clause-written c =

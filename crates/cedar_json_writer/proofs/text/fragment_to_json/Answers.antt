@@ -18,7 +18,7 @@ returns-then-branch-clause-writable c =
     ap tokens same ∙ c.into_inner.ensures.value ∙ c.in_ok-write_fragment.ensures.written
     ∙ ap (λ l. l ++ json_tokens (fragment_document it)) c.new-out.ensures in
     let valid : IsSome (document text) = subst (λ (bytes : List ℕ). IsSome (document bytes)) c.as_str.ensures.value (c.in_ok-is_valid.ensures.ok.0 c.if-branch.true) in
-    writable_text text it written c.in_ok-write_fragment.ensures.free.flawless valid
+    writable_text text it written c.in_ok-write_fragment.ensures.checked.flawless valid
 
 pub returns-then-branch-clause-described : goal.returns-then-branch-clause-described
 returns-then-branch-clause-described c =
@@ -30,7 +30,7 @@ returns-then-branch-clause-described c =
     ∙ ap (λ l. l ++ json_tokens (fragment_document it)) c.new-out.ensures in
     let valid : IsSome (document text) = subst (λ (bytes : List ℕ). IsSome (document bytes)) c.as_str.ensures.value (c.in_ok-is_valid.ensures.ok.0 c.if-branch.true) in
     let utf8 : IsUtf8 text = subst IsUtf8 (sym same) c.into_inner.ensures.utf8 in
-    described_text text it utf8 written c.in_ok-write_fragment.ensures.free valid
+    described_text text it utf8 written c.in_ok-write_fragment.ensures.checked valid
 
 pub returns-else-branch-clause-fault : goal.returns-else-branch-clause-fault
 returns-else-branch-clause-fault c =

@@ -1,4 +1,4 @@
-use Rattle.std.proofs.Common.{◌≡◌, ◌++◌, ◌∷◌, [], IfErr, List, None, ℕ, ap, refl, subst, sym, ◌∙◌}
+use Rattle.std.proofs.Common.{◌≡◌, ◌++◌, ◌∷◌, [], List, None, ℕ, ap, refl, subst, sym, ◌∙◌}
 use Rattle.std.proofs.lemmas.Result.{err_from_is_err_and}
 use Rattle.json.specs.Json.{object}
 use Rattle.json.specs.Token.{key}
@@ -11,8 +11,9 @@ use Rattle.cedar_names.specs.declared.json_schema.type_of.RecordType.{out-Record
 use Rattle.cedar_json_writer.proofs.WritingLemmas.{begun, member_flaw, members_added, members_free, turn}
 use Rattle.cedar_json_writer.proofs.WrittenTypes.{FreeType, attributes_shape, either_fields, either_free, entity_fields, entity_free, extension_free, listed, long_fields, long_free, record_fields, record_flaw, record_free, set_fields, set_flaw, set_free, text_fields, text_free, truth_fields, truth_free}
 use Rattle.cedar_json_writer.specs.Flaws.{type_flaws}
+use Rattle.cedar_json_writer.specs.Sound.{SoundType}
 use Rattle.cedar_json_writer.specs.TypeDocument.{attribute_members, attributes_of, type_members}
-use Rattle.cedar_json_writer.specs.Writing.{AddsFields, AddsValue, IsFlawOf}
+use Rattle.cedar_json_writer.specs.Writing.{AddsFields, AddsValue, IsChecked, IsFlawOf}
 use Rattle.cedar_json_writer.proofs.types.+type_writing.Goals as goal
 
 pub write_variant-returns-in_ok-write_text_field-in-String-clause-written : goal.write_variant-returns-in_ok-write_text_field-in-String-clause-written
@@ -21,8 +22,8 @@ write_variant-returns-in_ok-write_text_field-in-String-clause-written t c =
     (sym (ap (raw_variant None) c.in-String.is ∙ raw_variant-String None))
     (text_fields c.args.out.now c.write_text_field.new.out c.in_ok-write_text_field-in-String.ensures)
 
-pub write_variant-returns-in_ok-write_text_field-in-String-clause-free : goal.write_variant-returns-in_ok-write_text_field-in-String-clause-free
-write_variant-returns-in_ok-write_text_field-in-String-clause-free t c =
+pub write_variant-returns-in_ok-write_text_field-in-String-clause-checked : goal.write_variant-returns-in_ok-write_text_field-in-String-clause-checked
+write_variant-returns-in_ok-write_text_field-in-String-clause-checked t c =
     subst FreeType (sym (ap (raw_variant None) c.in-String.is ∙ raw_variant-String None)) text_free
 
 pub write_variant-returns-in_ok-write_text_field-in-Long-clause-written : goal.write_variant-returns-in_ok-write_text_field-in-Long-clause-written
@@ -31,8 +32,8 @@ write_variant-returns-in_ok-write_text_field-in-Long-clause-written t c =
     (sym (ap (raw_variant None) c.in-Long.is ∙ raw_variant-Long None))
     (long_fields c.args.out.now c.write_text_field-in-Long.new.out c.in_ok-write_text_field-in-Long.ensures)
 
-pub write_variant-returns-in_ok-write_text_field-in-Long-clause-free : goal.write_variant-returns-in_ok-write_text_field-in-Long-clause-free
-write_variant-returns-in_ok-write_text_field-in-Long-clause-free t c =
+pub write_variant-returns-in_ok-write_text_field-in-Long-clause-checked : goal.write_variant-returns-in_ok-write_text_field-in-Long-clause-checked
+write_variant-returns-in_ok-write_text_field-in-Long-clause-checked t c =
     subst FreeType (sym (ap (raw_variant None) c.in-Long.is ∙ raw_variant-Long None)) long_free
 
 pub write_variant-returns-in_ok-write_text_field-in-Boolean-clause-written : goal.write_variant-returns-in_ok-write_text_field-in-Boolean-clause-written
@@ -41,8 +42,8 @@ write_variant-returns-in_ok-write_text_field-in-Boolean-clause-written t c =
     (sym (ap (raw_variant None) c.in-Boolean.is ∙ raw_variant-Boolean None))
     (truth_fields c.args.out.now c.write_text_field-in-Boolean.new.out c.in_ok-write_text_field-in-Boolean.ensures)
 
-pub write_variant-returns-in_ok-write_text_field-in-Boolean-clause-free : goal.write_variant-returns-in_ok-write_text_field-in-Boolean-clause-free
-write_variant-returns-in_ok-write_text_field-in-Boolean-clause-free t c =
+pub write_variant-returns-in_ok-write_text_field-in-Boolean-clause-checked : goal.write_variant-returns-in_ok-write_text_field-in-Boolean-clause-checked
+write_variant-returns-in_ok-write_text_field-in-Boolean-clause-checked t c =
     subst FreeType (sym (ap (raw_variant None) c.in-Boolean.is ∙ raw_variant-Boolean None)) truth_free
 
 pub write_variant-returns-in_ok-write_named-in-Entity-clause-written : goal.write_variant-returns-in_ok-write_named-in-Entity-clause-written
@@ -51,8 +52,8 @@ write_variant-returns-in_ok-write_named-in-Entity-clause-written t c =
     (sym (ap (raw_variant None) c.in-Entity.is ∙ raw_variant-Entity None c.in-Entity.name))
     (entity_fields c.args.out.now c.write_named.new.out c.in-Entity.name c.in_ok-write_named-in-Entity.ensures)
 
-pub write_variant-returns-in_ok-write_named-in-Entity-clause-free : goal.write_variant-returns-in_ok-write_named-in-Entity-clause-free
-write_variant-returns-in_ok-write_named-in-Entity-clause-free t c =
+pub write_variant-returns-in_ok-write_named-in-Entity-clause-checked : goal.write_variant-returns-in_ok-write_named-in-Entity-clause-checked
+write_variant-returns-in_ok-write_named-in-Entity-clause-checked t c =
     subst FreeType (sym (ap (raw_variant None) c.in-Entity.is ∙ raw_variant-Entity None c.in-Entity.name)) (entity_free c.in-Entity.name)
 
 pub write_variant-returns-in_ok-write_named-in-EntityOrCommon-clause-written : goal.write_variant-returns-in_ok-write_named-in-EntityOrCommon-clause-written
@@ -61,12 +62,12 @@ write_variant-returns-in_ok-write_named-in-EntityOrCommon-clause-written t c =
     (sym (ap (raw_variant None) c.in-EntityOrCommon.is ∙ variant-EntityOrCommon RawName (raw_reference None) c.in-EntityOrCommon.type_name))
     (either_fields c.args.out.now c.write_named-in-EntityOrCommon.new.out c.in-EntityOrCommon.type_name c.in_ok-write_named-in-EntityOrCommon.ensures)
 
-pub write_variant-returns-in_ok-write_named-in-EntityOrCommon-clause-free : goal.write_variant-returns-in_ok-write_named-in-EntityOrCommon-clause-free
-write_variant-returns-in_ok-write_named-in-EntityOrCommon-clause-free t c =
+pub write_variant-returns-in_ok-write_named-in-EntityOrCommon-clause-checked : goal.write_variant-returns-in_ok-write_named-in-EntityOrCommon-clause-checked
+write_variant-returns-in_ok-write_named-in-EntityOrCommon-clause-checked t c =
     subst FreeType (sym (ap (raw_variant None) c.in-EntityOrCommon.is ∙ variant-EntityOrCommon RawName (raw_reference None) c.in-EntityOrCommon.type_name)) (either_free c.in-EntityOrCommon.type_name)
 
-pub write_variant-returns-in_ok-write_extension-in-Extension-clause-free : goal.write_variant-returns-in_ok-write_extension-in-Extension-clause-free
-write_variant-returns-in_ok-write_extension-in-Extension-clause-free t c =
+pub write_variant-returns-in_ok-write_extension-in-Extension-clause-checked : goal.write_variant-returns-in_ok-write_extension-in-Extension-clause-checked
+write_variant-returns-in_ok-write_extension-in-Extension-clause-checked t c =
     subst FreeType (sym (ap (raw_variant None) c.in-Extension.is ∙ variant-Extension RawName (raw_reference None) c.in-Extension.name))
     (extension_free c.in-Extension.name)
 
@@ -96,7 +97,7 @@ write_attributes-loop-name-preserved t c =
     (out-RecordType RawName c.args.record_type.now).attributes.entries c.loop-name.name-iterator c.next.new.self
     (c.in-Some.name.now, c.in-Some.attribute.now) c.loop-name.invariant c.in-Some.ensures.steps
     (c.in_ok-token-2.ensures.ok ∙ ap (λ (text : List ℕ). c.loop-name.out ++ key text ∷ []) c.as_str.ensures.value)
-    c.in_ok-write_attribute.ensures.written c.in_ok-write_attribute.ensures.free
+    c.in_ok-write_attribute.ensures.written c.in_ok-write_attribute.ensures.checked
 
 pub write_attributes-returns-clause-written : goal.write_attributes-returns-clause-written
 write_attributes-returns-clause-written t c =
@@ -106,8 +107,8 @@ write_attributes-returns-clause-written t c =
     (out-RecordType RawName c.args.record_type.now).attributes.entries c.loop-name.name-iterator c.loop-name.invariant
     c.in-None.ensures.steps.0 c.in_ok-token.ensures.ok c.in_ok-token-3.ensures.ok)
 
-pub write_attributes-returns-clause-free : goal.write_attributes-returns-clause-free
-write_attributes-returns-clause-free t c =
+pub write_attributes-returns-clause-checked : goal.write_attributes-returns-clause-checked
+write_attributes-returns-clause-checked t c =
     let entries = (out-RecordType RawName c.args.record_type.now).attributes.entries in
     subst FreeType (sym (raw_record-entries None c.args.record_type.now))
     (record_free entries (out-RecordType RawName c.args.record_type.now).additional_attributes
@@ -115,27 +116,27 @@ write_attributes-returns-clause-free t c =
     (members_free attributes_shape c.token.new.self c.loop-name.out entries c.loop-name.name-iterator c.loop-name.invariant
     c.in-None.ensures.steps.0))
 
-pub write_attributes-returns-in_err-write_attribute-clause-fault : goal.write_attributes-returns-in_err-write_attribute-clause-fault
-write_attributes-returns-in_err-write_attribute-clause-fault t c =
+pub write_attributes-returns-in_err-write_attribute-clause-checked : goal.write_attributes-returns-in_err-write_attribute-clause-checked
+write_attributes-returns-in_err-write_attribute-clause-checked t c =
     let it = c.args.record_type.now in
     let entries = (out-RecordType RawName it).attributes.entries in
     let f = c.in_err-write_attribute.field-0.0 in
     let p = err_from_is_err_and c.from_residual-in_err-write_attribute.result c.from_residual-in_err-write_attribute.ensures.1 in
     let flawed = member_flaw attributes_shape c.token.new.self c.loop-name.out entries c.loop-name.name-iterator c.next.new.self
-    (c.in-Some.name.now, c.in-Some.attribute.now) f c.loop-name.invariant c.in-Some.ensures.steps c.in_err-write_attribute.ensures.fault in
+    (c.in-Some.name.now, c.in-Some.attribute.now) f c.loop-name.invariant c.in-Some.ensures.steps c.in_err-write_attribute.ensures.checked in
     rw (p.1, p.2) (subst (λ (ty : Expr). IsFlawOf (type_flaws ty) f) (sym (raw_record-entries None it))
     (record_flaw (listed entries) (out-RecordType RawName it).additional_attributes f flawed))
 
-pub write_fields-returns-in-CommonTypeRef-clause-fault : goal.write_fields-returns-in-CommonTypeRef-clause-fault
-write_fields-returns-in-CommonTypeRef-clause-fault t c =
-    subst (λ (ty : Expr). IfErr c.write_common.result (IsFlawOf (type_flaws ty)))
+pub write_fields-returns-in-CommonTypeRef-clause-checked : goal.write_fields-returns-in-CommonTypeRef-clause-checked
+write_fields-returns-in-CommonTypeRef-clause-checked t c =
+    subst (λ (ty : Expr). IsChecked c.write_common.result (type_flaws ty) (SoundType ty))
     (sym (ap (raw_expr None) c.in-CommonTypeRef.is ∙ type-CommonTypeRef RawName (raw_reference None) c.in-CommonTypeRef.type_name _))
-    c.write_common.ensures.fault
+    c.write_common.ensures.checked
 
-pub write_set-returns-in_err-write_type-clause-fault : goal.write_set-returns-in_err-write_type-clause-fault
-write_set-returns-in_err-write_type-clause-fault t c =
+pub write_set-returns-in_err-write_type-clause-checked : goal.write_set-returns-in_err-write_type-clause-checked
+write_set-returns-in_err-write_type-clause-checked t c =
     let p = err_from_is_err_and c.from_residual-in_err-write_type.result c.from_residual-in_err-write_type.ensures.1 in
-    rw (p.1, p.2) (set_flaw (raw_expr None c.args.element.now) _ c.in_err-write_type.ensures.fault)
+    rw (p.1, p.2) (set_flaw (raw_expr None c.args.element.now) _ c.in_err-write_type.ensures.checked)
 
-pub write_set-returns-clause-free : goal.write_set-returns-clause-free
-write_set-returns-clause-free t c = set_free (raw_expr None c.args.element.now) c.in_ok-write_type.ensures.free
+pub write_set-returns-clause-checked : goal.write_set-returns-clause-checked
+write_set-returns-clause-checked t c = set_free (raw_expr None c.args.element.now) c.in_ok-write_type.ensures.checked

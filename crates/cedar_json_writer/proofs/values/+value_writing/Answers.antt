@@ -1,4 +1,4 @@
-use Rattle.std.proofs.Common.{◌≡◌, ◌+◌, ◌++◌, ◌∷◌, [], List, ℕ, OnOk, IfErr, Some, codes, string_bytes, ap, drop, drop_of_length-le, arith, subst, sym, ◌∙◌}
+use Rattle.std.proofs.Common.{◌≡◌, ◌+◌, ◌++◌, ◌∷◌, [], List, ℕ, OnOk, Some, codes, string_bytes, ap, drop, drop_of_length-le, arith, subst, sym, ◌∙◌}
 use Rattle.std.proofs.lemmas.Result.{err_from_is_err_and}
 use Rattle.json.specs.Json.{string as text}
 use Rattle.json.specs.Token.{key, string}
@@ -12,8 +12,9 @@ use Rattle.cedar_below.specs.declared.value.RestrictedExpr.{RestrictedExpr}
 use Rattle.cedar_json_writer.proofs.WritingLemmas.{member_flaw, members_added, members_free, turn}
 use Rattle.cedar_json_writer.proofs.WrittenValues.{FreeValue, argument_flaw, arity_flaw, call_added, call_free, long_added, long_free, one_item, pairs_free, pairs_shape, record_document, record_free, record_key_flaw, record_value_flaw, text_added, text_free, tree_of-long, truth_added, truth_free, uid_free, values_added, values_flaw, values_free, values_turn}
 use Rattle.cedar_json_writer.specs.Flaws.{value_flaws}
+use Rattle.cedar_json_writer.specs.Sound.{SoundValue}
 use Rattle.cedar_json_writer.specs.ValueDocument.{value_document}
-use Rattle.cedar_json_writer.specs.Writing.{AddsField, AddsValue, IsFlawOf}
+use Rattle.cedar_json_writer.specs.Writing.{AddsField, AddsValue, IsChecked, IsFlawOf}
 use Rattle.cedar_json_writer.proofs.values.+value_writing.Goals as goal
 
 pub write_values-loop-value-preserved : goal.write_values-loop-value-preserved
@@ -23,7 +24,7 @@ write_values-loop-value-preserved t c =
     let x = c.value-item.result in
     let here : drop l.value-index xs ≡ x ∷ drop (l.value-index + 1) xs = drop-at xs l.value-index x c.loop-value-test.true c.value-item.is in
     values_turn c.token.new.self l.out c.write_value.new.out xs (drop l.value-index xs) (drop (l.value-index + 1) xs) x l.invariant here
-    c.in_ok-write_value.ensures.written c.in_ok-write_value.ensures.free
+    c.in_ok-write_value.ensures.written c.in_ok-write_value.ensures.checked
 
 pub write_values-returns-clause-written : goal.write_values-returns-clause-written
 write_values-returns-clause-written t c =
@@ -34,15 +35,15 @@ write_values-returns-clause-written t c =
     (values_added c.args.out.now c.token.new.self l.out c.token-2.new.self xs (drop l.value-index xs) l.invariant
     (drop_of_length-le xs c.loop-value-test.false) c.in_ok-token.ensures.ok c.in_ok-token-2.ensures.ok)
 
-pub write_values-returns-clause-free : goal.write_values-returns-clause-free
-write_values-returns-clause-free t c =
+pub write_values-returns-clause-checked : goal.write_values-returns-clause-checked
+write_values-returns-clause-checked t c =
     let l = c.loop-value in
     let xs = c.deref-value-items.result.now in
     subst (λ (each : List RestrictedExpr). FreeValue (set_value (trees_of each))) c.deref-value-items.ensures.value
     (values_free c.token.new.self l.out xs (drop l.value-index xs) l.invariant (drop_of_length-le xs c.loop-value-test.false))
 
-pub write_values-returns-in_err-write_value-clause-fault : goal.write_values-returns-in_err-write_value-clause-fault
-write_values-returns-in_err-write_value-clause-fault t c =
+pub write_values-returns-in_err-write_value-clause-checked : goal.write_values-returns-in_err-write_value-clause-checked
+write_values-returns-in_err-write_value-clause-checked t c =
     let l = c.loop-value in
     let xs = c.deref-value-items.result.now in
     let x = c.value-item.result in
@@ -51,7 +52,7 @@ write_values-returns-in_err-write_value-clause-fault t c =
     let p = err_from_is_err_and c.from_residual-in_err-write_value.result c.from_residual-in_err-write_value.ensures.1 in
     rw (p.1, p.2) (subst (λ (each : List RestrictedExpr). IsFlawOf (value_flaws (set_value (trees_of each))) f) c.deref-value-items.ensures.value
     (values_flaw c.token.new.self l.out xs (drop l.value-index xs) (drop (l.value-index + 1) xs) x f l.invariant here
-    c.in_err-write_value.ensures.fault))
+    c.in_err-write_value.ensures.checked))
 
 pub write_pairs-loop-name-preserved : goal.write_pairs-loop-name-preserved
 write_pairs-loop-name-preserved t c =
@@ -59,7 +60,7 @@ write_pairs-loop-name-preserved t c =
     c.args.values.now.entries c.loop-name.name-iterator c.next.new.self
     (c.in-Some.name.now, c.in-Some.value.now) c.loop-name.invariant c.in-Some.ensures.steps
     (c.in_ok-token-2.ensures.ok ∙ ap (λ (text : List ℕ). c.loop-name.out ++ key text ∷ []) c.as_str.ensures.value)
-    c.in_ok-write_value.ensures.written c.in_ok-write_value.ensures.free
+    c.in_ok-write_value.ensures.written c.in_ok-write_value.ensures.checked
 
 pub write_pairs-returns-clause-written : goal.write_pairs-returns-clause-written
 write_pairs-returns-clause-written t c =
@@ -67,44 +68,44 @@ write_pairs-returns-clause-written t c =
     c.args.values.now.entries c.loop-name.name-iterator c.loop-name.invariant
     c.in-None.ensures.steps.0 c.in_ok-token.ensures.ok c.in_ok-token-3.ensures.ok
 
-pub write_pairs-returns-clause-free : goal.write_pairs-returns-clause-free
-write_pairs-returns-clause-free t c =
+pub write_pairs-returns-clause-checked : goal.write_pairs-returns-clause-checked
+write_pairs-returns-clause-checked t c =
     pairs_free tree_of c.args.values.now.entries c.into_iter-name-iterator.ensures.into_iter_gives.5
     (members_free (pairs_shape tree_of) c.token.new.self c.loop-name.out c.args.values.now.entries c.loop-name.name-iterator c.loop-name.invariant
     c.in-None.ensures.steps.0)
 
-pub write_pairs-returns-in_err-write_value-clause-fault : goal.write_pairs-returns-in_err-write_value-clause-fault
-write_pairs-returns-in_err-write_value-clause-fault t c =
+pub write_pairs-returns-in_err-write_value-clause-checked : goal.write_pairs-returns-in_err-write_value-clause-checked
+write_pairs-returns-in_err-write_value-clause-checked t c =
     let f = c.in_err-write_value.field-0.0 in
     let p = err_from_is_err_and c.from_residual-in_err-write_value.result c.from_residual-in_err-write_value.ensures.1 in
     rw (p.1, p.2) (member_flaw (pairs_shape tree_of) c.token.new.self c.loop-name.out c.args.values.now.entries c.loop-name.name-iterator c.next.new.self
-    (c.in-Some.name.now, c.in-Some.value.now) f c.loop-name.invariant c.in-Some.ensures.steps c.in_err-write_value.ensures.fault)
+    (c.in-Some.name.now, c.in-Some.value.now) f c.loop-name.invariant c.in-Some.ensures.steps c.in_err-write_value.ensures.checked)
 
 pub write_record_value-returns-clause-written : goal.write_record_value-returns-clause-written
 write_record_value-returns-clause-written t c =
     subst (AddsValue c.args.out.now c.write_pairs.new.out) (record_document (entries_of c.args.values.now)) c.in_ok-write_pairs.ensures.written
 
-pub write_record_value-returns-clause-free : goal.write_record_value-returns-clause-free
-write_record_value-returns-clause-free t c =
-    record_free (entries_of c.args.values.now) c.in_ok-check_keys.ensures c.in_ok-write_pairs.ensures.free
+pub write_record_value-returns-clause-checked : goal.write_record_value-returns-clause-checked
+write_record_value-returns-clause-checked t c =
+    record_free (entries_of c.args.values.now) c.in_ok-check_keys.ensures c.in_ok-write_pairs.ensures.checked
 
-pub write_record_value-returns-in_err-check_keys-clause-fault : goal.write_record_value-returns-in_err-check_keys-clause-fault
-write_record_value-returns-in_err-check_keys-clause-fault t c =
+pub write_record_value-returns-in_err-check_keys-clause-checked : goal.write_record_value-returns-in_err-check_keys-clause-checked
+write_record_value-returns-in_err-check_keys-clause-checked t c =
     let p = err_from_is_err_and c.from_residual.result c.from_residual.ensures.1 in
     rw (p.1, p.2) (record_key_flaw (entries_of c.args.values.now) _ c.in_err-check_keys.ensures)
 
-pub write_record_value-returns-in_err-write_pairs-clause-fault : goal.write_record_value-returns-in_err-write_pairs-clause-fault
-write_record_value-returns-in_err-write_pairs-clause-fault t c =
+pub write_record_value-returns-in_err-write_pairs-clause-checked : goal.write_record_value-returns-in_err-write_pairs-clause-checked
+write_record_value-returns-in_err-write_pairs-clause-checked t c =
     let p = err_from_is_err_and c.from_residual-in_err-write_pairs.result c.from_residual-in_err-write_pairs.ensures.1 in
-    rw (p.1, p.2) (record_value_flaw (entries_of c.args.values.now) _ c.in_err-write_pairs.ensures.fault)
+    rw (p.1, p.2) (record_value_flaw (entries_of c.args.values.now) _ c.in_err-write_pairs.ensures.checked)
 
 pub write_value-returns-in_ok-token-in-Bool-clause-written : goal.write_value-returns-in_ok-token-in-Bool-clause-written
 write_value-returns-in_ok-token-in-Bool-clause-written t c =
     subst (λ (value : Tree). AddsValue c.args.out.now c.token.new.self (value_document value)) (sym (ap tree_of c.in-Bool.is ∙ tree_of-truth c.in-Bool.flag))
     (truth_added c.args.out.now c.token.new.self c.in-Bool.flag c.in_ok-token-in-Bool.ensures.ok)
 
-pub write_value-returns-in_ok-token-in-Bool-clause-free : goal.write_value-returns-in_ok-token-in-Bool-clause-free
-write_value-returns-in_ok-token-in-Bool-clause-free t c =
+pub write_value-returns-in_ok-token-in-Bool-clause-checked : goal.write_value-returns-in_ok-token-in-Bool-clause-checked
+write_value-returns-in_ok-token-in-Bool-clause-checked t c =
     subst FreeValue (sym (ap tree_of c.in-Bool.is ∙ tree_of-truth c.in-Bool.flag)) (truth_free c.in-Bool.flag)
 
 pub write_value-returns-in_ok-write_number-in-Long-clause-written : goal.write_value-returns-in_ok-write_number-in-Long-clause-written
@@ -112,8 +113,8 @@ write_value-returns-in_ok-write_number-in-Long-clause-written t c =
     subst (λ (value : Tree). AddsValue c.args.out.now c.write_number.new.out (value_document value)) (sym (ap tree_of c.in-Long.is ∙ tree_of-long c.in-Long.number))
     (long_added c.args.out.now c.write_number.new.out c.in-Long.number c.in_ok-write_number-in-Long.ensures.written)
 
-pub write_value-returns-in_ok-write_number-in-Long-clause-free : goal.write_value-returns-in_ok-write_number-in-Long-clause-free
-write_value-returns-in_ok-write_number-in-Long-clause-free t c =
+pub write_value-returns-in_ok-write_number-in-Long-clause-checked : goal.write_value-returns-in_ok-write_number-in-Long-clause-checked
+write_value-returns-in_ok-write_number-in-Long-clause-checked t c =
     subst FreeValue (sym (ap tree_of c.in-Long.is ∙ tree_of-long c.in-Long.number)) (long_free c.in-Long.number c.in_ok-write_number-in-Long.ensures.fits)
 
 pub write_value-returns-in_ok-token-in-String-clause-written : goal.write_value-returns-in_ok-token-in-String-clause-written
@@ -123,12 +124,12 @@ write_value-returns-in_ok-token-in-String-clause-written t c =
     (text_added c.args.out.now c.token-in-String.new.self (string_bytes c.in-String.text)
     (c.in_ok-token-in-String.ensures.ok ∙ ap (λ (text : List ℕ). c.args.out.now ++ string text ∷ []) c.as_str.ensures.value))
 
-pub write_value-returns-in_ok-token-in-String-clause-free : goal.write_value-returns-in_ok-token-in-String-clause-free
-write_value-returns-in_ok-token-in-String-clause-free t c =
+pub write_value-returns-in_ok-token-in-String-clause-checked : goal.write_value-returns-in_ok-token-in-String-clause-checked
+write_value-returns-in_ok-token-in-String-clause-checked t c =
     subst FreeValue (sym (ap tree_of c.in-String.is ∙ tree_of-text c.in-String.text)) (text_free (string_bytes c.in-String.text))
 
-pub write_value-returns-in_ok-write_entity-in-EntityUid-clause-free : goal.write_value-returns-in_ok-write_entity-in-EntityUid-clause-free
-write_value-returns-in_ok-write_entity-in-EntityUid-clause-free t c =
+pub write_value-returns-in_ok-write_entity-in-EntityUid-clause-checked : goal.write_value-returns-in_ok-write_entity-in-EntityUid-clause-checked
+write_value-returns-in_ok-write_entity-in-EntityUid-clause-checked t c =
     subst FreeValue (sym (ap tree_of c.in-EntityUid.is ∙ tree_of-uid c.in-EntityUid.uid)) (uid_free c.in-EntityUid.uid)
 
 pub write_value-returns-in-Record-clause-written : goal.write_value-returns-in-Record-clause-written
@@ -136,23 +137,18 @@ write_value-returns-in-Record-clause-written t c =
     subst (λ (value : Tree). OnOk c.write_record_value.result (AddsValue c.args.out.now c.write_record_value.new.out (value_document value)))
     (sym (ap tree_of c.in-Record.is ∙ tree_of-record c.in-Record.values)) c.write_record_value.ensures.written
 
-pub write_value-returns-in-Record-clause-free : goal.write_value-returns-in-Record-clause-free
-write_value-returns-in-Record-clause-free t c =
-    subst (λ (value : Tree). OnOk c.write_record_value.result (FreeValue value))
-    (sym (ap tree_of c.in-Record.is ∙ tree_of-record c.in-Record.values)) c.write_record_value.ensures.free
+pub write_value-returns-in-Record-clause-checked : goal.write_value-returns-in-Record-clause-checked
+write_value-returns-in-Record-clause-checked t c =
+    subst (λ (value : Tree). IsChecked c.write_record_value.result (value_flaws value) (SoundValue value))
+    (sym (ap tree_of c.in-Record.is ∙ tree_of-record c.in-Record.values)) c.write_record_value.ensures.checked
 
-pub write_value-returns-in-Record-clause-fault : goal.write_value-returns-in-Record-clause-fault
-write_value-returns-in-Record-clause-fault t c =
-    subst (λ (value : Tree). IfErr c.write_record_value.result (IsFlawOf (value_flaws value)))
-    (sym (ap tree_of c.in-Record.is ∙ tree_of-record c.in-Record.values)) c.write_record_value.ensures.fault
+pub write_value-returns-in-ExtensionCall-clause-checked : goal.write_value-returns-in-ExtensionCall-clause-checked
+write_value-returns-in-ExtensionCall-clause-checked t c =
+    subst (λ (value : Tree). IsChecked c.write_call.result (value_flaws value) (SoundValue value))
+    (sym (ap tree_of c.in-ExtensionCall.is ∙ tree_of-call c.in-ExtensionCall.function c.in-ExtensionCall.args)) c.write_call.ensures.checked
 
-pub write_value-returns-in-ExtensionCall-clause-fault : goal.write_value-returns-in-ExtensionCall-clause-fault
-write_value-returns-in-ExtensionCall-clause-fault t c =
-    subst (λ (value : Tree). IfErr c.write_call.result (IsFlawOf (value_flaws value)))
-    (sym (ap tree_of c.in-ExtensionCall.is ∙ tree_of-call c.in-ExtensionCall.function c.in-ExtensionCall.args)) c.write_call.ensures.fault
-
-pub write_call-returns-then-len-ne1-clause-fault : goal.write_call-returns-then-len-ne1-clause-fault
-write_call-returns-then-len-ne1-clause-fault t c =
+pub write_call-returns-then-len-ne1-clause-checked : goal.write_call-returns-then-len-ne1-clause-checked
+write_call-returns-then-len-ne1-clause-checked t c =
     arity_flaw c.args.function.now c.args.args.now.items c.len-then-len-ne1.result
     (λ one. c.if-len-ne1.true (omega (arith, one, c.args.args.now.ok.0))) (omega (arith, c.args.args.now.ok.0))
 
@@ -170,16 +166,16 @@ write_call-returns-clause-written t c =
     c.in_ok-token-3.ensures.ok named c.in_ok-token-4.ensures.ok c.in_ok-write_value.ensures.written c.in_ok-token-5.ensures.ok
     c.in_ok-token-6.ensures.ok)
 
-pub write_call-returns-clause-free : goal.write_call-returns-clause-free
-write_call-returns-clause-free t c =
+pub write_call-returns-clause-checked : goal.write_call-returns-clause-checked
+write_call-returns-clause-checked t c =
     let argument = c.index.result.now in
     let items = c.args.args.now.items in
     let only : items ≡ argument ∷ [] = one_item items argument (omega (arith, c.args.args.now.ok.0)) c.index.ensures in
     subst (λ (each : List RestrictedExpr). FreeValue (call_value (plain_name c.args.function.now) (trees_of each))) (sym only)
-    (call_free c.args.function.now argument c.in_ok-write_value.ensures.free)
+    (call_free c.args.function.now argument c.in_ok-write_value.ensures.checked)
 
-pub write_call-returns-in_err-write_value-clause-fault : goal.write_call-returns-in_err-write_value-clause-fault
-write_call-returns-in_err-write_value-clause-fault t c =
+pub write_call-returns-in_err-write_value-clause-checked : goal.write_call-returns-in_err-write_value-clause-checked
+write_call-returns-in_err-write_value-clause-checked t c =
     let argument = c.index.result.now in
     let items = c.args.args.now.items in
     let f = c.in_err-write_value.field-0.0 in
@@ -187,4 +183,4 @@ write_call-returns-in_err-write_value-clause-fault t c =
     let p = err_from_is_err_and c.from_residual-in_err-write_value.result c.from_residual-in_err-write_value.ensures.1 in
     rw (p.1, p.2)
     (subst (λ (each : List RestrictedExpr). IsFlawOf (value_flaws (call_value (plain_name c.args.function.now) (trees_of each))) f) (sym only)
-    (argument_flaw c.args.function.now argument f c.in_err-write_value.ensures.fault))
+    (argument_flaw c.args.function.now argument f c.in_err-write_value.ensures.checked))

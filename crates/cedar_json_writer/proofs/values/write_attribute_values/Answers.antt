@@ -21,7 +21,7 @@ pub loop-name-preserved : goal.loop-name-preserved
 loop-name-preserved c =
     let added = subst (λ (e : RestrictedExpr). AddsValue c.token-in-loop-name.new.self c.write_value.new.out (value_document (tree_of e))) c.expr.ensures
     c.in_ok-write_value.ensures.written in
-    let free = subst (λ (e : RestrictedExpr). FreeValue (tree_of e)) c.expr.ensures c.in_ok-write_value.ensures.free in
+    let free = subst (λ (e : RestrictedExpr). FreeValue (tree_of e)) c.expr.ensures c.in_ok-write_value.ensures.checked in
     turn (pairs_shape view) c.token.new.self c.loop-name.out c.token-in-loop-name.new.self c.write_value.new.out
     c.args.values.now.entries c.loop-name.name-iterator c.next.new.self
     (c.in-Some.name.now, c.in-Some.value.now) c.loop-name.invariant c.in-Some.ensures.steps
@@ -34,16 +34,16 @@ returns-clause-written c =
     c.args.values.now.entries c.loop-name.name-iterator c.loop-name.invariant
     c.in-None.ensures.steps.0 c.in_ok-token.ensures.ok c.in_ok-token-3.ensures.ok
 
-pub returns-clause-free : goal.returns-clause-free
-returns-clause-free c =
+pub returns-clause-checked : goal.returns-clause-checked
+returns-clause-checked c =
     pairs_free view c.args.values.now.entries c.into_iter-name-iterator.ensures.into_iter_gives.5
     (members_free (pairs_shape view) c.token.new.self c.loop-name.out c.args.values.now.entries c.loop-name.name-iterator c.loop-name.invariant
     c.in-None.ensures.steps.0)
 
-pub returns-in_err-write_value-clause-fault : goal.returns-in_err-write_value-clause-fault
-returns-in_err-write_value-clause-fault c =
+pub returns-in_err-write_value-clause-checked : goal.returns-in_err-write_value-clause-checked
+returns-in_err-write_value-clause-checked c =
     let f = c.in_err-write_value.field-0.0 in
     let p = err_from_is_err_and c.from_residual-in_err-write_value.result c.from_residual-in_err-write_value.ensures.1 in
-    let flawed = subst (λ (e : RestrictedExpr). IsFlawOf (value_flaws (tree_of e)) f) c.expr.ensures c.in_err-write_value.ensures.fault in
+    let flawed = subst (λ (e : RestrictedExpr). IsFlawOf (value_flaws (tree_of e)) f) c.expr.ensures c.in_err-write_value.ensures.checked in
     rw (p.1, p.2) (member_flaw (pairs_shape view) c.token.new.self c.loop-name.out c.args.values.now.entries c.loop-name.name-iterator c.next.new.self
     (c.in-Some.name.now, c.in-Some.value.now) f c.loop-name.invariant c.in-Some.ensures.steps flawed)
