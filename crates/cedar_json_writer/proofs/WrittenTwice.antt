@@ -9,7 +9,7 @@ use Rattle.cedar_json.specs.declared.text_reading.JsonSchemaFault.{JsonSchemaFau
 use Rattle.cedar_json.specs.declared.text_reading.JsonSchemaFault.TheVariants.{TooLong, NotUtf8, NotJson, TwiceInObject, OutOfShape, Memory}
 
 -- two fragments that a text describes are the same
-described_once : (text : Text) (a b : WrittenFragment) → Describes text a → Describes text b → a ≡ b
+pub described_once : (text : Text) (a b : WrittenFragment) → Describes text a → Describes text b → a ≡ b
 described_once text a b one two =
     let values : Some one.value ≡ Some two.value = sym one.is_document ∙ two.is_document in
     let value : one.value ≡ two.value = cc in
