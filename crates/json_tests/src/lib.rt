@@ -2,6 +2,10 @@
 #![tactic(auto)]
 
 #[cfg(test)]
+mod drawn;
+#[cfg(test)]
+mod drawn_tests;
+#[cfg(test)]
 mod locations;
 #[cfg(test)]
 mod no_json;

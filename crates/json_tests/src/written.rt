@@ -26,7 +26,7 @@ fn on_one_line(alloc: Global, text: &str) -> Result<String, Fail> {
 }
 
 /// What is written of the fragment that a text describes, on one line; "refused" where it isn't.
-fn rewritten(alloc: Global, text: &str) -> Result<String, Fail> {
+pub(crate) fn rewritten(alloc: Global, text: &str) -> Result<String, Fail> {
     let Ok(fragment) = fragment_from_json(alloc, text, 0) else {
         return Ok(String::from_str(alloc, "not read")?);
     };
