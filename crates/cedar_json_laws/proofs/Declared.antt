@@ -8,11 +8,11 @@ use Rattle.cedar_below.specs.Text.{Text}
 use Rattle.cedar_below.specs.UnreservedId.{unreserved_id_text}
 use Rattle.cedar_below.specs.declared.name.Name.{Name}
 use Rattle.cedar_below.specs.declared.unreserved_id.UnreservedId.{UnreservedId}
-use Rattle.cedar_names.specs.ActionBody.{ActionBody, Requests, requests, elsewhere, action_body, applies_to, parent_action, parent_actions, parent_type, plain_action_type, requests_by}
+use Rattle.cedar_names.specs.ActionBody.{ActionBody, Requests, requests, elsewhere, action_body, parent_action, parent_actions, parent_type, plain_action_type, requests_by}
 use Rattle.cedar_names.specs.CommonTypeId.{common_type_text}
 use Rattle.cedar_names.specs.Declaration.{Body, Declaration, common_type, entity_type, action, action_declarations, common_declarations, entity_declarations, raw_declarations, raw_fragment}
-use Rattle.cedar_names.specs.EntityBody.{EntityBody, standard, enumerated, external, kind_body, raw_entity_body}
-use Rattle.cedar_names.specs.Expr.{Expr, no_member, record_expr}
+use Rattle.cedar_names.specs.EntityBody.{EntityBody, standard, enumerated, external, kind_body}
+use Rattle.cedar_names.specs.Expr.{no_member, record_expr}
 use Rattle.cedar_names.specs.RawExpr.{raw_expr, raw_reference}
 use Rattle.cedar_names.specs.Reference.{ActionReference, Reference, reference_to}
 use Rattle.cedar_names.specs.declared.json_schema.action_type.ActionEntityUID.{ActionEntityUID}

@@ -1,6 +1,6 @@
 //! Laws of schemas that are written as JSON and built again of what is read.
 
-ghost use Rattle.std.specs.Prelude.{◌≡◌, ◌<◌, ℕ, List, IsTrue, Ok, Err, length};
+ghost use Rattle.std.specs.Prelude.{◌≡◌, ℕ, List, IsTrue, Ok, Err};
 ghost use Rattle.cedar_below.specs.Extensions.{extension_types};
 ghost use Rattle.cedar_below.specs.TypeNames.{TypeNamesFit};
 ghost use Rattle.cedar_below.specs.declared.extension.Extensions.{Extensions};
@@ -10,7 +10,7 @@ ghost use Rattle.cedar_declarations.specs.ConvertedBack.{IsConvertedBack, IsWrit
 ghost use Rattle.cedar_declarations.specs.Counted.{PositionsFit};
 ghost use Rattle.cedar_declarations.specs.Fault.{Fault, out_of_memory};
 ghost use Rattle.cedar_json.specs.DefinitionFormat.{written_fragment};
-ghost use Rattle.cedar_json.specs.TextFormat.{Describes, too_long};
+ghost use Rattle.cedar_json.specs.TextFormat.{Describes};
 ghost use Rattle.cedar_json_laws.specs.Rewritten.{IsRewritten};
 ghost use Rattle.cedar_names.specs.Declaration.{raw_fragment};
 ghost use Rattle.cedar_names.specs.declared.json_schema.fragment.Fragment.{Fragment};

@@ -6,6 +6,7 @@ pub mod WritingLemmas
 pub mod WrittenActions
 pub mod WrittenDefinitions
 pub mod WrittenEntities
+pub mod WrittenEntityData
 pub mod WrittenKeys
 pub mod WrittenNames
 pub mod WrittenOrder

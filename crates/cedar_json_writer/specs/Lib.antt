@@ -1,3 +1,4 @@
+pub mod EntityDocument
 pub mod Flaws
 pub mod FragmentDocument
 pub mod Sound

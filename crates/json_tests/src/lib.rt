@@ -6,6 +6,8 @@ mod drawn;
 #[cfg(test)]
 mod drawn_tests;
 #[cfg(test)]
+mod entity_rows;
+#[cfg(test)]
 mod locations;
 #[cfg(test)]
 mod no_json;

@@ -11,7 +11,7 @@ use std::collections::BTreeMap;
 use std::test::Fail;
 
 /// A text without its line ends and the blanks behind them.
-fn on_one_line(alloc: Global, text: &str) -> Result<String, Fail> {
+pub(crate) fn on_one_line(alloc: Global, text: &str) -> Result<String, Fail> {
     let mut line = String::new(alloc);
     let mut begins = false;
     for c in text.chars() {

@@ -1,6 +1,5 @@
-use Rattle.std.proofs.Common.{◌≡◌, sym, subst, ⊎_elim}
+use Rattle.std.proofs.Common.{◌≡◌, subst, ⊎_elim}
 use Rattle.cedar_declaration_laws.proofs.ComeBack.{declared_schemas_come_back}
-use Rattle.cedar_declaration_laws.specs.EndToEnd.{IsBuiltFrom}
 use Rattle.cedar_declarations.specs.Bag.{Bag}
 use Rattle.cedar_json.specs.DefinitionFormat.{written_fragment}
 use Rattle.cedar_json_laws.proofs.Declared.{declares_alike}

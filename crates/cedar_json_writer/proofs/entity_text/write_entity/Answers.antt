@@ -1,0 +1,58 @@
+use Rattle.std.proofs.Common.{◌≡◌, [], Global, String, codes, subst}
+use Rattle.std.proofs.lemmas.Result.{err_from_is_err_and}
+use Rattle.std.specs.BTreeMap.{BTreeMap}
+use Rattle.cedar_below.specs.Entity.{entity_ancestors, entity_attrs, entity_tags, entity_uid}
+use Rattle.cedar_below.specs.PlainUid.{PlainUid}
+use Rattle.cedar_below.specs.declared.value.Value.{Value}
+use Rattle.cedar_json.specs.ActionFormat.{written_pairs}
+use Rattle.cedar_json_writer.proofs.WritingLemmas.{flaw_left, flaw_right, none_both}
+use Rattle.cedar_json_writer.proofs.WrittenEntityData.{entity_added}
+use Rattle.cedar_json_writer.specs.EntityDocument.{tags_held, uid_array}
+use Rattle.cedar_json_writer.specs.Flaws.{pairs_flaws}
+use Rattle.cedar_json_writer.specs.FragmentDocument.{pairs_document}
+use Rattle.cedar_json_writer.specs.ValueDocument.{uid_document}
+use Rattle.cedar_json_writer.specs.Writing.{AddsField, AddsValue, IsFlawOf}
+use Rattle.cedar_json_writer.proofs.entity_text.write_entity.Goals as goal
+
+-- values by text, as an entity holds them
+abbrev Held : Type 0
+Held = BTreeMap (String Global) Value
+
+pub returns-clause-written : goal.returns-clause-written
+returns-clause-written c =
+    let it = c.args.entity.now in
+    entity_added c.args.out.now c.token.new.self c.token-2.new.self c.write_uid.new.out c.token-3.new.self c.write_attribute_values.new.out
+    c.token-4.new.self c.write_ancestors.new.out c.write_tags.new.out c.token-5.new.self (uid_document (entity_uid it))
+    (pairs_document (written_pairs (entity_attrs it))) (uid_array (entity_ancestors it)) (tags_held (written_pairs (entity_tags it)))
+    c.in_ok-token.ensures.ok c.in_ok-token-2.ensures.ok
+    (subst (λ (uid : PlainUid). AddsValue c.token-2.new.self c.write_uid.new.out (uid_document uid)) c.uid.ensures.uid c.in_ok-write_uid.ensures)
+    c.in_ok-token-3.ensures.ok
+    (subst (λ (pairs : Held). AddsValue c.token-3.new.self c.write_attribute_values.new.out (pairs_document (written_pairs pairs)))
+    c.attrs.ensures c.in_ok-write_attribute_values.ensures.written)
+    c.in_ok-token-4.ensures.ok c.in_ok-write_ancestors.ensures
+    (subst (λ (tags : Held). AddsField c.write_ancestors.new.out c.write_tags.new.out (codes "tags") (tags_held (written_pairs tags)))
+    c.tags.ensures c.in_ok-write_tags.ensures.written)
+    c.in_ok-token-5.ensures.ok
+
+pub returns-clause-writable : goal.returns-clause-writable
+returns-clause-writable c =
+    let it = c.args.entity.now in
+    let none = λ (pairs : Held). pairs_flaws (written_pairs pairs) ≡ [] in
+    none_both (pairs_flaws (written_pairs (entity_attrs it))) (pairs_flaws (written_pairs (entity_tags it)))
+    (subst none c.attrs.ensures c.in_ok-write_attribute_values.ensures.checked.flawless) (subst none c.tags.ensures c.in_ok-write_tags.ensures.writable)
+
+pub returns-in_err-write_attribute_values-clause-fault : goal.returns-in_err-write_attribute_values-clause-fault
+returns-in_err-write_attribute_values-clause-fault c =
+    let it = c.args.entity.now in
+    let f = c.in_err-write_attribute_values.field-0.0 in
+    let p = err_from_is_err_and c.from_residual-in_err-write_attribute_values.result c.from_residual-in_err-write_attribute_values.ensures.1 in
+    rw (p.1, p.2) (flaw_left (pairs_flaws (written_pairs (entity_attrs it))) (pairs_flaws (written_pairs (entity_tags it))) f
+    (subst (λ (pairs : Held). IsFlawOf (pairs_flaws (written_pairs pairs)) f) c.attrs.ensures c.in_err-write_attribute_values.ensures.checked))
+
+pub returns-in_err-write_tags-clause-fault : goal.returns-in_err-write_tags-clause-fault
+returns-in_err-write_tags-clause-fault c =
+    let it = c.args.entity.now in
+    let f = c.in_err-write_tags.field-0.0 in
+    let p = err_from_is_err_and c.from_residual-in_err-write_tags.result c.from_residual-in_err-write_tags.ensures.1 in
+    rw (p.1, p.2) (flaw_right (pairs_flaws (written_pairs (entity_attrs it))) (pairs_flaws (written_pairs (entity_tags it))) f
+    (subst (λ (pairs : Held). IsFlawOf (pairs_flaws (written_pairs pairs)) f) c.tags.ensures c.in_err-write_tags.ensures.fault))

@@ -1,0 +1,21 @@
+use Rattle.std.proofs.Common.{codes, refl, sym, ◌∙◌}
+use Rattle.std.proofs.lemmas.Bool.{false≢true}
+use Rattle.cedar_json.specs.ActionFormat.{written_pairs}
+use Rattle.cedar_json_writer.proofs.WritingLemmas.{field_added}
+use Rattle.cedar_json_writer.proofs.WrittenEntityData.{some_tags, tags_absent, tags_free}
+use Rattle.cedar_json_writer.specs.FragmentDocument.{pairs_document}
+use Rattle.cedar_json_writer.proofs.entity_text.write_tags.Goals as goal
+
+pub returns-then-is_empty-clause-written : goal.returns-then-is_empty-clause-written
+returns-then-is_empty-clause-written c =
+    tags_absent c.args.out.now c.args.out.now c.args.tags.now (c.is_empty.ensures.0 c.if-is_empty.true) refl
+
+pub returns-then-is_empty-clause-writable : goal.returns-then-is_empty-clause-writable
+returns-then-is_empty-clause-writable c = tags_free c.args.tags.now (c.is_empty.ensures.0 c.if-is_empty.true)
+
+pub returns-clause-written : goal.returns-clause-written
+returns-clause-written c =
+    some_tags c.args.out.now c.write_attribute_values.new.out c.args.tags.now
+    (λ none. false≢true (sym c.if-is_empty.false ∙ c.is_empty.ensures.1 none))
+    (field_added c.args.out.now c.token.new.self c.write_attribute_values.new.out (codes "tags")
+    (pairs_document (written_pairs c.args.tags.now)) c.in_ok-token.ensures.ok c.in_ok-write_attribute_values.ensures.written)

@@ -1,0 +1,91 @@
+//! Entities, written as texts.
+
+ghost use Rattle.std.specs.Prelude.{◌≡◌, [], OnOk, IfOk, IfErr, codes, string_bytes};
+ghost use Rattle.json.specs.Layout.{pretty};
+ghost use Rattle.json.specs.Tree.{json_tokens};
+ghost use Rattle.cedar_below.specs.Entity.{entity_ancestors, entity_attrs, entity_tags, entity_uid};
+ghost use Rattle.cedar_json.specs.ActionFormat.{written_pairs};
+ghost use Rattle.cedar_json_writer.specs.EntityDocument.{entity_document, entity_flaws, tags_held, uid_array};
+ghost use Rattle.cedar_json_writer.specs.Flaws.{pairs_flaws};
+ghost use Rattle.cedar_json_writer.specs.Writing.{AddsField, AddsValue, IsFlawOf};
+
+use crate::fault::WriteFault;
+use crate::values::{write_attribute_values, write_uid};
+use cedar_below::{Entity, M, Value};
+use json::{Pretty, Token};
+use std::alloc::Global;
+use std::collections::BTreeMap;
+
+/// Writes the array of the ancestors of an entity.
+fn write_ancestors(alloc: Global, out: &mut Pretty, entity: &Entity) -> M<()>
+    ensures { OnOk result (AddsValue out.old out.new (uid_array (entity_ancestors entity.now))) }
+{
+    out.token(Token::BeginArray)?;
+    for uid in entity.ancestors() {
+        write_uid(alloc, out, uid)?;
+    }
+    out.token(Token::EndArray)?;
+    Ok(())
+}
+
+/// Writes the field for tags, where there are some.
+fn write_tags(
+    alloc: Global,
+    out: &mut Pretty,
+    tags: &BTreeMap<String, Value>,
+) -> Result<(), WriteFault>
+    ensures written { OnOk result (AddsField out.old out.new (codes "tags")
+        (tags_held (written_pairs tags.now))) }
+    ensures writable { OnOk result (pairs_flaws (written_pairs tags.now) ≡ []) }
+    ensures fault { IfErr result (IsFlawOf (pairs_flaws (written_pairs tags.now))) }
+{
+    if tags.is_empty() {
+        return Ok(());
+    }
+    out.token(Token::Key("tags"))?;
+    write_attribute_values(alloc, out, tags)?;
+    Ok(())
+}
+
+/// Writes the object of an entity.
+fn write_entity(alloc: Global, out: &mut Pretty, entity: &Entity) -> Result<(), WriteFault>
+    ensures written { OnOk result (AddsValue out.old out.new (entity_document
+        (entity_uid entity.now) (written_pairs (entity_attrs entity.now))
+        (entity_ancestors entity.now) (written_pairs (entity_tags entity.now)))) }
+    ensures writable { OnOk result (entity_flaws (written_pairs (entity_attrs entity.now))
+        (written_pairs (entity_tags entity.now)) ≡ []) }
+    ensures fault { IfErr result (IsFlawOf (entity_flaws (written_pairs (entity_attrs entity.now))
+        (written_pairs (entity_tags entity.now)))) }
+{
+    out.token(Token::BeginObject)?;
+    out.token(Token::Key("uid"))?;
+    write_uid(alloc, out, entity.uid())?;
+    out.token(Token::Key("attrs"))?;
+    write_attribute_values(alloc, out, entity.attrs())?;
+    out.token(Token::Key("parents"))?;
+    write_ancestors(alloc, out, entity)?;
+    write_tags(alloc, out, entity.tags())?;
+    out.token(Token::EndObject)?;
+    Ok(())
+}
+
+/// The text of an entity as JSON (Cedar reference, entities in JSON): an object of `uid`, `attrs`,
+/// `parents`, which are all ancestors in the order of their uids, and `tags` where there are some.
+/// It is laid out as the text of a fragment is.
+///
+/// It is refused as `Unwritable` exactly where a value of an attribute or a tag is, as in
+/// `value_to_json`. Memory may run out.
+pub fn entity_to_json(alloc: Global, entity: &Entity) -> Result<String, WriteFault>
+    ensures text { IfOk result (λ text. string_bytes text
+        ≡ pretty (json_tokens (entity_document (entity_uid entity.now)
+        (written_pairs (entity_attrs entity.now)) (entity_ancestors entity.now)
+        (written_pairs (entity_tags entity.now))))) }
+    ensures writable { IfOk result (λ _. entity_flaws (written_pairs (entity_attrs entity.now))
+        (written_pairs (entity_tags entity.now)) ≡ []) }
+    ensures fault { IfErr result (IsFlawOf (entity_flaws (written_pairs (entity_attrs entity.now))
+        (written_pairs (entity_tags entity.now)))) }
+{
+    let mut out = Pretty::new(alloc);
+    write_entity(alloc, &mut out, entity)?;
+    Ok(String::from_utf8(out.into_inner()).unwrap())
+}
