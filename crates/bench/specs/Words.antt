@@ -18,9 +18,15 @@ schema_piece_names =
     ∷ codes "build-environments" ∷ codes "build-flood" ∷ codes "build-apart" ∷ codes "copy-schema"
     ∷ codes "scale" ∷ []
 
+-- the names of the pieces of work on JSON
+abbrev pub json_piece_names : List Text
+json_piece_names = codes "parse-json" ∷ codes "read-json" ∷ codes "write-json" ∷ []
+
 -- the text is the name of a piece of work
 abbrev pub IsPieceName : Text → Type 0
-IsPieceName text = Contains type_piece_names text ⊎ Contains schema_piece_names text
+IsPieceName text =
+    Contains type_piece_names text
+    ⊎ (Contains schema_piece_names text ⊎ Contains json_piece_names text)
 
 -- the words ask for a piece of work to be timed
 pub record IsTimeOfPiece (words : List Text) : Type 0 where

@@ -1,7 +1,7 @@
 //! What the words of the program ask for.
 
-ghost use Rattle.std.specs.Prelude.{◌≡◌, ◌↔◌, codes, Contains, IsSome, map, string_bytes};
-ghost use Rattle.bench.specs.Words.{IsCommand, IsPieceName, schema_piece_names, type_piece_names};
+ghost use Rattle.std.specs.Prelude.{◌≡◌, ◌↔◌, ◌⊎◌, codes, Contains, IsSome, map, string_bytes};
+ghost use Rattle.bench.specs.Words.{IsCommand, IsPieceName, json_piece_names, schema_piece_names, type_piece_names};
 
 use crate::piece::Piece;
 
@@ -57,13 +57,37 @@ fn schema_piece_named(name: &str) -> Option<Piece>
     }
 }
 
+/// The piece of work on JSON of a name, if it is one of them.
+#[tactic(auto, using(crate::proofs::PieceNames::json_piece_from_names))]
+fn json_piece_named(name: &str) -> Option<Piece>
+    ensures { IsSome result ↔ Contains json_piece_names name.now }
+{
+    match name {
+        "parse-json" => Some(Piece::ParseJson),
+        "read-json" => Some(Piece::ReadJson),
+        "write-json" => Some(Piece::WriteJson),
+        _ => None,
+    }
+}
+
+/// The piece of work on schemas or on JSON of a name, if it is one of them.
+fn further_piece_named(name: &str) -> Option<Piece>
+    ensures { IsSome result ↔ (Contains schema_piece_names name.now
+        ⊎ Contains json_piece_names name.now) }
+{
+    match schema_piece_named(name) {
+        Some(piece) => Some(piece),
+        None => json_piece_named(name),
+    }
+}
+
 /// The piece of work of a name, if it is one of them.
 fn piece_named(name: &str) -> Option<Piece>
     ensures { IsSome result ↔ IsPieceName name.now }
 {
     match type_piece_named(name) {
         Some(piece) => Some(piece),
-        None => schema_piece_named(name),
+        None => further_piece_named(name),
     }
 }
 

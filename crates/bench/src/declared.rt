@@ -169,6 +169,11 @@ fn alone(
     Ok(fragments)
 }
 
+/// As many entity types and actions, as a fragment.
+pub(crate) fn whole_fragment(alloc: Global, count: usize) -> Result<Fragment<RawName>, Stop> {
+    fragment(alloc, definition(alloc, 0..count)?)
+}
+
 /// As many entity types and actions, in one fragment.
 pub(crate) fn whole(alloc: Global, count: usize) -> Result<Vec<Fragment<RawName>>, Stop> {
     alone(alloc, definition(alloc, 0..count)?)

@@ -68,10 +68,16 @@ pub(crate) enum Piece {
     /// As many entity types and actions, built from one fragment: more than a schema is thought to
     /// have.
     Scale,
+    /// A fragment of as many entity types and actions as JSON, parsed by the kit.
+    ParseJson,
+    /// The same, read as a fragment.
+    ReadJson,
+    /// The same, written from the fragment.
+    WriteJson,
 }
 
 /// All pieces, in the order in which they are measured.
-pub(crate) const PIECES: [Piece; 32] = [
+pub(crate) const PIECES: [Piece; 35] = [
     Piece::SubtypeClosedStrict,
     Piece::SubtypeClosedPermissive,
     Piece::SubtypeOpenStrict,
@@ -104,6 +110,9 @@ pub(crate) const PIECES: [Piece; 32] = [
     Piece::BuildApart,
     Piece::CopySchema,
     Piece::Scale,
+    Piece::ParseJson,
+    Piece::ReadJson,
+    Piece::WriteJson,
 ];
 
 /// How large a piece of work is, and how often a run does it.
@@ -151,6 +160,9 @@ impl Piece {
             Piece::BuildApart => "build-apart",
             Piece::CopySchema => "copy-schema",
             Piece::Scale => "scale",
+            Piece::ParseJson => "parse-json",
+            Piece::ReadJson => "read-json",
+            Piece::WriteJson => "write-json",
         }
     }
 
@@ -187,6 +199,9 @@ impl Piece {
             Piece::BuildFlood | Piece::BuildApart => &[(1000, 1), (20_000, 1)],
             Piece::CopySchema => &[(1000, 10), (10_000, 1)],
             Piece::Scale => &[(10_000, 1), (30_000, 1), (100_000, 1), (200_000, 1)],
+            Piece::ParseJson | Piece::ReadJson | Piece::WriteJson => {
+                &[(20, 100), (200, 10), (2000, 3), (20_000, 1)]
+            }
         }
     }
 }

@@ -4,7 +4,9 @@ ghost use Rattle.cedar_below.specs.Extensions.{extension_types};
 ghost use Rattle.cedar_below.specs.TypeNames.{TypeNamesFit};
 
 use crate::by_hand::{actions, growing_types, standard_types, uid};
-use crate::declared::{applying_to_all, chain, crossing, eight_digits, split, whole};
+use crate::declared::{
+    applying_to_all, chain, crossing, eight_digits, split, whole, whole_fragment,
+};
 use crate::graphs::{Graph, Shape, graph};
 use crate::names::{ALIKE, APART, entity_type, numbered};
 use crate::piece::Piece;
@@ -12,6 +14,7 @@ use crate::stop::Stop;
 use crate::types::{
     attributes, closed_record, entities, record, record_value, record_with_text, union,
 };
+use cedar_json_writer::fragment_to_json;
 use cedar_schema::below::{EntityType, EntityUID, Extensions, ValidationMode, Value};
 use cedar_schema::json_schema::{Fragment, RawName};
 use cedar_schema::{
@@ -55,6 +58,15 @@ pub(crate) enum OfSchema {
     Copy,
 }
 
+/// What is asked of a text that is JSON.
+#[derive(Clone, Copy)]
+pub(crate) enum OfText {
+    /// Its value.
+    Parse,
+    /// The fragment that it describes.
+    Read,
+}
+
 /// What is borrowed by the work, which may be done on it again.
 #[derive(Drop)]
 pub(crate) enum Borrowed {
@@ -74,6 +86,10 @@ pub(crate) enum Borrowed {
     Declared(ValidatorSchema, EntityType, EntityUID),
     /// A schema, and a type of which it may know attributes.
     KnownAttributes(ValidatorSchema, Type),
+    /// A text that is JSON, of which something is asked.
+    Text(OfText, String),
+    /// A fragment that is written as JSON.
+    Fragment(Fragment<RawName>),
 }
 
 /// What is given to the work, and used up by it.
@@ -225,6 +241,17 @@ fn validate(alloc: Global, count: usize) -> Result<Prepared, Stop> {
     Ok(Prepared::Given(Given::Validate(schema)))
 }
 
+/// A fragment of as many entity types and actions, to be written as JSON.
+fn written(alloc: Global, count: usize) -> Result<Prepared, Stop> {
+    on_borrowed(Borrowed::Fragment(whole_fragment(alloc, count)?))
+}
+
+/// A fragment of as many entity types and actions as JSON, of which something is asked.
+fn text(alloc: Global, question: OfText, count: usize) -> Result<Prepared, Stop> {
+    let text = fragment_to_json(alloc, &whole_fragment(alloc, count)?)?;
+    on_borrowed(Borrowed::Text(question, text))
+}
+
 /// What a piece of work is done on, at a size.
 pub(crate) fn prepare(alloc: Global, piece: Piece, count: usize) -> Result<Prepared, Stop> {
     let (closed, open) = (OpenTag::ClosedAttributes, OpenTag::OpenAttributes);
@@ -266,5 +293,8 @@ pub(crate) fn prepare(alloc: Global, piece: Piece, count: usize) -> Result<Prepa
         Piece::BuildApart => build(eight_digits(alloc, APART, count)?),
         Piece::CopySchema => schema_alone(alloc, OfSchema::Copy, count),
         Piece::Scale => build(whole(alloc, count)?),
+        Piece::ParseJson => text(alloc, OfText::Parse, count),
+        Piece::ReadJson => text(alloc, OfText::Read, count),
+        Piece::WriteJson => written(alloc, count),
     }
 }

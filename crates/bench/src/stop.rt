@@ -1,5 +1,7 @@
 //! Why a measurement stops.
 
+use cedar_json::JsonSchemaFault;
+use cedar_json_writer::WriteFault;
 use cedar_schema::below::{EntityType, Memory, NameFault};
 use cedar_schema::{JoinError, SchemaError, TcError, WriteBackFault};
 use std::alloc::{AllocError, AllocFailed};
@@ -77,6 +79,24 @@ impl From<TcError<EntityType>> for Stop {
         match refused {
             TcError::Memory => Stop::Memory,
             TcError::HasCycle(_) => Stop::Refused,
+        }
+    }
+}
+
+impl From<JsonSchemaFault> for Stop {
+    fn from(refused: JsonSchemaFault) -> Self {
+        match refused {
+            JsonSchemaFault::Memory => Stop::Memory,
+            _ => Stop::Refused,
+        }
+    }
+}
+
+impl From<WriteFault> for Stop {
+    fn from(refused: WriteFault) -> Self {
+        match refused {
+            WriteFault::Memory => Stop::Memory,
+            WriteFault::Unwritable(_) => Stop::Refused,
         }
     }
 }

@@ -1,13 +1,16 @@
 //! The work of each piece, done once.
 
 use crate::graphs::Graph;
-use crate::prepared::{Borrowed, Given, OfOne, OfSchema, OfTwo, built, no_extensions};
+use crate::prepared::{Borrowed, Given, OfOne, OfSchema, OfText, OfTwo, built, no_extensions};
 use crate::stop::Stop;
+use cedar_json::fragment_from_json;
+use cedar_json_writer::fragment_to_json;
 use cedar_schema::below::{ValidationMode, Value};
 use cedar_schema::json_schema::{Fragment, RawName};
 use cedar_schema::lookup::SchemaLookup;
 use cedar_schema::member::separating_value;
 use cedar_schema::{EntityLUB, Type, ValidatorSchema, compute_tc_counted};
+use json::Scratch;
 use std::alloc::Global;
 
 /// How many attributes or entity types a type lists.
@@ -82,6 +85,22 @@ fn joined(alloc: Global, types: &[Type]) -> Result<usize, Stop> {
     Ok(listed(&ty))
 }
 
+/// 1 or 0 for whether a text is JSON in which no key comes twice in an object.
+fn is_parsed(alloc: Global, text: &str) -> usize {
+    let mut scratch = Scratch::new(alloc);
+    usize::from(json::Value::parse_strict(alloc, text, &mut scratch).is_ok())
+}
+
+impl OfText {
+    /// 1 or 0 for whether the text is JSON, or how many declarations the fragment has.
+    fn work(self, alloc: Global, text: &str) -> Result<usize, Stop> {
+        match self {
+            OfText::Parse => Ok(is_parsed(alloc, text)),
+            OfText::Read => Ok(declarations(&fragment_from_json(alloc, text, 0)?)),
+        }
+    }
+}
+
 impl OfOne {
     /// The length of the text of a type, or how many attributes or entity types its copy lists.
     fn work(self, alloc: Global, ty: &Type) -> Result<usize, Stop> {
@@ -135,6 +154,8 @@ impl Borrowed {
             Borrowed::KnownAttributes(schema, ty) => {
                 Ok(ty.all_attributes(alloc, schema)?.keys().count())
             }
+            Borrowed::Text(question, text) => question.work(alloc, text),
+            Borrowed::Fragment(fragment) => Ok(fragment_to_json(alloc, fragment)?.len()),
         }
     }
 }

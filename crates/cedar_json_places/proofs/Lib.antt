@@ -1,0 +1,2 @@
+mod InTurn
+mod TypeMarkLemmas

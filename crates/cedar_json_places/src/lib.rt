@@ -4,9 +4,9 @@
 //! |---|---|---|
 //! | attributes of actions | the first action of that id that has attributes | none |
 //! | open records | the first record type that admits further attributes | none |
-//! | entity types that aren't declared, types and actions that aren't defined | the reference | none |
+//! | entity types, types and actions that aren't declared | the reference | none |
 //! | shadowing | the declaration in a namespace | that in the empty namespace |
-//! | two definitions | the definition that was found second | none |
+//! | two definitions | the definition that was found second | the other declaration |
 //! | cycles | a declaration on the cycle | none |
 //! | shapes and contexts that are no record types | the declaration | none |
 //! | unknown extension types | the first type that names it | none |
@@ -16,11 +16,14 @@
 //! | what never comes, and memory | none | none |
 //!
 //! Names and uids in refusals have the places at which they were written. A table beside the
-//! fragment, made before it is built, has the places of what refusals name by a text alone.
+//! fragment, made before it is built, has the places of what refusals name by a text alone, and
+//! of all declarations.
 #![tactic(auto)]
 
+mod listing;
 mod place;
-mod table;
+mod type_listing;
+mod written;
 
 pub use place::{place_of, second_place_of};
-pub use table::{Located, Places};
+pub use written::{Places, Written, WrittenAt};

@@ -185,6 +185,43 @@ const COMMON_TYPES: &[Refusal] = &[
         "/name",
         NoId,
     ),
+    (
+        "{\"type\": \"Set\", \"element\": {\"type\": \"Long\"}, ⟦\"name\"⟧: \"T\"}",
+        "",
+        UnknownField(Row::OfCommonType, 2),
+    ),
+    (
+        "{\"type\": \"Entity\", \"name\": \"E\", ⟦\"element\"⟧: {}}",
+        "",
+        UnknownField(Row::OfCommonType, 2),
+    ),
+    (
+        "{\"type\": \"EntityOrCommon\", \"name\": \"E\", ⟦\"attributes\"⟧: {}}",
+        "",
+        UnknownField(Row::OfCommonType, 2),
+    ),
+    (
+        "{\"type\": \"Extension\", \"name\": \"e\", ⟦\"additionalAttributes\"⟧: true}",
+        "",
+        UnknownField(Row::OfCommonType, 2),
+    ),
+    ("⟦{\"type\": \"EntityOrCommon\"}⟧", "", Missing("name")),
+    (
+        "{\"type\": \"EntityOrCommon\", \"name\": ⟦null⟧}",
+        "/name",
+        Wants(Text),
+    ),
+    ("⟦{\"type\": \"Extension\"}⟧", "", Missing("name")),
+    (
+        "{\"type\": \"Extension\", \"name\": ⟦null⟧}",
+        "/name",
+        Wants(Text),
+    ),
+    (
+        "{\"type\": \"Set\", \"element\": {\"type\": ⟦null⟧}}",
+        "/element/type",
+        Wants(Text),
+    ),
 ];
 
 const RECORDS: &[Refusal] = &[
@@ -224,6 +261,26 @@ const RECORDS: &[Refusal] = &[
         "/attributes/ä\n/type",
         NoName,
     ),
+    (
+        "{\"type\": \"Record\", \"attributes\": {\"a\": {\"type\": ⟦null⟧}}}",
+        "/attributes/a/type",
+        Wants(Text),
+    ),
+    (
+        "{\"type\": \"Record\", \"attributes\": {\"a\": {\"type\": \"Long\", \"required\": ⟦null⟧}}}",
+        "/attributes/a/required",
+        Wants(Flag),
+    ),
+    (
+        "{\"type\": \"Record\", \"attributes\": {\"a\": {\"type\": \"Long\", \"annotations\": ⟦null⟧}}}",
+        "/attributes/a/annotations",
+        Wants(Object),
+    ),
+    (
+        "{\"type\": \"Record\", \"attributes\": {\"a\": ⟦{\"required\": true}⟧}}",
+        "/attributes/a",
+        Missing("type"),
+    ),
 ];
 
 const ENTITY_TYPES: &[Refusal] = &[
@@ -255,6 +312,24 @@ const ENTITY_TYPES: &[Refusal] = &[
     ("{\"tags\": ⟦null⟧}", "/tags", Wants(Object)),
     ("{\"external\": ⟦\"true\"⟧}", "/external", Wants(Flag)),
     ("{\"annotations\": ⟦[]⟧}", "/annotations", Wants(Object)),
+    ("{\"enum\": [\"a\", ⟦null⟧]}", "/enum/1", Wants(Text)),
+    (
+        "{\"enum\": [\"a\"], \"external\": ⟦null⟧}",
+        "/external",
+        Wants(Flag),
+    ),
+    (
+        "{\"enum\": [\"a\"], \"annotations\": ⟦null⟧}",
+        "/annotations",
+        Wants(Object),
+    ),
+    (
+        "{\"memberOfTypes\": [⟦null⟧]}",
+        "/memberOfTypes/0",
+        Wants(Text),
+    ),
+    ("{\"external\": ⟦null⟧}", "/external", Wants(Flag)),
+    ("{\"annotations\": ⟦null⟧}", "/annotations", Wants(Object)),
 ];
 
 const ACTIONS: &[Refusal] = &[
@@ -312,6 +387,28 @@ const ACTIONS: &[Refusal] = &[
         UnknownField(Row::OfParent, 1),
     ),
     ("{\"attributes\": ⟦[]⟧}", "/attributes", Wants(Object)),
+    ("⟦null⟧", "", Wants(Object)),
+    ("{\"annotations\": ⟦null⟧}", "/annotations", Wants(Object)),
+    (
+        "{\"appliesTo\": ⟦{\"resourceTypes\": []}⟧}",
+        "/appliesTo",
+        Missing("principalTypes"),
+    ),
+    (
+        "{\"appliesTo\": {\"principalTypes\": [⟦null⟧], \"resourceTypes\": []}}",
+        "/appliesTo/principalTypes/0",
+        Wants(Text),
+    ),
+    (
+        "{\"appliesTo\": {\"principalTypes\": [], \"resourceTypes\": ⟦null⟧}}",
+        "/appliesTo/resourceTypes",
+        Wants(Array),
+    ),
+    (
+        "{\"attributes\": {\"a\": ⟦null⟧}}",
+        "/attributes/a",
+        Wants(NoNull),
+    ),
 ];
 
 const VALUES: &[Refusal] = &[
@@ -360,6 +457,34 @@ const VALUES: &[Refusal] = &[
         UnknownField(Row::OfCall, 2),
     ),
     ("{\"__extn\": ⟦null⟧, \"b\": 1}", "/__extn", Wants(NoNull)),
+    ("{\"a\": ⟦null⟧}", "/a", Wants(NoNull)),
+    (
+        "{\"__entity\": ⟦{\"id\": \"\"}⟧}",
+        "/__entity",
+        Missing("type"),
+    ),
+    (
+        "{\"__entity\": {\"type\": ⟦null⟧, \"id\": \"\"}}",
+        "/__entity/type",
+        Wants(Text),
+    ),
+    (
+        "{\"__entity\": ⟦{\"type\": \"A\"}⟧}",
+        "/__entity",
+        Missing("id"),
+    ),
+    ("{\"__extn\": ⟦null⟧}", "/__extn", Wants(Object)),
+    (
+        "{\"__extn\": {\"fn\": ⟦null⟧, \"arg\": 1}}",
+        "/__extn/fn",
+        Wants(Text),
+    ),
+    (
+        "{\"__extn\": {\"fn\": \"f\", \"arg\": ⟦null⟧}}",
+        "/__extn/arg",
+        Wants(NoNull),
+    ),
+    ("{\"__extn\": ⟦{\"arg\": 1}⟧}", "/__extn", Missing("fn")),
 ];
 
 #[test]

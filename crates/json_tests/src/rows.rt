@@ -44,6 +44,7 @@ const COMMON_TYPES: &[&str] = &[
     "{\"type\": \"Extension\", \"name\": \"ipaddr\"}",
     "{\"type\": \"__cedar::String\"}",
     "{\"\\u0074ype\": \"T\"}",
+    "{\"type\": \"EntityOrCommon\", \"name\": \"A::__cedar\"}",
 ];
 
 const ENTITY_TYPES: &[&str] = &[
@@ -51,6 +52,7 @@ const ENTITY_TYPES: &[&str] = &[
     "{\"external\": true, \"annotations\": {}}",
     "{\"enum\": [\"a\", \"a\", \"\"], \"external\": false, \"annotations\": {}}",
     "{\"memberOfTypes\": [\"A\", \"B::C\"], \"tags\": {\"type\": \"T\"}, \"shape\": {\"type\": \"S\"}}",
+    "{\"memberOfTypes\": [\"__cedar\"]}",
 ];
 
 const ACTIONS: &[&str] = &[
@@ -58,6 +60,8 @@ const ACTIONS: &[&str] = &[
     "{\"appliesTo\": {\"resourceTypes\": [], \"principalTypes\": [\"A\"]}, \"external\": true}",
     "{\"appliesTo\": {\"resourceTypes\": [], \"principalTypes\": [], \"context\": {\"type\": \"C\"}}}",
     "{\"memberOf\": [{\"id\": \"\", \"type\": null}, {\"id\": \"b\", \"type\": \"A\"}, {\"id\": \"\"}]}",
+    "{\"memberOf\": [{\"id\": \"__cedar\", \"type\": \"__cedar::Action\"}]}",
+    "{\"appliesTo\": {\"principalTypes\": [\"__cedar\"], \"resourceTypes\": [\"A::__cedar\"]}}",
 ];
 
 const VALUES: &[&str] = &[

@@ -1,0 +1,11 @@
+use Rattle.std.proofs.Common.{◌++◌, map}
+use Rattle.std.specs.List.{flat_map}
+use Rattle.cedar_json_places.proofs.InTurn.{IsListing}
+use Rattle.cedar_json_places.specs.Mark.{marked}
+use Rattle.cedar_json_places.specs.Table.{entity_type_marks, namespace_of}
+use Rattle.cedar_json_places.proofs.listing.list_entity_types.Given as goal
+
+abbrev pub invariant-loop-id : goal.invariant-loop-id
+invariant-loop-id l =
+    let marks = entity_type_marks (namespace_of l.namespace) in
+    IsListing marks (map marked l.list.items) l.id-iterator (map marked l.fn.list.items ++ flat_map marks l.it.entity_types.entries)

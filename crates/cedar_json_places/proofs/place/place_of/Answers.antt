@@ -1,0 +1,16 @@
+use Rattle.std.proofs.Common.{subst, sym, ◌∙◌, map}
+use Rattle.cedar_below.specs.Text.{Text}
+use Rattle.cedar_below.specs.declared.loc.Loc.{Loc}
+use Rattle.cedar_declarations.specs.declared.schema_error.SchemaError.{SchemaError}
+use Rattle.cedar_json_places.specs.Mark.{Mark, marked}
+use Rattle.cedar_json_places.specs.Place.{IsExtensionType, IsFirstPlace, IsPlaceOf}
+use Rattle.cedar_json_places.proofs.place.place_of.Goals as goal
+
+pub returns-in-UnknownExtensionType : goal.returns-in-UnknownExtensionType
+returns-in-UnknownExtensionType c =
+    let table = map marked c.args.places.now.0.items in
+    let place = c.first_place-in-UnknownExtensionType.result in
+    let P : SchemaError → Type 0 = λ error. IsPlaceOf table error place in
+    let Q : Text → Type 0 = λ name. IsFirstPlace (λ (mark : Mark) (loc : Loc). IsExtensionType name mark) table place in
+    subst P (sym c.in-UnknownExtensionType.is)
+    (subst Q (c.as_str.ensures.text ∙ c.basename.ensures) c.first_place-in-UnknownExtensionType.ensures)
