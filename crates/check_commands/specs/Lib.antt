@@ -1,0 +1,2 @@
+pub mod LaidOut
+pub mod Linked

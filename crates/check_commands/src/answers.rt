@@ -1,0 +1,152 @@
+//! What a schema answers: its counts, what it lacks, and its environments.
+
+use crate::finding::{Finding, file_of};
+use cedar_below::{EntityType, EntityUID, M, NameFault};
+use cedar_schema::{CompleteError, IncompleteSchemaError, RequestEnv, ValidatorSchema};
+use schema_lines::escaped;
+use std::alloc::Global;
+
+/// The counts of a schema, a line each.
+pub(crate) fn counts(alloc: Global, schema: &ValidatorSchema) -> M<String> {
+    let mut types: usize = 0;
+    let mut external_types: usize = 0;
+    for ty in schema.entity_types() {
+        types = types.saturating_add(1);
+        if ty.is_external() {
+            external_types = external_types.saturating_add(1);
+        }
+    }
+    let types = format!(in alloc;
+        "ok\nentity types: {types}, {external_types} of them external\n"
+    )?;
+    let actions = action_counts(alloc, schema)?;
+    let environments = schema.unlinked_envs_owned().len();
+    Ok(format!(in alloc; "{types}{actions}environments: {environments}\n")?)
+}
+
+/// The line on actions.
+fn action_counts(alloc: Global, schema: &ValidatorSchema) -> M<String> {
+    let mut actions: usize = 0;
+    let mut external: usize = 0;
+    for action in schema.action_ids() {
+        actions = actions.saturating_add(1);
+        if action.is_external() {
+            external = external.saturating_add(1);
+        }
+    }
+    Ok(format!(in alloc; "actions: {actions}, {external} of them external\n")?)
+}
+
+/// What is external, at the first place where something is declared so.
+fn lacking(alloc: Global, error: &IncompleteSchemaError) -> M<Finding> {
+    let message = format!(in alloc; "{error}")?;
+    Ok(Finding {
+        file: file_of(error.loc),
+        loc: error.loc,
+        kind: "Incomplete",
+        message,
+        other: None,
+    })
+}
+
+/// What of a schema is external, if anything is.
+pub(crate) fn incomplete(alloc: Global, schema: &ValidatorSchema) -> M<Option<Finding>> {
+    match schema.check_complete(alloc) {
+        Ok(()) => Ok(None),
+        Err(CompleteError::Memory(refused)) => Err(refused),
+        Err(CompleteError::Incomplete(error)) => Ok(Some(lacking(alloc, &error)?)),
+    }
+}
+
+/// What a question of a schema gives.
+pub(crate) enum Answer {
+    /// The answer, in lines.
+    Lines(String),
+    /// The schema has nothing of that kind, in words.
+    Nothing(String),
+    /// The question itself is none, in words.
+    BadWord(String),
+}
+
+/// Why a word is no name or no uid, or that memory ran out.
+pub(crate) fn bad_word(alloc: Global, word: &str, fault: NameFault) -> M<Answer> {
+    match fault {
+        NameFault::Memory(refused) => Err(refused),
+        _ => Ok(Answer::BadWord(format!(in alloc; "{word}: {fault}")?)),
+    }
+}
+
+/// What environments are asked for.
+#[derive(Clone, Copy, Debug, Drop)]
+pub(crate) struct Wanted<'a> {
+    /// The entity type of the principal, if only one is asked for.
+    pub(crate) principal: Option<&'a EntityType>,
+    /// The action, if only one is asked for.
+    pub(crate) action: Option<&'a EntityUID>,
+    /// The entity type of the resource, if only one is asked for.
+    pub(crate) resource: Option<&'a EntityType>,
+}
+
+/// Whether nothing else is asked for.
+fn is_wanted<T: PartialEq>(wanted: Option<&T>, given: &T) -> bool {
+    match wanted {
+        Some(wanted) => *wanted == *given,
+        None => true,
+    }
+}
+
+impl Wanted<'_> {
+    /// Whether an environment is asked for.
+    fn is_met(&self, env: &RequestEnv<'_>) -> bool {
+        is_wanted(self.principal, env.principal)
+            && is_wanted(self.action, env.action)
+            && is_wanted(self.resource, env.resource)
+    }
+}
+
+/// The environments that are asked for, sorted by their text, a line each.
+pub(crate) fn environment_lines(
+    alloc: Global,
+    schema: &ValidatorSchema,
+    wanted: Wanted<'_>,
+) -> M<String> {
+    let mut lines = Vec::new(alloc);
+    for env in schema.unlinked_envs_owned() {
+        let env = env.as_request_env();
+        if wanted.is_met(&env) {
+            lines.push(format!(in alloc; "{} {} {}", env.principal, env.action, env.resource)?)?;
+        }
+    }
+    lines.sort()?;
+    let mut text = String::new(alloc);
+    for line in &lines {
+        text.push_str(line.as_str())?;
+        text.push('\n')?;
+    }
+    Ok(text)
+}
+
+/// The entity type that a word names, if there is a word; or why it names none.
+pub(crate) fn type_named(
+    alloc: Global,
+    word: Option<&str>,
+) -> M<Result<Option<EntityType>, Answer>> {
+    let Some(word) = word else {
+        return Ok(Ok(None));
+    };
+    match EntityType::from_str(alloc, word) {
+        Ok(ty) => Ok(Ok(Some(ty))),
+        Err(fault) => Ok(Err(bad_word(alloc, word, fault)?)),
+    }
+}
+
+/// The uid that a word spells, if there is a word; or why it spells none.
+pub(crate) fn uid_named(alloc: Global, word: Option<&str>) -> M<Result<Option<EntityUID>, Answer>> {
+    let Some(word) = word else {
+        return Ok(Ok(None));
+    };
+    match EntityUID::from_str(alloc, word) {
+        Ok(uid) => Ok(Ok(Some(uid))),
+        Err(fault) => Ok(Err(bad_word(alloc, word, fault)?)),
+    }
+}

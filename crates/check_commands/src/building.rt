@@ -1,0 +1,130 @@
+//! Files, built into one schema.
+
+use crate::files::FileAccess;
+use crate::finding::{Finding, Source, file_of};
+use crate::outcome::{Manner, Outcome, refused};
+use crate::reading::{Given, ReadFiles, fragment_of, well_formed};
+use cedar_below::{Loc, M};
+use cedar_json::cedar_extensions;
+use cedar_json_places::{Places, place_of, second_place_of};
+use cedar_names::json_schema::{Fragment, RawName};
+use cedar_schema::{SchemaError, ValidatorSchema};
+use std::alloc::Global;
+
+/// A schema, with the files that declare it.
+#[derive(Drop)]
+pub(crate) struct BuiltFiles {
+    /// The files, in the order in which they were named.
+    pub(crate) sources: Vec<Source>,
+    /// The schema that they declare together.
+    pub(crate) schema: ValidatorSchema,
+}
+
+/// The places that are shown for a refusal, as far as they are known.
+#[derive(Clone, Copy)]
+struct TwoPlaces {
+    /// That of what the refusal names.
+    first: Option<Loc>,
+    /// That of the second thing that it is about.
+    second: Option<Loc>,
+}
+
+/// The places of a refusal that a file has.
+fn places_in(alloc: Global, file: usize, source: &Source, error: &SchemaError) -> M<TwoPlaces> {
+    match fragment_of(alloc, file, source)? {
+        Some(fragment) => {
+            let places = Places::of(alloc, &fragment)?;
+            Ok(TwoPlaces {
+                first: place_of(&places, error),
+                second: second_place_of(&places, error),
+            })
+        }
+        None => Ok(TwoPlaces {
+            first: None,
+            second: None,
+        }),
+    }
+}
+
+/// The places of a refusal, each of the first file that has it.
+fn places_of_refusal(alloc: Global, sources: &[Source], error: &SchemaError) -> M<TwoPlaces> {
+    let (mut first, mut second) = (None, None);
+    for (file, source) in sources.iter().enumerate() {
+        let here = places_in(alloc, file, source, error)?;
+        first = first.or(here.first);
+        second = second.or(here.second);
+    }
+    Ok(TwoPlaces { first, second })
+}
+
+/// The number of the file that a place stands in, or of the only one.
+fn file_at(sources: &[Source], loc: Option<Loc>) -> Option<usize> {
+    match file_of(loc) {
+        None if sources.len() == 1 => Some(0),
+        file => file,
+    }
+}
+
+/// What is told of declarations that no schema is built of.
+fn schema_finding(alloc: Global, sources: &[Source], error: &SchemaError) -> M<Finding> {
+    let TwoPlaces { first, second } = places_of_refusal(alloc, sources, error)?;
+    Ok(Finding {
+        file: file_at(sources, first),
+        loc: first,
+        kind: error.kind(),
+        message: format!(in alloc; "{error}")?,
+        other: second,
+    })
+}
+
+/// The outcome where no schema is built.
+fn refused_schema(
+    alloc: Global,
+    manner: Manner,
+    sources: &[Source],
+    error: SchemaError,
+) -> M<Outcome> {
+    if let SchemaError::Memory(refused) = error {
+        return Err(refused);
+    }
+    refused(
+        alloc,
+        manner,
+        sources,
+        schema_finding(alloc, sources, &error)?,
+    )
+}
+
+/// The schema that fragments declare, over the extensions of Cedar.
+fn schema_of(
+    alloc: Global,
+    fragments: Vec<Fragment<RawName>>,
+) -> Result<ValidatorSchema, SchemaError> {
+    let extensions = cedar_extensions(alloc)?;
+    ValidatorSchema::from_raw_fragments(alloc, fragments, &extensions)
+}
+
+/// The schema that files declare together, with the files; where there is none, what is told.
+pub(crate) fn built<F: FileAccess>(
+    alloc: Global,
+    files: &mut F,
+    names: &[&str],
+    manner: Manner,
+) -> M<Given<BuiltFiles>> {
+    let read = match well_formed(alloc, files, names, manner)? {
+        Given::All(read) => read,
+        Given::Refused(told) => return Ok(Given::Refused(told)),
+    };
+    let ReadFiles {
+        sources,
+        fragments,
+        ..
+    } = read;
+    match schema_of(alloc, fragments) {
+        Ok(schema) => Ok(Given::All(BuiltFiles { sources, schema })),
+        Err(error) => {
+            let told = refused_schema(alloc, manner, &sources, error)?;
+            Ok(Given::Refused(told))
+        }
+    }
+}

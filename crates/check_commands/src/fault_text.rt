@@ -1,0 +1,155 @@
+//! Why a text isn't read as a fragment, in words.
+
+use cedar_below::{Loc, M};
+use cedar_json::{FaultKind, JsonSchemaFault, Place, Wanted};
+use std::alloc::Global;
+
+/// The word for the kind of a fault.
+pub(crate) fn kind_word(fault: &JsonSchemaFault) -> &'static str {
+    match fault {
+        JsonSchemaFault::TooLong => "TooLong",
+        JsonSchemaFault::NotUtf8 { .. } => "NotUtf8",
+        JsonSchemaFault::NotJson { .. } => "NotJson",
+        JsonSchemaFault::TwiceInObject { .. } => "TwiceInObject",
+        JsonSchemaFault::OutOfShape { .. } => "OutOfShape",
+        JsonSchemaFault::Memory => "Memory",
+    }
+}
+
+/// What is asked for, with its article.
+fn wanted_words(wanted: Wanted) -> &'static str {
+    match wanted {
+        Wanted::Text => "a string",
+        Wanted::Object => "an object",
+        Wanted::Array => "an array",
+        Wanted::Flag => "`true` or `false`",
+        Wanted::TextOrNull => "a string or `null`",
+        Wanted::NoNull => "a value other than `null`",
+    }
+}
+
+/// What is said of a value, or of the key of one of its members.
+fn shape_words(kind: FaultKind) -> &'static str {
+    match kind {
+        FaultKind::Missing(_) => "a field is missing",
+        FaultKind::UnknownField(_, _) => "the format has no such field here",
+        FaultKind::Wants(wanted) => wanted_words(wanted),
+        FaultKind::NoName => "this is no name",
+        FaultKind::NoId => "this is no identifier",
+        FaultKind::ReservedId => "`__cedar` is reserved",
+        FaultKind::KeyIsNoId(_) => "this key is no identifier",
+        FaultKind::NoChoices => "at least one id has to be listed",
+        FaultKind::ReservedName => "a name with the part `__cedar` is reserved",
+        FaultKind::NoLong => "this is no whole number of 64 bits",
+        FaultKind::KeyIsReserved(_) => "this key is reserved",
+        FaultKind::KeyIsTypeWord(_) => "this key is the name of a type of Cedar's own",
+        FaultKind::KeyIsNoName(_) => "this key is neither empty nor a name",
+        FaultKind::KeyIsReservedName(_) => "this key is a reserved name",
+    }
+}
+
+/// The bytes of a place, as they stand in the text.
+fn written_at(alloc: Global, text: &str, loc: Option<Loc>) -> M<String> {
+    let Some(loc) = loc else {
+        return Ok(String::new(alloc));
+    };
+    match text.get(loc.start as usize..loc.stop as usize) {
+        Some(written) => Ok(String::from_str(alloc, written)?),
+        None => Ok(String::new(alloc)),
+    }
+}
+
+/// Where a value stands, as the end of a sentence.
+fn at_pointer(alloc: Global, place: &Place) -> M<String> {
+    if place.pointer.is_empty() {
+        return Ok(String::from_str(alloc, "at the top")?);
+    }
+    Ok(format!(in alloc; "at {}", place.pointer)?)
+}
+
+/// The words for a value that isn't as the format wants it.
+fn shape_text(alloc: Global, text: &str, place: &Place, kind: FaultKind) -> M<String> {
+    let at = at_pointer(alloc, place)?;
+    match kind {
+        FaultKind::Missing(name) => Ok(format!(in alloc; "the field \"{name}\" is missing {at}")?),
+        FaultKind::Wants(wanted) => {
+            let wanted = wanted_words(wanted);
+            Ok(format!(in alloc; "{wanted} has to stand {at}")?)
+        }
+        FaultKind::NoChoices => Ok(format!(in alloc; "{}, {at}", shape_words(kind))?),
+        _ => {
+            let written = written_at(alloc, text, place.loc)?;
+            Ok(format!(in alloc; "{written}: {}, {at}", shape_words(kind))?)
+        }
+    }
+}
+
+/// Why a text is no JSON; where it is Cedar's own syntax of schemas, how to convert it.
+fn no_json_text(alloc: Global, text: &str, too_deep: bool) -> M<String> {
+    let words = if too_deep {
+        "this is nested deeper than 128 levels"
+    } else if text.starts_with('\u{feff}') {
+        "the file begins with a byte order mark, which JSON doesn't have"
+    } else if begins_as_cedar(text) {
+        "this is no JSON but Cedar's schema syntax: \
+         convert it by `cedar translate-schema --direction cedar-to-json`"
+    } else {
+        "from here on this is no JSON"
+    };
+    Ok(String::from_str(alloc, words)?)
+}
+
+/// The words with which a declaration in Cedar's schema syntax may begin.
+const CEDAR_WORDS: &[&str] = &["namespace", "entity", "action", "type", "@", "//"];
+
+/// Whether a text begins as Cedar's schema syntax does.
+fn begins_as_cedar(text: &str) -> bool {
+    let text = text.trim_start();
+    for word in CEDAR_WORDS {
+        if text.starts_with(*word) {
+            return true;
+        }
+    }
+    false
+}
+
+/// What is at fault, in words.
+pub(crate) fn fault_text(alloc: Global, text: &str, fault: &JsonSchemaFault) -> M<String> {
+    match fault {
+        JsonSchemaFault::TooLong => Ok(String::from_str(alloc, "4 GiB are too long")?),
+        JsonSchemaFault::NotUtf8 { valid_up_to } => Ok(format!(in alloc;
+            "byte {valid_up_to} (from 0) belongs to no UTF-8 character"
+        )?),
+        JsonSchemaFault::NotJson { too_deep, .. } => no_json_text(alloc, text, *too_deep),
+        JsonSchemaFault::TwiceInObject { at, .. } => {
+            let key = written_at(alloc, text, at.loc)?;
+            let place = at_pointer(alloc, at)?;
+            Ok(format!(in alloc; "the key {key} comes twice in the object {place}")?)
+        }
+        JsonSchemaFault::OutOfShape { at, fault } => shape_text(alloc, text, at, *fault),
+        JsonSchemaFault::Memory => Ok(String::from_str(alloc, "out of memory")?),
+    }
+}
+
+/// A place of some bytes of a file.
+fn bytes_of(source: u32, start: usize, stop: usize) -> Option<Loc> {
+    Some(Loc {
+        source,
+        start: u32::try_from(start).ok()?,
+        stop: u32::try_from(stop).ok()?,
+    })
+}
+
+/// The place of a fault in the source of a number.
+pub(crate) fn fault_loc(source: u32, text: &str, fault: &JsonSchemaFault) -> Option<Loc> {
+    match fault {
+        JsonSchemaFault::TooLong | JsonSchemaFault::Memory => None,
+        JsonSchemaFault::NotUtf8 { valid_up_to } => bytes_of(source, *valid_up_to, *valid_up_to),
+        JsonSchemaFault::NotJson { up_to, .. } => {
+            bytes_of(source, *up_to, up_to.saturating_add(1).min(text.len()))
+        }
+        JsonSchemaFault::TwiceInObject { at, .. } | JsonSchemaFault::OutOfShape { at, .. } => {
+            at.loc
+        }
+    }
+}

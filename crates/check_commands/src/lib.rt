@@ -1,0 +1,26 @@
+//! What the program `cedar_check` does: files of schemas are read, built, shown, drawn, linked and
+//! laid out.
+#![tactic(auto)]
+
+mod answers;
+mod asked;
+mod attribute_types;
+mod building;
+mod fault_text;
+mod files;
+mod finding;
+mod first_key;
+mod graph;
+mod hierarchy;
+mod laying_out;
+mod left_out;
+mod linking;
+mod outcome;
+mod position;
+mod reading;
+mod running;
+mod status;
+mod words;
+
+pub use files::{FileAccess, FileFault};
+pub use running::{run, unread};

@@ -1,0 +1,141 @@
+//! Files, linked: what they declare together as one fragment.
+
+ghost use Rattle.std.specs.Prelude.{◌≡◌, IfOk, IfSome, string_bytes};
+ghost use Rattle.check_commands.specs.Linked.{IsLinked, fragment_text};
+
+use crate::building::{BuiltFiles, built};
+use crate::files::{FileAccess, FileFault};
+use crate::finding::{Finding, Source};
+use crate::left_out::left_out;
+use crate::outcome::{Manner, Outcome, refused};
+use crate::reading::Given;
+use crate::status::Status;
+use cedar_below::{M, Memory};
+use cedar_json_writer::{WriteFault, fragment_to_json};
+use cedar_names::json_schema::{Fragment, RawName};
+use cedar_schema::{ValidatorSchema, WriteBackFault};
+use schema_lines::escaped;
+use std::alloc::Global;
+
+/// The text of a fragment with a line end, or None where the format can't say it.
+fn text_of(alloc: Global, fragment: &Fragment<RawName>) -> M<Option<String>>
+    ensures { IfOk result (λ given. IfSome given (λ text.
+        string_bytes text ≡ fragment_text fragment.now)) }
+{
+    match fragment_to_json(alloc, fragment) {
+        Ok(mut text) => {
+            text.push('\n')?;
+            Ok(Some(text))
+        }
+        Err(WriteFault::Memory) => Err(Memory),
+        Err(WriteFault::Unwritable(_)) => Ok(None),
+    }
+}
+
+/// The text of the fragment that declares a schema again, or None where there is none or the format
+/// can't say it.
+fn linked_text(alloc: Global, schema: &ValidatorSchema) -> M<Option<String>>
+    ensures { IfOk result (λ given. IfSome given (λ text.
+        IsLinked schema.now (string_bytes text))) }
+{
+    match schema.to_json_schema(alloc) {
+        Ok(fragment) => text_of(alloc, &fragment),
+        Err(WriteBackFault::Memory) => Err(Memory),
+        Err(WriteBackFault::Unwritable) => Ok(None),
+    }
+}
+
+/// What is said of what was left out of some files.
+fn left_out_note(alloc: Global, sources: &[Source]) -> M<String> {
+    let all = left_out(alloc, sources)?;
+    Ok(format!(in alloc;
+        "left out: {} annotations, {} common types (written out where they are used)\n",
+        all.annotations, all.common_types
+    )?)
+}
+
+/// What is told of a schema that no fragment declares again.
+fn unwritable(alloc: Global, manner: Manner, sources: &[Source]) -> M<Outcome> {
+    let why = "no file declares this schema again: a name without a namespace would be \
+        another one where it has to be written, or types nest too deep";
+    let message = String::from_str(alloc, why)?;
+    refused(
+        alloc,
+        manner,
+        sources,
+        Finding::general("Unwritable", message),
+    )
+}
+
+/// The outcome where a text is written to a file.
+fn written<F: FileAccess>(
+    alloc: Global,
+    files: &mut F,
+    name: &str,
+    text: &str,
+    notes: String,
+) -> M<Outcome> {
+    match files.replace(alloc, name, text) {
+        Ok(()) => Ok(Outcome::noted(alloc, notes, Status::Done)),
+        Err(FileFault::Memory) => Err(Memory),
+        Err(FileFault::Refused(why)) => {
+            let name = escaped(alloc, name)?;
+            let why = format!(in alloc; "{name}: Unwritten: {why}\n")?;
+            Ok(Outcome::noted(alloc, why, Status::Unwritten))
+        }
+    }
+}
+
+/// Where a text goes: to standard output, or to a file of a name.
+fn put<F: FileAccess>(
+    alloc: Global,
+    files: &mut F,
+    output: Option<&str>,
+    text: String,
+    notes: String,
+) -> M<Outcome> {
+    match output {
+        Some(name) => written(alloc, files, name, text.as_str(), notes),
+        None => Ok(Outcome {
+            text,
+            notes,
+            status: Status::Done,
+        }),
+    }
+}
+
+/// Whether a file is one of those that are read.
+pub(crate) fn is_read<F: FileAccess>(files: &mut F, output: &str, names: &[&str]) -> bool {
+    for name in names {
+        if *name != "-" && files.is_same(output, name) {
+            return true;
+        }
+    }
+    false
+}
+
+/// That a file would be read and written.
+pub(crate) fn would_overwrite(alloc: Global, output: &str) -> M<String> {
+    Ok(format!(in alloc; "{output}: the file to be written is one of those read")?)
+}
+
+/// Writes what files declare together as one fragment.
+pub(crate) fn link<F: FileAccess>(
+    alloc: Global,
+    files: &mut F,
+    names: &[&str],
+    manner: Manner,
+    output: Option<&str>,
+) -> M<Outcome> {
+    let BuiltFiles { sources, schema } = match built(alloc, files, names, manner)? {
+        Given::All(built) => built,
+        Given::Refused(told) => return Ok(told),
+    };
+    match linked_text(alloc, &schema)? {
+        Some(text) => {
+            let notes = left_out_note(alloc, &sources)?;
+            put(alloc, files, output, text, notes)
+        }
+        None => unwritable(alloc, manner, &sources),
+    }
+}

@@ -1,0 +1,107 @@
+//! What a command gives.
+
+ghost use Rattle.std.specs.Prelude.{◌≡◌, IfOk};
+
+use crate::finding::{Finding, Source, finding_json, push_finding};
+use crate::status::Status;
+use cedar_below::M;
+use std::alloc::Global;
+
+/// What is printed, and the status that goes with it.
+#[derive(Debug, Drop)]
+pub(crate) struct Outcome {
+    /// What is printed on standard output.
+    pub(crate) text: String,
+    /// What is printed on standard error.
+    pub(crate) notes: String,
+    /// The status that the program ends with where these could be written.
+    pub(crate) status: Status,
+}
+
+impl Outcome {
+    /// What was asked for, on standard output.
+    pub(crate) fn done(alloc: Global, text: String) -> Self
+        ensures text { result.text ≡ text }
+        ensures status { result.status ≡ Status.Done }
+    {
+        Outcome {
+            text,
+            notes: String::new(alloc),
+            status: Status::Done,
+        }
+    }
+
+    /// Why what was asked for isn't had, on standard error.
+    pub(crate) fn noted(alloc: Global, notes: String, status: Status) -> Self
+        ensures notes { result.notes ≡ notes }
+        ensures status { result.status ≡ status }
+    {
+        Outcome {
+            text: String::new(alloc),
+            notes,
+            status,
+        }
+    }
+}
+
+/// How findings are told.
+#[derive(Clone, Copy, Debug, Drop, PartialEq, Eq)]
+pub(crate) enum Manner {
+    /// As lines for people.
+    Lines,
+    /// As objects of JSON, one a line, for editors.
+    Json,
+}
+
+/// Adds one object and a line end.
+fn push_json(alloc: Global, text: &mut String, sources: &[Source], finding: &Finding) -> M<()> {
+    let object = finding_json(alloc, sources, finding)?;
+    text.push_str(String::from_utf8_lossy(alloc, &object)?.as_str())?;
+    Ok(text.push('\n')?)
+}
+
+/// Each finding, told in a manner.
+fn told(alloc: Global, manner: Manner, sources: &[Source], findings: &[Finding]) -> M<String> {
+    let mut text = String::new(alloc);
+    for finding in findings {
+        match manner {
+            Manner::Lines => push_finding(alloc, &mut text, sources, finding)?,
+            Manner::Json => push_json(alloc, &mut text, sources, finding)?,
+        }
+    }
+    Ok(text)
+}
+
+/// The outcome where something is at fault. Objects of JSON are what was asked for, so they are
+/// printed on standard output; lines for people go to standard error.
+pub(crate) fn at_fault(
+    alloc: Global,
+    manner: Manner,
+    sources: &[Source],
+    findings: &[Finding],
+    status: Status,
+) -> M<Outcome>
+    ensures { IfOk result (λ outcome. outcome.status ≡ status) }
+{
+    let told = told(alloc, manner, sources, findings)?;
+    Ok(match manner {
+        Manner::Lines => Outcome::noted(alloc, told, status),
+        Manner::Json => Outcome {
+            text: told,
+            notes: String::new(alloc),
+            status,
+        },
+    })
+}
+
+/// The outcome where one thing is at fault.
+pub(crate) fn refused(
+    alloc: Global,
+    manner: Manner,
+    sources: &[Source],
+    finding: Finding,
+) -> M<Outcome>
+    ensures { IfOk result (λ outcome. outcome.status ≡ Status.Refused) }
+{
+    at_fault(alloc, manner, sources, &[finding], Status::Refused)
+}

@@ -1,0 +1,102 @@
+//! What the program does with its words, over any files and any two writers.
+
+ghost use Rattle.std.specs.Prelude.{◌≡◌, ◌<◌, ◌⊎◌, IfOk, OnErr};
+
+use crate::asked::outcome_of;
+use crate::files::FileAccess;
+use crate::outcome::Outcome;
+use crate::status::Status;
+use crate::words::program;
+use cedar_below::{M, Memory};
+use clap::error::{Error, ErrorKind};
+use std::alloc::Global;
+use std::io;
+use std::io::Write;
+
+/// What the program's words ask for: help, the version or usage, or a command.
+fn asked<F: FileAccess>(
+    alloc: Global,
+    files: &mut F,
+    words: &[String],
+) -> Result<M<Outcome>, Error> {
+    let matches = program(alloc)?.try_get_matches_from(words)?;
+    Ok(match matches.subcommand() {
+        Some((command, matches)) => outcome_of(alloc, files, command, matches),
+        None => Ok(Outcome::done(alloc, String::new(alloc))),
+    })
+}
+
+/// The outcome where the words give no command: help or the version, or why they give none.
+fn no_command(alloc: Global, error: Error) -> M<Outcome> {
+    if error.kind() == ErrorKind::OutOfMemory {
+        return Err(Memory);
+    }
+    let text = format!(in alloc; "{error}")?;
+    Ok(if error.use_stderr() {
+        Outcome::noted(alloc, text, Status::Usage)
+    } else {
+        Outcome::done(alloc, text)
+    })
+}
+
+/// Writes what a command gave, and answers how the run ends: with the command's own status, or
+/// since memory ran out, or since `out` couldn't be written. A failed write to `err` is ignored.
+fn finish<O: Write, E: Write>(outcome: M<Outcome>, out: &mut O, err: &mut E) -> Status
+    ensures given { IfOk outcome (λ given.
+        (result ≡ given.status) ⊎ (result ≡ Status.Unwritten)) }
+    ensures refused { OnErr outcome (result ≡ Status.Memory) }
+{
+    match outcome {
+        Ok(outcome) => {
+            let _ = err.write_all(outcome.notes.as_bytes());
+            match out.write_all(outcome.text.as_bytes()) {
+                Ok(()) => outcome.status,
+                Err(_) => Status::Unwritten,
+            }
+        }
+        Err(Memory) => {
+            let _ = err.write_all(b"memory\n");
+            Status::Memory
+        }
+    }
+}
+
+/// Does what the words say, the first of which is the program's own name, and answers the status.
+///
+/// - 0: what was asked for is printed on `out`, or in the file that was to be written.
+/// - 1: a file or the schema is refused, or the schema has nothing of what was asked for; `err`
+///   says what is at fault, or `out` where objects of JSON are asked for.
+/// - 2: the words give no command; `err` says why.
+/// - 3: memory ran out; `err` has the line `memory`, and nothing was printed on `out`.
+/// - 4: `out` or the file that was to be written couldn't be written.
+/// - 5: a file couldn't be read; it is told as those that are refused.
+///
+/// A failed write to `err` is ignored.
+pub fn run<F: FileAccess, O: Write, E: Write>(
+    alloc: Global,
+    words: &[String],
+    files: &mut F,
+    out: &mut O,
+    err: &mut E,
+) -> u8
+    ensures { result < 6 }
+{
+    let outcome = match asked(alloc, files, words) {
+        Ok(outcome) => outcome,
+        Err(error) => no_command(alloc, error),
+    };
+    finish(outcome, out, err).code()
+}
+
+/// Answers the status where the words couldn't be read: 3 where memory ran out, and 2 for a word
+/// that is no text. A failed write to `err` is ignored.
+pub fn unread<E: Write>(error: &io::Error, err: &mut E) -> u8
+    ensures { (result ≡ 2) ⊎ (result ≡ 3) }
+{
+    if error.kind() == io::ErrorKind::OutOfMemory {
+        let _ = err.write_all(b"memory\n");
+        return 3;
+    }
+    let _ = err.write_all(b"error: the words aren't UTF-8\n");
+    2
+}

@@ -1,0 +1,36 @@
+//! The statuses that the program ends with.
+
+ghost use Rattle.std.specs.Prelude.{◌<◌};
+
+/// How a run ends.
+#[derive(Clone, Copy, Debug, Drop, PartialEq, Eq)]
+pub(crate) enum Status {
+    /// What was asked for is done.
+    Done,
+    /// A file or the schema is refused, or the schema has nothing of what was asked for.
+    Refused,
+    /// The words give no command.
+    Usage,
+    /// Memory ran out.
+    Memory,
+    /// What was asked for couldn't be written.
+    Unwritten,
+    /// A file couldn't be read.
+    Unread,
+}
+
+impl Status {
+    /// The status as a number: from 0 on, in the order of the variants.
+    pub(crate) fn code(self) -> u8
+        ensures { result < 6 }
+    {
+        match self {
+            Status::Done => 0,
+            Status::Refused => 1,
+            Status::Usage => 2,
+            Status::Memory => 3,
+            Status::Unwritten => 4,
+            Status::Unread => 5,
+        }
+    }
+}

@@ -1,0 +1,120 @@
+//! Documents, laid out.
+
+ghost use Rattle.std.specs.Prelude.{◌≡◌, ◌++◌, ◌<◌, IfOk, OnOk, ◌∷◌, All, get_or, length, map, string_bytes};
+ghost use Rattle.std.specs.Borrow.{Bor};
+ghost use Rattle.std.specs.declared.alloc.Global.{Global};
+ghost use Rattle.json.specs.declared.value.Value.{Value as Tree};
+ghost use Rattle.schema_layout.specs.SameTokens.{SameTokens, Text};
+ghost use Rattle.std.specs.List.Sorted.{IsPermutation};
+ghost use Rattle.json.specs.Lex.{tokens};
+ghost use Rattle.json.specs.Token.{begin_array, begin_object};
+ghost use Rattle.json.specs.Tree.{HasNumbers, ItemsHaveNumbers, MembersHaveNumbers, items_tokens, json_tokens, members_tokens};
+ghost use Rattle.json.specs.Value.{items_view, members_view, value_view};
+
+use crate::shape::Shape;
+use json::{Pretty, Token, Value};
+use std::alloc::{AllocError, Global};
+
+/// A member of an object.
+type Member<'a> = (&'a str, Value<'a>);
+
+/// What a member is sorted by, and its index.
+type Place<'a> = ((usize, &'a str, &'a str), usize);
+
+/// Writes a value.
+#[cycle(laying_out)]
+fn write(pretty: &mut Pretty, shape: Shape, value: &Value<'_>) -> Result<(), AllocError>
+    requires { HasNumbers (value_view value.now) }
+    ensures { OnOk result (SameTokens pretty.new
+        (pretty.old ++ json_tokens (value_view value.now))) }
+{
+    match value {
+        Value::Null => pretty.token(Token::Null),
+        Value::Bool(truth) => pretty.token(Token::Bool(*truth)),
+        Value::Number(text) => pretty.token(Token::Number(text)),
+        Value::String(text) => pretty.token(Token::String(text)),
+        Value::Array(items) => write_items(pretty, shape.of_item(), items),
+        Value::Object(members) => write_members(pretty, shape, members),
+    }
+}
+
+/// Writes the items of an array.
+#[cycle(laying_out)]
+fn write_items(pretty: &mut Pretty, shape: Shape, items: &Vec<Value<'_>>) -> Result<(), AllocError>
+    requires { ItemsHaveNumbers (items_view items.now.items) }
+    ensures { OnOk result (SameTokens pretty.new
+        (pretty.old ++ begin_array ∷ items_tokens (items_view items.now.items))) }
+{
+    pretty.token(Token::BeginArray)?;
+    for item in items {
+        write(pretty, shape, item)?;
+    }
+    pretty.token(Token::EndArray)
+}
+
+/// The members of an object of a shape, each as what it is sorted by and its index.
+fn places<'a>(shape: Shape, members: &Vec<Member<'a>>) -> Result<Vec<Place<'a>>, AllocError>
+    ensures order { IfOk result (λ places. (d : Bor Text × Tree Global) →
+        map (λ place. get_or members.now.items place.1 d) places.items ≡ members.now.items) }
+    ensures within { IfOk result (λ places.
+        All (λ place. place.1 < length members.now.items) places.items) }
+{
+    let mut places = Vec::with_capacity(*members.allocator(), members.len())?;
+    for (index, member) in members.iter().enumerate() {
+        places.push((shape.sorted_by(member.0), index))?;
+    }
+    Ok(places)
+}
+
+/// The indices of the members of an object of a shape, in the order of the format.
+fn in_order(shape: Shape, members: &Vec<Member<'_>>) -> Result<Vec<usize>, AllocError>
+    ensures order { IfOk result (λ order. (d : Bor Text × Tree Global) → IsPermutation
+        members.now.items (map (λ i. get_or members.now.items i d) order.items)) }
+    ensures within { IfOk result (λ order.
+        All (λ i. i < length members.now.items) order.items) }
+{
+    let mut places = places(shape, members)?;
+    places.sort()?;
+    let mut order = Vec::with_capacity(*members.allocator(), places.len())?;
+    for place in &places {
+        order.push(place.1)?;
+    }
+    Ok(order)
+}
+
+/// Writes the members of an object.
+#[cycle(laying_out)]
+fn write_members(
+    pretty: &mut Pretty,
+    shape: Shape,
+    members: &Vec<Member<'_>>,
+) -> Result<(), AllocError>
+    requires { MembersHaveNumbers (members_view members.now.items) }
+    ensures { OnOk result (SameTokens pretty.new
+        (pretty.old ++ begin_object ∷ members_tokens (members_view members.now.items))) }
+{
+    pretty.token(Token::BeginObject)?;
+    let order = in_order(shape, members)?;
+    for index in &order {
+        let member = &members[*index];
+        pretty.token(Token::Key(member.0))?;
+        write(pretty, shape.of_member(member.0), &member.1)?;
+    }
+    pretty.token(Token::EndObject)
+}
+
+/// A schema's document as text: two blanks a level, each item and each member on a line of its own,
+/// the fields of each object in the order of the format, and other members in the order of their
+/// keys. Nothing is left out, and no line end follows.
+pub fn laid_out(alloc: Global, document: &Value<'_>) -> Result<String, AllocError>
+    requires { HasNumbers (value_view document.now) }
+    ensures { IfOk result (λ text. SameTokens (tokens (string_bytes text))
+        (json_tokens (value_view document.now))) }
+{
+    let mut pretty = Pretty::new(alloc);
+    write(&mut pretty, Shape::Fragment, document)?;
+    match String::from_utf8(pretty.into_inner()) {
+        Ok(text) => Ok(text),
+        Err(_) => unreachable!(),
+    }
+}

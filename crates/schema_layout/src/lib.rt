@@ -1,0 +1,7 @@
+//! Schemas in Cedar's JSON format, laid out: each object's fields in the order of the format.
+#![tactic(auto)]
+
+mod layout;
+mod shape;
+
+pub use layout::laid_out;

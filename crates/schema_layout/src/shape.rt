@@ -1,0 +1,144 @@
+//! What stands where in a schema (Cedar reference, JSON schema format).
+
+/// What a value in a schema is.
+#[derive(Clone, Copy, Debug, Drop, PartialEq, Eq)]
+pub(crate) enum Shape {
+    /// The whole: definitions by namespace.
+    Fragment,
+    /// The definition of a namespace.
+    Definition,
+    /// The declarations of common types by id.
+    CommonTypes,
+    /// The declarations of entity types by id.
+    EntityTypes,
+    /// The declaration of an entity type.
+    EntityType,
+    /// The declarations of actions by id.
+    Actions,
+    /// The declaration of an action.
+    Action,
+    /// The requests that an action is for.
+    AppliesTo,
+    /// The parents of an action.
+    Parents,
+    /// A parent of an action.
+    Parent,
+    /// A type, the declaration of a common type, or an attribute.
+    Type,
+    /// The attributes of a record type by name.
+    Attributes,
+    /// Anything else, with members in the order of their keys.
+    Other,
+}
+
+/// The fields of a definition.
+const DEFINITION: &[(&str, Shape)] = &[
+    ("entityTypes", Shape::EntityTypes),
+    ("actions", Shape::Actions),
+    ("commonTypes", Shape::CommonTypes),
+    ("annotations", Shape::Other),
+];
+
+/// The fields of the declaration of an entity type.
+const ENTITY_TYPE: &[(&str, Shape)] = &[
+    ("enum", Shape::Other),
+    ("memberOfTypes", Shape::Other),
+    ("shape", Shape::Type),
+    ("tags", Shape::Type),
+    ("external", Shape::Other),
+    ("annotations", Shape::Other),
+];
+
+/// The fields of the declaration of an action.
+const ACTION: &[(&str, Shape)] = &[
+    ("appliesTo", Shape::AppliesTo),
+    ("memberOf", Shape::Parents),
+    ("attributes", Shape::Other),
+    ("external", Shape::Other),
+    ("annotations", Shape::Other),
+];
+
+/// The fields of what an action applies to.
+const APPLIES_TO: &[(&str, Shape)] = &[
+    ("principalTypes", Shape::Other),
+    ("resourceTypes", Shape::Other),
+    ("context", Shape::Type),
+];
+
+/// The fields of a parent of an action.
+const PARENT: &[(&str, Shape)] = &[("id", Shape::Other), ("type", Shape::Other)];
+
+/// The fields of a type and of what else has a type's fields.
+const TYPE: &[(&str, Shape)] = &[
+    ("type", Shape::Other),
+    ("element", Shape::Type),
+    ("attributes", Shape::Attributes),
+    ("additionalAttributes", Shape::Other),
+    ("name", Shape::Other),
+    ("required", Shape::Other),
+    ("annotations", Shape::Other),
+];
+
+impl Shape {
+    /// The fields of an object of this shape, in order, each with its shape.
+    fn fields(self) -> &'static [(&'static str, Shape)] {
+        match self {
+            Shape::Definition => DEFINITION,
+            Shape::EntityType => ENTITY_TYPE,
+            Shape::Action => ACTION,
+            Shape::AppliesTo => APPLIES_TO,
+            Shape::Parent => PARENT,
+            Shape::Type => TYPE,
+            _ => &[],
+        }
+    }
+
+    /// The place of a field among those of the shape; behind all of them where it is none.
+    fn rank(self, key: &str) -> usize {
+        let fields = self.fields();
+        match fields.iter().position(|field| field.0 == key) {
+            Some(rank) => rank,
+            None => fields.len(),
+        }
+    }
+
+    /// The shape of the member that has this key.
+    pub(crate) fn of_member(self, key: &str) -> Shape {
+        match self {
+            Shape::Fragment => Shape::Definition,
+            Shape::CommonTypes | Shape::Attributes => Shape::Type,
+            Shape::EntityTypes => Shape::EntityType,
+            Shape::Actions => Shape::Action,
+            _ => match self.fields().get(self.rank(key)) {
+                Some(field) => field.1,
+                None => Shape::Other,
+            },
+        }
+    }
+
+    /// The shape of each item.
+    pub(crate) fn of_item(self) -> Shape {
+        match self {
+            Shape::Parents => Shape::Parent,
+            _ => Shape::Other,
+        }
+    }
+
+    /// What the member that has this key is sorted by: a namespace by its base name and then by what
+    /// stands before it, a field by its place among those of the shape, and all else by its key.
+    pub(crate) fn sorted_by(self, key: &str) -> (usize, &str, &str) {
+        if self == Shape::Fragment {
+            let (base, path) = base_first(key);
+            return (0, base, path);
+        }
+        (self.rank(key), key, "")
+    }
+}
+
+/// The base name of a namespace, and what stands before it.
+fn base_first(name: &str) -> (&str, &str) {
+    match name.rsplit_once("::") {
+        Some((path, base)) => (base, path),
+        None => (name, ""),
+    }
+}
