@@ -17,30 +17,30 @@ use Rattle.cedar_type_rules.specs.declared.open_tag.OpenTag.{OpenTag}
 use Rattle.cedar_type_rules.specs.declared.open_tag.OpenTag.TheVariants.{OpenAttributes, ClosedAttributes}
 
 -- what holds of each value holds of it in a weaker form
-EachTree-weaker : (P Q : Tree → Type 0) (values : Trees) → ((value : Tree) → P value → Q value) → EachTree P values → EachTree Q values
+pub EachTree-weaker : (P Q : Tree → Type 0) (values : Trees) → ((value : Tree) → P value → Q value) → EachTree P values → EachTree Q values
 EachTree-weaker P Q no_tree weaker each = tt
 EachTree-weaker P Q (tree first rest) weaker each =
     (weaker first each.0, EachTree-weaker P Q rest weaker each.1)
 
 -- what is as it has to be is so in a weaker form
-EntryFits-weaker : (P Q : Tree → Type 0) (own required : Bool) (found : Option Tree)
+pub EntryFits-weaker : (P Q : Tree → Type 0) (own required : Bool) (found : Option Tree)
     → ((value : Tree) → P value → Q value) → (own ≡ false → required ≡ false) → EntryFits P own found → EntryFits Q required found
 EntryFits-weaker P Q own required None weaker flags fits = flags fits
 EntryFits-weaker P Q own required (Some value) weaker flags fits = weaker value fits
 
 -- an attribute that may be missing is below none that is required
-FlagsBelow-missing : (mode : ValidationMode) (own required : Bool) → FlagsBelow mode own required → own ≡ false → required ≡ false
+pub FlagsBelow-missing : (mode : ValidationMode) (own required : Bool) → FlagsBelow mode own required → own ≡ false → required ≡ false
 FlagsBelow-missing Strict own required fits missing = sym fits ∙ missing
 FlagsBelow-missing Permissive own true fits missing = absurd (let e = fits refl in cc)
 FlagsBelow-missing Permissive own false fits missing = refl
 
 -- a truth value as known is so as less is known
-HasTruth-above : (value : Bool) (a b : BoolType) → HasTruth value a → (b ≡ bool_type.AnyBool) ⊎ (a ≡ b) → HasTruth value b
+pub HasTruth-above : (value : Bool) (a b : BoolType) → HasTruth value a → (b ≡ bool_type.AnyBool) ⊎ (a ≡ b) → HasTruth value b
 HasTruth-above value a b has below =
     ⊎_elim (λ any. subst (HasTruth value) (sym any) tt) (λ same. subst (HasTruth value) same has) below
 
 -- a record whose attributes are listed lists them in a record type above
-NamesListed-above : (mode : ValidationMode) (openness upper_openness : OpenTag) (values : Entries)
+pub NamesListed-above : (mode : ValidationMode) (openness upper_openness : OpenTag) (values : Entries)
     (lower upper : Fields) → NamesListed (is_open openness) (entry_names values) (field_names lower)
     → OpennessBelow openness upper_openness → NamesBelow mode upper_openness lower upper
     → NamesListed (is_open upper_openness) (entry_names values) (field_names upper)

@@ -1,4 +1,5 @@
--- Permissive subtyping of inhabited types is inclusion of values, and of names.
+-- Inclusion of values of inhabited types is told by their parts, and permissive subtyping is
+-- inclusion of values and of names.
 use Rattle.std.proofs.Common.{◌≡◌, ◌≢◌, inl, inr, ⊎_elim, Bool, true, false, refl, sym, subst, ◌∙◌, pos, [], Some, None, Contains, IsTrue}
 use Rattle.cedar_below.proofs.Inclusion.{Included-cons}
 use Rattle.cedar_below.proofs.Lists.{Contains-cons}
@@ -15,15 +16,16 @@ use Rattle.cedar_below.specs.declared.extension.Extensions.{Extensions}
 use Rattle.cedar_below.specs.declared.validation_mode.ValidationMode.TheVariants.{Permissive}
 use Rattle.cedar_type_rules.proofs.AgreeLaws.{HasField-once, AreWellFormed-of}
 use Rattle.cedar_type_rules.proofs.Decisions.{decide_among}
-use Rattle.cedar_type_rules.proofs.MemberLaws.{HasBy-above, HasFieldsBy-of}
+use Rattle.cedar_type_rules.proofs.MemberLaws.{EachTree-weaker, EntryFits-weaker, FlagsBelow-missing, HasBy-above, HasFieldsBy-of, HasTruth-above, NamesListed-above}
 use Rattle.cedar_type_rules.proofs.RecordAnswers.{decide_texts}
 use Rattle.cedar_type_rules.proofs.SampleValues.{HasFields-from, fits_some, some_fits, entry_here, entry_there, absent_entry, fresh_text, fresh_name, truth_sample, some_name, uid_is_value, zero_is_value, only_listed, Sample, inhabitant, sample}
 use Rattle.cedar_type_rules.proofs.SubtypeLaws.{FieldsWithin, HasField-name, HasField-named, FieldsBelow-names}
 use Rattle.cedar_type_rules.specs.Fields.{IsSortedByName, field_names}
 use Rattle.cedar_type_rules.specs.Below.{HasField, OpennessBelow, NamesBelow, Below, FieldsBelow}
-use Rattle.cedar_type_rules.specs.Has.{Has}
+use Rattle.cedar_type_rules.specs.Has.{Has, HasBy, HasFieldsBy}
+use Rattle.cedar_type_rules.specs.IncludedByParts.{FieldsIncluded, IncludedByParts, IsNeverThere}
 use Rattle.cedar_type_rules.specs.OpenTag.{is_open}
-use Rattle.cedar_type_rules.specs.InclusionLaws.{ValuesIncluded, ListsNames, FieldsListNames, SubtypingIsInclusion, SubtypingIsInclusionAndNames}
+use Rattle.cedar_type_rules.specs.InclusionLaws.{PartsTellInclusion, ValuesIncluded, ListsNames, FieldsListNames, SubtypingIsInclusion, SubtypingIsInclusionAndNames}
 use Rattle.cedar_type_rules.specs.Stated.{IsInhabited, AreInhabited, RequiresAll, FieldsRequireAll}
 use Rattle.cedar_type_rules.specs.Ty.{Ty, never, truth, long, text, any_entity, union_of, any_set, set_of, record_of, extension_of, Fields, end, field}
 use Rattle.cedar_type_rules.specs.WellFormed.{IsWellFormed, AreWellFormed, AreTexts}
@@ -58,6 +60,7 @@ record Inclusion (extensions : Extensions) (fa fb : Fields) (ta tb : OpenTag) : 
   first : IsSortedByName fa
   formed : AreWellFormed fa
   texts : AreTexts (field_names fa)
+  others : (n : Text) (r : Bool) (t : Ty) → HasField fb n r t → IsText n
   lives : AreInhabited extensions fa
   within : ValuesIncluded extensions (record_of fa ta) (record_of fb tb)
 
@@ -214,77 +217,202 @@ extensions_included extensions a b function args gives also =
     sym gives.2 ∙ (λ i. result_type (same i)) ∙ also.2 in
     cc
 
+-- a name that only the second record has is never there in a record of the first
+never_there : (extensions : Extensions) (fa fb : Fields) (ta tb : OpenTag) (n : Text) (rb : Bool) (b : Ty)
+    → Inclusion extensions fa fb ta tb → HasField fb n rb b → ¬ Contains (field_names fa) n → IsNeverThere ta fa n rb
+never_there extensions fa fb ClosedAttributes tb n rb b known also absent =
+    (refl, absent, optional_too extensions fa fb ClosedAttributes tb n rb b known (λ r t has. absurd (absent (HasField-name fa n r t has))) also)
+never_there extensions fa fb OpenAttributes tb n rb b known also absent =
+    let it = sample extensions fa n known.first known.formed known.texts known.lives in
+    let other = other_value extensions b in
+    let whole = with_value extensions fa OpenAttributes n other.0 it known.first
+    (λ r t there. absurd (absent (HasField-name fa n r t there))) tt in
+    absurd (other.2 (some_fits (λ v. Has extensions v b) rb (entry_at n (entry n other.0 it.values)) other.0
+    (entry_here n n other.0 it.values refl)
+    (HasFieldsBy-of (Gives extensions) (entry n other.0 it.values) fb n rb b
+    (known.within (map_value (entry n other.0 it.values))
+    (sample_is_value extensions fa n other.0 it (known.others n rb b also) other.1) whole).1 also)))
+
 mutual
-  -- an inhabited type is below one that has its values and whose names it lists
-  included_below : (extensions : Extensions) (b a : Ty) → IsWellFormed a → IsInhabited extensions a
-      → ValuesIncluded extensions a b → ListsNames a b → Below Permissive a b
-  included_below extensions b never formed lives within lists = elim lives [ ]
-  included_below extensions (truth other) (truth known) formed lives within lists = truths_included extensions known other within
-  included_below extensions b (truth known) formed lives within lists =
+  -- an inhabited type is included by its parts in one that has its values
+  included_by_parts : (extensions : Extensions) (b a : Ty) → IsWellFormed a → IsWellFormed b → IsInhabited extensions a
+      → ValuesIncluded extensions a b → IncludedByParts a b
+  included_by_parts extensions b never formed other lives within = elim lives [ ]
+  included_by_parts extensions (truth other) (truth known) formed also lives within = truths_included extensions known other within
+  included_by_parts extensions b (truth known) formed other lives within =
       (let it = truth_sample known in elim (within (truth_value it.0) tt it.1) [ ])
-  included_below extensions long long formed lives within lists = tt
-  included_below extensions b long formed lives within lists = elim (within (number_value (pos 0)) zero_is_value tt) [ ]
-  included_below extensions text text formed lives within lists = tt
-  included_below extensions b text formed lives within lists = elim (within (text_value []) IsText-nil tt) [ ]
-  included_below extensions any_entity any_entity formed lives within lists = tt
-  included_below extensions (union_of names) any_entity formed lives within lists =
+  included_by_parts extensions long long formed other lives within = tt
+  included_by_parts extensions b long formed other lives within = elim (within (number_value (pos 0)) zero_is_value tt) [ ]
+  included_by_parts extensions text text formed other lives within = tt
+  included_by_parts extensions b text formed other lives within = elim (within (text_value []) IsText-nil tt) [ ]
+  included_by_parts extensions any_entity any_entity formed other lives within = tt
+  included_by_parts extensions (union_of names) any_entity formed other lives within =
       (let fresh = fresh_name names in
       absurd (fresh.1 (within (uid_value (record { ty = fresh.0; eid = [] })) (uid_is_value fresh.0 fresh.2) tt)))
-  included_below extensions b any_entity formed lives within lists =
+  included_by_parts extensions b any_entity formed other lives within =
       elim (within (uid_value (record { ty = stretch_name 0; eid = [] })) (uid_is_value (stretch_name 0) (IsName-stretch 0)) tt) [ ]
-  included_below extensions any_entity (union_of names) formed lives within lists = tt
-  included_below extensions (union_of others) (union_of names) formed lives within lists =
+  included_by_parts extensions any_entity (union_of names) formed other lives within = tt
+  included_by_parts extensions (union_of others) (union_of names) formed other lives within =
       λ name among. within (uid_value (record { ty = name; eid = [] })) (uid_is_value name (formed.2 name among)) among
-  included_below extensions b (union_of names) formed lives within lists =
+  included_by_parts extensions b (union_of names) formed other lives within =
       (let it = some_name names formed.0 in
       elim (within (uid_value (record { ty = it.0; eid = [] })) (uid_is_value it.0 (formed.2 it.0 it.1)) it.1) [ ])
-  included_below extensions any_set any_set formed lives within lists = tt
-  included_below extensions (set_of b) any_set formed lives within lists =
+  included_by_parts extensions any_set any_set formed other lives within = tt
+  included_by_parts extensions (set_of b) any_set formed other lives within =
       (let it = other_value extensions b in absurd (it.2 (within (set_value (tree it.0 no_tree)) (it.1, tt) tt).0))
-  included_below extensions b any_set formed lives within lists = elim (within (set_value no_tree) tt tt) [ ]
-  included_below extensions any_set (set_of a) formed lives within lists = tt
-  included_below extensions (set_of b) (set_of a) formed lives within lists =
-      included_below extensions b a formed lives (elements_included extensions a b within) lists
-  included_below extensions b (set_of a) formed lives within lists = elim (within (set_value no_tree) tt tt) [ ]
-  included_below extensions (record_of fb tb) (record_of fa ta) formed lives within lists =
+  included_by_parts extensions b any_set formed other lives within = elim (within (set_value no_tree) tt tt) [ ]
+  included_by_parts extensions any_set (set_of a) formed other lives within = tt
+  included_by_parts extensions (set_of b) (set_of a) formed other lives within =
+      included_by_parts extensions b a formed other lives (elements_included extensions a b within)
+  included_by_parts extensions b (set_of a) formed other lives within = elim (within (set_value no_tree) tt tt) [ ]
+  included_by_parts extensions (record_of fb tb) (record_of fa ta) formed other lives within =
       let known : Inclusion extensions fa fb ta tb = record {
         first = formed.0;
         formed = formed.1;
         texts =
             formed.2;
+        others = λ n r t has. other.2 n (HasField-name fb n r t has);
         lives = lives;
         within = within;
       } in (
         tags_included extensions fa fb ta tb known,
         names_included extensions fa fb ta tb known,
-        fields_below extensions fb fa fb ta tb known (λ n r t has. has) lists.0 lists.1,
+        fields_included extensions fb fa fb ta tb known (λ n r t has. has) other.1,
       )
-  included_below extensions b (record_of fa ta) formed lives within lists =
+  included_by_parts extensions b (record_of fa ta) formed other lives within =
       (let it = record_value extensions fa ta formed.0 formed.1 formed.2 lives in elim (within (map_value it.0) it.1 it.2) [ ])
-  included_below extensions (extension_of other) (extension_of name) formed (call_value function args, real, gives) within lists =
+  included_by_parts extensions (extension_of other) (extension_of name) formed also (call_value function args, real, gives) within =
       extensions_included extensions name other function args gives (within (call_value function args) real gives)
-  included_below extensions b (extension_of name) formed (call_value function args, real, gives) within lists =
+  included_by_parts extensions b (extension_of name) formed other (call_value function args, real, gives) within =
       elim (within (call_value function args) real gives) [ ]
-  included_below extensions b (extension_of name) formed (value, real, gives) within lists = elim gives [ ]
+  included_by_parts extensions b (extension_of name) formed other (value, real, gives) within = elim gives [ ]
 
-  -- its attributes are below those of the other
-  fields_below : (extensions : Extensions) (part fa fb : Fields) (ta tb : OpenTag) → Inclusion extensions fa fb ta tb
-      → FieldsWithin part fb → Included (field_names fb) (field_names fa) → FieldsListNames fa part → FieldsBelow Permissive fa part
-  fields_below extensions end fa fb ta tb known within names lists = tt
-  fields_below extensions (field name required ty rest) fa fb ta tb known within names lists =
-      let there = within name required ty (inl (refl, refl, refl)) in
-      let own = HasField-named fa name (names name (HasField-name fb name required ty there)) in (
-        (
-          own.0,
-          own.1,
-          own.2,
-          flags_included extensions fa fb ta tb name own.0 required own.1 ty known own.2 there,
-          included_below extensions ty own.1 (AreWellFormed-of fa name own.0 own.1 known.formed own.2)
-              (AreInhabited-of extensions fa name own.0 own.1 known.lives own.2)
-              (attributes_included extensions fa fb ta tb name own.0 required own.1 ty known own.2 there) (lists.0 own.0 own.1 own.2),
-        ),
-        fields_below extensions rest fa fb ta tb known (λ n r t has. within n r t (inr has)) names lists.1,
+  -- each attribute of the other is included, or never there
+  fields_included : (extensions : Extensions) (part fa fb : Fields) (ta tb : OpenTag) → Inclusion extensions fa fb ta tb
+      → FieldsWithin part fb → AreWellFormed part → FieldsIncluded ta fa part
+  fields_included extensions end fa fb ta tb known within formed = tt
+  fields_included extensions (field name required ty rest) fa fb ta tb known within formed =
+      let there = within name required ty (inl (refl, refl, refl)) in (
+        ⊎_elim
+            (λ among. (let own = HasField-named fa name among in inl (
+              own.0,
+              own.1,
+              own.2,
+              flags_included extensions fa fb ta tb name own.0 required own.1 ty known own.2 there,
+              included_by_parts extensions ty own.1 (AreWellFormed-of fa name own.0 own.1 known.formed own.2) formed.0
+                  (AreInhabited-of extensions fa name own.0 own.1 known.lives own.2)
+                  (attributes_included extensions fa fb ta tb name own.0 required own.1 ty known own.2 there),
+            )))
+            (λ absent. inr (never_there extensions fa fb ta tb name required ty known there absent))
+            (decide_among decide_texts (field_names fa) name),
+        fields_included extensions rest fa fb ta tb known (λ n r t has. within n r t (inr has)) formed.1,
       )
+
+mutual
+  -- a type that is included by its parts and lists the names of the other is below it
+  parts_below : (b a : Ty) → IncludedByParts a b → ListsNames a b → Below Permissive a b
+  parts_below b never h lists = tt
+  parts_below (set_of b) (set_of a) h lists = parts_below b a h lists
+  parts_below (record_of fb tb) (record_of fa ta) h lists = (h.0, h.1, fields_parts_below fb fa ta fb (λ n r t has. has) h.2 lists.0 lists.1)
+  parts_below (truth b) (truth a) h lists = h
+  parts_below long long h lists = tt
+  parts_below text text h lists = tt
+  parts_below any_entity any_entity h lists = tt
+  parts_below any_entity (union_of a) h lists = tt
+  parts_below (union_of b) (union_of a) h lists = h
+  parts_below any_set any_set h lists = tt
+  parts_below any_set (set_of a) h lists = tt
+  parts_below (extension_of b) (extension_of a) h lists = h
+  parts_below b a h lists = elim h [ ]
+
+  -- so are its attributes
+  fields_parts_below : (part fa : Fields) (ta : OpenTag) (fb : Fields) → FieldsWithin part fb → FieldsIncluded ta fa part
+      → Included (field_names fb) (field_names fa) → FieldsListNames fa part → FieldsBelow Permissive fa part
+  fields_parts_below end fa ta fb within h names lists = tt
+  fields_parts_below (field name required ty rest) fa ta fb within h names lists = (
+    ⊎_elim
+        (λ own. (own.0, own.1, own.2, own.3, parts_below ty own.1 own.4 (lists.0 own.0 own.1 own.2)))
+        (λ never. absurd (never.1 (names name (HasField-name fb name required ty (within name required ty (inl (refl, refl, refl)))))))
+        h.0,
+    fields_parts_below rest fa ta fb (λ n r t has. within n r t (inr has)) h.1 names lists.1,
+  )
+
+mutual
+  -- what is below a type is included in it by its parts
+  pub below_parts : (b a : Ty) → Below Permissive a b → IncludedByParts a b
+  below_parts b never h = tt
+  below_parts (set_of b) (set_of a) h = below_parts b a h
+  below_parts (record_of fb tb) (record_of fa ta) h = (h.0, h.1, fields_below_parts fb fa ta h.2)
+  below_parts (truth b) (truth a) h = h
+  below_parts long long h = tt
+  below_parts text text h = tt
+  below_parts any_entity any_entity h = tt
+  below_parts any_entity (union_of a) h = tt
+  below_parts (union_of b) (union_of a) h = h
+  below_parts any_set any_set h = tt
+  below_parts any_set (set_of a) h = tt
+  below_parts (extension_of b) (extension_of a) h = h
+  below_parts b a h = elim h [ ]
+
+  -- so are its attributes
+  fields_below_parts : (fb fa : Fields) (ta : OpenTag) → FieldsBelow Permissive fa fb → FieldsIncluded ta fa fb
+  fields_below_parts end fa ta h = tt
+  fields_below_parts (field name required ty rest) fa ta h =
+      let own = h.0 in
+      (inl (own.0, own.1, own.2, own.3, below_parts ty own.1 own.4), fields_below_parts rest fa ta h.1)
+
+-- what a closed record never has may be missing
+fits_missing : (P : Tree → Type 0) (openness : OpenTag) (lower : Fields) (name : Text) (required : Bool) (values : Entries)
+    → NamesListed (is_open openness) (entry_names values) (field_names lower) → IsNeverThere openness lower name required
+    → EntryFits P required (entry_at name values)
+fits_missing P ClosedAttributes lower name required values listed missing =
+    subst (EntryFits P required) (sym (absent_entry name values (λ there. missing.1 (listed name there)))) missing.2
+fits_missing P OpenAttributes lower name required values listed missing = absurd (let e = missing.0 in cc)
+
+mutual
+  -- what has a type has each type in which it is included by its parts
+  pub HasBy-included : (calls : PlainName → Trees → PlainName → Type 0) (value : Tree) (a b : Ty)
+      → HasBy calls value a → IncludedByParts a b → HasBy calls value b
+  HasBy-included calls (truth_value value) (truth a) (truth b) h k = HasTruth-above value a b h k
+  HasBy-included calls (truth_value value) (truth a) b h k = elim k [ ]
+  HasBy-included calls (number_value value) long long h k = tt
+  HasBy-included calls (number_value value) long b h k = elim k [ ]
+  HasBy-included calls (text_value value) text text h k = tt
+  HasBy-included calls (text_value value) text b h k = elim k [ ]
+  HasBy-included calls (uid_value uid) any_entity any_entity h k = tt
+  HasBy-included calls (uid_value uid) any_entity b h k = elim k [ ]
+  HasBy-included calls (uid_value uid) (union_of a) any_entity h k = tt
+  HasBy-included calls (uid_value uid) (union_of a) (union_of b) h k = k uid.ty h
+  HasBy-included calls (uid_value uid) (union_of a) b h k = elim k [ ]
+  HasBy-included calls (set_value values) any_set any_set h k = tt
+  HasBy-included calls (set_value values) any_set b h k = elim k [ ]
+  HasBy-included calls (set_value values) (set_of a) any_set h k = tt
+  HasBy-included calls (set_value values) (set_of a) (set_of b) h k =
+      EachTree-weaker (λ value. HasBy calls value a) (λ value. HasBy calls value b) values
+      (λ value has. HasBy-included calls value a b has k) h
+  HasBy-included calls (set_value values) (set_of a) b h k = elim k [ ]
+  HasBy-included calls (map_value values) (record_of a openness) (record_of b upper_openness) h k =
+      (NamesListed-above Permissive openness upper_openness values a b h.0 k.0 k.1, HasFieldsBy-included calls values openness a b h.0 h.1 k.2)
+  HasBy-included calls (map_value values) (record_of a openness) b h k = elim k [ ]
+  HasBy-included calls (call_value function args) (extension_of a) (extension_of b) h k = subst (calls function args) k h
+  HasBy-included calls (call_value function args) (extension_of a) b h k = elim k [ ]
+  HasBy-included calls value a b h k = elim h [ ]
+
+  -- what has the attributes of a record has those of one in which they are included
+  HasFieldsBy-included : (calls : PlainName → Trees → PlainName → Type 0) (values : Entries) (openness : OpenTag)
+      (a b : Fields) → NamesListed (is_open openness) (entry_names values) (field_names a) → HasFieldsBy calls values a
+      → FieldsIncluded openness a b → HasFieldsBy calls values b
+  HasFieldsBy-included calls values openness a end listed h k = tt
+  HasFieldsBy-included calls values openness a (field name required ty rest) listed h k = (
+    ⊎_elim
+        (λ own. EntryFits-weaker (λ value. HasBy calls value own.1) (λ value. HasBy calls value ty) own.0 required
+        (entry_at name values) (λ value has. HasBy-included calls value own.1 ty has own.4)
+        (FlagsBelow-missing Permissive own.0 required own.3)
+        (HasFieldsBy-of calls values a name own.0 own.1 h own.2))
+        (λ missing. fits_missing (λ value. HasBy calls value ty) openness a name required values listed missing)
+        k.0,
+    HasFieldsBy-included calls values openness a rest listed h k.1,
+  )
 
 mutual
   -- a type lists the names of a type above it
@@ -315,16 +443,17 @@ FieldsRequireAll-of (field other flag of rest) name required ty all (inr there) 
 
 mutual
   -- an inhabited type lists the names of one that has its values and requires all
-  included_lists : (extensions : Extensions) (a b : Ty) → IsWellFormed a → IsInhabited extensions a → RequiresAll b
+  included_lists : (extensions : Extensions) (a b : Ty) → IsWellFormed a → IsWellFormed b → IsInhabited extensions a → RequiresAll b
       → ValuesIncluded extensions a b → ListsNames a b
-  included_lists extensions (set_of a) (set_of b) formed lives all within =
-      included_lists extensions a b formed lives all (elements_included extensions a b within)
-  included_lists extensions (record_of fa ta) (record_of fb tb) formed lives all within =
+  included_lists extensions (set_of a) (set_of b) formed other lives all within =
+      included_lists extensions a b formed other lives all (elements_included extensions a b within)
+  included_lists extensions (record_of fa ta) (record_of fb tb) formed other lives all within =
       let known : Inclusion extensions fa fb ta tb = record {
         first = formed.0;
         formed = formed.1;
         texts =
             formed.2;
+        others = λ n r t has. other.2 n (HasField-name fb n r t has);
         lives = lives;
         within = within;
       } in (
@@ -332,33 +461,41 @@ mutual
             (let found = HasField-named fb n among in
             let needed = FieldsRequireAll-of fb n found.0 found.1 all found.2 in
             required_listed extensions fa fb ta tb n found.1 known (subst (λ r. HasField fb n r found.1) needed.0 found.2))),
-        included_fields_list extensions fb fa fb ta tb known (λ n r t has. has) all,
+        included_fields_list extensions fb fa fb ta tb known (λ n r t has. has) other.1 all,
       )
-  included_lists extensions a b formed lives all within = tt
+  included_lists extensions a b formed other lives all within = tt
 
   -- the types of its attributes list the names of those of the other
   included_fields_list : (extensions : Extensions) (part fa fb : Fields) (ta tb : OpenTag)
-      → Inclusion extensions fa fb ta tb → FieldsWithin part fb → FieldsRequireAll part → FieldsListNames fa part
-  included_fields_list extensions end fa fb ta tb known within all = tt
-  included_fields_list extensions (field name required ty rest) fa fb ta tb known within all = (
+      → Inclusion extensions fa fb ta tb → FieldsWithin part fb → AreWellFormed part → FieldsRequireAll part → FieldsListNames fa part
+  included_fields_list extensions end fa fb ta tb known within formed all = tt
+  included_fields_list extensions (field name required ty rest) fa fb ta tb known within formed all = (
     (λ own_required own has.
-        included_lists extensions own ty (AreWellFormed-of fa name own_required own known.formed has)
+        included_lists extensions own ty (AreWellFormed-of fa name own_required own known.formed has) formed.0
         (AreInhabited-of extensions fa name own_required own known.lives has) all.1
         (attributes_included extensions fa fb ta tb name own_required required own ty known has
         (within name required ty (inl (refl, refl, refl))))),
-    included_fields_list extensions rest fa fb ta tb known (λ n r t has. within n r t (inr has)) all.2,
+    included_fields_list extensions rest fa fb ta tb known (λ n r t has. within n r t (inr has)) formed.1 all.2,
   )
+
+-- inclusion by parts of inhabited types is inclusion of values
+pub inclusion_by_parts : PartsTellInclusion
+inclusion_by_parts a b first second extensions lives = (
+  λ parts value real has. HasBy-included (Gives extensions) value a b has parts,
+  λ within. included_by_parts extensions b a first second lives within,
+)
 
 -- permissive subtyping of inhabited types is inclusion of values and of names
 pub inclusion_and_names : SubtypingIsInclusionAndNames
 inclusion_and_names a b first second extensions lives also = (
   λ below. ((λ value real has. HasBy-above (Gives extensions) value Permissive a b has below), below_lists a b first below),
-  λ both. included_below extensions b a first lives both.0 both.1,
+  λ both. parts_below b a (included_by_parts extensions b a first second lives both.0) both.1,
 )
 
 -- permissive subtyping of stated types is inclusion of values
 pub inclusion : SubtypingIsInclusion
 inclusion a b first second extensions stated also = (
   λ below value real has. HasBy-above (Gives extensions) value Permissive a b has below,
-  λ within. included_below extensions b a first stated.0 within (included_lists extensions a b first stated.0 also.1 within),
+  λ within. parts_below b a (included_by_parts extensions b a first second stated.0 within)
+      (included_lists extensions a b first second stated.0 also.1 within),
 )

@@ -7,6 +7,7 @@ use Rattle.cedar_below.specs.declared.validation_mode.ValidationMode.TheVariants
 use Rattle.cedar_type_rules.specs.Fields.{field_names}
 use Rattle.cedar_type_rules.specs.Below.{HasField, Below}
 use Rattle.cedar_type_rules.specs.Has.{Has}
+use Rattle.cedar_type_rules.specs.IncludedByParts.{IncludedByParts}
 use Rattle.cedar_type_rules.specs.Stated.{IsInhabited, IsStated}
 use Rattle.cedar_type_rules.specs.Ty.{Ty, set_of, record_of, Fields, end, field}
 use Rattle.cedar_type_rules.specs.WellFormed.{IsWellFormed}
@@ -44,6 +45,11 @@ abbrev pub SubtypingIsInclusionAndNamesOf : Ty → Ty → Type 0
 SubtypingIsInclusionAndNamesOf a b =
     (extensions : Extensions) → IsInhabited extensions a → IsInhabited extensions b
     → Below Permissive a b ↔ (ValuesIncluded extensions a b × ListsNames a b)
+
+-- on types of which the first is inhabited throughout, inclusion by parts is inclusion of values
+abbrev pub PartsTellInclusion : Type 0
+PartsTellInclusion = (a b : Ty) → IsWellFormed a → IsWellFormed b → (extensions : Extensions)
+    → IsInhabited extensions a → IncludedByParts a b ↔ ValuesIncluded extensions a b
 
 -- on stated types, permissive subtyping is inclusion of values
 abbrev pub SubtypingIsInclusion : Type 0

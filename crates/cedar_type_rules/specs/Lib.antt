@@ -13,6 +13,7 @@ pub mod EntityUnion
 pub mod Fields
 pub mod Has
 pub mod Help
+pub mod IncludedByParts
 pub mod InclusionLaws
 pub mod JoinAnswer
 pub mod JoinLaws

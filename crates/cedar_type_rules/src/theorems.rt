@@ -13,7 +13,8 @@ ghost use Rattle.cedar_type_rules.specs.CompareLaws.{ComparesBy};
 ghost use Rattle.cedar_type_rules.specs.CoreOf.{CoreIsLackedExactly};
 ghost use Rattle.cedar_type_rules.specs.Disjoint.{DisjointTypesShareNoValue};
 ghost use Rattle.cedar_type_rules.specs.Has.{Has, MayHave};
-ghost use Rattle.cedar_type_rules.specs.InclusionLaws.{SubtypingIsInclusion, SubtypingIsInclusionAndNames};
+ghost use Rattle.cedar_type_rules.specs.IncludedByParts.{IncludedByParts};
+ghost use Rattle.cedar_type_rules.specs.InclusionLaws.{PartsTellInclusion, SubtypingIsInclusion, SubtypingIsInclusionAndNames};
 ghost use Rattle.cedar_type_rules.specs.JoinLaws.{CleanBoundsAreOwn, OwnBoundsOfCleanAreClean, JoinsAreAnswered, JoinsAreGivenExactly};
 ghost use Rattle.cedar_type_rules.specs.JoinLaws.{JoinsAreUnique, UpperTypesAreJoins, JoinsAreBelowCleanBounds, JoinsOfCleanAreLeastClean};
 ghost use Rattle.cedar_type_rules.specs.JoinLaws.{JoinsAreCommutative, StrictJoinsArePermissive};
@@ -64,6 +65,13 @@ pub fn strict_subtyping_is_permissive_and_agrees()
 pub fn permissive_subtyping_is_inclusion()
     ensures stated { SubtypingIsInclusion }
     ensures with_optional { SubtypingIsInclusionAndNames }
+{}
+
+/// Inclusion of values is told by the parts of two well-formed plain types of which the first is
+/// inhabited throughout; and what permissive subtyping allows is included.
+pub fn parts_tell_inclusion_of_values()
+    ensures inclusion { PartsTellInclusion }
+    ensures subtyping { (a b : Ty) → Below mode.Permissive a b → IncludedByParts a b }
 {}
 
 /// A type is clean exactly where the any-set stands nowhere in it.
