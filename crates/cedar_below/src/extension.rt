@@ -107,8 +107,8 @@ impl Extensions {
 
     /// The extensions with these types, and with these functions by name, where the names of the
     /// types can be told from those of core types and from one another: then `type_names_fit`, as
-    /// the builders ask. It is refused exactly where they can't, with a name that has a path, stands
-    /// twice, or is `Bool`, `Long` or `String`. It takes no memory.
+    /// the builders ask. It is refused exactly where they can't, with a name that has a path,
+    /// stands twice, or is `Bool`, `Long` or `String`. It takes no memory.
     ///
     /// ```ignore
     /// let mut types = Vec::new(alloc);

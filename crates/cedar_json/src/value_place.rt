@@ -96,8 +96,8 @@ pub(crate) fn faulty_key(kind: FaultKind) -> Option<usize> {
     }
 }
 
-/// Writes the JSON pointer that steps are from a value, the last of them first, and gives the cursor
-/// at their end.
+/// Writes the JSON pointer that steps are from a value, the last of them first, and gives the
+/// cursor at their end.
 fn follow<'p>(
     pointer: &mut String,
     value: &Value<'_>,

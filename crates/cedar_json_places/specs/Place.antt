@@ -81,8 +81,8 @@ IsFirstPlace IsSo ((mark, None) ∷ rest) place = IsFirstPlace IsSo rest place
 IsFirstPlace IsSo ((mark, Some loc) ∷ rest) place =
     (IsSo mark loc × (place ≡ Some loc)) ⊎ ((¬ IsSo mark loc) × IsFirstPlace IsSo rest place)
 
--- the place is that of a declaration which another would shadow: the one that the name has, and else
--- that of the first common type or entity type of the name
+-- the place is that of a declaration which another would shadow: the one that the name has, and
+-- else that of the first common type or entity type of the name
 abbrev pub IsShadowedPlace : Marks → InternalName → Option Loc → Type 0
 IsShadowedPlace table name place =
     (place ≡ name_loc name × (name_loc name ≢ None))

@@ -39,7 +39,8 @@ record_marks_step it loc =
     ++ flat_map (λ entry. entry.1) it.attributes.entries
 
 -- one attribute: what is in its type
-abbrev pub attribute_marks_step : layer.TypeOfAttribute-F RawName Marks MarksAt MarksAt Marks → Marks
+abbrev pub attribute_marks_step :
+  layer.TypeOfAttribute-F RawName Marks MarksAt MarksAt Marks → Marks
 attribute_marks_step it = it.ty
 
 -- the open record types and the extension types in a type

@@ -124,8 +124,9 @@ impl Shape {
         }
     }
 
-    /// What the member that has this key is sorted by: a namespace by its base name and then by what
-    /// stands before it, a field by its place among those of the shape, and all else by its key.
+    /// What the member that has this key is sorted by: a namespace by its base name and then by
+    /// what stands before it, a field by its place among those of the shape, and all else by its
+    /// key.
     pub(crate) fn sorted_by(self, key: &str) -> (usize, &str, &str) {
         if self == Shape::Fragment {
             let (base, path) = base_first(key);
