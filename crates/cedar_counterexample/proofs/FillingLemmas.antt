@@ -1,16 +1,17 @@
 -- Records that are filled up with samples.
-use Rattle.std.proofs.Common.{◌≡◌, ◌≢◌, ◌⊎◌, inl, inr, ⊎_elim, Bool, true, false, refl, sym, subst, ◌∙◌, List, [], Option, Some, None, Contains, arith, Global}
+use Rattle.std.proofs.Common.{◌≡◌, ◌≢◌, ◌⊎◌, inl, inr, ⊎_elim, Bool, true, false, refl, sym, subst, ◌∙◌, [], Option, Some, None, Contains, arith, Global}
+use Rattle.std.proofs.lemmas.Option.{same_Some}
 use Rattle.std.proofs.lemmas.Slice.Eq.{bytes_eq-Decides}
 use Rattle.std.specs.BTreeMap.{BTreeMap, get_by_text}
 use Rattle.std.specs.Option.{is_some, option_map}
 use Rattle.std.specs.Str.{bytes_eq}
 use Rattle.std.specs.declared.string.String.{String}
 use Rattle.cedar_below.proofs.Inclusion.{Included-none}
-use Rattle.cedar_below.proofs.Lists.{Contains-cons, Contains-cons_cases}
+use Rattle.cedar_below.proofs.Lists.{Contains-cons_cases}
 use Rattle.cedar_below.proofs.TreeLemmas.{entry_at-entries}
 use Rattle.cedar_below.proofs.ValueLemmas.{IsName-type_name}
 use Rattle.cedar_below.specs.EntityType.{type_name}
-use Rattle.cedar_below.specs.Fits.{Gives, NamesListed}
+use Rattle.cedar_below.specs.Fits.{EntryFits, Gives, NamesListed}
 use Rattle.cedar_below.specs.IsValue.{AreEntries}
 use Rattle.cedar_below.specs.PlainName.{PlainName}
 use Rattle.cedar_below.specs.RestrictedExpr.{entries_of, tree_of}
@@ -19,16 +20,15 @@ use Rattle.cedar_below.specs.Tree.{Entries, Tree, entry, entry_at, entry_names, 
 use Rattle.cedar_below.specs.declared.entity_type.EntityType.{EntityType}
 use Rattle.cedar_below.specs.declared.value.RestrictedExpr.{RestrictedExpr}
 use Rattle.cedar_below.specs.declared.extension.Extensions.{Extensions}
-use Rattle.cedar_type_rules.proofs.Extensional.{rest_sorted_by_name}
+use Rattle.cedar_type_rules.proofs.AgreeLaws.{HasField-once}
 use Rattle.cedar_type_rules.proofs.RecordAnswers.{decide_texts}
-use Rattle.cedar_type_rules.proofs.SampleValues.{HasFields-from, entry_here, entry_named, entry_there, first_absent, fits_some, only_listed, uid_is_value}
+use Rattle.cedar_type_rules.proofs.SampleValues.{HasFields-from, entry_here, entry_named, entry_there, fits_some, only_listed, uid_is_value}
 use Rattle.cedar_type_rules.proofs.SubtypeLaws.{FieldsWithin, HasField-name}
 use Rattle.cedar_type_rules.proofs.SubtypeLemmas.{chosen_first, unchosen}
 use Rattle.cedar_type_rules.specs.Below.{HasField}
 use Rattle.cedar_type_rules.specs.Fields.{IsSortedByName, field_names}
 use Rattle.cedar_type_rules.specs.Has.{Has, HasUid}
 use Rattle.cedar_type_rules.specs.OpenTag.{is_open}
-use Rattle.cedar_type_rules.specs.Stated.{AreStatedWith, IsStatedWith}
 use Rattle.cedar_type_rules.specs.Ty.{Fields, Ty, end, field, record_of}
 use Rattle.cedar_type_rules.specs.declared.open_tag.OpenTag.{OpenTag}
 use Rattle.cedar_type_rules.specs.declared.open_tag.OpenTag.TheVariants.{ClosedAttributes, OpenAttributes}
@@ -73,98 +73,82 @@ apart_from values name other value none found same =
     absurd cc
 
 -- values are filled up so far: for the attributes of which none is left
-pub record FillingSoFar (extensions : Extensions) (samples : List Tree) (all : Fields) (start : Entries) (left : Fields) (now : Entries) : Type 0 where
+pub record FillingSoFar (extensions : Extensions) (all : Fields) (start : Entries) (left : Fields) (now : Entries) : Type 0 where
   pub kept : (name : Text) (value : Tree) → entry_at name start ≡ Some value → entry_at name now ≡ Some value
-  pub filled : (name : Text) (required : Bool) (ty : Ty) → HasField all name required ty → entry_at name start ≡ None
-      → HasField left name required ty ⊎ ((value : Tree) × (entry_at name now ≡ Some value) × Has extensions value ty)
+  pub filled : (name : Text) (ty : Ty) → HasField all name true ty
+      → HasField left name true ty ⊎ ((value : Tree) × (entry_at name now ≡ Some value))
   pub listed : (name : Text) (value : Tree) → entry_at name now ≡ Some value
-      → (entry_at name start ≡ Some value) ⊎ Contains (field_names all) name
+      → (entry_at name start ≡ Some value) ⊎ ((ty : Ty) × HasField all name true ty × Has extensions value ty)
   pub real : AreEntries start → AreEntries now
-  pub fresh : (name : Text) → Contains (field_names left) name → entry_at name start ≡ None → entry_at name now ≡ None
-  pub sorted_by_name : IsSortedByName left
   pub within : FieldsWithin left all
-  pub stated : AreStatedWith extensions samples left
 
-module _ (extensions : Extensions) (samples : List Tree) (all : Fields) (start : Entries) where
+module _ (extensions : Extensions) (all : Fields) (start : Entries) where
   -- at first all are left
-  pub filling_first : IsSortedByName all → AreStatedWith extensions samples all → FillingSoFar extensions samples all start all start
-  filling_first sorted_by_name stated = record {
+  pub filling_first : FillingSoFar extensions all start all start
+  filling_first = record {
     kept = λ name value found. found;
-    filled = λ name required ty has none. inl has;
+    filled = λ name ty has. inl has;
     listed = λ name value found. inl found;
     real = λ real. real;
-    fresh = λ name among none. none;
-    sorted_by_name = sorted_by_name;
     within = λ name required ty has. has;
-    stated = stated;
   }
 
   module _ (name : Text) (required : Bool) (ty : Ty) (rest : Fields) (now : Entries)
-      (so_far : FillingSoFar extensions samples all start (field name required ty rest) now) where
-    -- the type of the next attribute is stated
-    pub filling_stated : IsStatedWith extensions samples ty
-    filling_stated = so_far.stated.1
-
-    -- past a name that was there all else is left
-    pub filling_there : (value : Tree) → entry_at name now ≡ Some value → FillingSoFar extensions samples all start rest now
-    filling_there value found = record {
+      (so_far : FillingSoFar extensions all start (field name required ty rest) now) where
+    -- past an attribute that is there, if it is required, all else is left
+    pub filling_there : (required ≡ true → (value : Tree) × (entry_at name now ≡ Some value))
+        → FillingSoFar extensions all start rest now
+    filling_there found = record {
       kept = so_far.kept;
-      filled = λ n r t has none. ⊎_elim
+      filled = λ n t has. ⊎_elim
           (λ still. ⊎_elim
-          (λ same. absurd (let P : Text → Type 0 = λ m. entry_at m start ≡ None in
-          let missed : entry_at name now ≡ None = so_far.fresh name (Contains-cons name (field_names rest) name (inl refl)) (subst P (sym same.0) none) in
-          let wrong : None ≡ Some value = sym missed ∙ found in cc))
+          (λ same. inr (let P : Text → Type 0 = λ m. (value : Tree) × (entry_at m now ≡ Some value) in subst P same.0 (found same.1)))
           (λ later. inl later)
           still)
           (λ done. inr done)
-          (so_far.filled n r t has none);
+          (so_far.filled n t has);
       listed = so_far.listed;
       real = so_far.real;
-      fresh = λ n among none. so_far.fresh n (Contains-cons name (field_names rest) n (inr among)) none;
-      sorted_by_name = rest_sorted_by_name name required ty rest so_far.sorted_by_name;
       within = λ n r t has. so_far.within n r t (inr has);
-      stated = so_far.stated.2;
     }
 
-    -- with a sample put under the next name all else is left
-    pub filling_put : (value : Tree) (new : Entries) → entry_at name now ≡ None → IsPut name value now new
-        → IsValueOf extensions ty value → FillingSoFar extensions samples all start rest new
-    filling_put value new none put sample =
+    -- with a sample put under the next name, which is required, all else is left
+    pub filling_put : (value : Tree) (new : Entries) → required ≡ true → entry_at name now ≡ None → IsPut name value now new
+        → IsValueOf extensions ty value → FillingSoFar extensions all start rest new
+    filling_put value new needed none put sample =
         let stays : (n : Text) (v : Tree) → entry_at n now ≡ Some v → entry_at n new ≡ Some v = λ n v found.
         put_there name value now new n put (apart_from now name n v none found) ∙ found in
+        let own = so_far.within name true ty (inl (refl, needed, refl)) in
         record {
           kept = λ n v found. stays n v (so_far.kept n v found);
-          filled = λ n r t has nothing. ⊎_elim
+          filled = λ n t has. ⊎_elim
               (λ still. ⊎_elim
               (λ same. inr (let P : Text → Type 0 = λ m. entry_at m new ≡ Some value in
-              (value, subst P same.0 (put_here name value now new put), subst (Has extensions value) same.2 sample.1)))
+              (value, subst P same.0 (put_here name value now new put))))
               (λ later. inl later)
               still)
-              (λ done. inr (done.0, stays n done.0 done.1, done.2))
-              (so_far.filled n r t has nothing);
+              (λ done. inr (done.0, stays n done.0 done.1))
+              (so_far.filled n t has);
           listed = λ n v found. ⊎_elim
-              (λ same. inr (subst (Contains (field_names all)) (sym same)
-              (HasField-name all name required ty (so_far.within name required ty (inl (refl, refl, refl))))))
+              (λ same. inr (let is : entry_at n new ≡ Some value = subst (λ m. entry_at m new ≡ Some value) (sym same)
+              (put_here name value now new put) in
+              let one : Some value ≡ Some v = sym is ∙ found in
+              (ty, subst (λ m. HasField all m true ty) (sym same) own, subst (λ w. Has extensions w ty) (same_Some value v one) sample.1)))
               (λ differ. so_far.listed n v (sym (put_there name value now new n put differ) ∙ found))
               (decide_texts n name);
           real = λ real. put.real (so_far.real real) sample.0;
-          fresh = λ n among nothing.
-              let differ : n ≢ name = λ same. first_absent name required ty rest so_far.sorted_by_name (subst (Contains (field_names rest)) same among) in
-              put_there name value now new n put differ ∙ so_far.fresh n (Contains-cons name (field_names rest) n (inr among)) nothing;
-          sorted_by_name = rest_sorted_by_name name required ty rest so_far.sorted_by_name;
           within = λ n r t has. so_far.within n r t (inr has);
-          stated = so_far.stated.2;
         }
 
   -- where none is left, all is filled up
-  pub filling_all : (left : Fields) (now : Entries) → left ≡ end → FillingSoFar extensions samples all start left now
+  pub filling_all : (left : Fields) (now : Entries) → left ≡ end → FillingSoFar extensions all start left now
       → IsFilled extensions all start now
   filling_all left now nothing so_far =
-      let P : Fields → Type 0 = λ fields. FillingSoFar extensions samples all start fields now in
+      let P : Fields → Type 0 = λ fields. FillingSoFar extensions all start fields now in
       let done = subst P nothing so_far in
       record {
         kept = done.kept;
-        filled = λ n r t has none. ⊎_elim (λ still. absurd still) (λ found. found) (done.filled n r t has none);
+        filled = λ n t has. ⊎_elim (λ still. absurd still) (λ found. found) (done.filled n t has);
         listed = done.listed;
         real = done.real;
       }
@@ -176,32 +160,44 @@ filled_listed : (extensions : Extensions) (fields : Fields) (openness : OpenTag)
 filled_listed extensions fields OpenAttributes start whole filled listed = tt
 filled_listed extensions fields ClosedAttributes start whole filled listed = λ name among.
     let found = named_entry name whole among in
-    ⊎_elim (λ there. listed name (entry_named name start found.0 there)) (λ own. own) (filled.listed name found.0 found.1)
+    ⊎_elim (λ there. listed name (entry_named name start found.0 there)) (λ own. HasField-name fields name true own.0 own.1)
+    (filled.listed name found.0 found.1)
+
+-- where what is filled up has no value, no attribute is required
+missing_optional : (extensions : Extensions) (fields : Fields) (start whole : Entries) → IsFilled extensions fields start whole → (name : Text)
+    (required : Bool) (ty : Ty) → HasField fields name required ty → entry_at name whole ≡ None → required ≡ false
+missing_optional extensions fields start whole filled name false ty has none = refl
+missing_optional extensions fields start whole filled name true ty has none =
+    let found = filled.filled name ty has in
+    let wrong : None ≡ Some found.0 = sym none ∙ found.1 in absurd cc
 
 -- what is filled up is a value of the record if what it began with fits
-pub filled_has : (extensions : Extensions) (fields : Fields) (openness : OpenTag) (start whole : Entries) → IsFilled extensions fields start whole
+pub filled_has : (extensions : Extensions) (fields : Fields) (openness : OpenTag) (start whole : Entries) → IsSortedByName fields
+    → IsFilled extensions fields start whole
     → ((name : Text) (value : Tree) (required : Bool) (ty : Ty) → entry_at name start ≡ Some value
     → HasField fields name required ty → Has extensions value ty)
     → NamesListed (is_open openness) (entry_names start) (field_names fields) → Has extensions (map_value whole) (record_of fields openness)
-filled_has extensions fields openness start whole filled fits listed = (
+filled_has extensions fields openness start whole sorted_by_name filled fits listed = (
   filled_listed extensions fields openness start whole filled listed,
   HasFields-from (Gives extensions) whole fields
       (λ n r t has. ⊎_elim
-      (λ none. (let found = filled.filled n r t has none in
-      fits_some (λ v. Has extensions v t) r (entry_at n whole) found.0 found.1 found.2))
-      (λ there. fits_some (λ v. Has extensions v t) r (entry_at n whole) there.0 (filled.kept n there.0 there.1)
-      (fits n there.0 r t there.1 has))
-      (nothing_or (entry_at n start))),
+      (λ none. subst (EntryFits (λ v. Has extensions v t) r) (sym none) (missing_optional extensions fields start whole filled n r t has none))
+      (λ there. fits_some (λ v. Has extensions v t) r (entry_at n whole) there.0 there.1
+      (⊎_elim
+      (λ begun. fits n there.0 r t begun has)
+      (λ own. subst (Has extensions there.0) (HasField-once fields n true r own.0 t sorted_by_name own.1 has).1 own.2)
+      (filled.listed n there.0 there.1)))
+      (nothing_or (entry_at n whole))),
 )
 
 -- what is filled up from nothing is a value of the record
-pub record_sample : (extensions : Extensions) (fields : Fields) (openness : OpenTag) (start whole : Entries) → start ≡ no_entry
-    → IsFilled extensions fields start whole → IsValueOf extensions (record_of fields openness) (map_value whole)
-record_sample extensions fields openness start whole nothing filled =
+pub record_sample : (extensions : Extensions) (fields : Fields) (openness : OpenTag) (start whole : Entries) → IsSortedByName fields
+    → start ≡ no_entry → IsFilled extensions fields start whole → IsValueOf extensions (record_of fields openness) (map_value whole)
+record_sample extensions fields openness start whole sorted_by_name nothing filled =
     let P : Entries → Type 0 = λ begun. IsFilled extensions fields begun whole in
     let all = subst P nothing filled in (
       all.real tt,
-      filled_has extensions fields openness no_entry whole all (λ n v r t found has. absurd cc)
+      filled_has extensions fields openness no_entry whole sorted_by_name all (λ n v r t found has. absurd cc)
           (only_listed openness no_entry fields (Included-none (field_names fields))),
     )
 

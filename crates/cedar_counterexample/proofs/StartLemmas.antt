@@ -1,37 +1,39 @@
 -- Starts of values of a record that another hasn't.
 use Rattle.std.proofs.Common.{◌≡◌, inl, inr, ⊎_elim, Bool, true, false, refl, sym, subst, ◌∙◌, List, [], Option, Some, None, Contains, arith, IsTrue}
 use Rattle.cedar_below.proofs.Inclusion.{Included-cons, Included-none}
-use Rattle.cedar_below.specs.Fits.{EntryFits, Gives}
-use Rattle.cedar_below.specs.IsValue.{IsText}
+use Rattle.cedar_below.proofs.Lists.{Contains-cons_cases}
+use Rattle.cedar_below.specs.Fits.{EntryFits, Gives, NamesListed}
+use Rattle.cedar_below.specs.IsValue.{IsText, IsValue}
 use Rattle.cedar_below.specs.Lists.{Included}
 use Rattle.cedar_below.specs.Text.{Text}
-use Rattle.cedar_below.specs.Tree.{Entries, Tree, entry, entry_at, map_value, no_entry, truth_value}
+use Rattle.cedar_below.specs.Tree.{Entries, Tree, entry, entry_at, entry_names, map_value, no_entry, truth_value}
 use Rattle.cedar_below.specs.declared.extension.Extensions.{Extensions}
-use Rattle.cedar_below.specs.declared.validation_mode.ValidationMode.TheVariants.{Permissive}
 use Rattle.cedar_type_rules.proofs.AgreeLaws.{HasField-once}
 use Rattle.cedar_type_rules.proofs.MemberLaws.{HasFieldsBy-of}
 use Rattle.cedar_type_rules.proofs.RecordAnswers.{decide_texts}
 use Rattle.cedar_type_rules.proofs.SampleValues.{entry_here, entry_named, entry_there, only_listed, some_fits}
-use Rattle.cedar_type_rules.proofs.SubtypeLaws.{FieldsBelow-names, FieldsWithin, HasField-name, HasField-named}
-use Rattle.cedar_type_rules.specs.Below.{Below, FieldsBelow, HasField}
+use Rattle.cedar_type_rules.proofs.SubtypeLaws.{FieldsWithin, HasField-name}
+use Rattle.cedar_type_rules.specs.Below.{HasField}
 use Rattle.cedar_type_rules.specs.Fields.{IsSortedByName, field_names}
 use Rattle.cedar_type_rules.specs.Has.{Has}
-use Rattle.cedar_type_rules.specs.Stated.{AreStatedWith, IsStatedWith}
+use Rattle.cedar_type_rules.specs.IncludedByParts.{FieldsIncluded}
+use Rattle.cedar_type_rules.specs.OpenTag.{is_open}
+use Rattle.cedar_type_rules.specs.Stated.{AreInhabitedWith, IsInhabitedWith}
 use Rattle.cedar_type_rules.specs.Ty.{Fields, Ty, end, field, record_of}
 use Rattle.cedar_type_rules.specs.declared.open_tag.OpenTag.{OpenTag}
 use Rattle.cedar_type_rules.specs.declared.open_tag.OpenTag.TheVariants.{ClosedAttributes, OpenAttributes}
 use Rattle.cedar_counterexample.proofs.FillingLemmas.{filled_has, nothing_or}
-use Rattle.cedar_counterexample.specs.Filling.{IsAttributeStart, IsFilled, IsRecordStart, IsStart}
-use Rattle.cedar_counterexample.specs.Counterexample.{IsCounterexample}
+use Rattle.cedar_counterexample.specs.Filling.{IsFilled, IsStart}
+use Rattle.cedar_counterexample.specs.Counterexample.{IsCounterexample, IsValueOf}
 
--- an attribute of those that are stated is required, and its type is stated
-pub AreStatedWith-of : (extensions : Extensions) (samples : List Tree) (fields : Fields) (name : Text) (required : Bool) (ty : Ty)
-    → AreStatedWith extensions samples fields → HasField fields name required ty → IsTrue required × IsStatedWith extensions samples ty
-AreStatedWith-of extensions samples end name required ty stated has = absurd has
-AreStatedWith-of extensions samples (field other flag of rest) name required ty stated (inl same) =
-    (sym same.1 ∙ stated.0, subst (IsStatedWith extensions samples) same.2 stated.1)
-AreStatedWith-of extensions samples (field other flag of rest) name required ty stated (inr there) =
-    AreStatedWith-of extensions samples rest name required ty stated.2 there
+-- the type of an attribute is inhabited where those of all are
+pub AreInhabitedWith-of : (extensions : Extensions) (samples : List Tree) (fields : Fields) (name : Text) (required : Bool) (ty : Ty)
+    → AreInhabitedWith extensions samples fields → HasField fields name required ty → IsInhabitedWith extensions samples ty
+AreInhabitedWith-of extensions samples end name required ty lives has = absurd has
+AreInhabitedWith-of extensions samples (field other flag of rest) name required ty lives (inl same) =
+    subst (IsInhabitedWith extensions samples) same.2 lives.0
+AreInhabitedWith-of extensions samples (field other flag of rest) name required ty lives (inr there) =
+    AreInhabitedWith-of extensions samples rest name required ty lives.1 there
 
 -- what stands under the one name of a start is its value
 alone_is : (name other : Text) (value found : Tree) → entry_at other (entry name value no_entry) ≡ Some found → (other ≡ name) × (value ≡ found)
@@ -41,11 +43,11 @@ alone_is name other value found is =
     (λ differ. absurd (let e : None ≡ Some found = sym (entry_there other name value no_entry differ) ∙ is in cc))
     (decide_texts other name)
 
--- where the other record asks for a name that the one lacks, nothing is a start
+-- where the other record requires a name that the one doesn't, nothing is a start
 pub missing_start : (extensions : Extensions) (lower upper : Fields) (openness upper_openness : OpenTag) (name : Text) (required : Bool) (ty : Ty)
-    → ¬ Contains (field_names lower) name → IsTrue required → HasField upper name required ty
+    → ((own : Ty) → ¬ HasField lower name true own) → IsTrue required → HasField upper name required ty
     → IsStart extensions lower openness upper upper_openness no_entry
-missing_start extensions lower upper openness upper_openness name required ty absent needed asked = record {
+missing_start extensions lower upper openness upper_openness name required ty never needed asked = record {
   real = tt;
   fits = λ n v r t found has. absurd cc;
   listed = only_listed openness no_entry lower (Included-none (field_names lower));
@@ -56,9 +58,35 @@ missing_start extensions lower upper openness upper_openness name required ty ab
       (λ none. (let optional : required ≡ false = subst P none fits in
       let wrong : true ≡ false = sym needed ∙ optional in
       absurd cc))
-      (λ there. ⊎_elim (λ found. absurd (let e : None ≡ Some there.0 = found in cc)) (λ own. absent own) (filled.listed name there.0 there.1))
+      (λ there. ⊎_elim (λ found. absurd (let e : None ≡ Some there.0 = found in cc)) (λ own. never own.0 own.1) (filled.listed name there.0 there.1))
       (nothing_or (entry_at name whole));
 }
+
+-- what is filled up from a value that the type of its name hasn't isn't one of the other record
+lacks_alone : (extensions : Extensions) (lower upper : Fields) (upper_openness : OpenTag) (name : Text) (required : Bool) (ty : Ty) (value : Tree)
+    (whole : Entries) → IsFilled extensions lower (entry name value no_entry) whole → HasField upper name required ty → ¬ Has extensions value ty
+    → ¬ Has extensions (map_value whole) (record_of upper upper_openness)
+lacks_alone extensions lower upper upper_openness name required ty value whole filled also lacks holds =
+    let there : entry_at name whole ≡ Some value = filled.kept name value (entry_here name name value no_entry refl) in
+    lacks (some_fits (λ v. Has extensions v ty) required (entry_at name whole) value there
+    (HasFieldsBy-of (Gives extensions) whole upper name required ty holds.1 also))
+
+-- a value of an attribute of the record has the types of the attributes of its name
+own_fits : (extensions : Extensions) (lower : Fields) (name : Text) (own_required : Bool) (own : Ty) (value : Tree) → IsSortedByName lower
+    → HasField lower name own_required own → Has extensions value own → (n : Text) (v : Tree) (r : Bool) (t : Ty)
+    → entry_at n (entry name value no_entry) ≡ Some v → HasField lower n r t → Has extensions v t
+own_fits extensions lower name own_required own value sorted_by_name has holds n v r t found there =
+    let is = alone_is name n value v found in
+    let P : Text → Type 0 = λ m. HasField lower m r t in
+    let same = HasField-once lower name own_required r own t sorted_by_name has (subst P is.0 there) in
+    subst (Has extensions v) same.1 (subst (λ w. Has extensions w own) is.1 holds)
+
+-- a name of an attribute is listed
+own_listed : (lower : Fields) (openness : OpenTag) (name : Text) (own_required : Bool) (own : Ty) (value : Tree) → HasField lower name own_required own
+    → NamesListed (is_open openness) (entry_names (entry name value no_entry)) (field_names lower)
+own_listed lower openness name own_required own value has =
+    only_listed openness (entry name value no_entry) lower
+    (Included-cons name [] (field_names lower) (HasField-name lower name own_required own has) (Included-none (field_names lower)))
 
 -- where a value separates the types of a name, it under that name is a start
 pub attribute_start : (extensions : Extensions) (lower upper : Fields) (openness upper_openness : OpenTag) (name : Text)
@@ -67,89 +95,127 @@ pub attribute_start : (extensions : Extensions) (lower upper : Fields) (openness
     → IsStart extensions lower openness upper upper_openness (entry name value no_entry)
 attribute_start extensions lower upper openness upper_openness name own_required required own ty value sorted_by_name named has also separates = record {
   real = (named, separates.0.0, tt, λ among. omega (arith, among.1));
-  fits = λ n v r t found there.
-      let is = alone_is name n value v found in
-      let P : Text → Type 0 = λ m. HasField lower m r t in
-      let same = HasField-once lower name own_required r own t sorted_by_name has (subst P is.0 there) in
-      subst (Has extensions v) same.1 (subst (λ w. Has extensions w own) is.1 separates.0.1);
-  listed = only_listed openness (entry name value no_entry) lower
-      (Included-cons name [] (field_names lower) (HasField-name lower name own_required own has) (Included-none (field_names lower)));
-  lacks = λ whole filled holds.
-      let there : entry_at name whole ≡ Some value = filled.kept name value (entry_here name name value no_entry refl) in
-      separates.1 (some_fits (λ v. Has extensions v ty) required (entry_at name whole) value there
-      (HasFieldsBy-of (Gives extensions) whole upper name required ty holds.1 also));
+  fits = own_fits extensions lower name own_required own value sorted_by_name has separates.0.1;
+  listed = own_listed lower openness name own_required own value has;
+  lacks = λ whole filled. lacks_alone extensions lower upper upper_openness name required ty value whole filled also separates.1;
 }
 
--- where a closed record lacks a name of the other, nothing is a start
-pub further_start : (extensions : Extensions) (lower upper : Fields) (openness : OpenTag)
-    → ¬ Included (field_names lower) (field_names upper) → IsStart extensions lower openness upper ClosedAttributes no_entry
-further_start extensions lower upper openness further = record {
-  real = tt;
-  fits = λ n v r t found has. absurd cc;
-  listed = only_listed openness no_entry lower (Included-none (field_names lower));
-  lacks = λ whole filled has. further (λ name among.
-      let own = HasField-named lower name among in
-      let found = filled.filled name own.0 own.1 own.2 refl in
-      has.0 name (entry_named name whole found.0 found.1));
+-- a value under a name that the record lacks has no attribute to fit
+fresh_fits : (extensions : Extensions) (lower : Fields) (name : Text) (value : Tree) → ¬ Contains (field_names lower) name → (n : Text) (v : Tree)
+    (r : Bool) (t : Ty) → entry_at n (entry name value no_entry) ≡ Some v → HasField lower n r t → Has extensions v t
+fresh_fits extensions lower name value fresh n v r t found has =
+    let is = alone_is name n value v found in
+    absurd (fresh (subst (Contains (field_names lower)) is.0 (HasField-name lower n r t has)))
+
+-- where an open record lacks a name of the other, a value that the type of the name hasn't is a start
+pub other_start : (extensions : Extensions) (lower upper : Fields) (upper_openness : OpenTag) (name : Text) (required : Bool) (ty : Ty)
+    (value : Tree) → IsText name → ¬ Contains (field_names lower) name → HasField upper name required ty → IsValue value → ¬ Has extensions value ty
+    → IsStart extensions lower OpenAttributes upper upper_openness (entry name value no_entry)
+other_start extensions lower upper upper_openness name required ty value named fresh also real lacks = record {
+  real = (named, real, tt, λ among. omega (arith, among.1));
+  fits = fresh_fits extensions lower name value fresh;
+  listed = tt;
+  lacks = λ whole filled. lacks_alone extensions lower upper upper_openness name required ty value whole filled also lacks;
 }
+
+-- what is filled up from a value under a name that a closed record lacks isn't one of it
+lacks_name : (extensions : Extensions) (lower upper : Fields) (name : Text) (value : Tree) (whole : Entries)
+    → IsFilled extensions lower (entry name value no_entry) whole → ¬ Contains (field_names upper) name
+    → ¬ Has extensions (map_value whole) (record_of upper ClosedAttributes)
+lacks_name extensions lower upper name value whole filled absent has =
+    let there : entry_at name whole ≡ Some value = filled.kept name value (entry_here name name value no_entry refl) in
+    absent (has.0 name (entry_named name whole value there))
+
+-- where a closed record lacks a name of the one, a value of its type is a start
+pub further_start : (extensions : Extensions) (lower upper : Fields) (openness : OpenTag) (name : Text) (own_required : Bool) (own : Ty) (value : Tree)
+    → IsSortedByName lower → IsText name → HasField lower name own_required own → ¬ Contains (field_names upper) name
+    → IsValueOf extensions own value → IsStart extensions lower openness upper ClosedAttributes (entry name value no_entry)
+further_start extensions lower upper openness name own_required own value sorted_by_name named has absent sample = record {
+  real = (named, sample.0, tt, λ among. omega (arith, among.1));
+  fits = own_fits extensions lower name own_required own value sorted_by_name has sample.1;
+  listed = own_listed lower openness name own_required own value has;
+  lacks = λ whole filled. lacks_name extensions lower upper name value whole filled absent;
+}
+
+-- an open record has all names of one whose attributes are included
+open_names : (lower upper : Fields) → FieldsIncluded OpenAttributes lower upper → (name : Text) → Contains (field_names upper) name
+    → Contains (field_names lower) name
+open_names lower end parts name among = absurd (omega (arith, among.1))
+open_names lower (field other required ty rest) parts name among =
+    ⊎_elim
+    (λ same. subst (Contains (field_names lower)) same (⊎_elim
+    (λ own. HasField-name lower other own.0 own.1 own.2)
+    (λ never. absurd (let wrong : OpenAttributes ≡ ClosedAttributes = never.0 in cc))
+    parts.0))
+    (λ there. open_names lower rest parts.1 name there)
+    (Contains-cons_cases other (field_names rest) name among)
 
 -- where an open record has all names of a closed one, a value under a further name is a start
 pub open_start : (extensions : Extensions) (lower upper : Fields) (name : Text) → IsText name → ¬ Contains (field_names lower) name
-    → FieldsBelow Permissive lower upper
+    → FieldsIncluded OpenAttributes lower upper
     → IsStart extensions lower OpenAttributes upper ClosedAttributes (entry name (truth_value true) no_entry)
-open_start extensions lower upper name named fresh below = record {
+open_start extensions lower upper name named fresh parts = record {
   real = (named, tt, tt, λ among. omega (arith, among.1));
-  fits = λ n v r t found has.
-      let is = alone_is name n (truth_value true) v found in
-      absurd (fresh (subst (Contains (field_names lower)) is.0 (HasField-name lower n r t has)));
+  fits = fresh_fits extensions lower name (truth_value true) fresh;
   listed = tt;
-  lacks = λ whole filled has.
-      let there : entry_at name whole ≡ Some (truth_value true) =
-      filled.kept name (truth_value true) (entry_here name name (truth_value true) no_entry refl) in
-      fresh (FieldsBelow-names Permissive lower upper below name (has.0 name (entry_named name whole (truth_value true) there)));
+  lacks = λ whole filled. lacks_name extensions lower upper name (truth_value true) whole filled
+      (λ among. fresh (open_names lower upper parts name among));
 }
 
--- below an open record is each whose attributes are
-pub open_above : (lower upper : Fields) (openness : OpenTag) → FieldsBelow Permissive lower upper
-    → Below Permissive (record_of lower openness) (record_of upper OpenAttributes)
-open_above lower upper OpenAttributes below = (tt, tt, below)
-open_above lower upper ClosedAttributes below = (tt, tt, below)
-
 -- what is filled up from a start separates the records
-pub start_separates : (extensions : Extensions) (lower upper : Fields) (openness upper_openness : OpenTag) (start whole : Entries)
+pub start_separates : (extensions : Extensions) (lower upper : Fields) (openness upper_openness : OpenTag) (start whole : Entries) → IsSortedByName lower
     → IsStart extensions lower openness upper upper_openness start → IsFilled extensions lower start whole
     → IsCounterexample extensions (record_of lower openness) (record_of upper upper_openness) (map_value whole)
-start_separates extensions lower upper openness upper_openness start whole begun filled =
-    ((filled.real begun.real, filled_has extensions lower openness start whole filled begun.fits begun.listed), begun.lacks whole filled)
-
--- a start for the attributes is one for the records
-pub attributes_begin : (extensions : Extensions) (lower upper : Fields) (openness upper_openness : OpenTag) (start : Entries)
-    → IsAttributeStart extensions lower upper (Some start) → IsRecordStart extensions lower openness upper upper_openness (Some start)
-attributes_begin extensions lower upper openness upper_openness start begun = begun openness upper_openness
+start_separates extensions lower upper openness upper_openness start whole sorted_by_name begun filled = (
+  (filled.real begun.real, filled_has extensions lower openness start whole sorted_by_name filled begun.fits begun.listed),
+  begun.lacks whole filled,
+)
 
 -- a walk over the attributes of the other record: what is left of them decides about all
-pub record CounterexampleSoFar (extensions : Extensions) (samples : List Tree) (lower upper left : Fields) : Type 0 where
-  pub before : FieldsBelow Permissive lower left → FieldsBelow Permissive lower upper
+pub record CounterexampleSoFar (lower : Fields) (openness : OpenTag) (upper left : Fields) : Type 0 where
+  pub before : FieldsIncluded openness lower left → FieldsIncluded openness lower upper
   pub within : FieldsWithin left upper
-  pub stated : AreStatedWith extensions samples left
 
-module _ (extensions : Extensions) (samples : List Tree) (lower upper : Fields) where
+module _ (lower : Fields) (openness : OpenTag) (upper : Fields) where
   -- at first all are left
-  pub separating_first : AreStatedWith extensions samples upper → CounterexampleSoFar extensions samples lower upper upper
-  separating_first stated = record { before = λ below. below; within = λ n r t has. has; stated = stated }
+  pub separating_first : CounterexampleSoFar lower openness upper upper
+  separating_first = record { before = λ parts. parts; within = λ n r t has. has }
 
-  -- past an attribute with a type below the rest decides
-  pub separating_next : (name : Text) (own_required required : Bool) (own ty : Ty) (rest : Fields)
-      → CounterexampleSoFar extensions samples lower upper (field name required ty rest) → IsTrue own_required → HasField lower name own_required own
-      → Below Permissive own ty → CounterexampleSoFar extensions samples lower upper rest
-  separating_next name own_required required own ty rest so_far needed has below = record {
-    before = λ others. so_far.before ((own_required, own, has, (λ _. needed), below), others);
+  -- past an attribute whose values are included the rest decides
+  pub separating_next : (name : Text) (required : Bool) (ty : Ty) (rest : Fields)
+      → CounterexampleSoFar lower openness upper (field name required ty rest) → FieldsIncluded openness lower (field name required ty end)
+      → CounterexampleSoFar lower openness upper rest
+  separating_next name required ty rest so_far one = record {
+    before = λ others. so_far.before (one.0, others);
     within = λ n r t there. so_far.within n r t (inr there);
-    stated = so_far.stated.2;
   }
 
-  -- where none is left, the attributes are below
-  pub separating_all : (left : Fields) → left ≡ end → CounterexampleSoFar extensions samples lower upper left → FieldsBelow Permissive lower upper
+  -- where none is left, all are included
+  pub separating_all : (left : Fields) → left ≡ end → CounterexampleSoFar lower openness upper left → FieldsIncluded openness lower upper
   separating_all left nothing so_far =
-      let P : Fields → Type 0 = CounterexampleSoFar extensions samples lower upper in
+      let P : Fields → Type 0 = CounterexampleSoFar lower openness upper in
       let done = subst P nothing so_far in done.before tt
+
+-- a walk over the attributes of the one record: the names that are left decide about all
+pub record NamesSoFar (lower upper left : Fields) : Type 0 where
+  pub before : Included (field_names left) (field_names upper) → Included (field_names lower) (field_names upper)
+  pub within : FieldsWithin left lower
+
+module _ (lower upper : Fields) where
+  -- at first all are left
+  pub names_first : NamesSoFar lower upper lower
+  names_first = record { before = λ all. all; within = λ n r t has. has }
+
+  -- past a name of the other the rest decides
+  pub names_next : (name : Text) (required : Bool) (ty : Ty) (rest : Fields) → NamesSoFar lower upper (field name required ty rest)
+      → Contains (field_names upper) name → NamesSoFar lower upper rest
+  names_next name required ty rest so_far there = record {
+    before = λ others. so_far.before (Included-cons name (field_names rest) (field_names upper) there others);
+    within = λ n r t has. so_far.within n r t (inr has);
+  }
+
+  -- where none is left, all are names of the other
+  pub names_all : (left : Fields) → left ≡ end → NamesSoFar lower upper left → Included (field_names lower) (field_names upper)
+  names_all left nothing so_far =
+      let P : Fields → Type 0 = NamesSoFar lower upper in
+      let done = subst P nothing so_far in done.before (Included-none (field_names upper))

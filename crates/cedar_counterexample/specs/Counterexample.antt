@@ -2,9 +2,8 @@ use Rattle.std.specs.Prelude.{Option, Some, None}
 use Rattle.cedar_below.specs.IsValue.{IsValue}
 use Rattle.cedar_below.specs.Tree.{Tree}
 use Rattle.cedar_below.specs.declared.extension.Extensions.{Extensions}
-use Rattle.cedar_below.specs.declared.validation_mode.ValidationMode.TheVariants.{Permissive}
-use Rattle.cedar_type_rules.specs.Below.{Below}
 use Rattle.cedar_type_rules.specs.Has.{Has}
+use Rattle.cedar_type_rules.specs.IncludedByParts.{IncludedByParts}
 use Rattle.cedar_type_rules.specs.Ty.{Ty}
 
 -- a real value of a type
@@ -15,8 +14,8 @@ IsValueOf extensions ty value = IsValue value × Has extensions value ty
 abbrev pub IsCounterexample : Extensions → Ty → Ty → Tree → Type 0
 IsCounterexample extensions a b value = IsValueOf extensions a value × ¬ Has extensions value b
 
--- what is found for two types: nothing if the first is below the second, and else a value that
--- separates them
+-- what is found for two types: nothing if their parts say that each value of the first is one of
+-- the second, and else a value that separates them
 abbrev pub IsCounterexampleAnswer : Extensions → Ty → Ty → Option Tree → Type 0
-IsCounterexampleAnswer extensions a b None = Below Permissive a b
+IsCounterexampleAnswer extensions a b None = IncludedByParts a b
 IsCounterexampleAnswer extensions a b (Some value) = IsCounterexample extensions a b value

@@ -1,16 +1,16 @@
-use Rattle.std.specs.Prelude.{◌≡◌, ◌⊎◌, Bool, Contains, if◌then◌else◌, Option, Some, None}
+use Rattle.std.specs.Prelude.{◌≡◌, ◌⊎◌, Bool, true, if◌then◌else◌, Option, Some, None}
 use Rattle.std.specs.Str.{bytes_eq}
 use Rattle.cedar_below.specs.Fits.{NamesListed}
 use Rattle.cedar_below.specs.IsValue.{AreEntries, IsValue}
 use Rattle.cedar_below.specs.Text.{Text}
 use Rattle.cedar_below.specs.Tree.{Entries, Tree, entry_at, entry_names, map_value}
 use Rattle.cedar_below.specs.declared.extension.Extensions.{Extensions}
-use Rattle.cedar_below.specs.declared.validation_mode.ValidationMode.TheVariants.{Permissive}
-use Rattle.cedar_type_rules.specs.Below.{Below, FieldsBelow, HasField}
+use Rattle.cedar_type_rules.specs.Below.{HasField}
 use Rattle.cedar_type_rules.specs.Fields.{field_names}
 use Rattle.cedar_type_rules.specs.Has.{Has}
+use Rattle.cedar_type_rules.specs.IncludedByParts.{FieldsIncluded, IncludedByParts}
 use Rattle.cedar_type_rules.specs.OpenTag.{is_open}
-use Rattle.cedar_type_rules.specs.Ty.{Fields, Ty, record_of}
+use Rattle.cedar_type_rules.specs.Ty.{Fields, Ty, end, field, record_of}
 use Rattle.cedar_type_rules.specs.declared.open_tag.OpenTag.{OpenTag}
 
 -- a value is put under a name: there it stands, all others stay, and real values stay real ones
@@ -19,18 +19,18 @@ pub record IsPut (name : Text) (value : Tree) (old new : Entries) : Type 0 where
       ≡ (if bytes_eq other name then Some value else entry_at other old)
   pub real : AreEntries old → IsValue value → AreEntries new
 
--- the values of a record are filled up for some attributes: what stood there stays, each attribute
--- whose name had none has a value of its type, there are no further names, and real values stay
--- real ones
+-- the values of a record are filled up for some attributes: what stood there stays, each required
+-- attribute whose name had none has a value, a further value is one of a required attribute's type
+-- under its name, and real values stay real ones
 pub record IsFilled (extensions : Extensions) (fields : Fields)
     (start whole : Entries) : Type 0 where
   pub kept : (name : Text) (value : Tree) → entry_at name start ≡ Some value
       → entry_at name whole ≡ Some value
-  pub filled : (name : Text) (required : Bool) (ty : Ty) → HasField fields name required ty
-      → entry_at name start ≡ None
-      → (value : Tree) × (entry_at name whole ≡ Some value) × Has extensions value ty
+  pub filled : (name : Text) (ty : Ty) → HasField fields name true ty
+      → (value : Tree) × (entry_at name whole ≡ Some value)
   pub listed : (name : Text) (value : Tree) → entry_at name whole ≡ Some value
-      → (entry_at name start ≡ Some value) ⊎ Contains (field_names fields) name
+      → (entry_at name start ≡ Some value)
+      ⊎ ((ty : Ty) × HasField fields name true ty × Has extensions value ty)
   pub real : AreEntries start → AreEntries whole
 
 -- values from which a value of a record that another record hasn't is filled up: they are real,
@@ -47,18 +47,27 @@ pub record IsStart (extensions : Extensions) (lower : Fields) (openness : OpenTa
   pub lacks : (whole : Entries) → IsFilled extensions lower start whole
       → ¬ Has extensions (map_value whole) (record_of upper upper_openness)
 
--- what is found for the attributes of two records, of whatever openness: nothing if those of the
--- one are below those of the other, and else a start
-abbrev pub IsAttributeStart : Extensions → Fields → Fields → Option Entries → Type 0
-IsAttributeStart extensions lower upper None = FieldsBelow Permissive lower upper
-IsAttributeStart extensions lower upper (Some start) =
-    (openness upper_openness : OpenTag)
+-- what is found for one attribute of the other record: nothing if the parts say that its values are
+-- included, and else a start, whatever else the other record has
+abbrev pub IsFieldStart : Extensions → Fields → OpenTag → Text → Bool → Ty → Option Entries → Type 0
+IsFieldStart extensions lower openness name required ty None =
+    FieldsIncluded openness lower (field name required ty end)
+IsFieldStart extensions lower openness name required ty (Some start) =
+    (upper : Fields) (upper_openness : OpenTag) → HasField upper name required ty
     → IsStart extensions lower openness upper upper_openness start
 
--- what is found for two records: nothing if the one is below the other, and else a start
+-- what is found for the attributes of two records: nothing if the parts say that those of the other
+-- are included, and else a start
+abbrev pub IsAttributeStart : Extensions → Fields → OpenTag → Fields → Option Entries → Type 0
+IsAttributeStart extensions lower openness upper None = FieldsIncluded openness lower upper
+IsAttributeStart extensions lower openness upper (Some start) =
+    (upper_openness : OpenTag) → IsStart extensions lower openness upper upper_openness start
+
+-- what is found for two records: nothing if the parts say that each value of the one is one of the
+-- other, and else a start
 abbrev pub IsRecordStart : Extensions → Fields → OpenTag → Fields → OpenTag → Option Entries
     → Type 0
 IsRecordStart extensions lower openness upper upper_openness None =
-    Below Permissive (record_of lower openness) (record_of upper upper_openness)
+    IncludedByParts (record_of lower openness) (record_of upper upper_openness)
 IsRecordStart extensions lower openness upper upper_openness (Some start) =
     IsStart extensions lower openness upper upper_openness start

@@ -5,7 +5,7 @@ ghost use Rattle.cedar_below.specs.EntityType.{type_name};
 ghost use Rattle.cedar_below.specs.RestrictedExpr.{entries_of, tree_of};
 ghost use Rattle.cedar_below.specs.Tree.{uid_value};
 ghost use Rattle.cedar_below.specs.declared.extension.Extensions.{Extensions};
-ghost use Rattle.cedar_type_rules.specs.Stated.{AreStatedWith, IsStatedWith};
+ghost use Rattle.cedar_type_rules.specs.Stated.{AreInhabitedWith, IsInhabitedWith};
 ghost use Rattle.cedar_counterexample.specs.Filling.{IsFilled};
 ghost use Rattle.cedar_counterexample.specs.Counterexample.{IsValueOf};
 ghost use Rattle.cedar_types.specs.EntityKind.{kind_ty};
@@ -41,7 +41,7 @@ fn sample_entity(alloc: Global, kind: &EntityKind) -> M<RestrictedExpr>
     }
 }
 
-/// The values of a record, with a sample for each attribute whose name had none.
+/// The values of a record, with a sample for each required attribute whose name had none.
 #[cycle(samples)]
 pub(crate) fn fill(
     alloc: Global,
@@ -50,13 +50,13 @@ pub(crate) fn fill(
     extensions: &Extensions,
     samples: &[Value],
 ) -> M<BTreeMap<String, RestrictedExpr>>
-    requires { AreStatedWith extensions.now (value_trees samples.now) (fields_of attrs.now) }
+    requires { AreInhabitedWith extensions.now (value_trees samples.now) (fields_of attrs.now) }
     ensures { IfOk result (λ whole.
         IsFilled extensions.now (fields_of attrs.now) (entries_of start) (entries_of whole)) }
 {
     let mut values = start;
     for (name, attribute) in attrs.iter() {
-        if !values.contains_key(name.as_str()) {
+        if attribute.is_required && !values.contains_key(name.as_str()) {
             let sample = sample_of(alloc, &attribute.attr_type, extensions, samples)?;
             put(&mut values, name.clone()?, sample)?;
         }
@@ -64,8 +64,8 @@ pub(crate) fn fill(
     Ok(values)
 }
 
-/// A value of a type that is stated with samples: of an extension type a copy of a sample, of sets
-/// the empty one, and of a record one with the listed attributes alone.
+/// A value of a type that is inhabited by samples: of an extension type a copy of a sample, of sets
+/// the empty one, and of a record one with the required attributes alone.
 #[cycle(samples)]
 pub(crate) fn sample_of(
     alloc: Global,
@@ -73,7 +73,7 @@ pub(crate) fn sample_of(
     extensions: &Extensions,
     samples: &[Value],
 ) -> M<RestrictedExpr>
-    requires { IsStatedWith extensions.now (value_trees samples.now) (ty_of ty.now) }
+    requires { IsInhabitedWith extensions.now (value_trees samples.now) (ty_of ty.now) }
     ensures { IfOk result (λ sample. IsValueOf extensions.now (ty_of ty.now) (tree_of sample)) }
 {
     match ty {

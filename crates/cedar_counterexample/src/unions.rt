@@ -6,9 +6,8 @@ ghost use Rattle.cedar_below.specs.EntityType.{type_name};
 ghost use Rattle.cedar_below.specs.Lists.{Included};
 ghost use Rattle.cedar_below.specs.RestrictedExpr.{tree_of};
 ghost use Rattle.cedar_below.specs.declared.extension.Extensions.{Extensions};
-ghost use Rattle.cedar_below.specs.declared.validation_mode.ValidationMode.TheVariants.{Permissive};
-ghost use Rattle.cedar_type_rules.specs.Below.{Below};
 ghost use Rattle.cedar_type_rules.specs.Has.{HasTruth};
+ghost use Rattle.cedar_type_rules.specs.IncludedByParts.{IncludedByParts};
 ghost use Rattle.cedar_type_rules.specs.Ty.{truth};
 ghost use Rattle.cedar_counterexample.specs.Counterexample.{IsCounterexampleAnswer};
 ghost use Rattle.cedar_types.specs.EntityKind.{kind_ty};
@@ -22,7 +21,7 @@ use std::alloc::Global;
 
 /// A truth value that is as the one says and not as the other does, if there is one.
 pub(crate) fn separating_truth(lower: &BoolType, upper: &BoolType) -> Option<bool>
-    ensures none { result ≡ None → Below Permissive (truth lower.now) (truth upper.now) }
+    ensures none { result ≡ None → IncludedByParts (truth lower.now) (truth upper.now) }
     ensures has { IfSome result (λ value. HasTruth value lower.now) }
     ensures lacks { IfSome result (λ value. ¬ HasTruth value upper.now) }
 {

@@ -1,4 +1,4 @@
--- Types that are stated with samples are stated.
+-- Types that are inhabited by samples are inhabited.
 use Rattle.std.proofs.Common.{◌≡◌, Bool, true, false, refl, subst, sym, List, [], ◌∷◌, Option, Some, cond}
 use Rattle.std.specs.BTreeMap.{is_at}
 use Rattle.std.specs.Map.{lookup}
@@ -13,7 +13,7 @@ use Rattle.cedar_below.specs.PlainName.{PlainName, name_cmp}
 use Rattle.cedar_below.specs.Tree.{Tree, call_value, no_tree}
 use Rattle.cedar_below.specs.declared.extension.Extensions.{Extensions}
 use Rattle.cedar_below.specs.declared.name.Name.{Name}
-use Rattle.cedar_type_rules.specs.Stated.{IsInhabited, AreInhabited, RequiresAll, FieldsRequireAll, IsStated, IsStatedWith, AreStatedWith}
+use Rattle.cedar_type_rules.specs.Stated.{IsInhabited, AreInhabited, IsInhabitedWith, AreInhabitedWith, IsStated, IsStatedWith}
 use Rattle.cedar_type_rules.specs.Ty.{Ty, never, truth, long, text, any_entity, union_of, any_set, set_of, record_of, extension_of, Fields, end, field}
 
 -- a name that ties with what a name stands for isn't reserved
@@ -38,47 +38,27 @@ found_name sought (entry ∷ rest) value found =
     chosen_name sought entry.0 entry.1 value _ (is_eq (name_cmp sought (plain_name entry.0))) refl (found_name sought rest value) found
 
 mutual
-  -- a type that is stated with samples is inhabited throughout
-  IsInhabited-with : (extensions : Extensions) (samples : List Tree) (ty : Ty) → IsStatedWith extensions samples ty
+  -- a type that is inhabited by samples is inhabited throughout
+  pub IsInhabited-with : (extensions : Extensions) (samples : List Tree) (ty : Ty) → IsInhabitedWith extensions samples ty
       → IsInhabited extensions ty
-  IsInhabited-with extensions samples never stated = stated
-  IsInhabited-with extensions samples (truth known) stated = tt
-  IsInhabited-with extensions samples long stated = tt
-  IsInhabited-with extensions samples text stated = tt
-  IsInhabited-with extensions samples any_entity stated = tt
-  IsInhabited-with extensions samples (union_of names) stated = tt
-  IsInhabited-with extensions samples any_set stated = tt
-  IsInhabited-with extensions samples (set_of ty) stated = IsInhabited-with extensions samples ty stated
-  IsInhabited-with extensions samples (record_of fields openness) stated = AreInhabited-with extensions samples fields stated
+  IsInhabited-with extensions samples never lives = lives
+  IsInhabited-with extensions samples (set_of ty) lives = IsInhabited-with extensions samples ty lives
+  IsInhabited-with extensions samples (record_of fields openness) lives = AreInhabited-with extensions samples fields lives
   IsInhabited-with extensions samples (extension_of name) (call_value function args, among, gives) = (
     call_value function no_tree,
     (found_name function extensions.functions.entries gives.0 gives.1, tt),
     (gives.0, gives.1, gives.2, tt),
   )
   IsInhabited-with extensions samples (extension_of name) (sample, among, has) = elim has [ ]
+  IsInhabited-with extensions samples ty lives = tt
 
   -- so are the types of attributes that are
-  AreInhabited-with : (extensions : Extensions) (samples : List Tree) (fields : Fields) → AreStatedWith extensions samples fields
+  AreInhabited-with : (extensions : Extensions) (samples : List Tree) (fields : Fields) → AreInhabitedWith extensions samples fields
       → AreInhabited extensions fields
-  AreInhabited-with extensions samples end stated = tt
-  AreInhabited-with extensions samples (field name required ty rest) stated =
-      (IsInhabited-with extensions samples ty stated.1, AreInhabited-with extensions samples rest stated.2)
-
-mutual
-  -- each attribute in a type that is stated with samples is required
-  RequiresAll-with : (extensions : Extensions) (samples : List Tree) (ty : Ty) → IsStatedWith extensions samples ty → RequiresAll ty
-  RequiresAll-with extensions samples (set_of ty) stated = RequiresAll-with extensions samples ty stated
-  RequiresAll-with extensions samples (record_of fields openness) stated = FieldsRequireAll-with extensions samples fields stated
-  RequiresAll-with extensions samples ty stated = tt
-
-  -- so is each of some attributes that are, and in their types
-  FieldsRequireAll-with : (extensions : Extensions) (samples : List Tree) (fields : Fields) → AreStatedWith extensions samples fields
-      → FieldsRequireAll fields
-  FieldsRequireAll-with extensions samples end stated = tt
-  FieldsRequireAll-with extensions samples (field name required ty rest) stated =
-      (stated.0, RequiresAll-with extensions samples ty stated.1, FieldsRequireAll-with extensions samples rest stated.2)
+  AreInhabited-with extensions samples end lives = tt
+  AreInhabited-with extensions samples (field name required ty rest) lives =
+      (IsInhabited-with extensions samples ty lives.0, AreInhabited-with extensions samples rest lives.1)
 
 -- a type that is stated with samples is stated
 pub IsStated-with : (extensions : Extensions) (samples : List Tree) (ty : Ty) → IsStatedWith extensions samples ty → IsStated extensions ty
-IsStated-with extensions samples ty stated =
-    (IsInhabited-with extensions samples ty stated, RequiresAll-with extensions samples ty stated)
+IsStated-with extensions samples ty stated = (IsInhabited-with extensions samples ty stated.0, stated.1)

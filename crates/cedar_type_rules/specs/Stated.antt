@@ -45,19 +45,23 @@ IsSampled extensions samples ty =
     (sample : Tree) × Contains samples sample × Has extensions sample ty
 
 abbrev mutual
-  -- a type is stated with samples: no `Never` stands in it, each attribute in it is required, and
-  -- each extension type in it has one of the samples
-  pub IsStatedWith : Extensions → List Tree → Ty → Type 0
-  IsStatedWith extensions samples never = ⊥
-  IsStatedWith extensions samples (set_of ty) = IsStatedWith extensions samples ty
-  IsStatedWith extensions samples (record_of fields openness) =
-      AreStatedWith extensions samples fields
-  IsStatedWith extensions samples (extension_of name) =
+  -- a type is inhabited by samples: no `Never` stands in it, and each extension type in it has one
+  -- of the samples
+  pub IsInhabitedWith : Extensions → List Tree → Ty → Type 0
+  IsInhabitedWith extensions samples never = ⊥
+  IsInhabitedWith extensions samples (set_of ty) = IsInhabitedWith extensions samples ty
+  IsInhabitedWith extensions samples (record_of fields openness) =
+      AreInhabitedWith extensions samples fields
+  IsInhabitedWith extensions samples (extension_of name) =
       IsSampled extensions samples (extension_of name)
-  IsStatedWith extensions samples _ = Unit {0}
+  IsInhabitedWith extensions samples _ = Unit {0}
 
-  -- each attribute is required, and its type is stated with the samples
-  pub AreStatedWith : Extensions → List Tree → Fields → Type 0
-  AreStatedWith extensions samples end = Unit {0}
-  AreStatedWith extensions samples (field name required ty rest) =
-      IsTrue required × IsStatedWith extensions samples ty × AreStatedWith extensions samples rest
+  -- the type of each attribute is inhabited by the samples
+  pub AreInhabitedWith : Extensions → List Tree → Fields → Type 0
+  AreInhabitedWith extensions samples end = Unit {0}
+  AreInhabitedWith extensions samples (field name required ty rest) =
+      IsInhabitedWith extensions samples ty × AreInhabitedWith extensions samples rest
+
+-- a type is stated with samples: it is inhabited by them, and each attribute in it is required
+abbrev pub IsStatedWith : Extensions → List Tree → Ty → Type 0
+IsStatedWith extensions samples ty = IsInhabitedWith extensions samples ty × RequiresAll ty

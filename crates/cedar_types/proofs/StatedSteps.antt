@@ -1,5 +1,5 @@
--- Steps of the walk that tells whether attributes are stated with samples.
-use Rattle.std.proofs.Common.{◌≡◌, ◌↔◌, ◌∙◌, ⊎_elim, inl, inr, true, false, List, [], ◌∷◌, sym, ap, subst, Global, Contains, arith, Option, None, Some, Bor, IfSome, refl}
+-- Steps of the walks that tell whether types are inhabited by samples, and require all attributes.
+use Rattle.std.proofs.Common.{◌≡◌, ◌↔◌, ◌∙◌, ⊎_elim, inl, inr, false, List, [], ◌∷◌, sym, ap, subst, Global, Contains, arith, Option, None, Some, Bor, IfSome, IsTrue, refl}
 use Rattle.std.specs.Bool.{Decides}
 use Rattle.std.specs.Option.{is_some}
 use Rattle.std.specs.declared.string.String.{String}
@@ -8,8 +8,8 @@ use Rattle.cedar_below.specs.Tree.{Tree}
 use Rattle.cedar_below.specs.declared.extension.Extensions.{Extensions}
 use Rattle.cedar_below.specs.declared.value.Value.{Value}
 use Rattle.cedar_type_rules.specs.Has.{Has}
-use Rattle.cedar_type_rules.specs.Stated.{AreStatedWith, IsSampled, IsStatedWith}
-use Rattle.cedar_type_rules.specs.Ty.{Ty, fields_from}
+use Rattle.cedar_type_rules.specs.Stated.{FieldsRequireAll, IsSampled, RequiresAll}
+use Rattle.cedar_type_rules.specs.Ty.{Ty, Fields, fields_from}
 use Rattle.cedar_types.proofs.EqualityLaws.{attribute_of-parts}
 use Rattle.cedar_types.specs.Attributes.{plain_attributes}
 use Rattle.cedar_types.specs.Layers.{pairs_of, fields_of-pairs}
@@ -19,48 +19,42 @@ use Rattle.cedar_types.specs.declared.attributes.AttributeType.{AttributeType, o
 use Rattle.cedar_types.specs.declared.attributes.Attributes.{Attributes}
 use Rattle.cedar_types.specs.declared.types.Type.{«Type»}
 
--- the attributes that are left are stated exactly where all are
-abbrev pub IsStatedLeft : Extensions → List Tree → Attributes → List (String Global × AttributeType) → Type 0
-IsStatedLeft extensions samples all rest =
-    AreStatedWith extensions samples (fields_from (plain_attributes rest)) ↔ AreStatedWith extensions samples (fields_of all)
+-- the attributes that are left tell a fact of all of them
+abbrev pub TellsLeft : (Fields → Type 0) → Attributes → List (String Global × AttributeType) → Type 0
+TellsLeft P all rest = P (fields_from (plain_attributes rest)) ↔ P (fields_of all)
 
 -- at first all are left
-pub stated-first : (extensions : Extensions) (samples : List Tree) (all : Attributes) (own : List (String Global × AttributeType))
-    → own ≡ pairs_of all → IsStatedLeft extensions samples all own
-stated-first extensions samples all own is =
-    let P : List (String Global × AttributeType) → Type 0 = IsStatedLeft extensions samples all in
-    subst P (sym is)
-    (subst (λ fields. AreStatedWith extensions samples fields ↔ AreStatedWith extensions samples (fields_of all)) (fields_of-pairs all)
-    (λ stated. stated, λ stated. stated))
+pub left-first : (P : Fields → Type 0) (all : Attributes) (own : List (String Global × AttributeType)) → own ≡ pairs_of all
+    → TellsLeft P all own
+left-first P all own is =
+    subst (TellsLeft P all) (sym is)
+    (subst (λ fields. P fields ↔ P (fields_of all)) (fields_of-pairs all) (λ holds. holds, λ holds. holds))
 
-module _ (extensions : Extensions) (samples : List Tree) (all : Attributes) (item : String Global × AttributeType)
-    (rest : List (String Global × AttributeType)) (left : IsStatedLeft extensions samples all (item ∷ rest)) where
-  -- an attribute that may be missing tells that not all are stated
-  pub stated-optional : (out-AttributeType item.1).is_required ≡ false → Decides false (AreStatedWith extensions samples (fields_of all))
-  stated-optional optional = (
-    λ e. absurd cc,
-    λ whole. absurd (let needed : (attribute_of item.1).0 ≡ true = (left.1 whole).0 in
-        let same : (attribute_of item.1).0 ≡ (out-AttributeType item.1).is_required = ap (λ both. both.0) (attribute_of-parts item.1) in
-        let none : true ≡ false = sym needed ∙ (same ∙ optional) in cc),
-  )
+module _ {Next Rest All : Type 0} (left : (Next × Rest) ↔ All) where
+  -- where the fact of the next fails, that of all does
+  pub left-fails : ¬ Next → Decides false All
+  left-fails fails = (λ e. absurd cc, λ whole. absurd (fails (left.1 whole).0))
 
-  module _ (of : «Type») (is_of : of ≡ (out-AttributeType item.1).attr_type.value) where
-    -- the type of an attribute stands for the same as what it leads to
-    same_type : (attribute_of item.1).1 ≡ ty_of of
-    same_type = ap (λ both. both.1) (attribute_of-parts item.1) ∙ ap ty_of (sym is_of)
+  -- where it holds, the rest tells
+  pub left-next : Next → (Rest ↔ All)
+  left-next next = (λ others. left.0 (next, others), λ whole. (left.1 whole).1)
 
-    -- one whose type isn't stated tells that not all are
-    pub stated-fails : ¬ IsStatedWith extensions samples (ty_of of) → Decides false (AreStatedWith extensions samples (fields_of all))
-    stated-fails fails = (λ e. absurd cc, λ whole. absurd (fails (subst (IsStatedWith extensions samples) same_type (left.1 whole).1)))
+-- whether all attributes are required is told by the next one's flag, its type and the rest
+pub required_left : (all : Attributes) (item : String Global × AttributeType) (rest : List (String Global × AttributeType))
+    → TellsLeft FieldsRequireAll all (item ∷ rest)
+    → (IsTrue (attribute_of item.1).0 × (RequiresAll (attribute_of item.1).1 × FieldsRequireAll (fields_from (plain_attributes rest))))
+    ↔ FieldsRequireAll (fields_of all)
+required_left all item rest left =
+    (λ each. left.0 (each.0, each.1.0, each.1.1), λ whole. (let each = left.1 whole in (each.0, (each.1, each.2))))
 
-    -- past one that is required and whose type is stated the rest tells
-    pub stated-next : (out-AttributeType item.1).is_required ≡ true → IsStatedWith extensions samples (ty_of of)
-        → IsStatedLeft extensions samples all rest
-    stated-next needed stated =
-        let same : (attribute_of item.1).0 ≡ true = ap (λ both. both.0) (attribute_of-parts item.1) ∙ needed in (
-          λ others. left.0 (same, subst (IsStatedWith extensions samples) (sym same_type) stated, others),
-          λ whole. (left.1 whole).2,
-        )
+-- an attribute's flag is the plain one's
+pub flag_same : (attribute : AttributeType) → (attribute_of attribute).0 ≡ (out-AttributeType attribute).is_required
+flag_same attribute = ap (λ both. both.0) (attribute_of-parts attribute)
+
+-- what an attribute's type leads to stands for the plain one's
+pub type_same : (attribute : AttributeType) (of : «Type») → of ≡ (out-AttributeType attribute).attr_type.value
+    → ty_of of ≡ (attribute_of attribute).1
+type_same attribute of is_of = ap ty_of is_of ∙ sym (ap (λ both. both.1) (attribute_of-parts attribute))
 
 -- a sample that has a type is among those that are left
 abbrev pub IsSampledLeft : Extensions → List Value → Ty → List Value → Type 0

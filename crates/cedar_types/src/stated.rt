@@ -1,9 +1,9 @@
-//! Types that are stated with samples, in which no part is without values and all attributes are
-//! required.
+//! Types that are inhabited by samples, in which no part is without values, and those that are
+//! stated with them, in which all attributes are required too.
 
 ghost use Rattle.std.specs.Prelude.{◌≡◌, ◌↔◌, IsTrue, Contains, IfSome, None};
 ghost use Rattle.cedar_type_rules.specs.Has.{Has};
-ghost use Rattle.cedar_type_rules.specs.Stated.{AreStatedWith, IsSampled, IsStated, IsStatedWith};
+ghost use Rattle.cedar_type_rules.specs.Stated.{AreInhabitedWith, FieldsRequireAll, IsInhabited, IsInhabitedWith, IsSampled, IsStated, IsStatedWith, RequiresAll};
 ghost use Rattle.cedar_types.specs.Meaning.{ty_of, fields_of};
 ghost use Rattle.cedar_types.specs.Samples.{value_tree, value_trees};
 
@@ -11,17 +11,30 @@ use crate::attributes::Attributes;
 use crate::types::Type;
 use cedar_below::{Extensions, Value};
 
-/// Whether each attribute is required, and its type is stated with the samples.
-#[cycle(stated)]
-fn are_stated(attrs: &Attributes, extensions: &Extensions, samples: &[Value]) -> bool
-    ensures { IsTrue result ↔ AreStatedWith extensions.now (value_trees samples.now)
+/// Whether the type of each attribute is inhabited by the samples.
+#[cycle(sampled)]
+fn are_sampled(attrs: &Attributes, extensions: &Extensions, samples: &[Value]) -> bool
+    ensures { IsTrue result ↔ AreInhabitedWith extensions.now (value_trees samples.now)
         (fields_of attrs.now) }
+{
+    for (_, attribute) in attrs.attrs.as_slice() {
+        if !attribute.attr_type.is_inhabited_with(extensions, samples) {
+            return false;
+        }
+    }
+    true
+}
+
+/// Whether each attribute is required, and so is every one in its type.
+#[cycle(required)]
+fn require_all(attrs: &Attributes) -> bool
+    ensures { IsTrue result ↔ FieldsRequireAll (fields_of attrs.now) }
 {
     for (_, attribute) in attrs.attrs.as_slice() {
         if !attribute.is_required {
             return false;
         }
-        if !attribute.attr_type.is_stated_with(extensions, samples) {
+        if !attribute.attr_type.requires_all() {
             return false;
         }
     }
@@ -49,21 +62,47 @@ impl Type {
         None
     }
 
-    /// Whether the type is stated with the samples.
-    #[cycle(stated)]
-    fn is_stated_with(&self, extensions: &Extensions, samples: &[Value]) -> bool
-        ensures { IsTrue result ↔ IsStatedWith extensions.now (value_trees samples.now)
+    /// Whether the type is inhabited by the samples.
+    #[cycle(sampled)]
+    fn is_inhabited_with(&self, extensions: &Extensions, samples: &[Value]) -> bool
+        ensures { IsTrue result ↔ IsInhabitedWith extensions.now (value_trees samples.now)
             (ty_of self.now) }
     {
         match self {
             Type::Never => false,
             Type::Set {
                 element_type: Some(element),
-            } => element.is_stated_with(extensions, samples),
-            Type::Record { attrs, .. } => are_stated(attrs, extensions, samples),
+            } => element.is_inhabited_with(extensions, samples),
+            Type::Record { attrs, .. } => are_sampled(attrs, extensions, samples),
             Type::ExtensionType { .. } => self.sample_among(extensions, samples).is_some(),
             _ => true,
         }
+    }
+
+    /// Whether every attribute that stands in the type is required.
+    #[cycle(required)]
+    fn requires_all(&self) -> bool
+        ensures { IsTrue result ↔ RequiresAll (ty_of self.now) }
+    {
+        match self {
+            Type::Set {
+                element_type: Some(element),
+            } => element.requires_all(),
+            Type::Record { attrs, .. } => require_all(attrs),
+            _ => true,
+        }
+    }
+
+    /// Whether no `Never` stands in the type, and each extension type in it has one of the samples.
+    ///
+    /// Such a type has a value, and so has each part of it. Attributes may be optional, records
+    /// open, and the any-set may stand anywhere.
+    pub fn is_sampled(&self, extensions: &Extensions, samples: &[Value]) -> bool
+        ensures sampled { IsTrue result
+            ↔ IsInhabitedWith extensions.now (value_trees samples.now) (ty_of self.now) }
+        ensures inhabited { IsTrue result → IsInhabited extensions.now (ty_of self.now) }
+    {
+        self.is_inhabited_with(extensions, samples)
     }
 
     /// Whether no `Never` stands in the type, each attribute in it is required, and each extension
@@ -75,6 +114,6 @@ impl Type {
             ↔ IsStatedWith extensions.now (value_trees samples.now) (ty_of self.now) }
         ensures stated { IsTrue result → IsStated extensions.now (ty_of self.now) }
     {
-        self.is_stated_with(extensions, samples)
+        self.is_sampled(extensions, samples) && self.requires_all()
     }
 }

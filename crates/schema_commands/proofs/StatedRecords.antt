@@ -11,7 +11,7 @@ use Rattle.cedar_below.specs.declared.extension.Extensions.{Extensions}
 use Rattle.cedar_type_rules.proofs.SubtypeLemmas.{found-HasField}
 use Rattle.cedar_type_rules.specs.Below.{HasField}
 use Rattle.cedar_type_rules.specs.Fields.{IsRecordOf}
-use Rattle.cedar_type_rules.specs.Stated.{AreStatedWith, IsStatedWith}
+use Rattle.cedar_type_rules.specs.Stated.{AreInhabitedWith, FieldsRequireAll, IsStatedWith}
 use Rattle.cedar_type_rules.specs.Ty.{Fields, Ty, end, field}
 use Rattle.cedar_type_rules.specs.declared.open_tag.OpenTag.{OpenTag}
 use Rattle.cedar_types.specs.Attributes.{plain_required}
@@ -33,14 +33,15 @@ last_holds P name [] found all is = absurd cc
 last_holds P name (item ∷ rest) found all is =
     chosen_holds P (last_named name rest) (bytes_eq name item.0) item.1 found all.0 (last_holds P name rest found all.1) is
 
--- attributes each of which is required, with a stated type, are stated
+-- attributes each of which is required, with a stated type, are inhabited and require all
 stated_each : (extensions : Extensions) (fields : Fields)
     → ((name : Text) (required : Bool) (ty : Ty) → HasField fields name required ty → IsTrue required × IsStatedWith extensions [] ty)
-    → AreStatedWith extensions [] fields
-stated_each extensions end each = tt
+    → AreInhabitedWith extensions [] fields × FieldsRequireAll fields
+stated_each extensions end each = (tt, tt)
 stated_each extensions (field name required ty rest) each =
     let first = each name required ty (inl (refl, refl, refl)) in
-    (first.0, first.1, stated_each extensions rest (λ n r t has. each n r t (inr has)))
+    let others = stated_each extensions rest (λ n r t has. each n r t (inr has)) in
+    ((first.1.0, others.0), (first.0, first.1.1, others.1))
 
 -- an attribute is required, and its type is stated
 abbrev IsStatedAttribute : Bool × Ty → Type 0

@@ -1,9 +1,9 @@
-//! Tests of values that separate two types, and of types that are stated.
+//! Tests of values that separate two types, and of types that are sampled or stated.
 
 use crate::members::extensions;
 use crate::test_values::{sample, text, value};
 use cedar_below::{Extensions, M, Value};
-use cedar_counterexample::separating_value;
+use cedar_counterexample::{separating_value, value_outside};
 use cedar_types::{OpenTag, Type};
 use shorthand::checked::holds;
 use std::alloc::Global;
@@ -55,6 +55,35 @@ fn separated(
     }
 }
 
+/// Whether a value that the one type has and the other hasn't is found, if the one is sampled.
+fn outside(
+    alloc: Global,
+    a: &Type,
+    b: &Type,
+    extensions: &Extensions,
+    samples: &[Value],
+) -> M<Option<bool>> {
+    if !a.is_sampled(extensions, samples) {
+        return Ok(None);
+    }
+    match value_outside(alloc, a, b, extensions, samples)? {
+        Some(value) => Ok(Some(separates(a, b, &value, extensions))),
+        None => Ok(Some(false)),
+    }
+}
+
+/// Whether a value of the type of the first word is outside that of the second.
+fn is_outside(
+    alloc: Global,
+    first: &str,
+    second: &str,
+    extensions: &Extensions,
+    samples: &[Value],
+) -> Result<Option<bool>, Fail> {
+    let (a, b) = (made(alloc, first)?, made(alloc, second)?);
+    Ok(outside(alloc, &a, &b, extensions, samples)?)
+}
+
 /// Whether a value separates the types of two words.
 fn is_separated(
     alloc: Global,
@@ -90,6 +119,38 @@ const PAIRS: &[(&str, &str, Option<bool>)] = &[
     ("long", "a-long-optional", None),
 ];
 
+/// Types, and whether a value of the first is outside the second, if the first is sampled.
+const OUTSIDE: &[(&str, &str, Option<bool>)] = &[
+    ("unit", "a-long-optional", Some(false)),
+    ("a-long", "a-long-optional", Some(false)),
+    ("a-long-optional", "a-long", Some(true)),
+    ("a-long-optional", "unit", Some(true)),
+    ("a-long-optional", "any-record", Some(false)),
+    ("any-record", "a-long-optional", Some(true)),
+    ("any-record", "unit", Some(true)),
+    ("any-record", "any-optional", Some(true)),
+    ("unit", "any-optional", Some(false)),
+    ("any-optional", "any-record", Some(false)),
+    ("both-optional", "one-optional", Some(true)),
+    ("one-optional", "both-optional", Some(false)),
+    ("one-optional", "r3", Some(true)),
+    ("one-optional", "r1", Some(true)),
+    ("mixed", "mixed-closed", Some(true)),
+    ("mixed-closed", "mixed", Some(false)),
+    ("any-set", "set-long", Some(true)),
+    ("set-long", "any-set", Some(false)),
+    ("any-entity", "Foo|Bar", Some(true)),
+    ("a-long", "a-never", Some(true)),
+    ("long", "never", Some(true)),
+    ("ip", "ip-long", Some(true)),
+    ("ip", "ip", Some(false)),
+    ("deep-unit", "deep-a-long-optional", Some(false)),
+    ("deep-a-long-optional", "deep-unit", Some(true)),
+    ("a-never", "a-long", None),
+    ("set-never", "any-set", None),
+    ("decimal", "long", None),
+];
+
 /// The one value of an extension type that is handed in.
 fn samples(alloc: Global) -> Result<Vec<Value>, Fail> {
     let address = Value::new(value(alloc, "ip=x")?);
@@ -104,6 +165,18 @@ fn values_separate_types_where_they_differ(rt: HostRuntime) -> Result<(), Fail> 
     for &(first, second, expected) in PAIRS {
         let separated = is_separated(alloc, first, second, &extensions, &samples)?;
         holds(separated == expected, first)?;
+    }
+    Ok(())
+}
+
+#[test]
+fn values_of_one_type_are_outside_another(rt: HostRuntime) -> Result<(), Fail> {
+    let alloc = rt.alloc();
+    let extensions = extensions(alloc)?;
+    let samples = samples(alloc)?;
+    for &(first, second, expected) in OUTSIDE {
+        let is_outside = is_outside(alloc, first, second, &extensions, &samples)?;
+        holds(is_outside == expected, first)?;
     }
     Ok(())
 }

@@ -121,6 +121,7 @@ const RECORDS: &[Record] = &[
     ("a b-long", CLOSED, &[("a b", true, "long")]),
     ("a-long-open", OPEN, &[("a", true, "long")]),
     ("a-long-optional", CLOSED, &[("a", false, "long")]),
+    ("any-optional", OPEN, &[("a", false, "long")]),
     ("a-true", CLOSED, &[("a", true, "true")]),
     ("a-bool", CLOSED, &[("a", true, "bool")]),
     ("a-never", CLOSED, &[("a", true, "never")]),

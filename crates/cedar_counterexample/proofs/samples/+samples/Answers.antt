@@ -1,23 +1,27 @@
-use Rattle.std.proofs.Common.{◌≡◌, ◌<◌, Bool, List, None, Some, ap, arith, inl, refl, string_bytes, subst, sym, ◌∙◌, Global}
+use Rattle.std.proofs.Common.{◌≡◌, ◌<◌, true, false, List, None, Some, ap, arith, inl, refl, string_bytes, subst, sym, ◌∙◌, Global}
 use Rattle.std.proofs.lemmas.Result.{IfOk-weaker}
 use Rattle.std.specs.declared.string.String.{String}
 use Rattle.cedar_below.proofs.TreeLemmas.{tree_of-record}
 use Rattle.cedar_below.specs.RestrictedExpr.{entries_of, tree_of}
 use Rattle.cedar_below.specs.Text.{Text}
 use Rattle.cedar_below.specs.Tree.{Tree, entry_at, map_value}
-use Rattle.cedar_type_rules.specs.Stated.{IsStatedWith}
+use Rattle.cedar_type_rules.specs.Stated.{IsInhabitedWith}
 use Rattle.cedar_type_rules.specs.Ty.{Ty, fields_from}
 use Rattle.cedar_below.proofs.ValueCopies.{no_entries}
 use Rattle.cedar_counterexample.proofs.FillingLemmas.{FillingSoFar, filling_put, filling_there, missing_entry, present_entry, record_sample}
+use Rattle.cedar_counterexample.proofs.StartLemmas.{AreInhabitedWith-of}
 use Rattle.cedar_counterexample.proofs.Sizes.{attribute_smaller, fields_size, ty_size}
 use Rattle.cedar_counterexample.specs.Filling.{IsPut}
 use Rattle.cedar_counterexample.specs.Counterexample.{IsValueOf}
-use Rattle.cedar_types.proofs.MemberParts.{attribute_of-parts, ty_of-entity, ty_of-record}
+use Rattle.cedar_types.proofs.MemberParts.{ty_of-entity, ty_of-record}
+use Rattle.cedar_types.proofs.StatedSteps.{flag_same, type_same}
 use Rattle.cedar_types.specs.Attributes.{plain_attributes}
+use Rattle.cedar_types.specs.Layers.{IsSortedByName-fields}
 use Rattle.cedar_types.specs.Meaning.{attribute_of, fields_of, ty_of}
 use Rattle.cedar_types.specs.Samples.{value_trees}
 use Rattle.cedar_types.specs.declared.attributes.AttributeType.{AttributeType}
 use Rattle.cedar_counterexample.proofs.samples.+samples.Goals as goal
+use Rattle.cedar_counterexample.proofs.samples.+samples.Goals.{fill-else-attribute-via-then-attribute+else-not-contains_key, fill-else-attribute-via-else-attribute}
 
 abbrev Items : Type 0
 Items = List (String Global × AttributeType)
@@ -29,23 +33,21 @@ fill-sample_of-requires t c =
     let all = fields_of c.args.attrs.now in
     let name = string_bytes c.in-Some.name.now in
     let attribute = attribute_of c.in-Some.attribute.now in
-    let P : Items → Type 0 = λ items. FillingSoFar extensions samples all (entries_of c.args.start) (fields_from (plain_attributes items))
+    let P : Items → Type 0 = λ items. FillingSoFar extensions all (entries_of c.args.start) (fields_from (plain_attributes items))
     (entries_of c.loop-name.values) in
     let so_far = subst P c.in-Some.ensures.steps c.loop-name.invariant in
-    let same : ty_of c.deref.result.now ≡ attribute.1 =
-    ap ty_of c.deref.ensures ∙ ap (λ (p : Bool × Ty). p.1) (sym (attribute_of-parts c.in-Some.attribute.now)) in
-    let Q : Ty → Type 0 = IsStatedWith extensions samples in
+    let same = type_same c.in-Some.attribute.now c.deref.result.now c.deref.ensures in
+    let has = so_far.within name attribute.0 attribute.1 (inl (refl, refl, refl)) in
     let R : Ty → Type 0 = λ ty. ty_size ty < fields_size all in
-    let less = subst R (sym same) (attribute_smaller all name attribute.0 attribute.1
-    (so_far.within name attribute.0 attribute.1 (inl (refl, refl, refl)))) in (
+    let less = subst R (sym same) (attribute_smaller all name attribute.0 attribute.1 has) in (
       omega (arith, less, c.decreases),
-      subst Q (sym same) so_far.stated.1,
+      subst (IsInhabitedWith extensions samples) (sym same) (AreInhabitedWith-of extensions samples all name attribute.0 attribute.1 c.requires has),
     )
 
-pub fill-loop-name-preserved-in_ok-put : goal.fill-loop-name-preserved-in_ok-put
-fill-loop-name-preserved-in_ok-put t c =
+pub fill-loop-name-preserved-then-not-contains_key :
+    goal.fill-loop-name-preserved-then-not-contains_key
+fill-loop-name-preserved-then-not-contains_key t c =
     let extensions = c.args.extensions.now in
-    let samples = value_trees c.args.samples.now in
     let all = fields_of c.args.attrs.now in
     let start = entries_of c.args.start in
     let now = entries_of c.loop-name.values in
@@ -53,31 +55,36 @@ fill-loop-name-preserved-in_ok-put t c =
     let name = string_bytes c.in-Some.name.now in
     let attribute = attribute_of c.in-Some.attribute.now in
     let value = tree_of c.in_ok-sample.sample in
-    let P : Items → Type 0 = λ items. FillingSoFar extensions samples all start (fields_from (plain_attributes items)) now in
+    let P : Items → Type 0 = λ items. FillingSoFar extensions all start (fields_from (plain_attributes items)) now in
     let so_far = subst P c.in-Some.ensures.steps c.loop-name.invariant in
-    let same : ty_of c.deref.result.now ≡ attribute.1 =
-    ap ty_of c.deref.ensures ∙ ap (λ (p : Bool × Ty). p.1) (sym (attribute_of-parts c.in-Some.attribute.now)) in
+    let same = type_same c.in-Some.attribute.now c.deref.result.now c.deref.ensures in
+    let needed = flag_same c.in-Some.attribute.now ∙ c.if-attribute.true in
     let Q : Ty → Type 0 = λ ty. IsValueOf extensions ty value in
     let R : Text → Type 0 = λ text. IsPut text value now new in
     let S : Text → Type 0 = λ text. entry_at text now ≡ None in
     let none = subst S c.as_str.ensures.value (missing_entry c.as_str.result.now c.loop-name.values (sym c.if-not-contains_key.ensures)) in
-    filling_put extensions samples all start name attribute.0 attribute.1 _ now so_far value new none
+    filling_put extensions all start name attribute.0 attribute.1 _ now so_far value new needed none
     (subst R c.in_ok-clone.ensures.cases c.in_ok-put.ensures.put) (subst Q same c.in_ok-sample.ensures)
 
 pub fill-loop-name-preserved : goal.fill-loop-name-preserved
 fill-loop-name-preserved t c =
     let extensions = c.args.extensions.now in
-    let samples = value_trees c.args.samples.now in
     let all = fields_of c.args.attrs.now in
     let start = entries_of c.args.start in
     let now = entries_of c.loop-name.values in
     let name = string_bytes c.in-Some.name.now in
     let attribute = attribute_of c.in-Some.attribute.now in
-    let P : Items → Type 0 = λ items. FillingSoFar extensions samples all start (fields_from (plain_attributes items)) now in
+    let P : Items → Type 0 = λ items. FillingSoFar extensions all start (fields_from (plain_attributes items)) now in
     let so_far = subst P c.in-Some.ensures.steps c.loop-name.invariant in
     let S : Text → Type 0 = λ text. (value : Tree) × (entry_at text now ≡ Some value) in
-    let found = subst S c.as_str.ensures.value (present_entry c.as_str.result.now c.loop-name.values (sym c.if-not-contains_key.ensures)) in
-    filling_there extensions samples all start name attribute.0 attribute.1 _ now so_far found.0 found.1
+    let there : attribute.0 ≡ true → (value : Tree) × (entry_at name now ≡ Some value) = elim c.else-attribute.branch [
+      | fill-else-attribute-via-then-attribute+else-not-contains_key w ↦
+          λ _. subst S w.as_str.ensures.value (present_entry w.as_str.result.now c.loop-name.values (sym w.if-not-contains_key.ensures))
+      | fill-else-attribute-via-else-attribute w ↦
+          λ needed. absurd (let optional = flag_same c.in-Some.attribute.now ∙ w.if-attribute.false in
+          let wrong : true ≡ false = sym needed ∙ optional in cc)
+    ] in
+    filling_there extensions all start name attribute.0 attribute.1 _ now so_far there
 
 pub sample_of-returns-in-Entity : goal.sample_of-returns-in-Entity
 sample_of-returns-in-Entity t c =
@@ -93,6 +100,7 @@ sample_of-returns-in_ok-values-in-Record t c =
     let fields = fields_of c.in-Record.attrs in
     let openness = c.in-Record.open_attributes in
     let sample = record_sample extensions fields openness (entries_of c.new-in-Record.result) (entries_of values)
+    (IsSortedByName-fields c.in-Record.attrs)
     (no_entries c.new-in-Record.result c.new-in-Record.ensures.empty)
     c.in_ok-values-in-Record.ensures in
     let P : Ty → Type 0 = λ ty. IsValueOf extensions ty (map_value (entries_of values)) in

@@ -2,7 +2,6 @@ use Rattle.cedar_below.specs.RestrictedExpr.{entries_of}
 use Rattle.cedar_type_rules.specs.Ty.{fields_from}
 use Rattle.cedar_types.specs.Attributes.{plain_attributes}
 use Rattle.cedar_types.specs.Meaning.{fields_of, ty_of}
-use Rattle.cedar_types.specs.Samples.{value_trees}
 use Rattle.cedar_counterexample.proofs.FillingLemmas.{FillingSoFar}
 use Rattle.cedar_counterexample.proofs.Sizes.{fields_size, ty_size}
 use Rattle.cedar_counterexample.proofs.samples.+samples.Given as goal
@@ -15,5 +14,5 @@ decreases-sample_of l = ty_size (ty_of l.ty.now)
 
 abbrev pub invariant-fill-loop-name : goal.invariant-fill-loop-name
 invariant-fill-loop-name l =
-    FillingSoFar l.extensions (value_trees l.samples) (fields_of l.attrs) (entries_of l.fn.start)
+    FillingSoFar l.extensions (fields_of l.attrs) (entries_of l.fn.start)
     (fields_from (plain_attributes l.name-iterator)) (entries_of l.values)

@@ -1,20 +1,22 @@
 use Rattle.std.proofs.Common.{◌+◌}
 use Rattle.cedar_type_rules.specs.Ty.{fields_from}
 use Rattle.cedar_types.specs.Attributes.{plain_attributes}
-use Rattle.cedar_types.specs.Meaning.{fields_of, ty_of}
-use Rattle.cedar_types.specs.Samples.{value_trees}
+use Rattle.cedar_types.specs.Meaning.{attribute_of, fields_of, ty_of}
 use Rattle.cedar_counterexample.proofs.Sizes.{fields_size, ty_size}
 use Rattle.cedar_counterexample.proofs.StartLemmas.{CounterexampleSoFar}
 use Rattle.cedar_counterexample.proofs.separating.+separating.Given as goal
 
+abbrev pub decreases-separating_field : goal.decreases-separating_field
+decreases-separating_field l = ty_size (attribute_of l.attribute.now).1 + 1
+
 abbrev pub decreases-separating_attribute : goal.decreases-separating_attribute
-decreases-separating_attribute l = fields_size (fields_of l.upper.now)
+decreases-separating_attribute l = fields_size (fields_of l.upper.now) + 1
 
 abbrev pub decreases-separating_start : goal.decreases-separating_start
-decreases-separating_start l = fields_size (fields_of l.upper.now) + 1
+decreases-separating_start l = fields_size (fields_of l.upper.now) + 2
 
 abbrev pub decreases-separating_record : goal.decreases-separating_record
-decreases-separating_record l = fields_size (fields_of l.upper.now) + 2
+decreases-separating_record l = fields_size (fields_of l.upper.now) + 3
 
 abbrev pub decreases-separating_set : goal.decreases-separating_set
 decreases-separating_set l = ty_size (ty_of l.upper.now) + 1
@@ -24,5 +26,5 @@ decreases-separating_expr l = ty_size (ty_of l.b.now)
 
 abbrev pub invariant-separating_attribute-loop-name : goal.invariant-separating_attribute-loop-name
 invariant-separating_attribute-loop-name l =
-    CounterexampleSoFar l.extensions (value_trees l.samples) (fields_of l.lower) (fields_of l.upper)
+    CounterexampleSoFar (fields_of l.lower) l.openness (fields_of l.upper)
     (fields_from (plain_attributes l.name-iterator))

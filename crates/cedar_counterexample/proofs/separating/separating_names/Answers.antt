@@ -1,27 +1,80 @@
-use Rattle.std.proofs.Common.{◌≡◌, ap, string_bytes, subst, sym, true, ◌∙◌}
+use Rattle.std.proofs.Common.{◌≡◌, List, None, ap, inl, refl, string_bytes, subst, sym, true, ◌∙◌, Contains, Global}
 use Rattle.std.proofs.lemmas.Bool.{false≢true}
 use Rattle.std.proofs.lemmas.Str.{IsUtf8-string_bytes}
-use Rattle.cedar_below.specs.RestrictedExpr.{entries_of}
+use Rattle.std.specs.declared.string.String.{String}
+use Rattle.cedar_below.specs.RestrictedExpr.{entries_of, tree_of}
 use Rattle.cedar_below.specs.Tree.{Entries, entry, no_entry, truth_value}
+use Rattle.cedar_type_rules.proofs.InclusionLemmas.{found-Decides}
+use Rattle.cedar_type_rules.specs.Fields.{field_names}
+use Rattle.cedar_type_rules.specs.Stated.{IsInhabitedWith}
+use Rattle.cedar_type_rules.specs.Ty.{fields_from}
 use Rattle.cedar_type_rules.specs.declared.open_tag.OpenTag.{OpenTag}
 use Rattle.cedar_type_rules.specs.declared.open_tag.OpenTag.TheVariants.{ClosedAttributes, OpenAttributes}
-use Rattle.cedar_below.proofs.ValueCopies.{no_entries, tree_of-truth}
-use Rattle.cedar_counterexample.proofs.StartLemmas.{further_start, open_start}
-use Rattle.cedar_counterexample.specs.Filling.{IsStart}
-use Rattle.cedar_types.specs.Meaning.{fields_of}
+use Rattle.cedar_below.proofs.ValueCopies.{tree_of-truth}
+use Rattle.cedar_counterexample.proofs.StartLemmas.{AreInhabitedWith-of, NamesSoFar, further_start, names_all, names_next, open_start}
+use Rattle.cedar_counterexample.specs.Counterexample.{IsValueOf}
+use Rattle.cedar_counterexample.specs.Filling.{IsRecordStart, IsStart}
+use Rattle.cedar_type_rules.specs.IncludedByParts.{FieldsIncluded}
+use Rattle.cedar_types.proofs.StatedSteps.{type_same}
+use Rattle.cedar_types.specs.Attributes.{plain_attributes}
+use Rattle.cedar_types.specs.Layers.{IsSortedByName-fields}
+use Rattle.cedar_types.specs.Meaning.{attribute_of, fields_of}
+use Rattle.cedar_types.specs.Samples.{value_trees}
+use Rattle.cedar_types.specs.declared.attributes.AttributeType.{AttributeType}
 use Rattle.cedar_counterexample.proofs.separating.separating_names.Goals as goal
 
-pub returns-then-not-lists_all : goal.returns-then-not-lists_all
-returns-then-not-lists_all c = λ extensions.
+abbrev Items : Type 0
+Items = List (String Global × AttributeType)
+
+pub sample_of-requires : goal.sample_of-requires
+sample_of-requires c =
+    let samples = value_trees c.args.samples.now in
+    let lower = fields_of c.args.lower.now in
+    let name = string_bytes c.in-Some.name.now in
+    let attribute = attribute_of c.in-Some.attribute.now in
+    let P : Items → Type 0 = λ items. NamesSoFar lower (fields_of c.args.upper.now) (fields_from (plain_attributes items)) in
+    let so_far = subst P c.in-Some.ensures.steps c.loop-name.invariant in
+    subst (IsInhabitedWith c.args.extensions.now samples)
+    (sym (type_same c.in-Some.attribute.now c.deref-then-is_none.result.now c.deref-then-is_none.ensures))
+    (AreInhabitedWith-of c.args.extensions.now samples lower name attribute.0 attribute.1 c.requires.inhabited
+    (so_far.within name attribute.0 attribute.1 (inl (refl, refl, refl))))
+
+pub returns-then-is_none : goal.returns-then-is_none
+returns-then-is_none c =
+    let extensions = c.args.extensions.now in
     let lower = fields_of c.args.lower.now in
     let upper = fields_of c.args.upper.now in
-    let P : Entries → Type 0 = IsStart extensions lower c.args.openness upper ClosedAttributes in
-    subst P (sym (no_entries c.new.result c.new.ensures.empty))
-    (further_start extensions lower upper c.args.openness
-    (λ all. false≢true (sym c.if-not-lists_all.true ∙ c.lists_all.ensures.1 all)))
+    let name = string_bytes c.in-Some.name.now in
+    let attribute = attribute_of c.in-Some.attribute.now in
+    let P : Items → Type 0 = λ items. NamesSoFar lower upper (fields_from (plain_attributes items)) in
+    let so_far = subst P c.in-Some.ensures.steps c.loop-name.invariant in
+    let found = found-Decides attribute_of c.get_attr.result c.deref.result.now upper c.get_attr.ensures.attribute in
+    let absent : ¬ Contains (field_names upper) name = λ among.
+    false≢true (sym c.if-is_none.ensures ∙ found.1 (subst (Contains (field_names upper)) (sym c.deref.ensures) among)) in
+    let value = tree_of c.in_ok-sample.sample in
+    let sample = subst (λ ty. IsValueOf extensions ty value)
+    (type_same c.in-Some.attribute.now c.deref-then-is_none.result.now c.deref-then-is_none.ensures) c.in_ok-sample.ensures in
+    let is : entries_of c.in_ok-alone.field-0 ≡ entry name value no_entry =
+    c.in_ok-alone.ensures ∙ ap (λ text. entry text value no_entry) c.in_ok-clone.ensures.cases in
+    let Q : Entries → Type 0 = IsStart extensions lower c.args.openness upper ClosedAttributes in
+    subst Q (sym is) (further_start extensions lower upper c.args.openness name attribute.0 attribute.1 value
+    (IsSortedByName-fields c.args.lower.now) (IsUtf8-string_bytes c.in-Some.name.now)
+    (so_far.within name attribute.0 attribute.1 (inl (refl, refl, refl))) absent sample)
+
+pub loop-name-preserved : goal.loop-name-preserved
+loop-name-preserved c =
+    let lower = fields_of c.args.lower.now in
+    let upper = fields_of c.args.upper.now in
+    let name = string_bytes c.in-Some.name.now in
+    let attribute = attribute_of c.in-Some.attribute.now in
+    let P : Items → Type 0 = λ items. NamesSoFar lower upper (fields_from (plain_attributes items)) in
+    let found = found-Decides attribute_of c.get_attr.result c.deref.result.now upper c.get_attr.ensures.attribute in
+    names_next lower upper name attribute.0 attribute.1 _ (subst P c.in-Some.ensures.steps c.loop-name.invariant)
+    (subst (Contains (field_names upper)) c.deref.ensures (found.0 c.if-is_none.ensures))
 
 pub returns-in_ok-alone-in-OpenAttributes : goal.returns-in_ok-alone-in-OpenAttributes
-returns-in_ok-alone-in-OpenAttributes c = λ extensions.
+returns-in_ok-alone-in-OpenAttributes c =
+    let extensions = c.args.extensions.now in
     let lower = fields_of c.args.lower.now in
     let upper = fields_of c.args.upper.now in
     let name = c.in_ok-name-in-OpenAttributes.name in
@@ -30,5 +83,17 @@ returns-in_ok-alone-in-OpenAttributes c = λ extensions.
     c.in_ok-alone-in-OpenAttributes.ensures ∙ ap (λ value. entry (string_bytes name) value no_entry) (tree_of-truth true) in
     let P : Entries → Type 0 = IsStart extensions lower OpenAttributes upper ClosedAttributes in
     let Q : OpenTag → Type 0 = λ openness. IsStart extensions lower openness upper ClosedAttributes values in
+    let parts = subst (λ openness. FieldsIncluded openness lower upper) c.in-OpenAttributes.is c.requires.included in
     subst Q (sym c.in-OpenAttributes.is) (subst P (sym is)
-    (open_start extensions lower upper (string_bytes name) (IsUtf8-string_bytes name) c.in_ok-name-in-OpenAttributes.ensures c.requires))
+    (open_start extensions lower upper (string_bytes name) (IsUtf8-string_bytes name) c.in_ok-name-in-OpenAttributes.ensures parts))
+
+pub returns-in-ClosedAttributes : goal.returns-in-ClosedAttributes
+returns-in-ClosedAttributes c =
+    let extensions = c.args.extensions.now in
+    let lower = fields_of c.args.lower.now in
+    let upper = fields_of c.args.upper.now in
+    let none = ap (λ (items : Items). fields_from (plain_attributes items)) c.in-None.ensures.steps.0 in
+    let names = names_all lower upper _ none c.loop-name.invariant in
+    let Q : OpenTag → Type 0 = λ openness. IsRecordStart extensions lower openness upper ClosedAttributes None in
+    subst Q (sym c.in-ClosedAttributes.is)
+    (tt, names, subst (λ openness. FieldsIncluded openness lower upper) c.in-ClosedAttributes.is c.requires.included)

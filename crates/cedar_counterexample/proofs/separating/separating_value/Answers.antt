@@ -1,17 +1,21 @@
-use Rattle.std.proofs.Common.{Option, Some, subst}
-use Rattle.cedar_below.specs.RestrictedExpr.{tree_of}
-use Rattle.cedar_below.specs.declared.value.RestrictedExpr.{RestrictedExpr}
-use Rattle.std.specs.Option.{option_map}
-use Rattle.cedar_counterexample.proofs.TypeCounterexamples.{separated_apart}
-use Rattle.cedar_counterexample.specs.Counterexample.{IsCounterexampleAnswer}
+use Rattle.std.proofs.Common.{◌≡◌, ◌↔◌, None}
+use Rattle.std.proofs.lemmas.Result.{IfOk-weaker}
+use Rattle.cedar_below.specs.declared.validation_mode.ValidationMode.TheVariants.{Permissive}
+use Rattle.cedar_type_rules.proofs.StatedLemmas.{IsStated-with}
+use Rattle.cedar_type_rules.proofs.ValueInclusion.{inclusion}
+use Rattle.cedar_type_rules.specs.Below.{Below}
 use Rattle.cedar_types.specs.Meaning.{ty_of}
+use Rattle.cedar_types.specs.Samples.{value_trees}
+use Rattle.cedar_types.specs.WellFormedTypes.{IsWellFormed-type}
 use Rattle.cedar_counterexample.proofs.separating.separating_value.Goals as goal
 
-pub returns-in-Some-clause-none : goal.returns-in-Some-clause-none
-returns-in-Some-clause-none c =
+pub returns-clause-none : goal.returns-clause-none
+returns-clause-none c =
     let extensions = c.args.extensions.now in
+    let samples = value_trees c.args.samples.now in
     let a = ty_of c.args.a.now in
     let b = ty_of c.args.b.now in
-    let F : Option RestrictedExpr → Type 0 = λ found. IsCounterexampleAnswer extensions a b (option_map tree_of found) in
-    let found : F (Some c.in-Some.expr) = subst F c.in-Some.is c.in_ok-expr.ensures in
-    (λ none. absurd cc, λ below. absurd (separated_apart extensions a b (tree_of c.in-Some.expr) found below))
+    let both = inclusion a b (IsWellFormed-type c.args.a.now) (IsWellFormed-type c.args.b.now) extensions
+    (IsStated-with extensions samples a c.requires.first) (IsStated-with extensions samples b c.requires.second) in
+    IfOk-weaker c.value_outside.result _ (λ found. (found ≡ None) ↔ Below Permissive a b)
+    (λ found is. (λ none. both.1 (is.0 none), λ below. is.1 (both.0 below))) c.value_outside.ensures.none

@@ -3,6 +3,7 @@ use Rattle.cedar_types.specs.Meaning.{ty_of}
 use Rattle.cedar_types.specs.Samples.{value_trees}
 use Rattle.cedar_types.proofs.types.Type.is_stated.Goals as goal
 
-pub returns-clause-stated : goal.returns-clause-stated
-returns-clause-stated c = λ yes.
-    IsStated-with c.args.extensions.now (value_trees c.args.samples.now) (ty_of c.args.self.now) (c.is_stated_with.ensures.0 yes)
+pub returns-then-is_sampled-clause-stated : goal.returns-then-is_sampled-clause-stated
+returns-then-is_sampled-clause-stated c = λ yes.
+    IsStated-with c.args.extensions.now (value_trees c.args.samples.now) (ty_of c.args.self.now)
+    (c.is_sampled.ensures.sampled.0 c.if-is_sampled.true, c.requires_all.ensures.0 yes)

@@ -1,0 +1,9 @@
+use Rattle.std.proofs.Common.{drop}
+use Rattle.cedar_type_rules.specs.Stated.{AreInhabitedWith}
+use Rattle.cedar_types.proofs.StatedSteps.{TellsLeft}
+use Rattle.cedar_types.specs.Samples.{value_trees}
+use Rattle.cedar_types.proofs.+sampled.Given as goal
+
+abbrev pub invariant-stated::are_sampled-loop-attribute : goal.invariant-stated::are_sampled-loop-attribute
+invariant-stated::are_sampled-loop-attribute l =
+    TellsLeft (AreInhabitedWith l.extensions (value_trees l.samples)) l.attrs (drop l.attribute-index l.attribute-items)
