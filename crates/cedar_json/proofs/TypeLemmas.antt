@@ -1,7 +1,10 @@
 -- The definition of types by look-ups.
-use Rattle.std.proofs.Common.{◌≡◌, ℕ, ◌+◌, ◌<◌, ◌≤◌, length, drop, drop_of_length-le, get_or, BTreeMap, List, [], ◌∷◌, Bool, true, false, cond, Option, Some, None, option_map, option_and_then, codes, string_bytes, string_cmp, Bor, String, Global, refl, ap, ap₂, sym, ◌∙◌}
+use Rattle.std.proofs.Common.{◌≡◌, ℕ, ◌+◌, ◌<◌, ◌≤◌, length, drop, drop_of_length-le, get_or, BTreeMap, List, [], ◌∷◌, Bool, true, false, cond, Option, Some, None, Result, MatchResult, ◌≢◌, subst, option_map, option_and_then, codes, string_bytes, string_cmp, Bor, String, Global, refl, ap, ap₂, sym, ◌∙◌}
 use Rattle.std.proofs.lemmas.List.{drop_more}
 use Rattle.std.specs.BTreeMap.{insert_entry}
+use Rattle.std.proofs.lemmas.Bool.{cond-false}
+use Rattle.std.proofs.lemmas.Slice.Eq.{bytes_eq-Decides}
+use Rattle.std.specs.Bool.{Decides}
 use Rattle.std.specs.Str.{bytes_eq}
 use Rattle.json.specs.Json.{Json, null, boolean, number, string, array, object, Members, no_members, member}
 use Rattle.json.specs.Find.{as_object, get, get_member, later_or}
@@ -15,12 +18,16 @@ use Rattle.cedar_names.specs.PlainMembers.{plain_members}
 use Rattle.cedar_names.specs.RawExpr.{raw_attribute, raw_expr, raw_record, raw_reference}
 use Rattle.cedar_names.specs.TypeExpr.{type_step, variant_step, record_step, attribute_step}
 use Rattle.cedar_names.specs.declared.json_schema.raw_name.RawName.{RawName}
+use Rattle.cedar_names.specs.declared.json_schema.reference_type.ReferenceType.TheVariants.{Common}
 use Rattle.cedar_names.specs.declared.json_schema.type_of.RecordType.{roll-RecordType}
 use Rattle.cedar_names.specs.declared.json_schema.type_of.Type.{«Type»}
 use Rattle.cedar_names.specs.declared.json_schema.type_of.TypeOfAttribute.{TypeOfAttribute, roll-TypeOfAttribute, fold-roll-TypeOfAttribute}
 use Rattle.cedar_json.proofs.MapLemmas.{seen-insert}
-use Rattle.cedar_json.specs.Fields.{annotations_fit, flag_or}
-use Rattle.cedar_json.specs.TypeFormat.{Attributes, attributes_field, element_field, attribute_by, attribute_of, attributes_held, attributes_in, attributes_of, element_of, later_field, if_so, type_by, type_of, type_with}
+use Rattle.cedar_json.specs.Fields.{annotations_fit, flag_or, has_only, known_fields, text_held}
+use Rattle.cedar_json.specs.TypeFormat.{Attributes, attributes_field, element_field, attribute_by, attribute_of, attributes_held, attributes_in, attributes_of, element_of, later_field, additional_field, if_so, reference_in, type_by, type_by_word, type_of, type_with}
+use Rattle.cedar_json.specs.declared.fault.Fault.{Fault}
+use Rattle.cedar_json.specs.declared.fault.Fault.TheVariants as fault
+use Rattle.cedar_json.specs.declared.fault.Row.{Row}
 use Rattle.cedar_json.specs.declared.fault.Row.TheVariants.{OfType, OfAttribute}
 
 -- a walk for a field is a look-up
@@ -197,3 +204,46 @@ attributes_field-held j ms held = attributes_held-found (get (codes "attributes"
 
 pub attributes_field-none : (j : Json) → option_and_then as_object (get (codes "attributes") j) ≡ None → attributes_field j ≡ None
 attributes_field-none j none = attributes_held-found (get (codes "attributes") j) ∙ ap (option_and_then (λ (m : Members). attributes_of m [])) none
+
+-- what a result says of one description, it says of an equal one
+pub described_too : {X A : Type 0} (r : Result X Fault) (shown : X → A) (d e : Option A) → e ≡ d
+    → MatchResult r (λ it. d ≡ Some (shown it)) (λ refusal. refusal ≢ fault.Memory → d ≡ None)
+    → MatchResult r (λ it. e ≡ Some (shown it)) (λ refusal. refusal ≢ fault.Memory → e ≡ None)
+described_too {X} {A} r shown d e same said =
+    let Says : Option A → Type 0 = λ o. MatchResult r (λ it. o ≡ Some (shown it)) (λ refusal. refusal ≢ fault.Memory → o ≡ None) in
+    subst Says (sym same) said
+
+fails : {P : Type 0} (b : Bool) → Decides b P → (P → ⊥) → b ≡ false
+fails true is unless = absurd (unless (is.0 refl))
+fails false is unless = refl
+
+-- a word is none that names a kind of type
+pub record IsOtherWord (word : Text) : Type 0 where
+  pub no_text : word ≡ codes "String" → ⊥
+  pub no_long : word ≡ codes "Long" → ⊥
+  pub no_truth : word ≡ codes "Boolean" → ⊥
+  pub no_set : word ≡ codes "Set" → ⊥
+  pub no_record : word ≡ codes "Record" → ⊥
+  pub no_entity : word ≡ codes "Entity" → ⊥
+  pub no_entity_or_common : word ≡ codes "EntityOrCommon" → ⊥
+  pub no_extension : word ≡ codes "Extension" → ⊥
+
+-- such a word refers to a common type
+pub type_by_word-other : (word : Text) (element : Option Expr) (attributes : Option Attributes) (additional : Option Bool) (name : Option Text)
+    → IsOtherWord word → type_by_word word element attributes additional name ≡ reference_in Common word
+type_by_word-other word element attributes additional name other =
+    cond-false _ _ _ (differs (codes "String") other.no_text) ∙ cond-false _ _ _ (differs (codes "Long") other.no_long)
+    ∙ cond-false _ _ _ (differs (codes "Boolean") other.no_truth) ∙ cond-false _ _ _ (differs (codes "Set") other.no_set)
+    ∙ cond-false _ _ _ (differs (codes "Record") other.no_record) ∙ cond-false _ _ _ (differs (codes "Entity") other.no_entity)
+    ∙ cond-false _ _ _ (differs (codes "EntityOrCommon") other.no_entity_or_common)
+    ∙ cond-false _ _ _ (differs (codes "Extension") other.no_extension)
+  where
+    differs : (known : Text) → (word ≡ known → ⊥) → bytes_eq word known ≡ false
+    differs known unless = fails (bytes_eq word known) (bytes_eq-Decides word known) unless
+
+-- the type that an object of known fields describes is that of its word
+pub type_with-known : (row : Row) (j : Json) (word : Text) → text_held (codes "type") j ≡ Some word → has_only (known_fields row j) j ≡ true
+    → type_with row j ≡ type_by_word word (element_field j) (attributes_field j) (additional_field j) (text_held (codes "name") j)
+type_with-known row j word held known =
+    let by_word : Text → Option Expr = λ w. type_by_word w (element_field j) (attributes_field j) (additional_field j) (text_held (codes "name") j) in
+    ap (option_and_then (λ w. if_so (has_only (known_fields row j) j) (by_word w))) held ∙ ap (λ test. if_so test (by_word word)) known

@@ -1,16 +1,16 @@
 //! Reading types.
 
-ghost use Rattle.std.specs.Prelude.{◌≡◌, ◌≢◌, [], Some, None, MatchResult, IfErr, codes, option_and_then};
+ghost use Rattle.std.specs.Prelude.{◌≡◌, ◌≢◌, [], Some, None, MatchResult, IfErr, codes, option_and_then, option_map};
 ghost use Rattle.json.specs.Json.{object};
 ghost use Rattle.json.specs.Value.{value_view, members_view};
-ghost use Rattle.cedar_below.specs.UnreservedId.{unreserved_id_text};
-ghost use Rattle.cedar_names.specs.Expr.{extension_expr};
+ghost use Rattle.cedar_names.specs.Expr.{set_expr};
 ghost use Rattle.cedar_names.specs.PlainMembers.{plain_members};
-ghost use Rattle.cedar_names.specs.RawExpr.{raw_attribute, raw_expr, raw_record, raw_variant};
+ghost use Rattle.cedar_names.specs.RawExpr.{raw_attribute, raw_expr, raw_variant};
 ghost use Rattle.cedar_names.specs.RawName.{raw_name};
+ghost use Rattle.cedar_names.specs.declared.json_schema.reference_type.ReferenceType.TheVariants.{Common};
 ghost use Rattle.cedar_json.specs.Fields.{text_held};
 ghost use Rattle.cedar_json.specs.Place.{IsTrueOf};
-ghost use Rattle.cedar_json.specs.TypeFormat.{additional_field, attribute_of, attributes_field, attributes_of, element_field, extension_in, record_of, type_of, type_with};
+ghost use Rattle.cedar_json.specs.TypeFormat.{additional_field, attribute_of, attributes_field, attributes_of, element_field, extension_in, record_of, reference_in, type_by_word, type_of, type_with};
 ghost use Rattle.cedar_json.specs.WrittenName.{spelled_name};
 
 use crate::annotations::check_annotations;
@@ -18,7 +18,7 @@ use crate::fault::{Fault, Row};
 use crate::fields::{check_fields, field, flag_field, object_field, text_field};
 use crate::place_table::Cursor;
 use crate::spelling::{read_name, read_unreserved_id};
-use cedar_below::{Loc, UnreservedId, put};
+use cedar_below::{Loc, put};
 use cedar_names::json_schema::{RawName, RecordType, Type, TypeOfAttribute, TypeVariant};
 use json::Value;
 use std::alloc::Global;
@@ -40,27 +40,54 @@ fn name_field(alloc: Global, value: &Value<'_>, cursor: Cursor<'_>) -> Result<Ra
     }
 }
 
-/// The identifier that the field `name` holds.
-fn unreserved_id_field(alloc: Global, value: &Value<'_>) -> Result<UnreservedId, Fault>
+/// The type of a variant, with the location.
+pub(crate) fn plain_type(ty: TypeVariant<RawName>, loc: Option<Loc>) -> Type<RawName>
+    ensures { raw_expr None result ≡ raw_variant None ty }
+{
+    Type::Plain { ty, loc }
+}
+
+/// The extension type that the field `name` names.
+fn extension_type(
+    alloc: Global,
+    value: &Value<'_>,
+    cursor: Cursor<'_>,
+) -> Result<Type<RawName>, Fault>
     ensures value { MatchResult result
-        (λ id. option_and_then extension_in (text_held (codes "name") (value_view value.now))
-        ≡ Some (extension_expr (unreserved_id_text id)))
+        (λ ty. option_and_then extension_in (text_held (codes "name") (value_view value.now))
+        ≡ Some (raw_expr None ty))
         (λ fault. fault ≢ Fault.Memory
         → option_and_then extension_in (text_held (codes "name") (value_view value.now)) ≡ None) }
     ensures place { IfErr result (λ fault. IsTrueOf fault (value_view value.now)) }
 {
     let text = text_field(alloc, value, "name")?;
     match read_unreserved_id(alloc, text) {
-        Ok(id) => Ok(id),
+        Ok(name) => Ok(plain_type(TypeVariant::Extension { name }, cursor.loc())),
         Err(fault) => Err(fault.within("name")),
     }
 }
 
-/// The type of a variant, with the location.
-pub(crate) fn plain_type(ty: TypeVariant<RawName>, loc: Option<Loc>) -> Type<RawName>
-    ensures { raw_expr None result ≡ raw_variant None ty }
+/// The common type that the field `type` names, whose text is the word.
+fn common_type(
+    alloc: Global,
+    value: &Value<'_>,
+    word: &str,
+    cursor: Cursor<'_>,
+) -> Result<Type<RawName>, Fault>
+    ensures value { MatchResult result
+        (λ ty. reference_in Common word.now ≡ Some (raw_expr None ty))
+        (λ fault. fault ≢ Fault.Memory → reference_in Common word.now ≡ None) }
+    ensures place { IfErr result (λ fault.
+        text_held (codes "type") (value_view value.now) ≡ Some word.now
+        → IsTrueOf fault (value_view value.now)) }
 {
-    Type::Plain { ty, loc }
+    match read_name(alloc, word, cursor.field(value, "type").loc()) {
+        Ok(type_name) => Ok(Type::CommonTypeRef {
+            type_name,
+            loc: cursor.loc(),
+        }),
+        Err(fault) => Err(fault.within("type")),
+    }
 }
 
 /// The type that a JSON value describes.
@@ -92,68 +119,76 @@ pub(crate) fn read_type_of(
 {
     let word = text_field(alloc, value, "type")?;
     check_fields(alloc, value, row)?;
-    let loc = cursor.loc();
-    match word {
-        "String" => Ok(plain_type(TypeVariant::String, loc)),
-        "Long" => Ok(plain_type(TypeVariant::Long, loc)),
-        "Boolean" => Ok(plain_type(TypeVariant::Boolean, loc)),
-        "Set" => {
-            let element = Box::new(alloc, read_element(alloc, value, cursor)?)?;
-            Ok(plain_type(TypeVariant::Set { element }, loc))
-        }
-        "Record" => {
-            let record = read_record(alloc, value, cursor)?;
-            Ok(plain_type(TypeVariant::Record(record), loc))
-        }
-        "Entity" => {
-            let name = name_field(alloc, value, cursor)?;
-            Ok(plain_type(TypeVariant::Entity { name }, loc))
-        }
-        "EntityOrCommon" => {
-            let type_name = name_field(alloc, value, cursor)?;
-            Ok(plain_type(TypeVariant::EntityOrCommon { type_name }, loc))
-        }
-        "Extension" => {
-            let name = unreserved_id_field(alloc, value)?;
-            Ok(plain_type(TypeVariant::Extension { name }, loc))
-        }
-        _ => match read_name(alloc, word, cursor.field(value, "type").loc()) {
-            Ok(type_name) => Ok(Type::CommonTypeRef { type_name, loc }),
-            Err(fault) => Err(fault.within("type")),
-        },
-    }
+    read_type_by(alloc, value, word, cursor)
 }
 
-/// The type that the field `element` describes.
+/// The type of a word, by the other fields of its object. The word is what the field `type` holds.
 #[cycle(type_reading)]
-fn read_element(
+fn read_type_by(
     alloc: Global,
     value: &Value<'_>,
+    word: &str,
     cursor: Cursor<'_>,
 ) -> Result<Type<RawName>, Fault>
     ensures value { MatchResult result
-        (λ ty. element_field (value_view value.now) ≡ Some (raw_expr None ty))
-        (λ fault. fault ≢ Fault.Memory → element_field (value_view value.now) ≡ None) }
+        (λ ty. type_by_word word.now (element_field (value_view value.now))
+        (attributes_field (value_view value.now)) (additional_field (value_view value.now))
+        (text_held (codes "name") (value_view value.now))
+        ≡ Some (raw_expr None ty))
+        (λ fault. fault ≢ Fault.Memory
+        → type_by_word word.now (element_field (value_view value.now))
+        (attributes_field (value_view value.now)) (additional_field (value_view value.now))
+        (text_held (codes "name") (value_view value.now)) ≡ None) }
+    ensures place { IfErr result (λ fault.
+        text_held (codes "type") (value_view value.now) ≡ Some word.now
+        → IsTrueOf fault (value_view value.now)) }
+{
+    match word {
+        "String" => Ok(plain_type(TypeVariant::String, cursor.loc())),
+        "Long" => Ok(plain_type(TypeVariant::Long, cursor.loc())),
+        "Boolean" => Ok(plain_type(TypeVariant::Boolean, cursor.loc())),
+        "Set" => read_set(alloc, value, cursor),
+        "Record" => read_record(alloc, value, cursor),
+        "Entity" => {
+            let name = name_field(alloc, value, cursor)?;
+            Ok(plain_type(TypeVariant::Entity { name }, cursor.loc()))
+        }
+        "EntityOrCommon" => {
+            let type_name = name_field(alloc, value, cursor)?;
+            Ok(plain_type(TypeVariant::EntityOrCommon { type_name }, cursor.loc()))
+        }
+        "Extension" => extension_type(alloc, value, cursor),
+        _ => common_type(alloc, value, word, cursor),
+    }
+}
+
+/// The type of the sets of what the field `element` describes.
+#[cycle(type_reading)]
+fn read_set(alloc: Global, value: &Value<'_>, cursor: Cursor<'_>) -> Result<Type<RawName>, Fault>
+    ensures value { MatchResult result
+        (λ ty. option_map set_expr (element_field (value_view value.now))
+        ≡ Some (raw_expr None ty))
+        (λ fault. fault ≢ Fault.Memory
+        → option_map set_expr (element_field (value_view value.now)) ≡ None) }
     ensures place { IfErr result (λ fault. IsTrueOf fault (value_view value.now)) }
 {
     let held = field(alloc, value, "element")?;
     match read_type_of(alloc, held, Row::OfType, cursor.field(value, "element")) {
-        Ok(element) => Ok(element),
+        Ok(ty) => {
+            let element = Box::new(alloc, ty)?;
+            Ok(plain_type(TypeVariant::Set { element }, cursor.loc()))
+        }
         Err(fault) => Err(fault.within("element")),
     }
 }
 
 /// The record type that the fields `attributes` and `additionalAttributes` describe.
 #[cycle(type_reading)]
-fn read_record(
-    alloc: Global,
-    value: &Value<'_>,
-    cursor: Cursor<'_>,
-) -> Result<RecordType<RawName>, Fault>
+fn read_record(alloc: Global, value: &Value<'_>, cursor: Cursor<'_>) -> Result<Type<RawName>, Fault>
     ensures value { MatchResult result
-        (λ it. record_of (additional_field (value_view value.now))
+        (λ ty. record_of (additional_field (value_view value.now))
         (attributes_field (value_view value.now))
-        ≡ Some (raw_record None it))
+        ≡ Some (raw_expr None ty))
         (λ fault. fault ≢ Fault.Memory
         → record_of (additional_field (value_view value.now))
         (attributes_field (value_view value.now)) ≡ None) }
@@ -162,10 +197,13 @@ fn read_record(
     let additional_attributes = flag_field(alloc, value, "additionalAttributes", false)?;
     let members = object_field(alloc, value, "attributes")?;
     match read_attributes(alloc, members, cursor.field(value, "attributes")) {
-        Ok(attributes) => Ok(RecordType {
-            attributes,
-            additional_attributes,
-        }),
+        Ok(attributes) => {
+            let record = RecordType {
+                attributes,
+                additional_attributes,
+            };
+            Ok(plain_type(TypeVariant::Record(record), cursor.loc()))
+        }
         Err(fault) => Err(fault.within("attributes")),
     }
 }

@@ -1,7 +1,18 @@
+use Rattle.std.proofs.Common.{rules}
 use Rattle.json.specs.Json.{array}
 use Rattle.json.specs.Value.{items_view, value_view}
-use Rattle.cedar_json.proofs.ListLemmas.{get_item-is}
+use Rattle.cedar_json.specs.ActionFormat.{parent_of, written_parent}
+use Rattle.cedar_json.proofs.ListLemmas.{all_made, get_item-is, item_more, items_from_index, no_item}
 use Rattle.cedar_json.proofs.action_reading.read_parent_items.Goals as goal
+
+pub returns-in-Err-clause-value : goal.returns-in-Err-clause-value
+returns-in-Err-clause-value c =
+    let x = c.item-item.result in
+    let all = c.args.items.now.items in
+    let here = items_from_index c.deref-item-items.result.now all c.loop-index.index x c.deref-item-items.ensures.value c.loop-index-test.true
+    c.item-item.is in
+    λ other. no_item parent_of written_parent all c.loop-index.index x c.loop-index.parents.items here c.loop-index.invariant
+    (c.in-Err.ensures.value (c.in_item.ensures.memory other))
 
 pub returns-in-Err-clause-place : goal.returns-in-Err-clause-place
 returns-in-Err-clause-place c =
@@ -9,3 +20,17 @@ returns-in-Err-clause-place c =
     let here = get_item-is c.deref-item-items.result.now c.args.items.now.items c.loop-index.index x c.deref-item-items.ensures.value
     c.loop-index-test.true c.item-item.is in
     c.in_item.ensures.place (array (items_view c.args.items.now.items)) (value_view x) here c.in-Err.ensures.place
+
+pub loop-index-preserved : goal.loop-index-preserved
+loop-index-preserved c =
+    let x = c.item-item.result in
+    let all = c.args.items.now.items in
+    let here = items_from_index c.deref-item-items.result.now all c.loop-index.index x c.deref-item-items.ensures.value c.loop-index-test.true
+    c.item-item.is in
+    item_more parent_of written_parent all c.loop-index.index x c.loop-index.parents.items here c.loop-index.invariant c.in-Ok.parent c.push.new.self.items
+    c.in-Ok.ensures.value (search rules)
+
+pub returns-clause-value : goal.returns-clause-value
+returns-clause-value c =
+    all_made parent_of written_parent c.deref-item-items.result.now c.args.items.now.items c.loop-index.index c.loop-index.parents.items
+    c.deref-item-items.ensures.value c.loop-index-test.false c.loop-index.invariant

@@ -3,7 +3,7 @@ use Rattle.json.specs.Json.{object}
 use Rattle.json.specs.Value.{members_view, value_view}
 use Rattle.cedar_below.specs.Text.{text_cmp}
 use Rattle.cedar_json.specs.ActionFormat.{action_of, written_action}
-use Rattle.cedar_json.proofs.DefinitionLemmas.{entry_more}
+use Rattle.cedar_json.proofs.DefinitionLemmas.{all_entries, entry_more, no_entry}
 use Rattle.cedar_json.proofs.FieldLemmas.{nth_member-is}
 use Rattle.cedar_json.proofs.TypeLemmas.{members_from_index}
 use Rattle.cedar_json.proofs.definition_reading.read_actions.Goals as goal
@@ -23,3 +23,17 @@ loop-index-preserved c =
     c.member-item.is in
     entry_more string_cmp text_cmp string_bytes written_action (λ a b. refl) Some action_of all c.loop-index.index x c.loop-index.all.entries here c.loop-index.invariant
     c.in_ok-id.id c.in-Ok.it c.put.new.map.entries (ap Some (sym c.in_ok-id.ensures.ok)) c.in-Ok.ensures.value (search rules)
+
+pub returns-in-Err-clause-value : goal.returns-in-Err-clause-value
+returns-in-Err-clause-value c =
+    let x = c.member-item.result in
+    let all = c.args.members.now.items in
+    let here = members_from_index c.deref-member-items.result.now all c.loop-index.index x c.deref-member-items.ensures.value c.loop-index-test.true
+    c.member-item.is in
+    λ other. no_entry string_cmp text_cmp string_bytes written_action (λ a b. refl) Some action_of all c.loop-index.index x c.loop-index.all.entries here c.loop-index.invariant
+    (c.in-Err.ensures.value (c.in_member.ensures.memory other))
+
+pub returns-clause-value : goal.returns-clause-value
+returns-clause-value c =
+    all_entries string_cmp text_cmp string_bytes written_action (λ a b. refl) Some action_of c.deref-member-items.result.now c.args.members.now.items c.loop-index.index c.loop-index.all.entries
+    c.deref-member-items.ensures.value c.loop-index-test.false c.loop-index.invariant

@@ -7,7 +7,7 @@ use Rattle.cedar_names.specs.CommonTypeId.{common_type_text}
 use Rattle.cedar_names.specs.RawExpr.{raw_expr}
 use Rattle.cedar_names.specs.contracts.json_schema.common_type_id.CommonTypeIdOrd.TheImpl as common_type_id_ord
 use Rattle.cedar_json.specs.DefinitionFormat.{common_key, common_type_of}
-use Rattle.cedar_json.proofs.DefinitionLemmas.{entry_more}
+use Rattle.cedar_json.proofs.DefinitionLemmas.{all_entries, entry_more, no_entry, no_key}
 use Rattle.cedar_json.proofs.FieldLemmas.{nth_member-is}
 use Rattle.cedar_json.proofs.TypeLemmas.{members_from_index}
 use Rattle.cedar_json.proofs.definition_reading.read_common_types.Goals as goal
@@ -35,3 +35,26 @@ loop-index-preserved c =
     c.member-item.is in
     entry_more ((common_type_id_ord.ghosts).cmp) text_cmp common_type_text (λ it. raw_expr None it.ty) (λ a b. refl) common_key common_type_of all c.loop-index.index x c.loop-index.all.entries here c.loop-index.invariant
     c.in_ok-id.id c.in-Ok.it c.put.new.map.entries c.in_ok-id.ensures.value c.in-Ok.ensures.value (search rules)
+
+pub returns-in_err-id-clause-value : goal.returns-in_err-id-clause-value
+returns-in_err-id-clause-value c =
+    let x = c.member-item.result in
+    let all = c.args.members.now.items in
+    let here = members_from_index c.deref-member-items.result.now all c.loop-index.index x c.deref-member-items.ensures.value c.loop-index-test.true
+    c.member-item.is in
+    let p = err_from_is_err_and c.from_residual.result c.from_residual.ensures.1 in
+    rw (p.1, p.2) (λ other. no_key ((common_type_id_ord.ghosts).cmp) text_cmp common_type_text (λ it. raw_expr None it.ty) (λ a b. refl) common_key common_type_of all c.loop-index.index x c.loop-index.all.entries here c.loop-index.invariant (c.in_err-id.ensures.value other))
+
+pub returns-in-Err-clause-value : goal.returns-in-Err-clause-value
+returns-in-Err-clause-value c =
+    let x = c.member-item.result in
+    let all = c.args.members.now.items in
+    let here = members_from_index c.deref-member-items.result.now all c.loop-index.index x c.deref-member-items.ensures.value c.loop-index-test.true
+    c.member-item.is in
+    λ other. no_entry ((common_type_id_ord.ghosts).cmp) text_cmp common_type_text (λ it. raw_expr None it.ty) (λ a b. refl) common_key common_type_of all c.loop-index.index x c.loop-index.all.entries here c.loop-index.invariant
+    (c.in-Err.ensures.value (c.in_member.ensures.memory other))
+
+pub returns-clause-value : goal.returns-clause-value
+returns-clause-value c =
+    all_entries ((common_type_id_ord.ghosts).cmp) text_cmp common_type_text (λ it. raw_expr None it.ty) (λ a b. refl) common_key common_type_of c.deref-member-items.result.now c.args.members.now.items c.loop-index.index c.loop-index.all.entries
+    c.deref-member-items.ensures.value c.loop-index-test.false c.loop-index.invariant

@@ -7,7 +7,7 @@ use Rattle.cedar_below.specs.UnreservedId.{unreserved_id_text}
 use Rattle.cedar_below.specs.contracts.unreserved_id.UnreservedIdOrd.TheImpl as unreserved_id_ord
 use Rattle.cedar_json.specs.DefinitionFormat.{id_key}
 use Rattle.cedar_json.specs.EntityFormat.{entity_of, written_entity}
-use Rattle.cedar_json.proofs.DefinitionLemmas.{entry_more}
+use Rattle.cedar_json.proofs.DefinitionLemmas.{all_entries, entry_more, no_entry, no_key}
 use Rattle.cedar_json.proofs.FieldLemmas.{nth_member-is}
 use Rattle.cedar_json.proofs.TypeLemmas.{members_from_index}
 use Rattle.cedar_json.proofs.definition_reading.read_entity_types.Goals as goal
@@ -35,3 +35,26 @@ loop-index-preserved c =
     c.member-item.is in
     entry_more ((unreserved_id_ord.ghosts).cmp) text_cmp unreserved_id_text written_entity (λ a b. refl) id_key entity_of all c.loop-index.index x c.loop-index.all.entries here c.loop-index.invariant
     c.in_ok-id.id c.in-Ok.it c.put.new.map.entries c.in_ok-id.ensures.value c.in-Ok.ensures.value (search rules)
+
+pub returns-in_err-id-clause-value : goal.returns-in_err-id-clause-value
+returns-in_err-id-clause-value c =
+    let x = c.member-item.result in
+    let all = c.args.members.now.items in
+    let here = members_from_index c.deref-member-items.result.now all c.loop-index.index x c.deref-member-items.ensures.value c.loop-index-test.true
+    c.member-item.is in
+    let p = err_from_is_err_and c.from_residual.result c.from_residual.ensures.1 in
+    rw (p.1, p.2) (λ other. no_key ((unreserved_id_ord.ghosts).cmp) text_cmp unreserved_id_text written_entity (λ a b. refl) id_key entity_of all c.loop-index.index x c.loop-index.all.entries here c.loop-index.invariant (c.in_err-id.ensures.value other))
+
+pub returns-in-Err-clause-value : goal.returns-in-Err-clause-value
+returns-in-Err-clause-value c =
+    let x = c.member-item.result in
+    let all = c.args.members.now.items in
+    let here = members_from_index c.deref-member-items.result.now all c.loop-index.index x c.deref-member-items.ensures.value c.loop-index-test.true
+    c.member-item.is in
+    λ other. no_entry ((unreserved_id_ord.ghosts).cmp) text_cmp unreserved_id_text written_entity (λ a b. refl) id_key entity_of all c.loop-index.index x c.loop-index.all.entries here c.loop-index.invariant
+    (c.in-Err.ensures.value (c.in_member.ensures.memory other))
+
+pub returns-clause-value : goal.returns-clause-value
+returns-clause-value c =
+    all_entries ((unreserved_id_ord.ghosts).cmp) text_cmp unreserved_id_text written_entity (λ a b. refl) id_key entity_of c.deref-member-items.result.now c.args.members.now.items c.loop-index.index c.loop-index.all.entries
+    c.deref-member-items.ensures.value c.loop-index-test.false c.loop-index.invariant

@@ -8,7 +8,7 @@ use Rattle.cedar_below.specs.PlainName.{name_cmp}
 use Rattle.cedar_below.specs.contracts.name.NameOrd.TheImpl as name_ord
 use Rattle.cedar_json.proofs.NameLemmas.{namespace_order}
 use Rattle.cedar_json.specs.DefinitionFormat.{definition_of, namespace_key, written_definition}
-use Rattle.cedar_json.proofs.DefinitionLemmas.{entry_more}
+use Rattle.cedar_json.proofs.DefinitionLemmas.{all_entries, entry_more, no_entry, no_key}
 use Rattle.cedar_json.proofs.FieldLemmas.{nth_member-is}
 use Rattle.cedar_json.proofs.TypeLemmas.{members_from_index}
 use Rattle.cedar_json.proofs.definition_reading.read_namespaces.Goals as goal
@@ -36,3 +36,26 @@ loop-index-preserved c =
     c.member-item.is in
     entry_more (option_cmp ((name_ord.ghosts).cmp)) (option_cmp name_cmp) (option_map plain_name) written_definition namespace_order namespace_key definition_of all c.loop-index.index x c.loop-index.all.entries here c.loop-index.invariant
     c.in_ok-name.name c.in-Ok.it c.put.new.map.entries c.in_ok-name.ensures.value c.in-Ok.ensures.value (search rules)
+
+pub returns-in_err-name-clause-value : goal.returns-in_err-name-clause-value
+returns-in_err-name-clause-value c =
+    let x = c.member-item.result in
+    let all = c.args.members.now.items in
+    let here = members_from_index c.deref-member-items.result.now all c.loop-index.index x c.deref-member-items.ensures.value c.loop-index-test.true
+    c.member-item.is in
+    let p = err_from_is_err_and c.from_residual.result c.from_residual.ensures.1 in
+    rw (p.1, p.2) (λ other. no_key (option_cmp ((name_ord.ghosts).cmp)) (option_cmp name_cmp) (option_map plain_name) written_definition namespace_order namespace_key definition_of all c.loop-index.index x c.loop-index.all.entries here c.loop-index.invariant (c.in_err-name.ensures.value other))
+
+pub returns-in-Err-clause-value : goal.returns-in-Err-clause-value
+returns-in-Err-clause-value c =
+    let x = c.member-item.result in
+    let all = c.args.members.now.items in
+    let here = members_from_index c.deref-member-items.result.now all c.loop-index.index x c.deref-member-items.ensures.value c.loop-index-test.true
+    c.member-item.is in
+    λ other. no_entry (option_cmp ((name_ord.ghosts).cmp)) (option_cmp name_cmp) (option_map plain_name) written_definition namespace_order namespace_key definition_of all c.loop-index.index x c.loop-index.all.entries here c.loop-index.invariant
+    (c.in-Err.ensures.value (c.in_member.ensures.memory other))
+
+pub returns-clause-value : goal.returns-clause-value
+returns-clause-value c =
+    all_entries (option_cmp ((name_ord.ghosts).cmp)) (option_cmp name_cmp) (option_map plain_name) written_definition namespace_order namespace_key definition_of c.deref-member-items.result.now c.args.members.now.items c.loop-index.index c.loop-index.all.entries
+    c.deref-member-items.ensures.value c.loop-index-test.false c.loop-index.invariant

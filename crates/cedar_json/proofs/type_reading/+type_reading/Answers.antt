@@ -1,17 +1,21 @@
 use Rattle.std.proofs.Common.{◌+◌, ◌*◌, ◌<◌, length, Some, None, option_map, codes, ap, sym, subst, ◌∙◌, arith, rules}
-use Rattle.std.proofs.lemmas.Result.{err_from_is_err_and}
+use Rattle.std.proofs.lemmas.Result.{IfErr-weaker, err_from_is_err_and}
 use Rattle.json.proofs.Trees.{member_smaller}
 use Rattle.json.specs.Find.{get}
 use Rattle.json.specs.Json.{object}
 use Rattle.json.specs.Tree.{json_tokens, members_tokens}
 use Rattle.json.specs.Value.{value_view, members_view}
-use Rattle.cedar_names.specs.Expr.{members_from, record_expr}
+use Rattle.cedar_names.proofs.VariantLemmas.{variant-Boolean, variant-Long, variant-Record, variant-Set, variant-String}
+use Rattle.cedar_names.specs.Expr.{members_from, record_expr, set_expr}
 use Rattle.cedar_names.specs.PlainMembers.{plain_members}
-use Rattle.cedar_names.specs.RawExpr.{raw_expr}
+use Rattle.cedar_names.specs.RawExpr.{raw_expr, raw_reference}
+use Rattle.cedar_names.specs.declared.json_schema.raw_name.RawName.{RawName}
+use Rattle.cedar_names.specs.declared.json_schema.type_of.RecordType.{roll-RecordType}
 use Rattle.cedar_json.proofs.FieldLemmas.{get-smaller, nth_member-is, object_field-smaller, object_held}
-use Rattle.cedar_json.proofs.TypeLemmas.{all_read, attribute_read, attributes_field-held, attributes_field-none, element_field-held, members_from_index, no_annotations, no_attribute, no_required, no_type, one_more, raw_attribute-made, raw_record-made}
+use Rattle.cedar_json.proofs.TypeLemmas.{all_read, attribute_read, attributes_field-held, attributes_field-none, described_too, element_field-held, members_from_index, no_annotations, no_attribute, no_required, no_type, one_more, raw_attribute-made, raw_record-made, type_by_word-other, type_with-known}
 use Rattle.cedar_json.proofs.type_reading.+type_reading.Goals as goal
-use Rattle.cedar_json.specs.TypeFormat.{additional_field, record_of}
+use Rattle.cedar_json.specs.Fields.{text_held}
+use Rattle.cedar_json.specs.TypeFormat.{additional_field, attributes_field, element_field, record_of, type_by_word}
 
 pub read_attribute-returns-in_err-required-clause-value : goal.read_attribute-returns-in_err-required-clause-value
 read_attribute-returns-in_err-required-clause-value t c =
@@ -41,7 +45,7 @@ read_attributes-read_attribute-requires t c =
     let below : length (json_tokens (value_view x.1)) < length (members_tokens (members_view c.args.members.now.items)) =
     subst (λ ys. length (json_tokens (value_view x.1)) < length (members_tokens (members_view ys))) c.deref-member-items.ensures.value
     (subst (λ y. length (json_tokens (value_view y.1)) < length (members_tokens (members_view xs))) (sym c.member-item.is) (member_smaller xs c.loop-index.index x c.loop-index-test.true)) in
-    let smaller : 3 * length (json_tokens (value_view x.1)) + 2 < 3 * length (members_tokens (members_view c.args.members.now.items)) = omega (arith, below) in
+    let smaller : 4 * length (json_tokens (value_view x.1)) + 3 < 4 * length (members_tokens (members_view c.args.members.now.items)) = omega (arith, below) in
     search rules
 
 pub read_attributes-returns-in-Err-clause-value : goal.read_attributes-returns-in-Err-clause-value
@@ -74,22 +78,86 @@ read_attributes-returns-clause-value t c =
     all_read c.deref-member-items.result.now c.args.members.now.items c.loop-index.index c.loop-index.attributes.entries
     c.deref-member-items.ensures.value c.loop-index-test.false c.loop-index.invariant
 
-pub read_element-read_type_of-requires : goal.read_element-read_type_of-requires
-read_element-read_type_of-requires t c =
+pub read_set-read_type_of-requires : goal.read_set-read_type_of-requires
+read_set-read_type_of-requires t c =
     let below : length (json_tokens (value_view c.in_ok-held.held.now)) < length (json_tokens (value_view c.args.value.now)) =
     get-smaller (codes "element") _ _ c.in_ok-held.ensures.value in
-    let smaller : 3 * length (json_tokens (value_view c.in_ok-held.held.now)) + 1 < 3 * length (json_tokens (value_view c.args.value.now)) =
+    let smaller : 4 * length (json_tokens (value_view c.in_ok-held.held.now)) + 2 < 4 * length (json_tokens (value_view c.args.value.now)) =
     omega (arith, below) in
     search rules
 
-pub read_element-returns-in-Ok-clause-value : goal.read_element-returns-in-Ok-clause-value
-read_element-returns-in-Ok-clause-value t c =
-    element_field-held (value_view c.args.value.now) (value_view c.in_ok-held.held.now) c.in_ok-held.ensures.value ∙ c.in-Ok.ensures.value
+pub read_set-returns-in_ok-element-in-Ok-clause-value : goal.read_set-returns-in_ok-element-in-Ok-clause-value
+read_set-returns-in_ok-element-in-Ok-clause-value t c =
+    let made = c.plain_type.ensures ∙ variant-Set RawName (raw_reference None) c.in_ok-element-in-Ok.element
+    ∙ ap (λ ty. set_expr (raw_expr None ty)) c.in_ok-element-in-Ok.ensures.ok in
+    ap (option_map set_expr) (element_field-held (value_view c.args.value.now) (value_view c.in_ok-held.held.now) c.in_ok-held.ensures.value
+    ∙ c.in-Ok.ensures.value) ∙ ap Some (sym made)
 
-pub read_element-returns-in-Err-clause-value : goal.read_element-returns-in-Err-clause-value
-read_element-returns-in-Err-clause-value t c =
-    λ other. element_field-held (value_view c.args.value.now) (value_view c.in_ok-held.held.now) c.in_ok-held.ensures.value
-    ∙ c.in-Err.ensures.value (c.within.ensures.memory other)
+pub read_set-returns-in-Err-clause-value : goal.read_set-returns-in-Err-clause-value
+read_set-returns-in-Err-clause-value t c =
+    λ other. ap (option_map set_expr) (element_field-held (value_view c.args.value.now) (value_view c.in_ok-held.held.now) c.in_ok-held.ensures.value
+    ∙ c.in-Err.ensures.value (c.within.ensures.memory other))
+
+pub read_type_of-returns-clause-value : goal.read_type_of-returns-clause-value
+read_type_of-returns-clause-value t c =
+    described_too c.read_type_by.result (raw_expr None) _ _
+    (type_with-known c.args.row (value_view c.args.value.now) c.in_ok-word.word.now c.in_ok-word.ensures.value c.in_ok-check_fields.ensures.value)
+    c.read_type_by.ensures.value
+
+pub read_type_of-returns-clause-place : goal.read_type_of-returns-clause-place
+read_type_of-returns-clause-place t c =
+    IfErr-weaker c.read_type_by.result _ _ (λ fault true_of. true_of c.in_ok-word.ensures.value) c.read_type_by.ensures.place
+
+pub read_type_by-returns-in-String-clause-value : goal.read_type_by-returns-in-String-clause-value
+read_type_by-returns-in-String-clause-value t c =
+    let j = value_view c.args.value.now in
+    let named = ap (λ word. type_by_word word (element_field j) (attributes_field j) (additional_field j) (text_held (codes "name") j)) c.in-String.is in
+    named ∙ ap Some (sym (c.plain_type.ensures ∙ variant-String RawName (raw_reference None)))
+
+pub read_type_by-returns-in-Long-clause-value : goal.read_type_by-returns-in-Long-clause-value
+read_type_by-returns-in-Long-clause-value t c =
+    let j = value_view c.args.value.now in
+    let named = ap (λ word. type_by_word word (element_field j) (attributes_field j) (additional_field j) (text_held (codes "name") j)) c.in-Long.is in
+    named ∙ ap Some (sym (c.plain_type-in-Long.ensures ∙ variant-Long RawName (raw_reference None)))
+
+pub read_type_by-returns-in-Boolean-clause-value : goal.read_type_by-returns-in-Boolean-clause-value
+read_type_by-returns-in-Boolean-clause-value t c =
+    let j = value_view c.args.value.now in
+    let named = ap (λ word. type_by_word word (element_field j) (attributes_field j) (additional_field j) (text_held (codes "name") j)) c.in-Boolean.is in
+    named ∙ ap Some (sym (c.plain_type-in-Boolean.ensures ∙ variant-Boolean RawName (raw_reference None)))
+
+pub read_type_by-returns-in-Set-clause-value : goal.read_type_by-returns-in-Set-clause-value
+read_type_by-returns-in-Set-clause-value t c =
+    let j = value_view c.args.value.now in
+    let named = ap (λ word. type_by_word word (element_field j) (attributes_field j) (additional_field j) (text_held (codes "name") j)) c.in-Set.is in
+    described_too c.read_set.result (raw_expr None) _ _ named c.read_set.ensures.value
+
+pub read_type_by-returns-in-Record-clause-value : goal.read_type_by-returns-in-Record-clause-value
+read_type_by-returns-in-Record-clause-value t c =
+    let j = value_view c.args.value.now in
+    let named = ap (λ word. type_by_word word (element_field j) (attributes_field j) (additional_field j) (text_held (codes "name") j)) c.in-Record.is in
+    described_too c.read_record.result (raw_expr None) _ _ named c.read_record.ensures.value
+
+pub read_type_by-returns-in-Extension-clause-value : goal.read_type_by-returns-in-Extension-clause-value
+read_type_by-returns-in-Extension-clause-value t c =
+    let j = value_view c.args.value.now in
+    let named = ap (λ word. type_by_word word (element_field j) (attributes_field j) (additional_field j) (text_held (codes "name") j)) c.in-Extension.is in
+    described_too c.extension_type.result (raw_expr None) _ _ named c.extension_type.ensures.value
+
+pub read_type_by-returns-in_default-clause-value : goal.read_type_by-returns-in_default-clause-value
+read_type_by-returns-in_default-clause-value t c =
+    let j = value_view c.args.value.now in
+    let other = type_by_word-other c.args.word.now (element_field j) (attributes_field j) (additional_field j) (text_held (codes "name") j) (record {
+      no_text = c.in_default.not-String;
+      no_long = c.in_default.not-Long;
+      no_truth = c.in_default.not-Boolean;
+      no_set = c.in_default.not-Set;
+      no_record = c.in_default.not-Record;
+      no_entity = c.in_default.not-Entity;
+      no_entity_or_common = c.in_default.not-EntityOrCommon;
+      no_extension = c.in_default.not-Extension;
+    }) in
+    described_too c.common_type.result (raw_expr None) _ _ other c.common_type.ensures.value
 
 pub read_record-returns-in_err-members-clause-value : goal.read_record-returns-in_err-members-clause-value
 read_record-returns-in_err-members-clause-value t c =
@@ -101,7 +169,7 @@ pub read_record-read_attributes-requires : goal.read_record-read_attributes-requ
 read_record-read_attributes-requires t c =
     let below : length (members_tokens (members_view c.in_ok-members.members.now.items)) < length (json_tokens (value_view c.args.value.now)) =
     object_field-smaller (codes "attributes") _ _ c.in_ok-members.ensures.value in
-    let smaller : 3 * length (members_tokens (members_view c.in_ok-members.members.now.items)) < 3 * length (json_tokens (value_view c.args.value.now)) =
+    let smaller : 4 * length (members_tokens (members_view c.in_ok-members.members.now.items)) < 4 * length (json_tokens (value_view c.args.value.now)) =
     omega (arith, below) in
     search rules
 
@@ -109,9 +177,12 @@ pub read_record-returns-in-Ok-clause-value : goal.read_record-returns-in-Ok-clau
 read_record-returns-in-Ok-clause-value t c =
     let j = value_view c.args.value.now in
     let all = plain_members None c.in-Ok.attributes.entries in
+    let flag = c.in_ok-additional_attributes.additional_attributes in
+    let made = c.plain_type.ensures
+    ∙ variant-Record RawName (raw_reference None) (roll-RecordType RawName (record { attributes = c.in-Ok.attributes; additional_attributes = flag }))
+    ∙ raw_record-made c.in-Ok.attributes flag in
     ap (record_of (additional_field j)) (attributes_field-held j _ c.in_ok-members.ensures.value ∙ c.in-Ok.ensures.value)
-    ∙ ap (option_map (record_expr (members_from all))) c.in_ok-additional_attributes.ensures.value
-    ∙ ap Some (sym (raw_record-made c.in-Ok.attributes c.in_ok-additional_attributes.additional_attributes))
+    ∙ ap (option_map (record_expr (members_from all))) c.in_ok-additional_attributes.ensures.value ∙ ap Some (sym made)
 
 pub read_record-returns-in-Err-clause-value : goal.read_record-returns-in-Err-clause-value
 read_record-returns-in-Err-clause-value t c =

@@ -6,19 +6,22 @@ use Rattle.cedar_json.specs.TypeFormat.{attributes_of}
 use Rattle.cedar_json.proofs.type_reading.+type_reading.Given as goal
 
 abbrev pub decreases-read_type_of : goal.decreases-read_type_of
-decreases-read_type_of l = 3 * length (json_tokens (value_view l.value.now)) + 1
+decreases-read_type_of l = 4 * length (json_tokens (value_view l.value.now)) + 2
 
-abbrev pub decreases-read_element : goal.decreases-read_element
-decreases-read_element l = 3 * length (json_tokens (value_view l.value.now))
+abbrev pub decreases-read_type_by : goal.decreases-read_type_by
+decreases-read_type_by l = 4 * length (json_tokens (value_view l.value.now)) + 1
+
+abbrev pub decreases-read_set : goal.decreases-read_set
+decreases-read_set l = 4 * length (json_tokens (value_view l.value.now))
 
 abbrev pub decreases-read_record : goal.decreases-read_record
-decreases-read_record l = 3 * length (json_tokens (value_view l.value.now))
+decreases-read_record l = 4 * length (json_tokens (value_view l.value.now))
 
 abbrev pub decreases-read_attribute : goal.decreases-read_attribute
-decreases-read_attribute l = 3 * length (json_tokens (value_view l.value.now)) + 2
+decreases-read_attribute l = 4 * length (json_tokens (value_view l.value.now)) + 3
 
 abbrev pub decreases-read_attributes : goal.decreases-read_attributes
-decreases-read_attributes l = 3 * length (members_tokens (members_view l.members.now.items))
+decreases-read_attributes l = 4 * length (members_tokens (members_view l.members.now.items))
 
 abbrev pub invariant-read_attributes-loop-index : goal.invariant-read_attributes-loop-index
 invariant-read_attributes-loop-index l =

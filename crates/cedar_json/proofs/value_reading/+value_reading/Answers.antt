@@ -10,7 +10,7 @@ use Rattle.cedar_below.specs.Tree.{number_value, set_value, uid_value}
 use Rattle.cedar_json.proofs.FieldLemmas.{get-smaller, nth_member-is}
 use Rattle.cedar_json.proofs.ListLemmas.{get_item-is, items_from_index}
 use Rattle.cedar_json.proofs.TypeLemmas.{members_from_index}
-use Rattle.cedar_json.proofs.ValueLemmas.{all_pairs, all_values, array_row, call_no_argument, call_no_function, call_other, call_read, no_pair, no_value, null_row, number_read, number_row, pair_more, record_read, text_row, truth_row, value_more, value_of-call, value_of-entity, value_of-record}
+use Rattle.cedar_json.proofs.ValueLemmas.{all_pairs, all_values, array_row, call_no_argument, call_no_function, call_other, call_read, no_pair, no_value, null_row, number_read, number_row, pair_more, record_read, sole_held-get, sole_held-smaller, text_row, truth_row, value_more, value_of-call, value_of-entity, value_of-record}
 use Rattle.cedar_json.proofs.value_reading.+value_reading.Goals as goal
 use Rattle.cedar_json.specs.ValueFormat.{record_of_pairs, value_of}
 
@@ -192,3 +192,23 @@ read_object-returns-clause-value t c =
     let ms = members_view c.args.members.now.items in
     value_of-record ms (sym c.in_default.ensures) (sym c.in_default-sole.ensures)
     ∙ ap (option_map record_of_pairs) c.in_ok-read_pairs.ensures.value ∙ ap Some (record_read c.in_ok-read_pairs.field-0)
+
+pub read_object-returns-in-Err-clause-place : goal.read_object-returns-in-Err-clause-place
+read_object-returns-in-Err-clause-place t c =
+    let ms = members_view c.args.members.now.items in
+    let k = value_view c.in-Some.held.now in
+    c.within.ensures.place (object ms) k (sole_held-get (codes "__entity") ms k (sym c.in-Some.ensures)) c.in-Err.ensures.place
+
+pub read_object-returns-in-Err-read_call-clause-place : goal.read_object-returns-in-Err-read_call-clause-place
+read_object-returns-in-Err-read_call-clause-place t c =
+    let ms = members_view c.args.members.now.items in
+    let k = value_view c.in-Some-sole.held.now in
+    c.within-in-Err-read_call.ensures.place (object ms) k (sole_held-get (codes "__extn") ms k (sym c.in-Some-sole.ensures)) c.in-Err-read_call.ensures.place
+
+pub read_object-read_call-requires : goal.read_object-read_call-requires
+read_object-read_call-requires t c =
+    let ms = members_view c.args.members.now.items in
+    let k = value_view c.in-Some-sole.held.now in
+    let below : length (json_tokens k) < length (members_tokens ms) = sole_held-smaller (codes "__extn") ms k (sym c.in-Some-sole.ensures) in
+    let smaller : 4 * length (json_tokens k) + 1 < 4 * length (members_tokens ms) + 2 = omega (arith, below) in
+    search rules
