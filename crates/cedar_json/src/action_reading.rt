@@ -275,10 +275,10 @@ pub(crate) fn read_action(
 {
     check_fields(alloc, value, Row::OfAction)?;
     check_annotations(alloc, value)?;
-    let attributes = attributes_field(alloc, value)?;
-    let applies_to = applies_to_field(alloc, value, cursor)?;
-    let member_of = member_of_field(alloc, value, cursor)?;
     let external = flag_field(alloc, value, "external", false)?;
+    let attributes = attributes_field(alloc, value)?;
+    let member_of = member_of_field(alloc, value, cursor)?;
+    let applies_to = applies_to_field(alloc, value, cursor)?;
     Ok(ActionType {
         attributes,
         applies_to,

@@ -252,9 +252,9 @@ pub(crate) fn read_entity_type(
         (λ fault. fault ≢ Fault.Memory → entity_of (value_view value.now) ≡ None) }
     ensures place { IfErr result (λ fault. IsTrueOf fault (value_view value.now)) }
 {
-    let kind = read_kind(alloc, value, cursor)?;
     let external = flag_field(alloc, value, "external", false)?;
     check_annotations(alloc, value)?;
+    let kind = read_kind(alloc, value, cursor)?;
     Ok(EntityType {
         kind,
         external,
