@@ -1,6 +1,7 @@
 //! Fragments that are drawn at random, as the texts that they are written as, but for the layout.
 
-use std::alloc::{AllocError, Global};
+use cedar_below::{M, Memory};
+use std::alloc::Global;
 
 /// How many levels of sets and records a type or a value has at most.
 const LEVELS: u64 = 3;
@@ -90,18 +91,15 @@ const NUMBERS: &[&'static str] = &[
     "-9223372036854775808",
 ];
 
-/// Numbers that follow from a first one.
+/// A text that is being written, by numbers that follow from a first one.
 #[derive(Drop)]
-pub(crate) struct Draws {
+struct Drawing {
     state: u64,
+    text: String,
+    is_cut: bool,
 }
 
-impl Draws {
-    /// The numbers that follow from this one.
-    pub(crate) fn new(state: u64) -> Self {
-        Draws { state }
-    }
-
+impl Drawing {
     /// The next number.
     fn next(&mut self) -> u64 {
         self.state = self
@@ -116,385 +114,415 @@ impl Draws {
         self.next() % 2 == 0
     }
 
-    /// One of some words.
-    fn word(&mut self, words: &[&'static str]) -> &'static str {
-        if words.is_empty() {
-            return "";
+    /// Writes a text; where there is no memory for it, what is drawn is cut.
+    fn put(&mut self, text: &str) {
+        if self.text.push_str(text).is_err() {
+            self.is_cut = true;
         }
-        words[self.next() as usize % words.len()]
     }
-}
 
-/// Writes a comma, unless what comes is the first in its brackets.
-fn separate(out: &mut String) -> Result<(), AllocError> {
-    if out.ends_with('{') || out.ends_with('[') {
-        return Ok(());
+    /// Writes one of some words.
+    fn put_one(&mut self, words: &[&'static str]) {
+        if words.is_empty() {
+            return;
+        }
+        let index = self.next() as usize % words.len();
+        self.put(words[index]);
     }
-    out.push(',')
-}
 
-/// Writes the key of a field.
-fn field(out: &mut String, name: &str) -> Result<(), AllocError> {
-    separate(out)?;
-    out.push('"')?;
-    out.push_str(name)?;
-    out.push_str("\": ")
+    /// Writes a comma, unless what comes is the first in its brackets.
+    fn separate(&mut self) {
+        if !self.text.ends_with('{') && !self.text.ends_with('[') {
+            self.put(",");
+        }
+    }
+
+    /// Writes the key of a field.
+    fn field(&mut self, name: &str) {
+        self.separate();
+        self.put("\"");
+        self.put(name);
+        self.put("\": ");
+    }
+
+    /// Writes one of some words as a text.
+    fn word(&mut self, words: &[&'static str]) {
+        self.put("\"");
+        self.put_one(words);
+        self.put("\"");
+    }
+
+    /// Writes some pieces of a text, and the quote that ends it.
+    fn pieces(&mut self) {
+        for _ in 0..self.next() % 4 {
+            self.put_one(PIECES);
+        }
+        self.put("\"");
+    }
+
+    /// Writes a key that is any text, of those with this beginning.
+    fn key(&mut self, beginning: &str) {
+        self.separate();
+        self.put("\"");
+        self.put(beginning);
+        self.pieces();
+        self.put(": ");
+    }
 }
 
 /// Writes the field `external`, or nothing.
-fn external(draws: &mut Draws, out: &mut String) -> Result<(), AllocError> {
-    if draws.toss() {
-        field(out, "external")?;
-        out.push_str("true")?;
+fn external(drawing: &mut Drawing) {
+    if drawing.toss() {
+        drawing.field("external");
+        drawing.put("true");
     }
-    Ok(())
-}
-
-/// Writes one of some words as a text.
-fn word(draws: &mut Draws, out: &mut String, words: &[&'static str]) -> Result<(), AllocError> {
-    out.push('"')?;
-    out.push_str(draws.word(words))?;
-    out.push('"')
-}
-
-/// Writes some pieces of a text, and the quote that ends it.
-fn pieces(draws: &mut Draws, out: &mut String) -> Result<(), AllocError> {
-    for _ in 0..draws.next() % 4 {
-        out.push_str(draws.word(PIECES))?;
-    }
-    out.push('"')
 }
 
 /// Writes a text.
-fn text(draws: &mut Draws, out: &mut String) -> Result<(), AllocError> {
-    out.push('"')?;
-    pieces(draws, out)
-}
-
-/// Writes a key that is any text, of those with this beginning.
-fn key(draws: &mut Draws, out: &mut String, beginning: &str) -> Result<(), AllocError> {
-    separate(out)?;
-    out.push('"')?;
-    out.push_str(beginning)?;
-    pieces(draws, out)?;
-    out.push_str(": ")
+fn text(drawing: &mut Drawing) {
+    drawing.put("\"");
+    drawing.pieces();
 }
 
 /// Writes an array of names.
-fn names(draws: &mut Draws, out: &mut String, least: u64) -> Result<(), AllocError> {
-    out.push('[')?;
-    for _ in 0..least.saturating_add(draws.next() % 3) {
-        separate(out)?;
-        word(draws, out, NAMES)?;
+fn names(drawing: &mut Drawing, least: u64) {
+    drawing.put("[");
+    for _ in 0..least.saturating_add(drawing.next() % 3) {
+        drawing.separate();
+        drawing.word(NAMES);
     }
-    out.push(']')
+    drawing.put("]");
 }
 
 /// Writes the fields of a type with a name.
-fn named(draws: &mut Draws, out: &mut String, form: &str) -> Result<(), AllocError> {
-    field(out, "type")?;
-    out.push('"')?;
-    out.push_str(form)?;
-    out.push('"')?;
-    field(out, "name")?;
+fn named(drawing: &mut Drawing, form: &str) {
+    drawing.field("type");
+    drawing.put("\"");
+    drawing.put(form);
+    drawing.put("\"");
+    drawing.field("name");
     match form {
-        "Extension" => word(draws, out, IDS),
-        _ => word(draws, out, NAMES),
+        "Extension" => drawing.word(IDS),
+        _ => drawing.word(NAMES),
     }
 }
 
 /// Writes the fields of a type that holds no other type.
-fn leaf(draws: &mut Draws, out: &mut String) -> Result<(), AllocError> {
-    match draws.next() % 8 {
-        0 => out.push_str("\"type\": \"String\""),
-        1 => out.push_str("\"type\": \"Long\""),
-        2 => out.push_str("\"type\": \"Boolean\""),
-        3 => named(draws, out, "Entity"),
-        4 => named(draws, out, "EntityOrCommon"),
-        5 => named(draws, out, "Extension"),
+fn leaf(drawing: &mut Drawing) {
+    match drawing.next() % 8 {
+        0 => drawing.put("\"type\": \"String\""),
+        1 => drawing.put("\"type\": \"Long\""),
+        2 => drawing.put("\"type\": \"Boolean\""),
+        3 => named(drawing, "Entity"),
+        4 => named(drawing, "EntityOrCommon"),
+        5 => named(drawing, "Extension"),
         _ => {
-            field(out, "type")?;
-            word(draws, out, TYPE_NAMES)
+            drawing.field("type");
+            drawing.word(TYPE_NAMES)
         }
     }
 }
 
 /// Writes the fields of a type, with so many levels at most.
 #[cycle(types_drawn)]
-fn type_fields(draws: &mut Draws, out: &mut String, levels: u64) -> Result<(), AllocError> {
+fn type_fields(drawing: &mut Drawing, levels: u64) {
     if levels == 0 {
-        return leaf(draws, out);
+        return leaf(drawing);
     }
-    match draws.next() % 3 {
-        0 => leaf(draws, out),
+    match drawing.next() % 3 {
+        0 => leaf(drawing),
         1 => {
-            out.push_str("\"type\": \"Set\",\"element\": {")?;
-            type_fields(draws, out, levels - 1)?;
-            out.push('}')
+            drawing.put("\"type\": \"Set\",\"element\": {");
+            type_fields(drawing, levels - 1);
+            drawing.put("}");
         }
-        _ => record(draws, out, levels - 1),
+        _ => record(drawing, levels - 1),
     }
 }
 
 /// Writes an attribute.
 #[cycle(types_drawn)]
-fn attribute(draws: &mut Draws, out: &mut String, levels: u64) -> Result<(), AllocError> {
-    out.push('{')?;
-    type_fields(draws, out, levels)?;
-    if draws.toss() {
-        out.push_str(",\"required\": false")?;
+fn attribute(drawing: &mut Drawing, levels: u64) {
+    drawing.put("{");
+    type_fields(drawing, levels);
+    if drawing.toss() {
+        drawing.put(",\"required\": false");
     }
-    out.push('}')
+    drawing.put("}");
 }
 
 /// Writes the fields of a record type, with so many levels in it at most.
 #[cycle(types_drawn)]
-fn record(draws: &mut Draws, out: &mut String, levels: u64) -> Result<(), AllocError> {
-    out.push_str("\"type\": \"Record\",\"attributes\": {")?;
+fn record(drawing: &mut Drawing, levels: u64) {
+    drawing.put("\"type\": \"Record\",\"attributes\": {");
     for beginning in BEGINNINGS {
-        if draws.next() % 8 == 0 {
-            key(draws, out, beginning)?;
-            attribute(draws, out, levels)?;
+        if drawing.next() % 8 == 0 {
+            drawing.key(beginning);
+            attribute(drawing, levels);
         }
     }
-    out.push('}')?;
-    if draws.toss() {
-        out.push_str(",\"additionalAttributes\": true")?;
+    drawing.put("}");
+    if drawing.toss() {
+        drawing.put(",\"additionalAttributes\": true");
     }
-    Ok(())
 }
 
 /// Writes a field for a shape or a context, which isn't the closed record without attributes.
-fn shape(draws: &mut Draws, out: &mut String, name: &str) -> Result<(), AllocError> {
-    field(out, name)?;
-    out.push('{')?;
-    type_fields(draws, out, LEVELS)?;
-    if out.ends_with("\"attributes\": {}") {
-        out.push_str(",\"additionalAttributes\": true")?;
+fn shape(drawing: &mut Drawing, name: &str) {
+    drawing.field(name);
+    drawing.put("{");
+    type_fields(drawing, LEVELS);
+    if drawing.text.ends_with("\"attributes\": {}") {
+        drawing.put(",\"additionalAttributes\": true");
     }
-    out.push('}')
+    drawing.put("}");
 }
 
 /// Writes an array of ids.
-fn choices(draws: &mut Draws, out: &mut String) -> Result<(), AllocError> {
-    field(out, "enum")?;
-    out.push('[')?;
-    for _ in 0..1 + draws.next() % 3 {
-        separate(out)?;
-        text(draws, out)?;
+fn choices(drawing: &mut Drawing) {
+    drawing.field("enum");
+    drawing.put("[");
+    for _ in 0..1 + drawing.next() % 3 {
+        drawing.separate();
+        text(drawing);
     }
-    out.push(']')
+    drawing.put("]");
 }
 
 /// Writes the fields of an entity type that lists no ids, but for `external`.
-fn standard(draws: &mut Draws, out: &mut String) -> Result<(), AllocError> {
-    if draws.toss() {
-        field(out, "memberOfTypes")?;
-        names(draws, out, 1)?;
+fn standard(drawing: &mut Drawing) {
+    if drawing.toss() {
+        drawing.field("memberOfTypes");
+        names(drawing, 1);
     }
-    if draws.toss() {
-        shape(draws, out, "shape")?;
+    if drawing.toss() {
+        shape(drawing, "shape");
     }
-    if draws.toss() {
-        field(out, "tags")?;
-        out.push('{')?;
-        type_fields(draws, out, LEVELS)?;
-        out.push('}')?;
+    if drawing.toss() {
+        drawing.field("tags");
+        drawing.put("{");
+        type_fields(drawing, LEVELS);
+        drawing.put("}");
     }
-    Ok(())
 }
 
 /// Writes an entity type.
-fn entity_type(draws: &mut Draws, out: &mut String) -> Result<(), AllocError> {
-    out.push('{')?;
-    if draws.next() % 4 == 0 {
-        choices(draws, out)?;
+fn entity_type(drawing: &mut Drawing) {
+    drawing.put("{");
+    if drawing.next() % 4 == 0 {
+        choices(drawing);
     } else {
-        standard(draws, out)?;
+        standard(drawing);
     }
-    external(draws, out)?;
-    out.push('}')
+    external(drawing);
+    drawing.put("}");
 }
 
 /// Writes a parent of an action.
-fn parent(draws: &mut Draws, out: &mut String) -> Result<(), AllocError> {
-    separate(out)?;
-    out.push_str("{\"id\": ")?;
-    text(draws, out)?;
-    if draws.toss() {
-        field(out, "type")?;
-        word(draws, out, NAMES)?;
+fn parent(drawing: &mut Drawing) {
+    drawing.separate();
+    drawing.put("{\"id\": ");
+    text(drawing);
+    if drawing.toss() {
+        drawing.field("type");
+        drawing.word(NAMES);
     }
-    out.push('}')
+    drawing.put("}");
 }
 
 /// Writes the requests that an action is for.
-fn requests(draws: &mut Draws, out: &mut String) -> Result<(), AllocError> {
-    out.push_str("{\"principalTypes\": ")?;
-    names(draws, out, 0)?;
-    field(out, "resourceTypes")?;
-    names(draws, out, 0)?;
-    if draws.toss() {
-        shape(draws, out, "context")?;
+fn requests(drawing: &mut Drawing) {
+    drawing.put("{\"principalTypes\": ");
+    names(drawing, 0);
+    drawing.field("resourceTypes");
+    names(drawing, 0);
+    if drawing.toss() {
+        shape(drawing, "context");
     }
-    out.push('}')
+    drawing.put("}");
 }
 
 /// Writes a value that holds no other value.
-fn literal(draws: &mut Draws, out: &mut String) -> Result<(), AllocError> {
-    match draws.next() % 6 {
-        0 => out.push_str("true"),
-        1 => out.push_str("false"),
-        2 => out.push_str(draws.word(NUMBERS)),
-        3 => text(draws, out),
-        4 => out.push_str("{\"__entity\": {},\"__extn\": []}"),
+fn literal(drawing: &mut Drawing) {
+    match drawing.next() % 6 {
+        0 => drawing.put("true"),
+        1 => drawing.put("false"),
+        2 => drawing.put_one(NUMBERS),
+        3 => text(drawing),
+        4 => drawing.put("{\"__entity\": {},\"__extn\": []}"),
         _ => {
-            out.push_str("{\"__entity\": {\"type\": ")?;
-            word(draws, out, PLAIN_NAMES)?;
-            field(out, "id")?;
-            text(draws, out)?;
-            out.push_str("}}")
+            drawing.put("{\"__entity\": {\"type\": ");
+            drawing.word(PLAIN_NAMES);
+            drawing.field("id");
+            text(drawing);
+            drawing.put("}}");
         }
     }
 }
 
 /// Writes a value, with so many levels at most.
 #[cycle(values_drawn)]
-fn value(draws: &mut Draws, out: &mut String, levels: u64) -> Result<(), AllocError> {
+fn value(drawing: &mut Drawing, levels: u64) {
     if levels == 0 {
-        return literal(draws, out);
+        return literal(drawing);
     }
-    match draws.next() % 5 {
-        0 => call(draws, out, levels - 1),
-        1 => values(draws, out, levels - 1),
-        2 => pairs(draws, out, levels - 1),
-        _ => literal(draws, out),
+    match drawing.next() % 5 {
+        0 => call(drawing, levels - 1),
+        1 => values(drawing, levels - 1),
+        2 => pairs(drawing, levels - 1),
+        _ => literal(drawing),
     }
 }
 
 /// Writes a call of one argument, with so many levels in it at most.
 #[cycle(values_drawn)]
-fn call(draws: &mut Draws, out: &mut String, levels: u64) -> Result<(), AllocError> {
-    out.push_str("{\"__extn\": {\"fn\": ")?;
-    word(draws, out, PLAIN_NAMES)?;
-    field(out, "arg")?;
-    value(draws, out, levels)?;
-    out.push_str("}}")
+fn call(drawing: &mut Drawing, levels: u64) {
+    drawing.put("{\"__extn\": {\"fn\": ");
+    drawing.word(PLAIN_NAMES);
+    drawing.field("arg");
+    value(drawing, levels);
+    drawing.put("}}");
 }
 
 /// Writes an array of values, with so many levels in it at most.
 #[cycle(values_drawn)]
-fn values(draws: &mut Draws, out: &mut String, levels: u64) -> Result<(), AllocError> {
-    out.push('[')?;
-    for _ in 0..draws.next() % 4 {
-        separate(out)?;
-        value(draws, out, levels)?;
+fn values(drawing: &mut Drawing, levels: u64) {
+    drawing.put("[");
+    for _ in 0..drawing.next() % 4 {
+        drawing.separate();
+        value(drawing, levels);
     }
-    out.push(']')
+    drawing.put("]");
 }
 
 /// Writes an object of values, with so many levels in it at most.
 #[cycle(values_drawn)]
-fn pairs(draws: &mut Draws, out: &mut String, levels: u64) -> Result<(), AllocError> {
-    out.push('{')?;
+fn pairs(drawing: &mut Drawing, levels: u64) {
+    drawing.put("{");
     for beginning in BEGINNINGS {
-        if draws.next() % 6 == 0 {
-            key(draws, out, beginning)?;
-            value(draws, out, levels)?;
+        if drawing.next() % 6 == 0 {
+            drawing.key(beginning);
+            value(drawing, levels);
         }
     }
-    out.push('}')
+    drawing.put("}");
 }
 
 /// Writes the parents of an action.
-fn parents(draws: &mut Draws, out: &mut String) -> Result<(), AllocError> {
-    out.push('[')?;
-    for _ in 0..draws.next() % 3 {
-        parent(draws, out)?;
+fn parents(drawing: &mut Drawing) {
+    drawing.put("[");
+    for _ in 0..drawing.next() % 3 {
+        parent(drawing);
     }
-    out.push(']')
+    drawing.put("]");
 }
 
 /// Writes an action.
-fn action(draws: &mut Draws, out: &mut String) -> Result<(), AllocError> {
-    out.push('{')?;
-    if draws.toss() {
-        field(out, "appliesTo")?;
-        requests(draws, out)?;
+fn action(drawing: &mut Drawing) {
+    drawing.put("{");
+    if drawing.toss() {
+        drawing.field("appliesTo");
+        requests(drawing);
     }
-    if draws.toss() {
-        field(out, "memberOf")?;
-        parents(draws, out)?;
+    if drawing.toss() {
+        drawing.field("memberOf");
+        parents(drawing);
     }
-    if draws.toss() {
-        field(out, "attributes")?;
-        pairs(draws, out, LEVELS)?;
+    if drawing.toss() {
+        drawing.field("attributes");
+        pairs(drawing, LEVELS);
     }
-    external(draws, out)?;
-    out.push('}')
+    external(drawing);
+    drawing.put("}");
 }
 
 /// Writes the object of entity types.
-fn entity_types(draws: &mut Draws, out: &mut String) -> Result<(), AllocError> {
-    out.push('{')?;
+fn entity_types(drawing: &mut Drawing) {
+    drawing.put("{");
     for id in IDS {
-        if draws.next() % 3 == 0 {
-            field(out, id)?;
-            entity_type(draws, out)?;
+        if drawing.next() % 3 == 0 {
+            drawing.field(id);
+            entity_type(drawing);
         }
     }
-    out.push('}')
+    drawing.put("}");
 }
 
 /// Writes the object of actions.
-fn actions(draws: &mut Draws, out: &mut String) -> Result<(), AllocError> {
-    out.push('{')?;
+fn actions(drawing: &mut Drawing) {
+    drawing.put("{");
     for beginning in BEGINNINGS {
-        if draws.next() % 4 == 0 {
-            key(draws, out, beginning)?;
-            action(draws, out)?;
+        if drawing.next() % 4 == 0 {
+            drawing.key(beginning);
+            action(drawing);
         }
     }
-    out.push('}')
+    drawing.put("}");
 }
 
 /// Writes the object of common types, of which there is one.
-fn common_types(draws: &mut Draws, out: &mut String) -> Result<(), AllocError> {
-    out.push('{')?;
+fn common_types(drawing: &mut Drawing) {
+    drawing.put("{");
     for id in COMMON_IDS {
-        if out.ends_with('{') || draws.toss() {
-            field(out, id)?;
-            out.push('{')?;
-            type_fields(draws, out, LEVELS)?;
-            out.push('}')?;
+        if drawing.text.ends_with('{') || drawing.toss() {
+            drawing.field(id);
+            drawing.put("{");
+            type_fields(drawing, LEVELS);
+            drawing.put("}");
         }
     }
-    out.push('}')
+    drawing.put("}");
 }
 
 /// Writes the definition of a namespace.
-fn definition(draws: &mut Draws, out: &mut String) -> Result<(), AllocError> {
-    out.push_str("{\"entityTypes\": ")?;
-    entity_types(draws, out)?;
-    field(out, "actions")?;
-    actions(draws, out)?;
-    if draws.toss() {
-        field(out, "commonTypes")?;
-        common_types(draws, out)?;
+fn definition(drawing: &mut Drawing) {
+    drawing.put("{\"entityTypes\": ");
+    entity_types(drawing);
+    drawing.field("actions");
+    actions(drawing);
+    if drawing.toss() {
+        drawing.field("commonTypes");
+        common_types(drawing);
     }
-    out.push('}')
+    drawing.put("}");
+}
+
+/// The numbers that fragments are drawn by, one after another.
+#[derive(Drop)]
+pub(crate) struct Draws {
+    state: u64,
+}
+
+impl Draws {
+    /// The numbers that follow from this one.
+    pub(crate) fn new(state: u64) -> Self {
+        Draws { state }
+    }
+}
+
+/// Writes a fragment.
+fn fragment(drawing: &mut Drawing) {
+    drawing.put("{");
+    for name in NAMESPACES {
+        if drawing.next() % 4 == 0 {
+            drawing.field(name);
+            definition(drawing);
+        }
+    }
+    drawing.put("}");
 }
 
 /// The text of a fragment.
-pub(crate) fn drawn_fragment(alloc: Global, draws: &mut Draws) -> Result<String, AllocError> {
-    let mut out = String::new(alloc);
-    out.push('{')?;
-    for name in NAMESPACES {
-        if draws.next() % 4 == 0 {
-            field(&mut out, name)?;
-            definition(draws, &mut out)?;
-        }
+pub(crate) fn drawn_fragment(alloc: Global, draws: &mut Draws) -> M<String> {
+    let mut drawing = Drawing {
+        state: draws.state,
+        text: String::new(alloc),
+        is_cut: false,
+    };
+    fragment(&mut drawing);
+    draws.state = drawing.state;
+    if drawing.is_cut {
+        return Err(Memory);
     }
-    out.push('}')?;
-    Ok(out)
+    Ok(drawing.text)
 }

@@ -104,13 +104,23 @@ fn is_refused(alloc: Global, entity: &Entity) -> bool {
     }
 }
 
+/// Whether an entity with these attributes and tags can't be written for the key of a record.
+fn is_refused_with(
+    alloc: Global,
+    attrs: BTreeMap<String, Value>,
+    tags: BTreeMap<String, Value>,
+) -> Result<bool, Fail> {
+    let entity = entity(alloc, attrs, tags, &[])?;
+    Ok(is_refused(alloc, &entity))
+}
+
 #[test]
 fn values_of_entities_are_refused(rt: HostRuntime) -> Result<(), Fail> {
     let alloc = rt.alloc();
-    let by_attribute = entity(alloc, unwritable(alloc)?, BTreeMap::new(alloc), &[])?;
-    assert!(rt; is_refused(alloc, &by_attribute));
-    let by_tag = entity(alloc, BTreeMap::new(alloc), unwritable(alloc)?, &[])?;
-    assert!(rt; is_refused(alloc, &by_tag));
+    let attribute = unwritable(alloc)?;
+    assert!(rt; is_refused_with(alloc, attribute, BTreeMap::new(alloc))?);
+    let tag = unwritable(alloc)?;
+    assert!(rt; is_refused_with(alloc, BTreeMap::new(alloc), tag)?);
     Ok(())
 }
 

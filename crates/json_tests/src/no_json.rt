@@ -56,7 +56,8 @@ fn first_wrong_stop(alloc: Global) -> Result<&'static str, Fail> {
 
 #[test]
 fn a_text_stops_being_json(rt: HostRuntime) -> Result<(), Fail> {
-    assert_eq!(rt; first_wrong_stop(rt.alloc())?, "");
+    let wrong = first_wrong_stop(rt.alloc())?;
+    assert!(rt; wrong.is_empty(), "{wrong}");
     Ok(())
 }
 
@@ -82,27 +83,33 @@ fn cut_texts_that_are_read(alloc: Global) -> usize {
 fn a_text_that_is_cut_off_is_refused(rt: HostRuntime) -> Result<(), Fail> {
     let alloc = rt.alloc();
     assert!(rt; fragment_from_slice(alloc, SMALL, 0).is_ok());
-    assert_eq!(rt; cut_texts_that_are_read(alloc), 0);
+    assert!(rt; cut_texts_that_are_read(alloc) == 0);
     Ok(())
 }
 
-/// Up to which byte bytes are UTF-8 that are refused because they aren't.
-fn valid_up_to(alloc: Global, bytes: &[u8]) -> Option<usize> {
+/// Whether bytes are refused because they are UTF-8 just up to this one.
+fn is_valid_up_to(alloc: Global, bytes: &[u8], end: usize) -> bool {
     match fragment_from_slice(alloc, bytes, 0) {
-        Err(JsonSchemaFault::NotUtf8 { valid_up_to }) => Some(valid_up_to),
-        _ => None,
+        Err(JsonSchemaFault::NotUtf8 { valid_up_to }) => valid_up_to == end,
+        _ => false,
     }
 }
 
+/// Whether bytes are refused as no JSON from the first one on.
+fn is_no_json(alloc: Global, bytes: &[u8]) -> bool {
+    matches!(
+        fragment_from_slice(alloc, bytes, 0),
+        Err(JsonSchemaFault::NotJson { up_to: 0, .. })
+    )
+}
+
 #[test]
-fn bytes_that_are_no_utf_8_are_refused(rt: HostRuntime) -> Result<(), Fail> {
+fn bytes_that_are_no_utf_8_are_refused(rt: HostRuntime) {
     let alloc = rt.alloc();
-    assert_eq!(rt; valid_up_to(alloc, b"\xff\xfe{\0}\0"), Some(0));
-    assert_eq!(rt; valid_up_to(alloc, b"{\"\xc3\xa4\xc3\": 1}"), Some(4));
-    assert_eq!(rt; valid_up_to(alloc, b"{\"\xed\xa0\x80\": 1}"), Some(2));
-    let marked = fragment_from_slice(alloc, b"\xef\xbb\xbf{}", 0);
-    assert!(rt; matches!(marked, Err(JsonSchemaFault::NotJson { up_to: 0, .. })));
-    Ok(())
+    assert!(rt; is_valid_up_to(alloc, b"\xff\xfe{\0}\0", 0));
+    assert!(rt; is_valid_up_to(alloc, b"{\"\xc3\xa4\xc3\": 1}", 4));
+    assert!(rt; is_valid_up_to(alloc, b"{\"\xed\xa0\x80\": 1}", 2));
+    assert!(rt; is_no_json(alloc, b"\xef\xbb\xbf{}"));
 }
 
 /// The text of a set type of so many levels.
@@ -114,17 +121,26 @@ fn nested(alloc: Global, levels: usize) -> Result<String, Fail> {
     Ok(text)
 }
 
+/// The text of a fragment whose common type is a set type of so many levels.
+fn nesting(alloc: Global, levels: usize) -> Result<String, Fail> {
+    let ty = nested(alloc, levels)?;
+    Part::CommonType.text(alloc, ty.as_str())
+}
+
 #[test]
-fn texts_nest_at_most_128_levels(rt: HostRuntime) -> Result<(), Fail> {
-    let alloc = rt.alloc();
-    let deep = Part::CommonType.text(alloc, nested(alloc, 124)?.as_str())?;
-    assert!(rt; fragment_from_json(alloc, deep.as_str(), 0).is_ok());
-    let deeper = Part::CommonType.text(alloc, nested(alloc, 125)?.as_str())?;
-    let innermost = deeper
-        .as_str()
-        .find("{\"type\": \"Long\"}")
-        .ok_or("no such part")?;
-    assert_eq!(rt; stop(alloc, deeper.as_str()), Some((innermost, true)));
+fn texts_of_128_levels_are_read(rt: HostRuntime) -> Result<(), Fail> {
+    let deep = nesting(rt.alloc(), 124)?;
+    assert!(rt; fragment_from_json(rt.alloc(), deep.as_str(), 0).is_ok());
+    Ok(())
+}
+
+#[test]
+fn texts_of_129_levels_stop_at_the_innermost(rt: HostRuntime) -> Result<(), Fail> {
+    let deeper = nesting(rt.alloc(), 125)?;
+    let innermost = deeper.as_str().find("{\"type\": \"Long\"}");
+    assert!(rt;
+        stop(rt.alloc(), deeper.as_str()) == Some((innermost.ok_or("no such part")?, true))
+    );
     Ok(())
 }
 

@@ -1,7 +1,7 @@
 //! Texts that are read, and what is read of one.
 
 use crate::texts::Part;
-use cedar_below::Name;
+use cedar_below::{Extensions, Name};
 use cedar_json::{cedar_extensions, fragment_from_json, fragment_from_slice};
 use cedar_names::json_schema::{Fragment, RawName, Type, TypeVariant};
 use std::alloc::Global;
@@ -51,15 +51,18 @@ const ENTITY_TYPES: &[&str] = &[
     "{}",
     "{\"external\": true, \"annotations\": {}}",
     "{\"enum\": [\"a\", \"a\", \"\"], \"external\": false, \"annotations\": {}}",
-    "{\"memberOfTypes\": [\"A\", \"B::C\"], \"tags\": {\"type\": \"T\"}, \"shape\": {\"type\": \"S\"}}",
+    "{\"memberOfTypes\": [\"A\", \"B::C\"], \"tags\": {\"type\": \"T\"}, \
+        \"shape\": {\"type\": \"S\"}}",
     "{\"memberOfTypes\": [\"__cedar\"]}",
 ];
 
 const ACTIONS: &[&str] = &[
     "{\"appliesTo\": null, \"memberOf\": null, \"attributes\": null, \"annotations\": {}}",
     "{\"appliesTo\": {\"resourceTypes\": [], \"principalTypes\": [\"A\"]}, \"external\": true}",
-    "{\"appliesTo\": {\"resourceTypes\": [], \"principalTypes\": [], \"context\": {\"type\": \"C\"}}}",
-    "{\"memberOf\": [{\"id\": \"\", \"type\": null}, {\"id\": \"b\", \"type\": \"A\"}, {\"id\": \"\"}]}",
+    "{\"appliesTo\": {\"resourceTypes\": [], \"principalTypes\": [], \
+        \"context\": {\"type\": \"C\"}}}",
+    "{\"memberOf\": [{\"id\": \"\", \"type\": null}, {\"id\": \"b\", \"type\": \"A\"}, \
+        {\"id\": \"\"}]}",
     "{\"memberOf\": [{\"id\": \"__cedar\", \"type\": \"__cedar::Action\"}]}",
     "{\"appliesTo\": {\"principalTypes\": [\"__cedar\"], \"resourceTypes\": [\"A::__cedar\"]}}",
 ];
@@ -72,23 +75,28 @@ const VALUES: &[&str] = &[
     "{}",
 ];
 
+/// All rows, each with the part of a fragment that it is about.
+const ROWS: &[(Part, &[&'static str])] = &[
+    (Part::Text, TEXTS),
+    (Part::Definition, DEFINITIONS),
+    (Part::CommonType, COMMON_TYPES),
+    (Part::EntityType, ENTITY_TYPES),
+    (Part::Action, ACTIONS),
+    (Part::Value, VALUES),
+];
+
 #[test]
-fn fragments_and_types_are_read(rt: HostRuntime) -> Result<(), Fail> {
-    let alloc = rt.alloc();
-    assert_eq!(rt; first_refused(alloc, Part::Text, TEXTS)?, "");
-    assert_eq!(rt; first_refused(alloc, Part::Definition, DEFINITIONS)?, "");
-    assert_eq!(rt; first_refused(alloc, Part::CommonType, COMMON_TYPES)?, "");
+fn fragments_are_read(rt: HostRuntime) -> Result<(), Fail> {
+    for (part, rows) in ROWS {
+        let refused = first_refused(rt.alloc(), *part, rows)?;
+        assert!(rt; refused.is_empty(), "{refused}");
+    }
     Ok(())
 }
 
 #[test]
-fn declarations_are_read(rt: HostRuntime) -> Result<(), Fail> {
-    let alloc = rt.alloc();
-    assert_eq!(rt; first_refused(alloc, Part::EntityType, ENTITY_TYPES)?, "");
-    assert_eq!(rt; first_refused(alloc, Part::Action, ACTIONS)?, "");
-    assert_eq!(rt; first_refused(alloc, Part::Value, VALUES)?, "");
-    assert!(rt; fragment_from_slice(alloc, b"{}", 0).is_ok());
-    Ok(())
+fn bytes_are_read(rt: HostRuntime) {
+    assert!(rt; fragment_from_slice(rt.alloc(), b"{}", 0).is_ok());
 }
 
 /// The type of the common type that a fragment declares first.
@@ -125,36 +133,45 @@ fn is_as_written(ty: &Type<RawName>) -> bool {
     number && named && record.attributes.len() == 2 && !record.additional_attributes
 }
 
-/// The record that the test below reads.
+/// The record that a test below reads.
 const RECORD: &str = "{\"type\": \"Record\", \"attributes\": {
     \"b\": {\"type\": \"A::B\", \"required\": false}, \"a\": {\"type\": \"Long\"}
 }}";
 
-#[test]
-fn what_is_read_is_what_stands_there(rt: HostRuntime) -> Result<(), Fail> {
-    let alloc = rt.alloc();
-    let text = Part::CommonType.text(alloc, RECORD)?;
-    let holds = match fragment_from_json(alloc, text.as_str(), 0) {
+/// Whether the fragment of a text declares the record first.
+fn is_record(alloc: Global, text: &str) -> bool {
+    match fragment_from_json(alloc, text, 0) {
         Ok(fragment) => match first_type(&fragment) {
             Some(ty) => is_as_written(ty),
             None => false,
         },
         Err(_) => false,
-    };
-    assert!(rt; holds);
+    }
+}
+
+#[test]
+fn what_is_read_is_what_stands_there(rt: HostRuntime) -> Result<(), Fail> {
+    let alloc = rt.alloc();
+    let text = Part::CommonType.text(alloc, RECORD)?;
+    assert!(rt; is_record(alloc, text.as_str()));
     Ok(())
+}
+
+/// Whether an extension function of two arguments has the name.
+fn takes_two(extensions: &Extensions, name: &Name) -> bool {
+    match extensions.func(name) {
+        Ok(it) => it.arg_types.len() == 2,
+        Err(_) => false,
+    }
 }
 
 #[test]
 fn the_extensions_of_cedar_are_made(rt: HostRuntime) -> Result<(), Fail> {
     let alloc = rt.alloc();
-    let extensions = cedar_extensions(alloc)?;
-    assert_eq!(rt; extensions.ext_types().len(), 4);
-    assert!(rt; extensions.type_names_fit());
     let function = Name::from_str(alloc, "isInRange").map_err(|_| "no name")?;
-    match extensions.func(&function) {
-        Ok(it) => assert_eq!(rt; it.arg_types.len(), 2),
-        Err(_) => assert!(rt; false, "no such function"),
-    }
+    let extensions = cedar_extensions(alloc)?;
+    assert!(rt; extensions.ext_types().len() == 4);
+    assert!(rt; extensions.type_names_fit());
+    assert!(rt; takes_two(&extensions, &function));
     Ok(())
 }

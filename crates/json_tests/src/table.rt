@@ -96,18 +96,26 @@ fn places_of_text(alloc: Global) -> Result<Places, Fail> {
 fn the_table_lists_what_is_declared(rt: HostRuntime) -> Result<(), Fail> {
     let alloc = rt.alloc();
     let places = places_of_text(alloc)?;
-    assert_eq!(rt; lines(alloc, &places)?.as_str(), LISTED);
+    let listed = lines(alloc, &places)?;
+    assert!(rt; listed.as_str() == LISTED, "{listed}");
     Ok(())
 }
 
-/// The first bytes of the text at the place that is shown for a refusal.
-fn first(places: &Places, error: SchemaError) -> &'static str {
-    piece(place_of(places, &error))
-}
-
-/// The first bytes of the text at the second place that is shown for a refusal.
-fn second(places: &Places, error: SchemaError) -> &'static str {
-    piece(second_place_of(places, &error))
+/// The refusals that are asked about, each over a name.
+#[derive(Clone, Copy, Debug)]
+enum Refused {
+    /// An open record.
+    Open,
+    /// The attributes of an action.
+    Attributes,
+    /// An extension type that isn't known.
+    Unknown,
+    /// An entity type that is defined twice.
+    TypeTwice,
+    /// An action that is defined twice.
+    ActionTwice,
+    /// A common type that is defined twice.
+    CommonTypeTwice,
 }
 
 /// The refusal of the attributes of an action.
@@ -120,19 +128,6 @@ fn attributes_of(alloc: Global, id: &str) -> Result<SchemaError, Fail> {
 fn unknown(alloc: Global, name: &str) -> Result<SchemaError, Fail> {
     let name = Name::from_str(alloc, name).map_err(|_| "no name")?;
     Ok(SchemaError::UnknownExtensionType(name))
-}
-
-#[test]
-fn what_has_no_name_is_found_in_the_table(rt: HostRuntime) -> Result<(), Fail> {
-    let alloc = rt.alloc();
-    let places = places_of_text(alloc)?;
-    let open = SchemaError::UnsupportedFeature(UnsupportedFeature::OpenRecordsAndEntities);
-    assert_eq!(rt; first(&places, open), "{\"type\":\"Rec");
-    assert_eq!(rt; first(&places, attributes_of(alloc, "ä")?), "\"ä\"");
-    assert_eq!(rt; first(&places, attributes_of(alloc, "c")?), "?");
-    assert_eq!(rt; first(&places, unknown(alloc, "ip")?), "{\"type\": \"Ex");
-    assert_eq!(rt; first(&places, unknown(alloc, "other")?), "{\"type\":\"Ext");
-    Ok(())
 }
 
 /// The refusal of an entity type that is defined twice, once at a place.
@@ -153,20 +148,87 @@ fn common_type_twice(alloc: Global, name: &str) -> Result<SchemaError, Fail> {
     Ok(SchemaError::DuplicateCommonType(name))
 }
 
+/// A refusal over a name.
+fn refusal(alloc: Global, refused: Refused, name: &str) -> Result<SchemaError, Fail> {
+    match refused {
+        Refused::Open => Ok(SchemaError::UnsupportedFeature(
+            UnsupportedFeature::OpenRecordsAndEntities,
+        )),
+        Refused::Attributes => attributes_of(alloc, name),
+        Refused::Unknown => unknown(alloc, name),
+        Refused::TypeTwice => type_twice(alloc, name, None),
+        Refused::ActionTwice => action_twice(alloc, name),
+        Refused::CommonTypeTwice => common_type_twice(alloc, name),
+    }
+}
+
+/// The two places that are shown for a refusal.
+fn shown(places: &Places, error: SchemaError) -> (Option<Loc>, Option<Loc>) {
+    (place_of(places, &error), second_place_of(places, &error))
+}
+
+/// A refusal over a name, and the first bytes of the text at the place that is shown for it.
+type Shown = (Refused, &'static str, &'static str);
+
+/// Refusals without a place of their own: at the first place stands what the table lists.
+const FIRST: &[Shown] = &[
+    (Refused::Open, "", "{\"type\":\"Rec"),
+    (Refused::Attributes, "ä", "\"ä\""),
+    (Refused::Attributes, "c", "?"),
+    (Refused::Unknown, "ip", "{\"type\": \"Ex"),
+    (Refused::Unknown, "other", "{\"type\":\"Ext"),
+];
+
+/// Refusals of a second definition: at the second place stands the other one, if there is one.
+const SECOND: &[Shown] = &[
+    (Refused::TypeTwice, "F", "?"),
+    (Refused::ActionTwice, "N::Action::\"ä\"", "\"ä\""),
+    (Refused::CommonTypeTwice, "N::B", "\"B\""),
+    (Refused::CommonTypeTwice, "N::E", "?"),
+];
+
+/// Whether the first place for a refusal is that of a row.
+fn is_first(alloc: Global, places: &Places, row: Shown) -> Result<bool, Fail> {
+    let (first, _) = shown(places, refusal(alloc, row.0, row.1)?);
+    Ok(piece(first) == row.2)
+}
+
+/// Whether the second place for a refusal is that of a row.
+fn is_second(alloc: Global, places: &Places, row: Shown) -> Result<bool, Fail> {
+    let (_, second) = shown(places, refusal(alloc, row.0, row.1)?);
+    Ok(piece(second) == row.2)
+}
+
+#[test]
+fn what_is_refused_is_found_in_the_table(rt: HostRuntime) -> Result<(), Fail> {
+    let alloc = rt.alloc();
+    let places = places_of_text(alloc)?;
+    for row in FIRST {
+        assert!(rt; is_first(alloc, &places, *row)?, "{}", row.1);
+    }
+    for row in SECOND {
+        assert!(rt; is_second(alloc, &places, *row)?, "{}", row.1);
+    }
+    Ok(())
+}
+
+/// The two places for the entity type `N::F` that is defined twice, once at a place.
+fn places_of_type(
+    alloc: Global,
+    places: &Places,
+    loc: Option<Loc>,
+) -> Result<(Option<Loc>, Option<Loc>), Fail> {
+    Ok(shown(places, type_twice(alloc, "N::F", loc)?))
+}
+
 #[test]
 fn the_other_definition_is_found_in_the_table(rt: HostRuntime) -> Result<(), Fail> {
     let alloc = rt.alloc();
     let places = places_of_text(alloc)?;
-    let named = place_of(&places, &type_twice(alloc, "N::F", None)?);
-    let found = second_place_of(&places, &type_twice(alloc, "N::F", named)?);
-    assert_eq!(rt; piece(found), "\"F\"");
-    assert_eq!(rt; second(&places, type_twice(alloc, "N::F", found)?), "?");
-    assert_eq!(rt; second(&places, type_twice(alloc, "F", None)?), "?");
-    assert_eq!(rt;
-        second(&places, action_twice(alloc, "N::Action::\"ä\"")?),
-        "\"ä\""
-    );
-    assert_eq!(rt; second(&places, common_type_twice(alloc, "N::B")?), "\"B\"");
-    assert_eq!(rt; second(&places, common_type_twice(alloc, "N::E")?), "?");
+    let (named, _) = places_of_type(alloc, &places, None)?;
+    let (_, found) = places_of_type(alloc, &places, named)?;
+    let (_, no_other) = places_of_type(alloc, &places, found)?;
+    assert!(rt; piece(found) == "\"F\"");
+    assert!(rt; piece(no_other) == "?");
     Ok(())
 }

@@ -52,7 +52,8 @@ const SAME: &[&str] = &[
     "{\"\": {\"entityTypes\": {},\"actions\": {\"a\": {\"attributes\": {\"k\": \
         [true,-9223372036854775808,\"x\",{\"l\": {\"__entity\": {\"type\": \"A\",\"id\": \
         \"b\"}}},{\"__extn\": {\"fn\": \"ip\",\"arg\": \"y\"}},{\"__extn\": 1,\"m\": 2}]}}}}}",
-    "{\"\": {\"entityTypes\": {},\"actions\": {\"\\\"\\\\\\n\\u0001\\u001f\u{7f}\u{e9}\u{1d11e}\": {}}}}",
+    "{\"\": {\"entityTypes\": {},\"actions\": \
+        {\"\\\"\\\\\\n\\u0001\\u001f\u{7f}\u{e9}\u{1d11e}\": {}}}}",
     "{\"\": {\"entityTypes\": {},\"actions\": {},\"commonTypes\": {\"A\": {\"type\": \"Set\",\
         \"element\": {\"type\": \"Boolean\"}},\"B\": {\"type\": \"Record\",\"attributes\": \
         {\"a\": {\"type\": \"String\",\"required\": false},\"b\": {\"type\": \"Entity\",\
@@ -89,7 +90,8 @@ const LEFT_OUT: &[(&str, &str)] = &[
     (
         "{\"B\": {\"actions\": {}, \"entityTypes\": {}}, \"\": {\"actions\": {}, \"entityTypes\": \
             {}, \"annotations\": {\"a\": null}}}",
-        "{\"\": {\"entityTypes\": {},\"actions\": {}},\"B\": {\"entityTypes\": {},\"actions\": {}}}",
+        "{\"\": {\"entityTypes\": {},\"actions\": {}},\
+            \"B\": {\"entityTypes\": {},\"actions\": {}}}",
     ),
 ];
 
@@ -103,6 +105,17 @@ fn what_absence_means_is_left_out(rt: HostRuntime) -> Result<(), Fail> {
     Ok(())
 }
 
+/// Whether the fragment that a text describes is written as the other text, with its layout.
+fn is_laid_out(alloc: Global, text: &str, expected: &str) -> bool {
+    let Ok(fragment) = fragment_from_json(alloc, text, 0) else {
+        return false;
+    };
+    match fragment_to_json(alloc, &fragment) {
+        Ok(written) => written.as_str() == expected,
+        Err(_) => false,
+    }
+}
+
 #[test]
 fn fragments_are_laid_out(rt: HostRuntime) -> Result<(), Fail> {
     let alloc = rt.alloc();
@@ -110,11 +123,7 @@ fn fragments_are_laid_out(rt: HostRuntime) -> Result<(), Fail> {
     let expected = "{\n  \"\": {\n    \"entityTypes\": {\n      \"E\": {\n        \
         \"memberOfTypes\": [\n          \"F\"\n        ]\n      }\n    },\n    \
         \"actions\": {}\n  }\n}";
-    if let Ok(fragment) = fragment_from_json(alloc, text, 0) {
-        assert!(rt;
-            matches!(fragment_to_json(alloc, &fragment), Ok(written) if written.as_str() == expected)
-        );
-    }
+    assert!(rt; is_laid_out(alloc, text, expected));
     Ok(())
 }
 
@@ -186,61 +195,73 @@ const WORDS: &[&'static str] = &[
     "Extension",
 ];
 
+/// A fragment with a common type that refers to one of this name.
+fn with_reference(alloc: Global, name: &str) -> Result<Fragment<RawName>, Fail> {
+    match RawName::from_str(alloc, name) {
+        Ok(type_name) => with_type(
+            alloc,
+            Type::CommonTypeRef {
+                type_name,
+                loc: None,
+            },
+        ),
+        Err(_) => Err("no name")?,
+    }
+}
+
+/// Whether a reference to a common type of the word can't be written, and one to a common type of
+/// the namespace `N` can.
+fn is_no_common_type(alloc: Global, word: &'static str) -> Result<bool, Fail> {
+    let qualified = format!(in alloc; "N::{word}")?;
+    let in_namespace = with_reference(alloc, qualified.as_str())?;
+    if fragment_to_json(alloc, &in_namespace).is_err() {
+        return Ok(false);
+    }
+    let alone = with_reference(alloc, word)?;
+    Ok(is_refused(alloc, &alone, Unwritable::TypeWord(word)))
+}
+
 #[test]
 fn words_are_no_common_types(rt: HostRuntime) -> Result<(), Fail> {
     let alloc = rt.alloc();
     for &word in WORDS {
-        if let Ok(type_name) = RawName::from_str(alloc, word) {
-            let fragment = with_type(
-                alloc,
-                Type::CommonTypeRef {
-                    type_name,
-                    loc: None,
-                },
-            )?;
-            assert!(rt;
-                is_refused(alloc, &fragment, Unwritable::TypeWord(word)),
-                "{word}"
-            );
-        }
-        let qualified = format!(in alloc; "N::{word}")?;
-        if let Ok(type_name) = RawName::from_str(alloc, qualified.as_str()) {
-            let fragment = with_type(
-                alloc,
-                Type::CommonTypeRef {
-                    type_name,
-                    loc: None,
-                },
-            )?;
-            assert!(rt; fragment_to_json(alloc, &fragment).is_ok(), "{word}");
-        }
+        assert!(rt; is_no_common_type(alloc, word)?, "{word}");
     }
     Ok(())
+}
+
+/// A fragment with a call without arguments.
+fn with_call(alloc: Global) -> Result<Fragment<RawName>, Fail> {
+    match Name::from_str(alloc, "ip") {
+        Ok(function) => {
+            let args = Vec::new(alloc);
+            with_value(alloc, RestrictedExpr::ExtensionCall { function, args })
+        }
+        Err(_) => Err("no name")?,
+    }
 }
 
 #[test]
 fn calls_have_one_argument(rt: HostRuntime) -> Result<(), Fail> {
     let alloc = rt.alloc();
-    if let Ok(function) = Name::from_str(alloc, "ip") {
-        let args = Vec::new(alloc);
-        let fragment = with_value(alloc, RestrictedExpr::ExtensionCall { function, args })?;
-        assert!(rt; is_refused(alloc, &fragment, Unwritable::Arguments(0)));
-    }
+    let fragment = with_call(alloc)?;
+    assert!(rt; is_refused(alloc, &fragment, Unwritable::Arguments(0)));
     Ok(())
+}
+
+/// Whether a record whose only key is this can't be written.
+fn is_no_record(alloc: Global, key: &'static str) -> Result<bool, Fail> {
+    let mut pairs = BTreeMap::new(alloc);
+    pairs.insert(String::from_str(alloc, key)?, RestrictedExpr::Long(1))?;
+    let fragment = with_value(alloc, RestrictedExpr::Record(pairs))?;
+    Ok(is_refused(alloc, &fragment, Unwritable::LoneKey(key)))
 }
 
 #[test]
 fn records_are_no_entities_and_no_calls(rt: HostRuntime) -> Result<(), Fail> {
     let alloc = rt.alloc();
-    for &key in &["__entity", "__extn"] {
-        let mut pairs = BTreeMap::new(alloc);
-        pairs.insert(String::from_str(alloc, key)?, RestrictedExpr::Long(1))?;
-        let fragment = with_value(alloc, RestrictedExpr::Record(pairs))?;
-        assert!(rt;
-            is_refused(alloc, &fragment, Unwritable::LoneKey(key)),
-            "{key}"
-        );
-    }
+    assert!(rt; is_no_record(alloc, "__entity")?);
+    assert!(rt; is_no_record(alloc, "__extn")?);
     Ok(())
 }
 
@@ -261,13 +282,21 @@ fn nested(alloc: Global, levels: usize) -> Result<Type<RawName>, Fail> {
     Ok(ty)
 }
 
+/// Whether a type of sets that are nested so deep can't be written for that.
+fn is_too_deep(alloc: Global, levels: usize) -> Result<bool, Fail> {
+    let fragment = with_type(alloc, nested(alloc, levels)?)?;
+    match fragment_to_json(alloc, &fragment) {
+        Ok(_) => Ok(false),
+        Err(WriteFault::Unwritable(Unwritable::TooDeep)) => Ok(true),
+        Err(_) => Err("another refusal")?,
+    }
+}
+
 #[test]
 fn nesting_is_as_deep_as_is_read(rt: HostRuntime) -> Result<(), Fail> {
     let alloc = rt.alloc();
-    let deepest = with_type(alloc, nested(alloc, 124)?)?;
-    assert!(rt; fragment_to_json(alloc, &deepest).is_ok());
-    let deeper = with_type(alloc, nested(alloc, 125)?)?;
-    assert!(rt; is_refused(alloc, &deeper, Unwritable::TooDeep));
+    assert!(rt; !is_too_deep(alloc, 124)?);
+    assert!(rt; is_too_deep(alloc, 125)?);
     Ok(())
 }
 
