@@ -40,7 +40,7 @@ record_marks_step it loc =
 
 -- one attribute: what is in its type
 abbrev pub attribute_marks_step :
-  layer.TypeOfAttribute-F RawName Marks MarksAt MarksAt Marks → Marks
+    layer.TypeOfAttribute-F RawName Marks MarksAt MarksAt Marks → Marks
 attribute_marks_step it = it.ty
 
 -- the open record types and the extension types in a type
