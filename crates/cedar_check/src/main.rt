@@ -10,9 +10,6 @@ use std::process::ExitCode;
 use std::rt::Files;
 use std::{env, fs, io};
 
-#[cfg(test)]
-mod tests;
-
 /// The files of the system that the program runs in.
 #[derive(Drop)]
 struct SystemFiles<'r, R> {

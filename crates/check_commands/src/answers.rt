@@ -1,10 +1,9 @@
 //! What a schema answers: its counts, what it lacks, and its environments.
 
 use crate::finding::{Finding, file_of};
-use cedar_below::{EntityType, EntityUID, M, NameFault};
+use cedar_below::{EntityType, EntityUID, M, Memory, NameFault};
 use cedar_schema::{CompleteError, IncompleteSchemaError, RequestEnv, ValidatorSchema};
-use schema_lines::escaped;
-use std::alloc::Global;
+use std::alloc::{AllocError, Global};
 
 /// The counts of a schema, a line each.
 pub(crate) fn counts(alloc: Global, schema: &ValidatorSchema) -> M<String> {
@@ -16,12 +15,12 @@ pub(crate) fn counts(alloc: Global, schema: &ValidatorSchema) -> M<String> {
             external_types = external_types.saturating_add(1);
         }
     }
-    let types = format!(in alloc;
-        "ok\nentity types: {types}, {external_types} of them external\n"
-    )?;
     let actions = action_counts(alloc, schema)?;
     let environments = schema.unlinked_envs_owned().len();
-    Ok(format!(in alloc; "{types}{actions}environments: {environments}\n")?)
+    Ok(format!(in alloc;
+        "ok\nentity types: {types}, {external_types} of them external\n{actions}\
+         environments: {environments}\n"
+    )?)
 }
 
 /// The line on actions.
@@ -58,33 +57,68 @@ pub(crate) fn incomplete(alloc: Global, schema: &ValidatorSchema) -> M<Option<Fi
     }
 }
 
-/// What a question of a schema gives.
-pub(crate) enum Answer {
-    /// The answer, in lines.
-    Lines(String),
+/// Why a question of a schema has no answer.
+#[derive(Drop)]
+pub(crate) enum NoAnswer {
     /// The schema has nothing of that kind, in words.
     Nothing(String),
     /// The question itself is none, in words.
     BadWord(String),
+    /// Out of memory.
+    Memory,
 }
 
-/// Why a word is no name or no uid, or that memory ran out.
-pub(crate) fn bad_word(alloc: Global, word: &str, fault: NameFault) -> M<Answer> {
-    match fault {
-        NameFault::Memory(refused) => Err(refused),
-        _ => Ok(Answer::BadWord(format!(in alloc; "{word}: {fault}")?)),
+impl From<AllocError> for NoAnswer {
+    fn from(_refused: AllocError) -> Self {
+        NoAnswer::Memory
+    }
+}
+
+impl From<Memory> for NoAnswer {
+    fn from(_refused: Memory) -> Self {
+        NoAnswer::Memory
+    }
+}
+
+/// The lines that answer a question.
+pub(crate) type Answer = Result<String, NoAnswer>;
+
+/// Why a word is no name or no uid.
+fn bad_word(alloc: Global, word: &str, fault: NameFault) -> NoAnswer {
+    if let NameFault::Memory(_) = fault {
+        return NoAnswer::Memory;
+    }
+    match format!(in alloc; "{word}: {fault}") {
+        Ok(why) => NoAnswer::BadWord(why),
+        Err(_) => NoAnswer::Memory,
+    }
+}
+
+/// The entity type that a word names.
+pub(crate) fn type_named(alloc: Global, word: &str) -> Result<EntityType, NoAnswer> {
+    match EntityType::from_str(alloc, word) {
+        Ok(ty) => Ok(ty),
+        Err(fault) => Err(bad_word(alloc, word, fault)),
+    }
+}
+
+/// The uid that a word spells.
+pub(crate) fn uid_named(alloc: Global, word: &str) -> Result<EntityUID, NoAnswer> {
+    match EntityUID::from_str(alloc, word) {
+        Ok(uid) => Ok(uid),
+        Err(fault) => Err(bad_word(alloc, word, fault)),
     }
 }
 
 /// What environments are asked for.
-#[derive(Clone, Copy, Debug, Drop)]
-pub(crate) struct Wanted<'a> {
+#[derive(Drop)]
+pub(crate) struct Wanted {
     /// The entity type of the principal, if only one is asked for.
-    pub(crate) principal: Option<&'a EntityType>,
+    pub(crate) principal: Option<EntityType>,
     /// The action, if only one is asked for.
-    pub(crate) action: Option<&'a EntityUID>,
+    pub(crate) action: Option<EntityUID>,
     /// The entity type of the resource, if only one is asked for.
-    pub(crate) resource: Option<&'a EntityType>,
+    pub(crate) resource: Option<EntityType>,
 }
 
 /// Whether nothing else is asked for.
@@ -95,58 +129,38 @@ fn is_wanted<T: PartialEq>(wanted: Option<&T>, given: &T) -> bool {
     }
 }
 
-impl Wanted<'_> {
+impl Wanted {
     /// Whether an environment is asked for.
     fn is_met(&self, env: &RequestEnv<'_>) -> bool {
-        is_wanted(self.principal, env.principal)
-            && is_wanted(self.action, env.action)
-            && is_wanted(self.resource, env.resource)
+        is_wanted(self.principal.as_ref(), env.principal)
+            && is_wanted(self.action.as_ref(), env.action)
+            && is_wanted(self.resource.as_ref(), env.resource)
     }
+}
+
+/// The environments that are asked for, a line each.
+fn lines_of(alloc: Global, schema: &ValidatorSchema, wanted: &Wanted) -> M<Vec<String>> {
+    let mut lines = Vec::new(alloc);
+    for env in schema.unlinked_envs_owned() {
+        let env = env.as_request_env();
+        if wanted.is_met(&env) {
+            lines.push(format!(in alloc; "{} {} {}\n", env.principal, env.action, env.resource)?)?;
+        }
+    }
+    Ok(lines)
 }
 
 /// The environments that are asked for, sorted by their text, a line each.
 pub(crate) fn environment_lines(
     alloc: Global,
     schema: &ValidatorSchema,
-    wanted: Wanted<'_>,
+    wanted: &Wanted,
 ) -> M<String> {
-    let mut lines = Vec::new(alloc);
-    for env in schema.unlinked_envs_owned() {
-        let env = env.as_request_env();
-        if wanted.is_met(&env) {
-            lines.push(format!(in alloc; "{} {} {}", env.principal, env.action, env.resource)?)?;
-        }
-    }
+    let mut lines = lines_of(alloc, schema, wanted)?;
     lines.sort()?;
     let mut text = String::new(alloc);
     for line in &lines {
         text.push_str(line.as_str())?;
-        text.push('\n')?;
     }
     Ok(text)
-}
-
-/// The entity type that a word names, if there is a word; or why it names none.
-pub(crate) fn type_named(
-    alloc: Global,
-    word: Option<&str>,
-) -> M<Result<Option<EntityType>, Answer>> {
-    let Some(word) = word else {
-        return Ok(Ok(None));
-    };
-    match EntityType::from_str(alloc, word) {
-        Ok(ty) => Ok(Ok(Some(ty))),
-        Err(fault) => Ok(Err(bad_word(alloc, word, fault)?)),
-    }
-}
-
-/// The uid that a word spells, if there is a word; or why it spells none.
-pub(crate) fn uid_named(alloc: Global, word: Option<&str>) -> M<Result<Option<EntityUID>, Answer>> {
-    let Some(word) = word else {
-        return Ok(Ok(None));
-    };
-    match EntityUID::from_str(alloc, word) {
-        Ok(uid) => Ok(Ok(Some(uid))),
-        Err(fault) => Ok(Err(bad_word(alloc, word, fault)?)),
-    }
 }

@@ -1,7 +1,7 @@
 //! What each command gives, by its words.
 
 use crate::answers::{
-    Answer, Wanted, counts, environment_lines, incomplete, type_named, uid_named,
+    Answer, NoAnswer, Wanted, counts, environment_lines, incomplete, type_named, uid_named,
 };
 use crate::attribute_types::{action_answer, entity_answer};
 use crate::building::{BuiltFiles, built};
@@ -10,10 +10,10 @@ use crate::finding::{Finding, Source};
 use crate::graph::graph;
 use crate::laying_out::format;
 use crate::linking::{is_read, link, would_overwrite};
-use crate::outcome::{Manner, Outcome, refused};
-use crate::reading::{Given, well_formed};
+use crate::outcome::{Manner, Outcome, Stop, refused};
+use crate::reading::well_formed;
 use crate::status::Status;
-use cedar_below::M;
+use cedar_below::{EntityType, EntityUID, M, Memory};
 use cedar_schema::ValidatorSchema;
 use clap::ArgMatches;
 use schema_lines::{escaped, escaped_lines_of};
@@ -56,15 +56,13 @@ fn check<F: FileAccess>(
     files: &mut F,
     names: &[&str],
     manner: Manner,
-) -> M<Outcome> {
-    match well_formed(alloc, files, names, manner)? {
-        Given::Refused(told) => Ok(told),
-        Given::All(read) => Ok(Outcome::done(alloc, well_formed_lines(alloc, &read.sources)?)),
-    }
+) -> Result<Outcome, Stop> {
+    let read = well_formed(alloc, files, names, manner)?;
+    Ok(Outcome::done(alloc, well_formed_lines(alloc, &read.sources)?))
 }
 
 /// What is told of words that don't go together or aren't what they have to be.
-pub(crate) fn usage(alloc: Global, why: &str) -> M<Outcome> {
+fn usage(alloc: Global, why: &str) -> M<Outcome> {
     let why = escaped(alloc, why)?;
     let notes = format!(in alloc; "error: {why}\n")?;
     Ok(Outcome::noted(alloc, notes, Status::Usage))
@@ -73,11 +71,12 @@ pub(crate) fn usage(alloc: Global, why: &str) -> M<Outcome> {
 /// The outcome of a question.
 fn answered(alloc: Global, manner: Manner, sources: &[Source], answer: Answer) -> M<Outcome> {
     match answer {
-        Answer::Lines(text) => Ok(Outcome::done(alloc, text)),
-        Answer::BadWord(why) => usage(alloc, why.as_str()),
-        Answer::Nothing(why) => {
+        Ok(text) => Ok(Outcome::done(alloc, text)),
+        Err(NoAnswer::BadWord(why)) => usage(alloc, why.as_str()),
+        Err(NoAnswer::Nothing(why)) => {
             refused(alloc, manner, sources, Finding::general("NotDeclared", why))
         }
+        Err(NoAnswer::Memory) => Err(Memory),
     }
 }
 
@@ -92,39 +91,45 @@ fn build(alloc: Global, manner: Manner, matches: &ArgMatches<'_>, it: &BuiltFile
 }
 
 /// The type that is asked for.
-fn type_answer(alloc: Global, matches: &ArgMatches<'_>, schema: &ValidatorSchema) -> M<Answer> {
+fn type_answer(alloc: Global, matches: &ArgMatches<'_>, schema: &ValidatorSchema) -> Answer {
     let attributes = words_of(alloc, matches, "attribute")?;
     if let Some(name) = matches.get_str("entity") {
         return entity_answer(alloc, schema, name, &attributes, matches.get_flag("tags"));
     }
-    action_answer(
-        alloc,
-        schema,
-        matches.get_str("action").unwrap_or(""),
-        &attributes,
-    )
+    let action = matches.get_str("action").unwrap_or("");
+    action_answer(alloc, schema, action, &attributes)
+}
+
+/// The entity type that an option names, if it is given.
+fn type_given(
+    alloc: Global,
+    matches: &ArgMatches<'_>,
+    id: &str,
+) -> Result<Option<EntityType>, NoAnswer> {
+    match matches.get_str(id) {
+        Some(word) => Ok(Some(type_named(alloc, word)?)),
+        None => Ok(None),
+    }
+}
+
+/// The action that an option names, if it is given.
+fn action_given(alloc: Global, matches: &ArgMatches<'_>) -> Result<Option<EntityUID>, NoAnswer> {
+    match matches.get_str("action") {
+        Some(word) => Ok(Some(uid_named(alloc, word)?)),
+        None => Ok(None),
+    }
 }
 
 /// The environments that are asked for.
-fn environments(alloc: Global, matches: &ArgMatches<'_>, schema: &ValidatorSchema) -> M<Answer> {
-    let principal = match type_named(alloc, matches.get_str("principal"))? {
-        Ok(principal) => principal,
-        Err(answer) => return Ok(answer),
-    };
-    let resource = match type_named(alloc, matches.get_str("resource"))? {
-        Ok(resource) => resource,
-        Err(answer) => return Ok(answer),
-    };
-    let action = match uid_named(alloc, matches.get_str("action"))? {
-        Ok(action) => action,
-        Err(answer) => return Ok(answer),
-    };
+fn environments(alloc: Global, matches: &ArgMatches<'_>, schema: &ValidatorSchema) -> Answer {
+    let principal = type_given(alloc, matches, "principal")?;
+    let resource = type_given(alloc, matches, "resource")?;
     let wanted = Wanted {
-        principal: principal.as_ref(),
-        action: action.as_ref(),
-        resource: resource.as_ref(),
+        principal,
+        action: action_given(alloc, matches)?,
+        resource,
     };
-    Ok(Answer::Lines(environment_lines(alloc, schema, wanted)?))
+    Ok(environment_lines(alloc, schema, &wanted)?)
 }
 
 /// The answer to the question that a command asks of a schema.
@@ -133,12 +138,12 @@ fn answer_of(
     command: &str,
     matches: &ArgMatches<'_>,
     schema: &ValidatorSchema,
-) -> M<Answer> {
+) -> Answer {
     match command {
         "type" => type_answer(alloc, matches, schema),
         "envs" => environments(alloc, matches, schema),
-        "graph" => Ok(Answer::Lines(graph(alloc, schema)?)),
-        _ => Ok(Answer::Lines(escaped_lines_of(alloc, schema)?)),
+        "graph" => Ok(graph(alloc, schema)?),
+        _ => Ok(escaped_lines_of(alloc, schema)?),
     }
 }
 
@@ -149,17 +154,14 @@ fn over_schema<F: FileAccess>(
     command: &str,
     matches: &ArgMatches<'_>,
     names: &[&str],
-) -> M<Outcome> {
+) -> Result<Outcome, Stop> {
     let manner = manner(matches);
-    let it = match built(alloc, files, names, manner)? {
-        Given::Refused(told) => return Ok(told),
-        Given::All(it) => it,
-    };
+    let it = built(alloc, files, names, manner)?;
     if command == "build" {
-        return build(alloc, manner, matches, &it);
+        return Ok(build(alloc, manner, matches, &it)?);
     }
-    let answer = answer_of(alloc, command, matches, &it.schema)?;
-    answered(alloc, manner, &it.sources, answer)
+    let answer = answer_of(alloc, command, matches, &it.schema);
+    Ok(answered(alloc, manner, &it.sources, answer)?)
 }
 
 /// What the command that links gives.
@@ -168,15 +170,16 @@ fn linked<F: FileAccess>(
     files: &mut F,
     matches: &ArgMatches<'_>,
     names: &[&str],
-) -> M<Outcome> {
+) -> Result<Outcome, Stop> {
+    let manner = manner(matches);
     match matches.get_str("output") {
         Some(output) if output != "-" => {
             if is_read(files, output, names) {
-                return usage(alloc, would_overwrite(alloc, output)?.as_str());
+                return Ok(usage(alloc, would_overwrite(alloc, output)?.as_str())?);
             }
-            link(alloc, files, names, manner(matches), Some(output))
+            link(alloc, files, names, manner, Some(output))
         }
-        _ => link(alloc, files, names, manner(matches), None),
+        _ => link(alloc, files, names, manner, None),
     }
 }
 
@@ -200,7 +203,7 @@ pub(crate) fn outcome_of<F: FileAccess>(
     files: &mut F,
     command: &str,
     matches: &ArgMatches<'_>,
-) -> M<Outcome> {
+) -> Result<Outcome, Stop> {
     if command == "format" {
         let name = matches.get_str("FILE").unwrap_or("-");
         return format(
@@ -213,7 +216,7 @@ pub(crate) fn outcome_of<F: FileAccess>(
     }
     let names = words_of(alloc, matches, "FILE")?;
     if reads_input_twice(&names) {
-        return usage(alloc, "standard input (`-`) can be read only once");
+        return Ok(usage(alloc, "standard input (`-`) can be read only once")?);
     }
     match command {
         "check" => check(alloc, files, &names, manner(matches)),

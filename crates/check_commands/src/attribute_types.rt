@@ -1,73 +1,41 @@
 //! The types of attributes, of tags and of contexts.
 
-use crate::answers::{Answer, bad_word};
-use cedar_below::{EntityType, EntityUID, M};
-use cedar_schema::lookup::known_attribute;
+use crate::answers::{Answer, NoAnswer, type_named, uid_named};
+use cedar_below::M;
+use cedar_schema::lookup::SchemaLookup;
 use cedar_schema::{Type, ValidatorEntityType, ValidatorSchema};
 use schema_lines::escaped;
 use std::alloc::Global;
-use std::rc::Rc;
 
 /// One line with the text of a type.
-fn type_line(alloc: Global, ty: &Type) -> M<Answer> {
+fn type_line(alloc: Global, ty: &Type) -> M<String> {
     let text = format!(in alloc; "{ty}")?;
-    let text = escaped(alloc, text.as_str())?;
-    Ok(Answer::Lines(format!(in alloc; "{text}\n")?))
+    let mut line = escaped(alloc, text.as_str())?;
+    line.push('\n')?;
+    Ok(line)
 }
 
-/// The type of an attribute of what has a type, if it may be there.
-fn attribute_of(
-    alloc: Global,
-    schema: &ValidatorSchema,
-    ty: &Type,
-    name: &str,
-) -> M<Option<Rc<Type>>> {
-    match ty {
-        Type::Record { attrs, .. } => match attrs.get_attr(name) {
-            Some(attribute) => Ok(Some(attribute.attr_type.clone()?)),
-            None => Ok(None),
-        },
-        Type::Entity(kind) => match known_attribute(alloc, schema, kind, name)? {
-            Some(attribute) => Ok(Some(attribute.attr_type)),
-            None => Ok(None),
-        },
-        _ => Ok(None),
-    }
-}
-
-/// That a type has no attribute of a name.
-fn no_attribute(alloc: Global, ty: &Type, name: &str) -> M<Answer> {
-    Ok(Answer::Nothing(format!(in alloc; "{ty} has no attribute \"{name}\"")?))
-}
-
-/// The type at the end of a chain of attributes that begins with one of a type.
-fn type_at(alloc: Global, schema: &ValidatorSchema, first: Rc<Type>, names: &[&str]) -> M<Answer> {
-    let mut ty = first;
-    for name in names {
-        match attribute_of(alloc, schema, &ty, name)? {
-            Some(next) => ty = next,
-            None => return no_attribute(alloc, &ty, name),
-        }
-    }
-    type_line(alloc, &ty)
+/// That a schema has nothing of a kind.
+fn nothing(why: String) -> Answer {
+    Err(NoAnswer::Nothing(why))
 }
 
 /// A type, or the type at the end of a chain of attributes that begins with one of it.
-fn type_below(alloc: Global, schema: &ValidatorSchema, ty: &Type, names: &[&str]) -> M<Answer> {
+fn type_below(alloc: Global, schema: &ValidatorSchema, ty: &Type, names: &[&str]) -> Answer {
     let Some((name, others)) = names.split_first() else {
-        return type_line(alloc, ty);
+        return Ok(type_line(alloc, ty)?);
     };
-    match attribute_of(alloc, schema, ty, name)? {
-        Some(next) => type_at(alloc, schema, next, others),
-        None => no_attribute(alloc, ty, name),
+    match Type::lookup_attribute_type(alloc, schema, ty, name)? {
+        Some(attribute) => type_below(alloc, schema, &attribute.attr_type, others),
+        None => nothing(format!(in alloc; "{ty} has no attribute \"{name}\"")?),
     }
 }
 
 /// The type of the tags of an entity type.
-fn tags_answer(alloc: Global, declared: &ValidatorEntityType) -> M<Answer> {
+fn tags_answer(alloc: Global, declared: &ValidatorEntityType) -> Answer {
     match declared.tag_type() {
-        Some(tags) => type_line(alloc, tags),
-        None => Ok(Answer::Nothing(format!(in alloc; "{} has no tags", declared.name())?)),
+        Some(tags) => Ok(type_line(alloc, tags)?),
+        None => nothing(format!(in alloc; "{} has no tags", declared.name())?),
     }
 }
 
@@ -77,7 +45,7 @@ fn attributes_answer(
     schema: &ValidatorSchema,
     declared: &ValidatorEntityType,
     names: &[&str],
-) -> M<Answer> {
+) -> Answer {
     let all = Type::Record {
         attrs: declared.attributes().clone()?,
         open_attributes: declared.open_attributes(),
@@ -93,15 +61,12 @@ pub(crate) fn entity_answer(
     name: &str,
     names: &[&str],
     is_of_tags: bool,
-) -> M<Answer> {
-    let ty = match EntityType::from_str(alloc, name) {
-        Ok(ty) => ty,
-        Err(fault) => return bad_word(alloc, name, fault),
-    };
+) -> Answer {
+    let ty = type_named(alloc, name)?;
     match schema.get_entity_type(&ty) {
         Some(declared) if is_of_tags => tags_answer(alloc, declared),
         Some(declared) => attributes_answer(alloc, schema, declared, names),
-        None => Ok(Answer::Nothing(format!(in alloc; "the schema has no entity type {ty}")?)),
+        None => nothing(format!(in alloc; "the schema has no entity type {ty}")?),
     }
 }
 
@@ -111,13 +76,10 @@ pub(crate) fn action_answer(
     schema: &ValidatorSchema,
     uid: &str,
     names: &[&str],
-) -> M<Answer> {
-    let action = match EntityUID::from_str(alloc, uid) {
-        Ok(action) => action,
-        Err(fault) => return bad_word(alloc, uid, fault),
-    };
+) -> Answer {
+    let action = uid_named(alloc, uid)?;
     match schema.context_type(&action) {
         Some(context) => type_below(alloc, schema, context, names),
-        None => Ok(Answer::Nothing(format!(in alloc; "the schema defines no action {action}")?)),
+        None => nothing(format!(in alloc; "the schema defines no action {action}")?),
     }
 }

@@ -2,8 +2,8 @@
 
 use crate::files::FileAccess;
 use crate::finding::{Finding, Source, file_of};
-use crate::outcome::{Manner, Outcome, refused};
-use crate::reading::{Given, ReadFiles, fragment_of, well_formed};
+use crate::outcome::{Manner, Stop, refused};
+use crate::reading::{ReadFiles, fragment_of, well_formed};
 use cedar_below::{Loc, M};
 use cedar_json::cedar_extensions;
 use cedar_json_places::{Places, place_of, second_place_of};
@@ -77,22 +77,12 @@ fn schema_finding(alloc: Global, sources: &[Source], error: &SchemaError) -> M<F
     })
 }
 
-/// The outcome where no schema is built.
-fn refused_schema(
-    alloc: Global,
-    manner: Manner,
-    sources: &[Source],
-    error: SchemaError,
-) -> M<Outcome> {
+/// What is told where no schema is built.
+fn finding_of(alloc: Global, sources: &[Source], error: SchemaError) -> M<Finding> {
     if let SchemaError::Memory(refused) = error {
         return Err(refused);
     }
-    refused(
-        alloc,
-        manner,
-        sources,
-        schema_finding(alloc, sources, &error)?,
-    )
+    schema_finding(alloc, sources, &error)
 }
 
 /// The schema that fragments declare, over the extensions of Cedar.
@@ -110,21 +100,17 @@ pub(crate) fn built<F: FileAccess>(
     files: &mut F,
     names: &[&str],
     manner: Manner,
-) -> M<Given<BuiltFiles>> {
-    let read = match well_formed(alloc, files, names, manner)? {
-        Given::All(read) => read,
-        Given::Refused(told) => return Ok(Given::Refused(told)),
-    };
+) -> Result<BuiltFiles, Stop> {
     let ReadFiles {
         sources,
         fragments,
         ..
-    } = read;
+    } = well_formed(alloc, files, names, manner)?;
     match schema_of(alloc, fragments) {
-        Ok(schema) => Ok(Given::All(BuiltFiles { sources, schema })),
+        Ok(schema) => Ok(BuiltFiles { sources, schema }),
         Err(error) => {
-            let told = refused_schema(alloc, manner, &sources, error)?;
-            Ok(Given::Refused(told))
+            let finding = finding_of(alloc, &sources, error)?;
+            Err(Stop::Told(refused(alloc, manner, &sources, finding)?))
         }
     }
 }

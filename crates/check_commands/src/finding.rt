@@ -7,7 +7,7 @@ use schema_lines::escaped;
 use std::alloc::Global;
 
 /// A file that was asked for.
-#[derive(Debug, Drop)]
+#[derive(Drop)]
 pub(crate) struct Source {
     /// The name by which it was asked for.
     pub(crate) name: String,
@@ -16,7 +16,7 @@ pub(crate) struct Source {
 }
 
 /// What is at fault.
-#[derive(Debug, Drop)]
+#[derive(Drop)]
 pub(crate) struct Finding {
     /// The number of the file that is at fault, if it is one.
     pub(crate) file: Option<usize>,

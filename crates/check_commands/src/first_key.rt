@@ -5,7 +5,7 @@ use cedar_json::JsonSchemaFault;
 use std::alloc::Global;
 
 /// A text of JSON, as far as it was gone through.
-#[derive(Debug, Drop)]
+#[derive(Drop)]
 struct Walk {
     /// For each object or array that is open where the key began in it first, if it did.
     open: Vec<Option<usize>>,
@@ -33,12 +33,12 @@ impl Walk {
     /// Notes the string before a colon, where it is the key and the first such of its object.
     fn note_key(&mut self, text: &str, key: &str) {
         let (start, stop) = self.last;
-        if text.get(start..stop).is_some_and(|string| string == key) {
-            if let Some(first) = self.open.last_mut() {
-                if first.is_none() {
-                    *first = Some(start);
-                }
-            }
+        if let Some(string) = text.get(start..stop)
+            && string == key
+            && let Some(first) = self.open.last_mut()
+            && first.is_none()
+        {
+            *first = Some(start);
         }
     }
 

@@ -1,10 +1,9 @@
 //! The hierarchies of a schema as a graph in Graphviz DOT.
 
-use crate::hierarchy::{Hierarchy, actions, entity_types};
-use cedar_below::{EntityType, M};
+use crate::hierarchy::{Hierarchy, actions, entity_types, texts};
+use cedar_below::M;
 use cedar_schema::{ValidatorActionId, ValidatorSchema};
 use std::alloc::Global;
-use std::collections::{BTreeSet, hash_set};
 
 /// A name as DOT has it in quotes.
 fn quoted(alloc: Global, name: &str) -> M<String> {
@@ -33,46 +32,21 @@ fn push_edge(alloc: Global, text: &mut String, from: &str, to: &str, style: &str
     Ok(text.push_str(format!(in alloc; "  {from} -> {to}{style};\n")?.as_str())?)
 }
 
-/// Adds the edges that lead up to a name without another one between.
-fn push_direct_edges(
-    alloc: Global,
-    text: &mut String,
-    hierarchy: &Hierarchy,
-    upper: &str,
-    below: &BTreeSet<String>,
-) -> M<()> {
-    for lower in below {
-        if hierarchy.is_direct(lower.as_str(), upper, below) {
-            push_edge(alloc, text, lower.as_str(), upper, "")?;
-        }
-    }
-    Ok(())
-}
-
 /// Adds each node of a hierarchy, and each edge that no two others make.
 fn push_hierarchy(alloc: Global, text: &mut String, hierarchy: &Hierarchy, shape: &str) -> M<()> {
     for name in hierarchy.below.keys() {
         push_node(alloc, text, name.as_str(), shape)?;
     }
-    for (upper, below) in &hierarchy.below {
-        push_direct_edges(alloc, text, hierarchy, upper.as_str(), below)?;
+    for (upper, lower) in &hierarchy.edges(alloc)? {
+        push_edge(alloc, text, lower, upper, "")?;
     }
     Ok(())
-}
-
-/// The names of entity types, in order.
-fn names(alloc: Global, types: hash_set::Iter<'_, EntityType>) -> M<BTreeSet<String>> {
-    let mut names = BTreeSet::new(alloc);
-    for ty in types {
-        names.insert(format!(in alloc; "{ty}")?)?;
-    }
-    Ok(names)
 }
 
 /// Adds an edge from each type of principal to an action.
 fn push_principals(alloc: Global, text: &mut String, action: &ValidatorActionId) -> M<()> {
     let uid = format!(in alloc; "{}", action.name())?;
-    for name in &names(alloc, action.principals())? {
+    for name in &texts(alloc, action.principals())? {
         push_edge(alloc, text, name.as_str(), uid.as_str(), " [style=dashed]")?;
     }
     Ok(())
@@ -81,7 +55,7 @@ fn push_principals(alloc: Global, text: &mut String, action: &ValidatorActionId)
 /// Adds an edge from an action to each type of resource.
 fn push_resources(alloc: Global, text: &mut String, action: &ValidatorActionId) -> M<()> {
     let uid = format!(in alloc; "{}", action.name())?;
-    for name in &names(alloc, action.resources())? {
+    for name in &texts(alloc, action.resources())? {
         push_edge(alloc, text, uid.as_str(), name.as_str(), " [style=dashed]")?;
     }
     Ok(())

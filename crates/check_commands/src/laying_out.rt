@@ -1,38 +1,28 @@
 //! Files, laid out.
 
 ghost use Rattle.std.specs.Prelude.{IfOk, IfSome, string_bytes};
-ghost use Rattle.check_commands.specs.LaidOut.{IsLayoutOf};
+ghost use Rattle.check_commands.specs.LaidOut.{IsLayoutFile};
 
 use crate::files::FileAccess;
 use crate::finding::{Finding, Source};
-use crate::outcome::{Manner, Outcome, refused};
-use crate::reading::{Given, well_formed};
+use crate::outcome::{Manner, Outcome, Stop, refused};
+use crate::reading::well_formed;
 use cedar_below::{M, Memory};
-use json::{Error, Scratch, Value};
-use schema_layout::laid_out;
+use schema_layout::{LayoutFault, laid_out};
 use std::alloc::Global;
 
-/// The document of a text, laid out, or None where it is no JSON.
-fn layout_of(alloc: Global, text: &str) -> M<Option<String>>
-    ensures { IfOk result (λ given. IfSome given (λ layout.
-        IsLayoutOf text.now (string_bytes layout))) }
-{
-    let mut scratch = Scratch::new(alloc);
-    match Value::parse(alloc, text, &mut scratch) {
-        Ok(document) => Ok(Some(laid_out(alloc, &document)?)),
-        Err(Error::OutOfMemory) => Err(Memory),
-        Err(_) => Ok(None),
-    }
-}
-
 /// The document of a text, laid out and ended by a line end, or None where it is no JSON.
-fn laid_out_file(alloc: Global, text: &str) -> M<Option<String>> {
-    match layout_of(alloc, text)? {
-        Some(mut layout) => {
+fn laid_out_file(alloc: Global, text: &str) -> M<Option<String>>
+    ensures { IfOk result (λ given. IfSome given (λ file.
+        IsLayoutFile text.now (string_bytes file))) }
+{
+    match laid_out(alloc, text) {
+        Ok(mut layout) => {
             layout.push('\n')?;
             Ok(Some(layout))
         }
-        None => Ok(None),
+        Err(LayoutFault::NotJson) => Ok(None),
+        Err(LayoutFault::Memory) => Err(Memory),
     }
 }
 
@@ -69,13 +59,10 @@ pub(crate) fn format<F: FileAccess>(
     name: &str,
     manner: Manner,
     is_test: bool,
-) -> M<Outcome> {
-    let read = match well_formed(alloc, files, &[name], manner)? {
-        Given::All(read) => read,
-        Given::Refused(told) => return Ok(told),
-    };
+) -> Result<Outcome, Stop> {
+    let read = well_formed(alloc, files, &[name], manner)?;
     match read.sources.first() {
-        Some(source) => told_layout(alloc, manner, &read.sources, source, is_test),
+        Some(source) => Ok(told_layout(alloc, manner, &read.sources, source, is_test)?),
         None => Ok(Outcome::done(alloc, String::new(alloc))),
     }
 }

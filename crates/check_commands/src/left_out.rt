@@ -6,7 +6,7 @@ use json::{Error, Scratch, Value};
 use std::alloc::Global;
 
 /// How many annotations and common types documents have.
-#[derive(Clone, Copy, Debug, Drop, PartialEq, Eq)]
+#[derive(Clone, Copy, Drop)]
 pub(crate) struct LeftOut {
     /// How many annotations.
     pub(crate) annotations: usize,
@@ -16,24 +16,18 @@ pub(crate) struct LeftOut {
 
 /// How many members an object has, and else none.
 fn member_count(value: &Value<'_>) -> usize {
-    match value {
-        Value::Object(members) => members.len(),
-        _ => 0,
-    }
+    let Value::Object(members) = value else {
+        return 0;
+    };
+    members.len()
 }
 
 /// The number of annotations in a type, or in a part of it.
 #[cycle(types)]
 fn in_type(value: &Value<'_>) -> usize {
-    match value {
-        Value::Object(fields) => in_type_fields(fields),
-        _ => 0,
-    }
-}
-
-/// The number of annotations in the fields of a type.
-#[cycle(types)]
-fn in_type_fields(fields: &Vec<(&str, Value<'_>)>) -> usize {
+    let Value::Object(fields) = value else {
+        return 0;
+    };
     let mut count: usize = 0;
     for field in fields {
         count = count.saturating_add(match field.0 {
@@ -46,18 +40,12 @@ fn in_type_fields(fields: &Vec<(&str, Value<'_>)>) -> usize {
     count
 }
 
-/// The number of annotations in the attributes of a type.
+/// The number of annotations in some types by name.
 #[cycle(types)]
 fn in_types(value: &Value<'_>) -> usize {
-    match value {
-        Value::Object(attributes) => in_each_type(attributes),
-        _ => 0,
-    }
-}
-
-/// The number of annotations in some types.
-#[cycle(types)]
-fn in_each_type(types: &Vec<(&str, Value<'_>)>) -> usize {
+    let Value::Object(types) = value else {
+        return 0;
+    };
     let mut count: usize = 0;
     for ty in types {
         count = count.saturating_add(in_type(&ty.1));

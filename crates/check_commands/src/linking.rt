@@ -3,12 +3,11 @@
 ghost use Rattle.std.specs.Prelude.{◌≡◌, IfOk, IfSome, string_bytes};
 ghost use Rattle.check_commands.specs.Linked.{IsLinked, fragment_text};
 
-use crate::building::{BuiltFiles, built};
+use crate::building::built;
 use crate::files::{FileAccess, FileFault};
 use crate::finding::{Finding, Source};
 use crate::left_out::left_out;
-use crate::outcome::{Manner, Outcome, refused};
-use crate::reading::Given;
+use crate::outcome::{Manner, Outcome, Stop, refused};
 use crate::status::Status;
 use cedar_below::{M, Memory};
 use cedar_json_writer::{WriteFault, fragment_to_json};
@@ -126,16 +125,13 @@ pub(crate) fn link<F: FileAccess>(
     names: &[&str],
     manner: Manner,
     output: Option<&str>,
-) -> M<Outcome> {
-    let BuiltFiles { sources, schema } = match built(alloc, files, names, manner)? {
-        Given::All(built) => built,
-        Given::Refused(told) => return Ok(told),
-    };
-    match linked_text(alloc, &schema)? {
+) -> Result<Outcome, Stop> {
+    let it = built(alloc, files, names, manner)?;
+    match linked_text(alloc, &it.schema)? {
         Some(text) => {
-            let notes = left_out_note(alloc, &sources)?;
-            put(alloc, files, output, text, notes)
+            let notes = left_out_note(alloc, &it.sources)?;
+            Ok(put(alloc, files, output, text, notes)?)
         }
-        None => unwritable(alloc, manner, &sources),
+        None => Ok(unwritable(alloc, manner, &it.sources)?),
     }
 }

@@ -4,11 +4,11 @@ ghost use Rattle.std.specs.Prelude.{◌≡◌, IfOk};
 
 use crate::finding::{Finding, Source, finding_json, push_finding};
 use crate::status::Status;
-use cedar_below::M;
+use cedar_below::{M, Memory};
 use std::alloc::Global;
 
 /// What is printed, and the status that goes with it.
-#[derive(Debug, Drop)]
+#[derive(Drop)]
 pub(crate) struct Outcome {
     /// What is printed on standard output.
     pub(crate) text: String,
@@ -44,8 +44,23 @@ impl Outcome {
     }
 }
 
+/// Why a command goes no further.
+#[derive(Drop)]
+pub(crate) enum Stop {
+    /// This is told in place of what was asked for.
+    Told(Outcome),
+    /// Out of memory.
+    Memory,
+}
+
+impl From<Memory> for Stop {
+    fn from(_refused: Memory) -> Self {
+        Stop::Memory
+    }
+}
+
 /// How findings are told.
-#[derive(Clone, Copy, Debug, Drop, PartialEq, Eq)]
+#[derive(Clone, Copy, Drop)]
 pub(crate) enum Manner {
     /// As lines for people.
     Lines,

@@ -4,7 +4,7 @@ use cedar_below::M;
 use std::alloc::Global;
 
 /// A place in a text: its line and its column, both from 1 on, columns in characters.
-#[derive(Clone, Copy, Debug, Drop, PartialEq, Eq)]
+#[derive(Clone, Copy, Drop)]
 pub(crate) struct Position {
     /// The line.
     pub(crate) line: usize,
@@ -40,10 +40,10 @@ pub(crate) fn position_of(text: &str, at: usize) -> Position {
 /// A character as it can be shown in one column: a sign in the place of a byte order mark, and of
 /// one that controls a terminal, but for tabs.
 fn shown(character: char) -> char {
-    if character == '\u{feff}' || (character.is_control() && character != '\t') {
-        '\u{fffd}'
-    } else {
-        character
+    match character {
+        '\t' => '\t',
+        '\u{feff}' | '\0'..='\u{1f}' | '\u{7f}'..='\u{9f}' => '\u{fffd}',
+        _ => character,
     }
 }
 

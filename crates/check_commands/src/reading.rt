@@ -4,7 +4,7 @@ use crate::fault_text::{fault_loc, fault_text, kind_word};
 use crate::files::{FileAccess, FileFault};
 use crate::finding::{Finding, Source};
 use crate::first_key::first_key;
-use crate::outcome::{Manner, Outcome, at_fault};
+use crate::outcome::{Manner, Outcome, Stop, at_fault};
 use crate::status::Status;
 use cedar_below::{M, Memory};
 use cedar_json::{JsonSchemaFault, fragment_from_json};
@@ -41,48 +41,43 @@ fn source_number(file: usize) -> u32 {
     u32::try_from(file).unwrap_or(u32::MAX)
 }
 
-/// Adds why the text of a file isn't read as a fragment.
-fn push_fault(
-    alloc: Global,
-    findings: &mut Vec<Finding>,
-    file: usize,
-    text: &str,
-    fault: JsonSchemaFault,
-) -> M<()> {
-    if let JsonSchemaFault::Memory = fault {
-        return Err(Memory);
-    }
-    let other = first_key(alloc, text, &fault)?;
-    let message = fault_text(alloc, text, &fault)?;
-    let loc = fault_loc(source_number(file), text, &fault);
-    findings.push(Finding {
+/// Why the text of a file isn't read as a fragment.
+fn fault_finding(alloc: Global, file: usize, text: &str, fault: &JsonSchemaFault) -> M<Finding> {
+    let other = first_key(alloc, text, fault)?;
+    Ok(Finding {
         file: Some(file),
-        loc,
-        kind: kind_word(&fault),
-        message,
+        loc: fault_loc(source_number(file), text, fault),
+        kind: kind_word(fault),
+        message: fault_text(alloc, text, fault)?,
         other,
-    })?;
-    Ok(())
+    })
+}
+
+/// The fragment that the text of a file is, or why it is none.
+fn fragment_in(alloc: Global, file: usize, text: &str) -> M<Result<Fragment<RawName>, Finding>> {
+    match fragment_from_json(alloc, text, source_number(file)) {
+        Ok(fragment) => Ok(Ok(fragment)),
+        Err(JsonSchemaFault::Memory) => Err(Memory),
+        Err(fault) => Ok(Err(fault_finding(alloc, file, text, &fault)?)),
+    }
 }
 
 /// Adds a file with its text.
 fn push_text(alloc: Global, read: &mut ReadFiles, source: Source) -> M<()> {
-    let file = read.sources.len();
-    match fragment_from_json(alloc, source.text.as_str(), source_number(file)) {
+    match fragment_in(alloc, read.sources.len(), source.text.as_str())? {
         Ok(fragment) => read.fragments.push(fragment)?,
-        Err(fault) => push_fault(alloc, &mut read.findings, file, source.text.as_str(), fault)?,
+        Err(finding) => read.findings.push(finding)?,
     }
-    read.sources.push(source)?;
-    Ok(())
+    Ok(read.sources.push(source)?)
 }
 
 /// Adds a file of which only so many bytes are text.
 fn push_no_text(alloc: Global, read: &mut ReadFiles, source: Source, valid_up_to: usize) -> M<()> {
     let file = read.sources.len();
     let fault = JsonSchemaFault::NotUtf8 { valid_up_to };
-    push_fault(alloc, &mut read.findings, file, source.text.as_str(), fault)?;
-    read.sources.push(source)?;
-    Ok(())
+    let finding = fault_finding(alloc, file, source.text.as_str(), &fault)?;
+    read.findings.push(finding)?;
+    Ok(read.sources.push(source)?)
 }
 
 /// Adds a file in UTF-16, as its first bytes say.
@@ -151,15 +146,6 @@ fn read_files<F: FileAccess>(alloc: Global, files: &mut F, names: &[&str]) -> M<
     Ok(read)
 }
 
-/// What files are, or why they aren't that.
-#[derive(Drop)]
-pub(crate) enum Given<T> {
-    /// What was asked for.
-    All(T),
-    /// What is told instead.
-    Refused(Outcome),
-}
-
 /// What is told of files that can't be read, or are at fault.
 fn told_faults(alloc: Global, manner: Manner, read: &ReadFiles) -> M<Outcome> {
     let status = if read.is_unread {
@@ -177,12 +163,12 @@ pub(crate) fn well_formed<F: FileAccess>(
     files: &mut F,
     names: &[&str],
     manner: Manner,
-) -> M<Given<ReadFiles>> {
+) -> Result<ReadFiles, Stop> {
     let read = read_files(alloc, files, names)?;
     if read.findings.is_empty() {
-        return Ok(Given::All(read));
+        return Ok(read);
     }
-    Ok(Given::Refused(told_faults(alloc, manner, &read)?))
+    Err(Stop::Told(told_faults(alloc, manner, &read)?))
 }
 
 /// The fragment of a source that is well formed, read once more.

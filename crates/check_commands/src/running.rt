@@ -4,7 +4,7 @@ ghost use Rattle.std.specs.Prelude.{◌≡◌, ◌<◌, ◌⊎◌, IfOk, OnErr};
 
 use crate::asked::outcome_of;
 use crate::files::FileAccess;
-use crate::outcome::Outcome;
+use crate::outcome::{Outcome, Stop};
 use crate::status::Status;
 use crate::words::program;
 use cedar_below::{M, Memory};
@@ -21,7 +21,11 @@ fn asked<F: FileAccess>(
 ) -> Result<M<Outcome>, Error> {
     let matches = program(alloc)?.try_get_matches_from(words)?;
     Ok(match matches.subcommand() {
-        Some((command, matches)) => outcome_of(alloc, files, command, matches),
+        Some((command, matches)) => match outcome_of(alloc, files, command, matches) {
+            Ok(outcome) => Ok(outcome),
+            Err(Stop::Told(outcome)) => Ok(outcome),
+            Err(Stop::Memory) => Err(Memory),
+        },
         None => Ok(Outcome::done(alloc, String::new(alloc))),
     })
 }

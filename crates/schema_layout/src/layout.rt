@@ -1,18 +1,21 @@
 //! Documents, laid out.
 
-ghost use Rattle.std.specs.Prelude.{◌≡◌, ◌++◌, ◌<◌, IfOk, OnOk, ◌∷◌, All, get_or, length, map, string_bytes};
+ghost use Rattle.std.specs.Prelude.{◌≡◌, ◌++◌, ◌<◌, Err, IfOk, None, OnOk, ◌∷◌, All, get_or, length, map, string_bytes};
 ghost use Rattle.std.specs.Borrow.{Bor};
 ghost use Rattle.std.specs.declared.alloc.Global.{Global};
 ghost use Rattle.json.specs.declared.value.Value.{Value as Tree};
+ghost use Rattle.schema_layout.specs.LaidOut.{IsLayoutOf};
 ghost use Rattle.schema_layout.specs.SameTokens.{SameTokens, Text};
 ghost use Rattle.std.specs.List.Sorted.{IsPermutation};
+ghost use Rattle.json.specs.Json.{document as document_of};
 ghost use Rattle.json.specs.Lex.{tokens};
 ghost use Rattle.json.specs.Token.{begin_array, begin_object};
 ghost use Rattle.json.specs.Tree.{HasNumbers, ItemsHaveNumbers, MembersHaveNumbers, items_tokens, json_tokens, members_tokens};
 ghost use Rattle.json.specs.Value.{items_view, members_view, value_view};
 
+use crate::fault::LayoutFault;
 use crate::shape::Shape;
-use json::{Pretty, Token, Value};
+use json::{Error, Pretty, Scratch, Token, Value};
 use std::alloc::{AllocError, Global};
 
 /// A member of an object.
@@ -103,10 +106,8 @@ fn write_members(
     pretty.token(Token::EndObject)
 }
 
-/// A schema's document as text: two blanks a level, each item and each member on a line of its own,
-/// the fields of each object in the order of the format, and other members in the order of their
-/// keys. Nothing is left out, and no line end follows.
-pub fn laid_out(alloc: Global, document: &Value<'_>) -> Result<String, AllocError>
+/// A document as text.
+fn text_of(alloc: Global, document: &Value<'_>) -> Result<String, AllocError>
     requires { HasNumbers (value_view document.now) }
     ensures { IfOk result (λ text. SameTokens (tokens (string_bytes text))
         (json_tokens (value_view document.now))) }
@@ -116,5 +117,25 @@ pub fn laid_out(alloc: Global, document: &Value<'_>) -> Result<String, AllocErro
     match String::from_utf8(pretty.into_inner()) {
         Ok(text) => Ok(text),
         Err(_) => unreachable!(),
+    }
+}
+
+/// A schema's text, laid out: two blanks a level, each item and each member on a line of its own,
+/// the fields of each object in the order of the format, and other members in the order of their
+/// keys. Nothing is left out, and no line end follows.
+///
+/// # Errors
+///
+/// [`LayoutFault::NotJson`] where the text is no JSON, and [`LayoutFault::Memory`] where memory
+/// runs out.
+pub fn laid_out(alloc: Global, text: &str) -> Result<String, LayoutFault>
+    ensures layout { IfOk result (λ layout. IsLayoutOf text.now (string_bytes layout)) }
+    ensures not_json { result ≡ Err LayoutFault.NotJson → document_of text.now ≡ None }
+{
+    let mut scratch = Scratch::new(alloc);
+    match Value::parse(alloc, text, &mut scratch) {
+        Ok(document) => Ok(text_of(alloc, &document)?),
+        Err(Error::Invalid) => Err(LayoutFault::NotJson),
+        Err(_) => Err(LayoutFault::Memory),
     }
 }

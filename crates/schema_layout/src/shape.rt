@@ -1,7 +1,7 @@
 //! What stands where in a schema (Cedar reference, JSON schema format).
 
 /// What a value in a schema is.
-#[derive(Clone, Copy, Debug, Drop, PartialEq, Eq)]
+#[derive(Clone, Copy, Drop)]
 pub(crate) enum Shape {
     /// The whole: definitions by namespace.
     Fragment,
@@ -128,7 +128,7 @@ impl Shape {
     /// what stands before it, a field by its place among those of the shape, and all else by its
     /// key.
     pub(crate) fn sorted_by(self, key: &str) -> (usize, &str, &str) {
-        if self == Shape::Fragment {
+        if let Shape::Fragment = self {
             let (base, path) = base_first(key);
             return (0, base, path);
         }
