@@ -7,9 +7,6 @@ use std::env::Env;
 use std::process::ExitCode;
 use std::{env, io};
 
-#[cfg(test)]
-mod tests;
-
 /// The words that the program was called with, without its own name.
 fn words<R: Env + AllocGlobal>(rt: &R) -> io::Result<Vec<String>> {
     let mut words = Vec::new(rt.alloc());
