@@ -1,0 +1,89 @@
+-- Schemas of one entity type.
+use Rattle.std.proofs.Common.{◌≡◌, [], ◌∷◌, Contains, ap, arith, inl, refl, subst, sym, ⊎_elim}
+use Rattle.cedar_below.proofs.Lists.{Contains-cons, Contains-cons_cases}
+use Rattle.cedar_below.specs.IsValue.{IsName, IsText}
+use Rattle.cedar_below.specs.PlainName.{PlainName}
+use Rattle.cedar_below.specs.PlainUid.{PlainUid}
+use Rattle.cedar_below.specs.Text.{Text}
+use Rattle.cedar_below.specs.Tree.{no_entry}
+use Rattle.cedar_below.specs.declared.extension.Extensions.{Extensions}
+use Rattle.cedar_compare.specs.Entities.{IsEntityIn, IsOfEntityType, IsOfKind, IsReal, MayStandAbove}
+use Rattle.cedar_compare.specs.Keeps.{Keeps, LosesEntityType}
+use Rattle.cedar_compare.specs.Samples.{user, user_of, users}
+use Rattle.cedar_declarations.specs.EntityTypeKind.{EntityTypeKind}
+use Rattle.cedar_declarations.specs.PlainSchema.{ActionEntity, SchemaEntityType}
+
+-- nothing is among no members
+none_among : {A : Type 0} (item : A) → ¬ Contains [] item
+none_among item among = omega (arith, among.1)
+
+-- the one member of a list is that one
+only_one : {A : Type 0} (one item : A) → Contains (one ∷ []) item → one ≡ item
+only_one one item among = ⊎_elim (λ same. same) (λ others. absurd (none_among item others)) (Contains-cons_cases one [] item among)
+
+-- the schema's entity type is of its kind
+pub user_kind : (kind : EntityTypeKind) (name : PlainName) (ty : SchemaEntityType) → Contains (users kind).entity_types (name, ty)
+    → (user ≡ name) × (user_of kind ≡ ty)
+user_kind kind name ty among =
+    let same = only_one (user, user_of kind) (name, ty) among in
+    (ap (λ (it : PlainName × SchemaEntityType). it.0) same, ap (λ (it : PlainName × SchemaEntityType). it.1) same)
+
+-- nothing may stand above entities of the schema's type
+pub nothing_above : (kind : EntityTypeKind) (name : PlainName) (upper : PlainUid) → ¬ MayStandAbove (users kind) name upper
+nothing_above kind name upper above =
+    let ty = (user_kind kind upper.ty above.0 above.1).1 in
+    none_among name (subst (λ (it : SchemaEntityType). Contains it.descendants name) (sym ty) above.2)
+
+-- an entity of the schema is of its kind
+pub entity_of_kind : (extensions : Extensions) (kind : EntityTypeKind) (it : ActionEntity) → IsEntityIn extensions (users kind) it
+    → (user ≡ it.uid.ty) × IsOfKind extensions (users kind) kind it
+entity_of_kind extensions kind it among =
+    ⊎_elim
+    (λ of. (let same = user_kind kind it.uid.ty of.0 of.1 in
+    (same.0, subst (λ (ty : SchemaEntityType). IsOfKind extensions (users kind) ty.kind it) (sym same.1) of.2)))
+    (λ action. absurd (none_among (it.uid, action.0) action.1))
+    among
+
+-- what is of the kind is an entity of the schema
+pub kind_of_entity : (extensions : Extensions) (kind : EntityTypeKind) (it : ActionEntity) → user ≡ it.uid.ty
+    → IsOfKind extensions (users kind) kind it → IsOfEntityType extensions (users kind) it
+kind_of_entity extensions kind it named of = (
+  user_of kind,
+  subst (λ name. Contains (users kind).entity_types (name, user_of kind)) named
+      (Contains-cons (user, user_of kind) [] (user, user_of kind) (inl refl)),
+  of,
+)
+
+-- a schema is kept where each entity of its kind is one of the other's
+pub users_keep : (extensions : Extensions) (lower upper : EntityTypeKind)
+    → ((it : ActionEntity) → IsOfKind extensions (users lower) lower it → IsOfKind extensions (users upper) upper it)
+    → Keeps extensions (users lower) (users upper)
+users_keep extensions lower upper each = record {
+  entities = λ it real of. (let own = entity_of_kind extensions lower it of in
+      inl (kind_of_entity extensions upper it own.0 (each it own.1)));
+  requests = λ it real of. absurd (none_among _ of.1.1);
+}
+
+-- an entity of `User` with an id and nothing else
+abbrev pub bare : Text → ActionEntity
+bare id = record { uid = record { ty = user; eid = id }; attributes = no_entry; tags = no_entry; ancestors = [] }
+
+-- `User` is a name that isn't reserved
+user_is_name : IsName user
+user_is_name = (refl, (λ i part below. absurd (omega (arith, below))), λ reserved. ⊎_elim (λ same. absurd cc) (none_among _) reserved)
+
+-- it is one of the language
+bare_is_real : (id : Text) → IsText id → IsReal (bare id)
+bare_is_real id written = ((user_is_name, written), tt, tt, λ upper among. absurd (none_among upper among))
+
+-- an entity without attributes and tags is lost where the one kind has it and the other hasn't
+pub users_lose : (extensions : Extensions) (lower upper : EntityTypeKind) (id : Text) → IsText id
+    → IsOfKind extensions (users lower) lower (bare id) → ¬ IsOfKind extensions (users upper) upper (bare id)
+    → LosesEntityType extensions (users lower) (users upper) user
+users_lose extensions lower upper id written has lacks = (
+  bare id,
+  bare_is_real id written,
+  refl,
+  kind_of_entity extensions lower (bare id) refl has,
+  λ of. lacks (entity_of_kind extensions upper (bare id) of).1,
+)

@@ -1,0 +1,20 @@
+use Rattle.std.proofs.Common.{false, codes, arith, inr, refl}
+use Rattle.cedar_below.proofs.Inclusion.{Included-none}
+use Rattle.cedar_below.specs.Fits.{Gives}
+use Rattle.cedar_below.specs.Tree.{map_value}
+use Rattle.cedar_compare.proofs.UserLemmas.{nothing_above, users_keep}
+use Rattle.cedar_compare.specs.Samples.{with_age, without_attributes}
+use Rattle.cedar_type_rules.proofs.ValueInclusion.{HasBy-included}
+use Rattle.cedar_type_rules.specs.Fields.{field_names}
+use Rattle.cedar_type_rules.specs.Ty.{end, field, long, record_of}
+use Rattle.cedar_type_rules.specs.declared.open_tag.OpenTag.TheVariants.{ClosedAttributes}
+use Rattle.cedar_compare.proofs.examples.optional_attributes_are_kept.Goals as goal
+
+pub returns : goal.returns
+returns c extensions = users_keep extensions without_attributes (with_age false) (λ it of. (
+  HasBy-included (Gives extensions) (map_value it.attributes) (record_of end ClosedAttributes)
+      (record_of (field (codes "age") false long end) ClosedAttributes) of.0
+      (tt, Included-none (field_names (field (codes "age") false long end)), (inr (refl, (λ among. omega (arith, among.1)), refl), tt)),
+  of.1,
+  λ upper among. absurd (nothing_above without_attributes it.uid.ty upper (of.2 upper among)),
+))

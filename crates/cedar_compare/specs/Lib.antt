@@ -1,0 +1,4 @@
+pub mod Entities
+pub mod Keeps
+pub mod Requests
+pub mod Samples

@@ -1,0 +1,37 @@
+-- The requests that a schema admits.
+use Rattle.std.specs.Prelude.{◌≡◌, Contains}
+use Rattle.cedar_below.specs.IsValue.{IsValue}
+use Rattle.cedar_below.specs.PlainUid.{PlainUid}
+use Rattle.cedar_below.specs.Tree.{Tree, uid_value}
+use Rattle.cedar_below.specs.declared.extension.Extensions.{Extensions}
+use Rattle.cedar_compare.specs.Entities.{IsIdOf}
+use Rattle.cedar_declarations.specs.Environments.{Environment, IsEnvironmentOf}
+use Rattle.cedar_declarations.specs.PlainSchema.{PlainSchema, SchemaEntityType}
+use Rattle.cedar_type_rules.specs.Has.{Has}
+
+-- a request as plain data
+pub record PlainRequest : Type 0 where
+  pub principal : PlainUid
+  pub action : PlainUid
+  pub resource : PlainUid
+  pub context : Tree
+
+-- a request is one of the language: its uids and its context are
+abbrev pub IsRealRequest : PlainRequest → Type 0
+IsRealRequest it =
+    IsValue (uid_value it.principal) × IsValue (uid_value it.action)
+    × IsValue (uid_value it.resource) × IsValue it.context
+
+-- where the type of the uid is one of the schema, it may have the uid's id
+abbrev pub MayHaveId : PlainSchema → PlainUid → Type 0
+MayHaveId schema uid =
+    (it : SchemaEntityType) → Contains schema.entity_types (uid.ty, it) → IsIdOf it.kind uid.eid
+
+-- a request of a schema: some environment has the types of its principal and resource and its
+-- action, the context has the environment's type, and principal and resource may have their ids
+abbrev pub IsRequestIn : Extensions → PlainSchema → PlainRequest → Type 0
+IsRequestIn extensions schema it =
+    (environment : Environment) × IsEnvironmentOf schema environment
+    × (environment.principal ≡ it.principal.ty) × (environment.action ≡ it.action)
+    × (environment.resource ≡ it.resource.ty) × Has extensions it.context environment.context
+    × MayHaveId schema it.principal × MayHaveId schema it.resource
