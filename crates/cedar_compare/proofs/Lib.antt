@@ -1,1 +1,2 @@
+pub mod BelowLemmas
 pub mod UserLemmas

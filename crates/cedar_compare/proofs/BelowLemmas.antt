@@ -1,0 +1,130 @@
+-- What a schema below another admits, that one admits.
+use Rattle.std.proofs.Common.{◌≡◌, None, Option, Some, inl, inr, refl, subst, sym, ◌∙◌, ⊎_elim}
+use Rattle.cedar_below.specs.Fits.{Gives}
+use Rattle.cedar_below.specs.PlainName.{PlainName}
+use Rattle.cedar_below.specs.PlainUid.{PlainUid}
+use Rattle.cedar_below.specs.Text.{Text}
+use Rattle.cedar_below.specs.Tree.{Entries, Tree, entry_at, map_value}
+use Rattle.cedar_below.specs.declared.extension.Extensions.{Extensions}
+use Rattle.cedar_below.specs.declared.validation_mode.ValidationMode.TheVariants.{Permissive}
+use Rattle.cedar_compare.specs.Entities.{AreTagsOf, IsDefined, IsEntityIn, IsIdOf, IsOfKind, MayStandAbove}
+use Rattle.cedar_compare.specs.Keeps.{Keeps}
+use Rattle.cedar_compare.specs.Requests.{IsRequestIn, MayHaveId, PlainRequest}
+use Rattle.cedar_compare.specs.SchemaBelow.{ActionBelow, HasEntityType, KindBelow, SchemaBelow, TagsBelow}
+use Rattle.cedar_declarations.specs.EntityTypeKind.{EntityTypeKind, standard_kind, enumerated_kind, external_kind}
+use Rattle.cedar_declarations.specs.Environments.{Environment, IsRequestOf}
+use Rattle.cedar_declarations.specs.PlainSchema.{ActionEntity, ActionKind, PlainSchema, SchemaEntityType, defined_action, external_action}
+use Rattle.cedar_type_rules.proofs.MemberLaws.{HasBy-above}
+use Rattle.cedar_type_rules.specs.Has.{Has}
+use Rattle.cedar_type_rules.specs.Ty.{Ty, record_of}
+
+-- tags of a type that go over to another are tags of that one
+tags_above : (extensions : Extensions) (lower upper : Option Ty) (tags : Entries) → TagsBelow lower upper → AreTagsOf extensions lower tags
+    → AreTagsOf extensions upper tags
+tags_above extensions None None tags below of = of
+tags_above extensions None (Some upper) tags below of = λ name value found.
+    absurd (let missed : entry_at name tags ≡ None = subst (λ (all : Entries). entry_at name all ≡ None) (sym of) refl in
+    let wrong : None ≡ Some value = sym missed ∙ found in cc)
+tags_above extensions (Some lower) None tags below of = elim below [ ]
+tags_above extensions (Some lower) (Some upper) tags below of = λ name value found.
+    HasBy-above (Gives extensions) value Permissive lower upper (of name value found) below
+
+-- entities of a kind are of each kind above it, if what may stand above them still may
+entities_above : (extensions : Extensions) (old new : PlainSchema) (lower upper : EntityTypeKind) (it : ActionEntity) → KindBelow lower upper
+    → ((above : PlainUid) → MayStandAbove old it.uid.ty above → MayStandAbove new it.uid.ty above)
+    → IsOfKind extensions old lower it → IsOfKind extensions new upper it
+entities_above extensions old new (standard_kind a openness tags) (standard_kind b upper_openness upper_tags) it below still of = (
+  HasBy-above (Gives extensions) (map_value it.attributes) Permissive (record_of a openness) (record_of b upper_openness) of.0 below.0,
+  tags_above extensions tags upper_tags it.tags below.1 of.1,
+  λ above among. still above (of.2 above among),
+)
+entities_above extensions old new (enumerated_kind a) (enumerated_kind b) it below still of =
+    (below it.uid.eid of.0, of.1, of.2, of.3)
+entities_above extensions old new external_kind external_kind it below still of = of
+entities_above extensions old new lower upper it below still of = elim below [ ]
+
+-- an id of a kind is one of each kind above it
+id_above : (lower upper : EntityTypeKind) (id : Text) → KindBelow lower upper → IsIdOf lower id → IsIdOf upper id
+id_above (standard_kind a openness tags) (standard_kind b upper_openness upper_tags) id below of = tt
+id_above (enumerated_kind a) (enumerated_kind b) id below of = below id of
+id_above external_kind external_kind id below of = tt
+id_above lower upper id below of = elim below [ ]
+
+-- a defined action goes over to a defined one
+defined_above : (lower upper : ActionKind) → ActionBelow lower upper → IsDefined lower → IsDefined upper
+defined_above (defined_action p r c) (defined_action q s d) below of = tt
+defined_above external_action external_action below of = of
+defined_above lower upper below of = elim below [ ]
+
+module _ (extensions : Extensions) (old new : PlainSchema) (below : SchemaBelow old new) where
+  -- what may stand above entities of a type still may
+  stand_above : (name : PlainName) (upper : PlainUid) → MayStandAbove old name upper → MayStandAbove new name upper
+  stand_above name upper may =
+      let other = below.entity_types upper.ty may.0 may.1 in
+      (other.0, other.1, other.3 name may.2, id_above may.0.kind other.0.kind upper.eid other.2 may.3)
+
+  -- each entity stays one
+  entity_above : (it : ActionEntity) → IsEntityIn extensions old it → IsEntityIn extensions new it
+  entity_above it among =
+      ⊎_elim
+      (λ of. (let other = below.entity_types it.uid.ty of.0 of.1 in
+      inl (other.0, other.1, entities_above extensions old new of.0.kind other.0.kind it other.2 (stand_above it.uid.ty) of.2)))
+      (λ of. (let other = below.actions it.uid of.0 of.1 in
+      inr (
+        other.0,
+        other.1,
+        defined_above of.0.kind other.0.kind other.2 of.2,
+        record {
+          uid = of.3.uid;
+          attributes = of.3.attributes;
+          tags = of.3.tags;
+          ancestors = λ upper. (
+            λ above. (below.listed it.uid upper).0 ((of.3.ancestors upper).0 above),
+            λ lists. (of.3.ancestors upper).1 ((below.listed it.uid upper).1 lists),
+          );
+        },
+      )))
+      among
+
+  -- an id that a declared type may have in the old schema it may have in the new
+  ids_above : (uid : PlainUid) → HasEntityType old uid.ty → MayHaveId old uid → MayHaveId new uid
+  ids_above uid declared may it among =
+      let other = below.entity_types uid.ty declared.0 declared.1 in
+      subst (λ (ty : SchemaEntityType). IsIdOf ty.kind uid.eid) (below.once uid.ty other.0 it other.1 among)
+      (id_above declared.0.kind other.0.kind uid.eid other.2 (may declared.0 declared.1))
+
+  -- requests of an action go over
+  requests_above : (lower upper : ActionKind) (it : Environment) (context : Tree) → ActionBelow lower upper → IsRequestOf lower it
+      → Has extensions context it.context
+      → (ty : Ty) × IsRequestOf upper (record { principal = it.principal; action = it.action; resource = it.resource; context = ty })
+      × Has extensions context ty
+  requests_above (defined_action p r c) (defined_action q s d) it context lower of has = (
+    d,
+    (lower.0 it.principal of.0, lower.1 it.resource of.1, refl),
+    HasBy-above (Gives extensions) context Permissive c d (subst (Has extensions context) (sym of.2) has) lower.2,
+  )
+  requests_above external_action external_action it context goes of has = absurd of
+  requests_above lower upper it context goes of has = elim goes [ ]
+
+  -- each request stays one
+  request_above : (it : PlainRequest) → IsRequestIn extensions old it → IsRequestIn extensions new it
+  request_above it (environment, (action, among, asked), principal, uid, resource, has, first, second) =
+      let other = below.actions environment.action action among in
+      let more = requests_above action.kind other.0.kind environment it.context other.2 asked has in
+      let declared = below.named environment (action, among, asked) in (
+        record { principal = environment.principal; action = environment.action; resource = environment.resource; context = more.0 },
+        (other.0, other.1, more.1),
+        principal,
+        uid,
+        resource,
+        more.2,
+        ids_above it.principal (subst (HasEntityType old) principal declared.0) first,
+        ids_above it.resource (subst (HasEntityType old) resource declared.1) second,
+      )
+
+-- a schema below another is kept by it
+pub below_keeps : (extensions : Extensions) (old new : PlainSchema) → SchemaBelow old new → Keeps extensions old new
+below_keeps extensions old new below = record {
+  entities = λ it real of. entity_above extensions old new below it of;
+  requests = λ it real of. request_above extensions old new below it of;
+}
