@@ -1,5 +1,6 @@
 -- What a schema below another admits, that one admits.
-use Rattle.std.proofs.Common.{◌≡◌, None, Option, Some, inl, inr, refl, subst, sym, ◌∙◌, ⊎_elim}
+use Rattle.std.proofs.Common.{◌≡◌, Contains, None, Option, Some, inl, inr, refl, subst, sym, ◌∙◌, ⊎_elim}
+use Rattle.cedar_below.proofs.Lists.{Contains-preimage}
 use Rattle.cedar_below.specs.Fits.{Gives}
 use Rattle.cedar_below.specs.PlainName.{PlainName}
 use Rattle.cedar_below.specs.PlainUid.{PlainUid}
@@ -7,13 +8,15 @@ use Rattle.cedar_below.specs.Text.{Text}
 use Rattle.cedar_below.specs.Tree.{Entries, Tree, entry_at, map_value}
 use Rattle.cedar_below.specs.declared.extension.Extensions.{Extensions}
 use Rattle.cedar_below.specs.declared.validation_mode.ValidationMode.TheVariants.{Permissive}
-use Rattle.cedar_compare.specs.Entities.{AreTagsOf, IsDefined, IsEntityIn, IsIdOf, IsOfKind, MayStandAbove}
+use Rattle.cedar_compare.specs.Entities.{AreTagsOf, IsEntityIn, IsEntityOfKind, IsIdOf, MayStandAbove}
 use Rattle.cedar_compare.specs.Keeps.{Keeps}
 use Rattle.cedar_compare.specs.Requests.{IsRequestIn, MayHaveId, PlainRequest}
-use Rattle.cedar_compare.specs.SchemaBelow.{ActionBelow, HasEntityType, KindBelow, SchemaBelow, TagsBelow}
+use Rattle.cedar_compare.specs.SchemaBelow.{ActionBelow, KindBelow, SchemaBelow, TagsBelow}
+use Rattle.cedar_declarations.specs.ActionEntities.{IsDefinedKind}
 use Rattle.cedar_declarations.specs.EntityTypeKind.{EntityTypeKind, standard_kind, enumerated_kind, external_kind}
 use Rattle.cedar_declarations.specs.Environments.{Environment, IsRequestOf}
 use Rattle.cedar_declarations.specs.PlainSchema.{ActionEntity, ActionKind, PlainSchema, SchemaEntityType, defined_action, external_action}
+use Rattle.cedar_declarations.specs.ValidSchema.{HasEntityType}
 use Rattle.cedar_type_rules.proofs.MemberLaws.{HasBy-above}
 use Rattle.cedar_type_rules.specs.Has.{Has}
 use Rattle.cedar_type_rules.specs.Ty.{Ty, record_of}
@@ -32,7 +35,7 @@ tags_above extensions (Some lower) (Some upper) tags below of = λ name value fo
 -- entities of a kind are of each kind above it, if what may stand above them still may
 entities_above : (extensions : Extensions) (old new : PlainSchema) (lower upper : EntityTypeKind) (it : ActionEntity) → KindBelow lower upper
     → ((above : PlainUid) → MayStandAbove old it.uid.ty above → MayStandAbove new it.uid.ty above)
-    → IsOfKind extensions old lower it → IsOfKind extensions new upper it
+    → IsEntityOfKind extensions old lower it → IsEntityOfKind extensions new upper it
 entities_above extensions old new (standard_kind a openness tags) (standard_kind b upper_openness upper_tags) it below still of = (
   HasBy-above (Gives extensions) (map_value it.attributes) Permissive (record_of a openness) (record_of b upper_openness) of.0 below.0,
   tags_above extensions tags upper_tags it.tags below.1 of.1,
@@ -51,7 +54,7 @@ id_above external_kind external_kind id below of = tt
 id_above lower upper id below of = elim below [ ]
 
 -- a defined action goes over to a defined one
-defined_above : (lower upper : ActionKind) → ActionBelow lower upper → IsDefined lower → IsDefined upper
+defined_above : (lower upper : ActionKind) → ActionBelow lower upper → IsDefinedKind lower → IsDefinedKind upper
 defined_above (defined_action p r c) (defined_action q s d) below of = tt
 defined_above external_action external_action below of = of
 defined_above lower upper below of = elim below [ ]
@@ -69,29 +72,26 @@ module _ (extensions : Extensions) (old new : PlainSchema) (below : SchemaBelow 
       ⊎_elim
       (λ of. (let other = below.entity_types it.uid.ty of.0 of.1 in
       inl (other.0, other.1, entities_above extensions old new of.0.kind other.0.kind it other.2 (stand_above it.uid.ty) of.2)))
-      (λ of. (let other = below.actions it.uid of.0 of.1 in
-      inr (
-        other.0,
-        other.1,
-        defined_above of.0.kind other.0.kind other.2 of.2,
-        record {
-          uid = of.3.uid;
-          attributes = of.3.attributes;
-          tags = of.3.tags;
-          ancestors = λ upper. (
-            λ above. (below.listed it.uid upper).0 ((of.3.ancestors upper).0 above),
-            λ lists. (of.3.ancestors upper).1 ((below.listed it.uid upper).1 lists),
-          );
-        },
-      )))
+      (λ of. (let other = below.actions it.uid of.defined.0 of.defined.1 in
+      inr (record {
+        defined = (other.0, other.1, defined_above of.defined.0.kind other.0.kind other.2 of.defined.2);
+        attributes = of.attributes;
+        tags = of.tags;
+        ancestors = λ upper. (
+          λ above. (below.listed it.uid upper).0 ((of.ancestors upper).0 above),
+          λ lists. (of.ancestors upper).1 ((below.listed it.uid upper).1 lists),
+        );
+      })))
       among
 
   -- an id that a declared type may have in the old schema it may have in the new
   ids_above : (uid : PlainUid) → HasEntityType old uid.ty → MayHaveId old uid → MayHaveId new uid
   ids_above uid declared may it among =
-      let other = below.entity_types uid.ty declared.0 declared.1 in
+      let found = Contains-preimage (λ (entry : PlainName × SchemaEntityType). entry.0) old.entity_types uid.ty declared in
+      let there = subst (λ name. Contains old.entity_types (name, found.0.1)) found.2 found.1 in
+      let other = below.entity_types uid.ty found.0.1 there in
       subst (λ (ty : SchemaEntityType). IsIdOf ty.kind uid.eid) (below.once uid.ty other.0 it other.1 among)
-      (id_above declared.0.kind other.0.kind uid.eid other.2 (may declared.0 declared.1))
+      (id_above found.0.1.kind other.0.kind uid.eid other.2 (may found.0.1 there))
 
   -- requests of an action go over
   requests_above : (lower upper : ActionKind) (it : Environment) (context : Tree) → ActionBelow lower upper → IsRequestOf lower it

@@ -7,7 +7,7 @@ use Rattle.cedar_below.specs.PlainUid.{PlainUid}
 use Rattle.cedar_below.specs.Text.{Text}
 use Rattle.cedar_below.specs.Tree.{no_entry}
 use Rattle.cedar_below.specs.declared.extension.Extensions.{Extensions}
-use Rattle.cedar_compare.specs.Entities.{IsEntityIn, IsOfEntityType, IsOfKind, IsReal, MayStandAbove}
+use Rattle.cedar_compare.specs.Entities.{IsEntityIn, IsEntityOfType, IsEntityOfKind, IsReal, MayStandAbove}
 use Rattle.cedar_compare.specs.Keeps.{Keeps, LosesEntityType}
 use Rattle.cedar_compare.specs.Samples.{user, user_of, users}
 use Rattle.cedar_declarations.specs.EntityTypeKind.{EntityTypeKind}
@@ -36,17 +36,17 @@ nothing_above kind name upper above =
 
 -- an entity of the schema is of its kind
 pub entity_of_kind : (extensions : Extensions) (kind : EntityTypeKind) (it : ActionEntity) → IsEntityIn extensions (users kind) it
-    → (user ≡ it.uid.ty) × IsOfKind extensions (users kind) kind it
+    → (user ≡ it.uid.ty) × IsEntityOfKind extensions (users kind) kind it
 entity_of_kind extensions kind it among =
     ⊎_elim
     (λ of. (let same = user_kind kind it.uid.ty of.0 of.1 in
-    (same.0, subst (λ (ty : SchemaEntityType). IsOfKind extensions (users kind) ty.kind it) (sym same.1) of.2)))
-    (λ action. absurd (none_among (it.uid, action.0) action.1))
+    (same.0, subst (λ (ty : SchemaEntityType). IsEntityOfKind extensions (users kind) ty.kind it) (sym same.1) of.2)))
+    (λ action. absurd (none_among (it.uid, action.defined.0) action.defined.1))
     among
 
 -- what is of the kind is an entity of the schema
 pub kind_of_entity : (extensions : Extensions) (kind : EntityTypeKind) (it : ActionEntity) → user ≡ it.uid.ty
-    → IsOfKind extensions (users kind) kind it → IsOfEntityType extensions (users kind) it
+    → IsEntityOfKind extensions (users kind) kind it → IsEntityOfType extensions (users kind) it
 kind_of_entity extensions kind it named of = (
   user_of kind,
   subst (λ name. Contains (users kind).entity_types (name, user_of kind)) named
@@ -56,7 +56,7 @@ kind_of_entity extensions kind it named of = (
 
 -- a schema is kept where each entity of its kind is one of the other's
 pub users_keep : (extensions : Extensions) (lower upper : EntityTypeKind)
-    → ((it : ActionEntity) → IsOfKind extensions (users lower) lower it → IsOfKind extensions (users upper) upper it)
+    → ((it : ActionEntity) → IsEntityOfKind extensions (users lower) lower it → IsEntityOfKind extensions (users upper) upper it)
     → Keeps extensions (users lower) (users upper)
 users_keep extensions lower upper each = record {
   entities = λ it real of. (let own = entity_of_kind extensions lower it of in
@@ -78,7 +78,7 @@ bare_is_real id written = ((user_is_name, written), tt, tt, λ upper among. absu
 
 -- an entity without attributes and tags is lost where the one kind has it and the other hasn't
 pub users_lose : (extensions : Extensions) (lower upper : EntityTypeKind) (id : Text) → IsText id
-    → IsOfKind extensions (users lower) lower (bare id) → ¬ IsOfKind extensions (users upper) upper (bare id)
+    → IsEntityOfKind extensions (users lower) lower (bare id) → ¬ IsEntityOfKind extensions (users upper) upper (bare id)
     → LosesEntityType extensions (users lower) (users upper) user
 users_lose extensions lower upper id written has lacks = (
   bare id,

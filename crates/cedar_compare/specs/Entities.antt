@@ -6,9 +6,9 @@ use Rattle.cedar_below.specs.PlainUid.{PlainUid}
 use Rattle.cedar_below.specs.Text.{Text}
 use Rattle.cedar_below.specs.Tree.{Entries, Tree, entry_at, map_value, no_entry, uid_value}
 use Rattle.cedar_below.specs.declared.extension.Extensions.{Extensions}
+use Rattle.cedar_declarations.specs.ActionEntities.{IsEntityOfAction}
 use Rattle.cedar_declarations.specs.EntityTypeKind.{EntityTypeKind, standard_kind, enumerated_kind, external_kind}
-use Rattle.cedar_declarations.specs.PlainSchema.{ActionEntity, ActionKind, PlainSchema, SchemaAction, SchemaEntityType, defined_action, external_action}
-use Rattle.cedar_schema_elements.specs.ActionEntities.{IsEntityOf}
+use Rattle.cedar_declarations.specs.PlainSchema.{ActionEntity, PlainSchema, SchemaEntityType}
 use Rattle.cedar_type_rules.specs.Has.{Has}
 use Rattle.cedar_type_rules.specs.Ty.{Ty, record_of}
 
@@ -38,39 +38,23 @@ MayStandAbove schema name upper =
 
 -- an entity is of a kind: of a standard one with the attributes and tags of their types, and with
 -- uids above it that may stand there; of an enumerated one a choice and nothing else
-abbrev pub IsOfKind : Extensions → PlainSchema → EntityTypeKind → ActionEntity → Type 0
-IsOfKind extensions schema (standard_kind fields openness tags) it =
+abbrev pub IsEntityOfKind : Extensions → PlainSchema → EntityTypeKind → ActionEntity → Type 0
+IsEntityOfKind extensions schema (standard_kind fields openness tags) it =
     Has extensions (map_value it.attributes) (record_of fields openness)
     × AreTagsOf extensions tags it.tags
     × ((upper : PlainUid) → Contains it.ancestors upper → MayStandAbove schema it.uid.ty upper)
-IsOfKind extensions schema (enumerated_kind choices) it =
+IsEntityOfKind extensions schema (enumerated_kind choices) it =
     Contains choices it.uid.eid × (it.attributes ≡ no_entry) × (it.tags ≡ no_entry)
     × (it.ancestors ≡ [])
-IsOfKind extensions schema external_kind it = ⊥
+IsEntityOfKind extensions schema external_kind it = ⊥
 
 -- an entity is of an entity type of the schema
-abbrev pub IsOfEntityType : Extensions → PlainSchema → ActionEntity → Type 0
-IsOfEntityType extensions schema it =
+abbrev pub IsEntityOfType : Extensions → PlainSchema → ActionEntity → Type 0
+IsEntityOfType extensions schema it =
     (ty : SchemaEntityType) × Contains schema.entity_types (it.uid.ty, ty)
-    × IsOfKind extensions schema ty.kind it
-
--- the one action stands below the other
-abbrev pub IsListedBelow : PlainSchema → PlainUid → PlainUid → Type 0
-IsListedBelow schema lower upper =
-    (it : SchemaAction) × Contains schema.actions (upper, it) × Contains it.descendants lower
-
--- an action is defined, and not external
-abbrev pub IsDefined : ActionKind → Type 0
-IsDefined (defined_action principals resources context) = Unit {0}
-IsDefined external_action = ⊥
-
--- an entity is that of a defined action of the schema: without attributes and tags, and just below
--- the actions that have it below them
-abbrev pub IsOfAction : PlainSchema → ActionEntity → Type 0
-IsOfAction schema it =
-    (action : SchemaAction) × Contains schema.actions (it.uid, action) × IsDefined action.kind
-    × IsEntityOf (IsListedBelow schema it.uid) it.uid it
+    × IsEntityOfKind extensions schema ty.kind it
 
 -- an entity of a schema: of one of its entity types, or of one of its actions
 abbrev pub IsEntityIn : Extensions → PlainSchema → ActionEntity → Type 0
-IsEntityIn extensions schema it = IsOfEntityType extensions schema it ⊎ IsOfAction schema it
+IsEntityIn extensions schema it =
+    IsEntityOfType extensions schema it ⊎ IsEntityOfAction schema it

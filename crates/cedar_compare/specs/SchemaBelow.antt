@@ -5,9 +5,9 @@ use Rattle.cedar_below.specs.PlainName.{PlainName}
 use Rattle.cedar_below.specs.PlainUid.{PlainUid}
 use Rattle.cedar_below.specs.declared.validation_mode.ValidationMode.TheVariants.{Permissive}
 use Rattle.cedar_declarations.specs.EntityTypeKind.{EntityTypeKind, standard_kind, enumerated_kind, external_kind}
-use Rattle.cedar_compare.specs.Entities.{IsListedBelow}
 use Rattle.cedar_declarations.specs.Environments.{Environment, IsEnvironmentOf}
 use Rattle.cedar_declarations.specs.PlainSchema.{ActionKind, PlainSchema, SchemaAction, SchemaEntityType, defined_action, external_action}
+use Rattle.cedar_declarations.specs.ValidSchema.{HasEntityType, ListsDescendantAction}
 use Rattle.cedar_type_rules.specs.Below.{Below}
 use Rattle.cedar_type_rules.specs.Ty.{Ty, record_of}
 
@@ -37,10 +37,6 @@ ActionBelow (defined_action principals resources context)
 ActionBelow external_action external_action = Unit {0}
 ActionBelow _ _ = ⊥
 
--- the schema has an entity type of that name
-abbrev pub HasEntityType : PlainSchema → PlainName → Type 0
-HasEntityType schema name = (it : SchemaEntityType) × Contains schema.entity_types (name, it)
-
 -- a schema is below another: each of its entity types is one of the other, of a kind above and with
 -- no fewer descendants; its actions go over, and stand below just the same ones; and names of
 -- entity types stand for one in the other schema, and those of requests for one in this
@@ -51,8 +47,8 @@ pub record SchemaBelow (old new : PlainSchema) : Type 0 where
       × KindBelow it.kind other.kind × Included it.descendants other.descendants
   pub actions : (uid : PlainUid) (it : SchemaAction) → Contains old.actions (uid, it)
       → (other : SchemaAction) × Contains new.actions (uid, other) × ActionBelow it.kind other.kind
-  pub listed : (lower upper : PlainUid) → IsListedBelow old lower upper
-      ↔ IsListedBelow new lower upper
+  pub listed : (lower upper : PlainUid) → ListsDescendantAction old lower upper
+      ↔ ListsDescendantAction new lower upper
   pub once : (name : PlainName) (it other : SchemaEntityType)
       → Contains new.entity_types (name, it) → Contains new.entity_types (name, other)
       → it ≡ other
