@@ -9,9 +9,12 @@ use Rattle.cedar_type_rules.specs.Below.{HasField}
 use Rattle.cedar_type_rules.specs.Fields.{field_names}
 use Rattle.cedar_type_rules.specs.Has.{Has}
 use Rattle.cedar_type_rules.specs.IncludedByParts.{FieldsIncluded, IncludedByParts}
+use Rattle.cedar_type_rules.specs.InclusionLaws.{ValuesIncluded}
 use Rattle.cedar_type_rules.specs.OpenTag.{is_open}
 use Rattle.cedar_type_rules.specs.Ty.{Fields, Ty, end, field, record_of}
 use Rattle.cedar_type_rules.specs.declared.open_tag.OpenTag.{OpenTag}
+use Rattle.cedar_counterexample.specs.Counterexample.{PlainStart}
+use Rattle.cedar_counterexample.specs.Steps.{IsOutsideAt}
 
 -- a value is put under a name: there it stands, all others stay, and real values stay real ones
 pub record IsPut (name : Text) (value : Tree) (old new : Entries) : Type 0 where
@@ -34,22 +37,28 @@ pub record IsFilled (extensions : Extensions) (fields : Fields)
   pub real : AreEntries start → AreEntries whole
 
 -- values from which a value of a record that another record hasn't is filled up: they are real,
--- have the types of the attributes of their names, which are listed or the record is open; and what
--- is filled up from them isn't a value of the other record
+-- have the types of the attributes of their names, which are listed or the record is open; what is
+-- filled up from them isn't a value of the other record; and if there is such a value, the steps
+-- lead to where the records part
 pub record IsStart (extensions : Extensions) (lower : Fields) (openness : OpenTag) (upper : Fields)
     (upper_openness : OpenTag)
-    (start : Entries) : Type 0 where
-  pub real : AreEntries start
+    (start : PlainStart) : Type 0 where
+  pub real : AreEntries start.values
   pub fits : (name : Text) (value : Tree) (required : Bool) (ty : Ty)
-      → entry_at name start ≡ Some value
+      → entry_at name start.values ≡ Some value
       → HasField lower name required ty → Has extensions value ty
-  pub listed : NamesListed (is_open openness) (entry_names start) (field_names lower)
-  pub lacks : (whole : Entries) → IsFilled extensions lower start whole
+  pub listed : NamesListed (is_open openness) (entry_names start.values) (field_names lower)
+  pub lacks : (whole : Entries) → IsFilled extensions lower start.values whole
       → ¬ Has extensions (map_value whole) (record_of upper upper_openness)
+  pub leads : ¬ ValuesIncluded extensions (record_of lower openness)
+      (record_of upper upper_openness)
+      → IsOutsideAt extensions start.steps (record_of lower openness)
+      (record_of upper upper_openness)
 
 -- what is found for one attribute of the other record: nothing if the parts say that its values are
 -- included, and else a start, whatever else the other record has
-abbrev pub IsFieldStart : Extensions → Fields → OpenTag → Text → Bool → Ty → Option Entries → Type 0
+abbrev pub IsFieldStart : Extensions → Fields → OpenTag → Text → Bool → Ty → Option PlainStart
+    → Type 0
 IsFieldStart extensions lower openness name required ty None =
     FieldsIncluded openness lower (field name required ty end)
 IsFieldStart extensions lower openness name required ty (Some start) =
@@ -58,14 +67,14 @@ IsFieldStart extensions lower openness name required ty (Some start) =
 
 -- what is found for the attributes of two records: nothing if the parts say that those of the other
 -- are included, and else a start
-abbrev pub IsAttributeStart : Extensions → Fields → OpenTag → Fields → Option Entries → Type 0
+abbrev pub IsAttributeStart : Extensions → Fields → OpenTag → Fields → Option PlainStart → Type 0
 IsAttributeStart extensions lower openness upper None = FieldsIncluded openness lower upper
 IsAttributeStart extensions lower openness upper (Some start) =
     (upper_openness : OpenTag) → IsStart extensions lower openness upper upper_openness start
 
 -- what is found for two records: nothing if the parts say that each value of the one is one of the
 -- other, and else a start
-abbrev pub IsRecordStart : Extensions → Fields → OpenTag → Fields → OpenTag → Option Entries
+abbrev pub IsRecordStart : Extensions → Fields → OpenTag → Fields → OpenTag → Option PlainStart
     → Type 0
 IsRecordStart extensions lower openness upper upper_openness None =
     IncludedByParts (record_of lower openness) (record_of upper upper_openness)

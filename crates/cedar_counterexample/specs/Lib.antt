@@ -1,2 +1,5 @@
 pub mod Counterexample
 pub mod Filling
+pub mod Search
+pub mod Steps
+pub mod ValueEntries

@@ -1,13 +1,24 @@
 //! Values that separate two types: the first type has such a value, and the second hasn't.
 //!
-//! `value_outside` decides whether each value of one type is a value of another, and
-//! `separating_value` whether one type is below another, where the two are the same.
+//! `outside` decides whether each value of one type is a value of another, and says where the two
+//! part if not; `attributes_outside` does the same of attributes, and `value_outside` gives the
+//! value alone. `separating_value` decides whether one type is below another, where that is the
+//! same. `sample_value` and `sample_attributes` give some value of a type.
 #![tactic(auto)]
 
-pub use separating::{separating_value, value_outside};
+pub use found::{AttributesOutside, Outside};
+pub use outside::{attributes_outside, outside, separating_value, value_outside};
+pub use sampling::{sample_attributes, sample_value};
+pub use steps::Step;
 
+mod found;
 mod fresh;
+mod named;
+mod outside;
 mod putting;
 mod samples;
+mod sampling;
+mod search;
 mod separating;
+mod steps;
 mod unions;

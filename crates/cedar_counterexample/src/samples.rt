@@ -5,16 +5,16 @@ ghost use Rattle.cedar_below.specs.EntityType.{type_name};
 ghost use Rattle.cedar_below.specs.RestrictedExpr.{entries_of, tree_of};
 ghost use Rattle.cedar_below.specs.Tree.{uid_value};
 ghost use Rattle.cedar_below.specs.declared.extension.Extensions.{Extensions};
-ghost use Rattle.cedar_type_rules.specs.Stated.{AreInhabitedWith, IsInhabitedWith};
-ghost use Rattle.cedar_counterexample.specs.Filling.{IsFilled};
 ghost use Rattle.cedar_counterexample.specs.Counterexample.{IsValueOf};
+ghost use Rattle.cedar_counterexample.specs.Filling.{IsFilled};
+ghost use Rattle.cedar_counterexample.specs.Search.{AreSampledIn, IsSampledIn};
 ghost use Rattle.cedar_types.specs.EntityKind.{kind_ty};
 ghost use Rattle.cedar_types.specs.Meaning.{fields_of, ty_of};
-ghost use Rattle.cedar_types.specs.Samples.{value_trees};
 
 use crate::fresh::type_of_length;
 use crate::putting::put;
-use cedar_below::{Eid, EntityType, EntityUID, Extensions, M, RestrictedExpr, Value};
+use crate::search::Search;
+use cedar_below::{Eid, EntityType, EntityUID, M, RestrictedExpr};
 use cedar_types::{Attributes, BoolType, EntityKind, Type};
 use std::alloc::Global;
 use std::collections::BTreeMap;
@@ -44,20 +44,18 @@ fn sample_entity(alloc: Global, kind: &EntityKind) -> M<RestrictedExpr>
 /// The values of a record, with a sample for each required attribute whose name had none.
 #[cycle(samples)]
 pub(crate) fn fill(
-    alloc: Global,
+    search: &Search,
     start: BTreeMap<String, RestrictedExpr>,
     attrs: &Attributes,
-    extensions: &Extensions,
-    samples: &[Value],
 ) -> M<BTreeMap<String, RestrictedExpr>>
-    requires { AreInhabitedWith extensions.now (value_trees samples.now) (fields_of attrs.now) }
-    ensures { IfOk result (λ whole.
-        IsFilled extensions.now (fields_of attrs.now) (entries_of start) (entries_of whole)) }
+    requires { AreSampledIn search.now (fields_of attrs.now) }
+    ensures { IfOk result (λ whole. IsFilled search.now.extensions.now (fields_of attrs.now)
+        (entries_of start) (entries_of whole)) }
 {
     let mut values = start;
     for (name, attribute) in attrs.iter() {
         if attribute.is_required && !values.contains_key(name.as_str()) {
-            let sample = sample_of(alloc, &attribute.attr_type, extensions, samples)?;
+            let sample = sample_of(search, &attribute.attr_type)?;
             put(&mut values, name.clone()?, sample)?;
         }
     }
@@ -67,15 +65,12 @@ pub(crate) fn fill(
 /// A value of a type that is inhabited by samples: of an extension type a copy of a sample, of sets
 /// the empty one, and of a record one with the required attributes alone.
 #[cycle(samples)]
-pub(crate) fn sample_of(
-    alloc: Global,
-    ty: &Type,
-    extensions: &Extensions,
-    samples: &[Value],
-) -> M<RestrictedExpr>
-    requires { IsInhabitedWith extensions.now (value_trees samples.now) (ty_of ty.now) }
-    ensures { IfOk result (λ sample. IsValueOf extensions.now (ty_of ty.now) (tree_of sample)) }
+pub(crate) fn sample_of(search: &Search, ty: &Type) -> M<RestrictedExpr>
+    requires { IsSampledIn search.now (ty_of ty.now) }
+    ensures { IfOk result (λ sample.
+        IsValueOf search.now.extensions.now (ty_of ty.now) (tree_of sample)) }
 {
+    let alloc = search.alloc;
     match ty {
         Type::Never => unreachable!(),
         Type::Bool(known) => Ok(RestrictedExpr::Bool(*known != BoolType::False)),
@@ -84,10 +79,10 @@ pub(crate) fn sample_of(
         Type::Entity(kind) => sample_entity(alloc, kind),
         Type::Set { .. } => Ok(RestrictedExpr::Set(Vec::new(alloc))),
         Type::Record { attrs, .. } => {
-            let values = fill(alloc, BTreeMap::new(alloc), attrs, extensions, samples)?;
+            let values = fill(search, BTreeMap::new(alloc), attrs)?;
             Ok(RestrictedExpr::Record(values))
         }
-        Type::ExtensionType { .. } => match ty.sample_among(extensions, samples) {
+        Type::ExtensionType { .. } => match ty.sample_among(search.extensions, search.samples) {
             Some(sample) => sample.expr().clone(),
             None => unreachable!(),
         },

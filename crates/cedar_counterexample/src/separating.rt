@@ -1,36 +1,32 @@
-//! Values that separate two types.
+//! The walk down two types to where they part.
 
-ghost use Rattle.std.specs.Prelude.{◌≡◌, ◌↔◌, Contains, IfOk, IfSome, Some, None, string_bytes};
+ghost use Rattle.std.specs.Prelude.{◌≡◌, [], Contains, IfOk, string_bytes};
 ghost use Rattle.std.specs.Option.{option_map};
 ghost use Rattle.cedar_below.specs.IsValue.{IsValue};
 ghost use Rattle.cedar_below.specs.RestrictedExpr.{entries_of, tree_of};
 ghost use Rattle.cedar_below.specs.Tree.{set_value, tree, no_tree, entry, no_entry};
 ghost use Rattle.cedar_below.specs.declared.extension.Extensions.{Extensions};
-ghost use Rattle.cedar_below.specs.declared.validation_mode.ValidationMode.TheVariants.{Permissive};
-ghost use Rattle.cedar_type_rules.specs.Below.{Below};
 ghost use Rattle.cedar_type_rules.specs.Fields.{field_names};
 ghost use Rattle.cedar_type_rules.specs.Has.{Has};
 ghost use Rattle.cedar_type_rules.specs.IncludedByParts.{FieldsIncluded};
-ghost use Rattle.cedar_type_rules.specs.InclusionLaws.{ValuesIncluded};
-ghost use Rattle.cedar_type_rules.specs.Stated.{AreInhabitedWith, IsInhabitedWith, IsStatedWith};
-ghost use Rattle.cedar_type_rules.specs.Ty.{Fields, record_of, set_of};
+ghost use Rattle.cedar_type_rules.specs.Ty.{Fields, Ty, record_of, set_of};
 ghost use Rattle.cedar_type_rules.specs.declared.open_tag.OpenTag.TheVariants.{ClosedAttributes};
+ghost use Rattle.cedar_counterexample.specs.Counterexample.{IsCounterexampleAnswer, IsOutsideAnswer, empty_start, found_element, found_of, record_found, start_of, start_through};
 ghost use Rattle.cedar_counterexample.specs.Filling.{IsAttributeStart, IsFieldStart, IsRecordStart};
-ghost use Rattle.cedar_counterexample.specs.Counterexample.{IsCounterexampleAnswer};
+ghost use Rattle.cedar_counterexample.specs.Search.{AreSampledIn, IsSampledIn};
 ghost use Rattle.cedar_types.specs.Meaning.{attribute_of, fields_of, ty_of};
-ghost use Rattle.cedar_types.specs.Samples.{value_tree, value_trees};
 
+use crate::found::{Found, Start};
 use crate::fresh::fresh_name;
 use crate::putting::put;
 use crate::samples::{fill, sample_of};
+use crate::search::Search;
+use crate::steps::{Step, noted};
 use crate::unions::{separating_entity, separating_truth};
-use cedar_below::{Extensions, M, RestrictedExpr, Value};
+use cedar_below::{M, RestrictedExpr};
 use cedar_types::{AttributeType, Attributes, OpenTag, Type};
 use std::alloc::Global;
 use std::collections::BTreeMap;
-
-/// The values of a record, by name.
-type Values = BTreeMap<String, RestrictedExpr>;
 
 /// A value that a type hasn't.
 fn other_value(alloc: Global, ty: &Type) -> RestrictedExpr
@@ -53,7 +49,7 @@ fn set_of_one(alloc: Global, value: RestrictedExpr) -> M<RestrictedExpr>
 }
 
 /// One value under a name.
-fn alone(alloc: Global, name: String, value: RestrictedExpr) -> M<Values>
+fn alone(alloc: Global, name: String, value: RestrictedExpr) -> M<BTreeMap<String, RestrictedExpr>>
     ensures { IfOk result (λ values.
         entries_of values ≡ entry (string_bytes name) (tree_of value) no_entry) }
 {
@@ -62,34 +58,89 @@ fn alone(alloc: Global, name: String, value: RestrictedExpr) -> M<Values>
     Ok(values)
 }
 
-/// A start of a value of a record that a closed one hasn't, each attribute of which it has: a sample
-/// under a name that the second lacks, and any value under a name that neither has where the first
-/// is open and has no such name.
+/// What is found of two types that part at once.
+fn found_here(alloc: Global, found: Option<RestrictedExpr>) -> Option<Found>
+    ensures { (extensions : Extensions) (a b : Ty)
+        → IsCounterexampleAnswer extensions a b (option_map tree_of found)
+        → IsOutsideAnswer extensions a b (option_map found_of result) }
+{
+    match found {
+        Some(expr) => Some(Found {
+            expr,
+            steps: Vec::new(alloc),
+        }),
+        None => None,
+    }
+}
+
+/// The set of one value that was found.
+fn in_set(alloc: Global, found: Found) -> M<Found>
+    ensures { IfOk result (λ set. found_of set ≡ found_element (found_of found)) }
+{
+    let Found { expr, steps } = found;
+    let steps = noted(steps, Step::Element)?;
+    let expr = set_of_one(alloc, expr)?;
+    Ok(Found { expr, steps })
+}
+
+/// The start of one value, which was found for the attribute of a name.
+fn start_with(alloc: Global, name: &String, found: Found) -> M<Start>
+    ensures { IfOk result (λ start.
+        start_of start ≡ start_through (string_bytes name.now) (found_of found)) }
+{
+    let Found { expr, steps } = found;
+    let steps = noted(steps, Step::Attribute(name.clone()?))?;
+    let values = alone(alloc, name.clone()?, expr)?;
+    Ok(Start { values, steps })
+}
+
+/// The start of one value under the name of an attribute that only one of two records has.
+fn start_at(alloc: Global, name: &String, expr: RestrictedExpr) -> M<Start>
+    ensures { IfOk result (λ start. start_of start
+        ≡ start_through (string_bytes name.now) (record { value = tree_of expr; steps = [] })) }
+{
+    let steps = Vec::new(alloc);
+    start_with(alloc, name, Found { expr, steps })
+}
+
+/// The start without values, where an attribute that may be missing is required.
+fn start_of_none(alloc: Global, name: &String) -> M<Start>
+    ensures { IfOk result (λ start. start_of start ≡ empty_start (string_bytes name.now)) }
+{
+    let steps = noted(Vec::new(alloc), Step::Attribute(name.clone()?))?;
+    Ok(Start {
+        values: BTreeMap::new(alloc),
+        steps,
+    })
+}
+
+/// A start of a value of a record that a closed one hasn't, each attribute of which it has: a
+/// sample under a name that the second lacks, and any value under a name that neither has where the
+/// first is open and has no such name.
 fn separating_names(
-    alloc: Global,
+    search: &Search,
     lower: &Attributes,
     openness: OpenTag,
     upper: &Attributes,
-    extensions: &Extensions,
-    samples: &[Value],
-) -> M<Option<Values>>
-    requires inhabited { AreInhabitedWith extensions.now (value_trees samples.now)
-        (fields_of lower.now) }
+) -> M<Option<Start>>
+    requires inhabited { AreSampledIn search.now (fields_of lower.now) }
     requires included { FieldsIncluded openness (fields_of lower.now) (fields_of upper.now) }
     ensures { IfOk result (λ found.
-        IsRecordStart extensions.now (fields_of lower.now) openness (fields_of upper.now)
-        ClosedAttributes (option_map entries_of found)) }
+        IsRecordStart search.now.extensions.now (fields_of lower.now) openness
+        (fields_of upper.now) ClosedAttributes (option_map start_of found)) }
 {
     for (name, attribute) in lower.iter() {
         if upper.get_attr(name).is_none() {
-            let sample = sample_of(alloc, &attribute.attr_type, extensions, samples)?;
-            return Ok(Some(alone(alloc, name.clone()?, sample)?));
+            let sample = sample_of(search, &attribute.attr_type)?;
+            return Ok(Some(start_at(search.alloc, name, sample)?));
         }
     }
     match openness {
         OpenTag::OpenAttributes => {
-            let name = fresh_name(alloc, lower)?;
-            Ok(Some(alone(alloc, name, RestrictedExpr::Bool(true))?))
+            let name = fresh_name(search.alloc, lower)?;
+            let values = alone(search.alloc, name, RestrictedExpr::Bool(true))?;
+            let steps = Vec::new(search.alloc);
+            Ok(Some(Start { values, steps }))
         }
         OpenTag::ClosedAttributes => Ok(None),
     }
@@ -103,20 +154,20 @@ fn start_without(
     openness: OpenTag,
     name: &String,
     attribute: &AttributeType,
-) -> M<Option<Values>>
+) -> M<Option<Start>>
     ensures { IfOk result (λ found. (extensions : Extensions) (lower : Fields)
         → ¬ Contains (field_names lower) (string_bytes name.now)
         → IsFieldStart extensions lower openness (string_bytes name.now)
         (attribute_of attribute.now).0 (attribute_of attribute.now).1
-        (option_map entries_of found)) }
+        (option_map start_of found)) }
 {
     if attribute.is_required {
-        return Ok(Some(BTreeMap::new(alloc)));
+        return Ok(Some(start_of_none(alloc, name)?));
     }
     match openness {
         OpenTag::OpenAttributes => {
             let value = other_value(alloc, &attribute.attr_type);
-            Ok(Some(alone(alloc, name.clone()?, value)?))
+            Ok(Some(start_at(alloc, name, value)?))
         }
         OpenTag::ClosedAttributes => Ok(None),
     }
@@ -126,35 +177,26 @@ fn start_without(
 /// where that one alone is required, and one value that separates the two types of the name.
 #[cycle(separating)]
 fn separating_field(
-    alloc: Global,
+    search: &Search,
     lower: &Attributes,
     openness: OpenTag,
     name: &String,
     attribute: &AttributeType,
-    extensions: &Extensions,
-    samples: &[Value],
-) -> M<Option<Values>>
-    requires { AreInhabitedWith extensions.now (value_trees samples.now) (fields_of lower.now) }
+) -> M<Option<Start>>
+    requires { AreSampledIn search.now (fields_of lower.now) }
     ensures { IfOk result (λ found.
-        IsFieldStart extensions.now (fields_of lower.now) openness (string_bytes name.now)
-        (attribute_of attribute.now).0 (attribute_of attribute.now).1
-        (option_map entries_of found)) }
+        IsFieldStart search.now.extensions.now (fields_of lower.now) openness
+        (string_bytes name.now) (attribute_of attribute.now).0 (attribute_of attribute.now).1
+        (option_map start_of found)) }
 {
     let Some(own) = lower.get_attr(name) else {
-        return start_without(alloc, openness, name, attribute);
+        return start_without(search.alloc, openness, name, attribute);
     };
     if attribute.is_required && !own.is_required {
-        return Ok(Some(BTreeMap::new(alloc)));
+        return Ok(Some(start_of_none(search.alloc, name)?));
     }
-    let found = separating_expr(
-        alloc,
-        &own.attr_type,
-        &attribute.attr_type,
-        extensions,
-        samples,
-    )?;
-    match found {
-        Some(value) => Ok(Some(alone(alloc, name.clone()?, value)?)),
+    match separating_expr(search, &own.attr_type, &attribute.attr_type)? {
+        Some(found) => Ok(Some(start_with(search.alloc, name, found)?)),
         None => Ok(None),
     }
 }
@@ -162,20 +204,18 @@ fn separating_field(
 /// A start of a value of a record that another hasn't because of its attributes, if there is one.
 #[cycle(separating)]
 fn separating_attribute(
-    alloc: Global,
+    search: &Search,
     lower: &Attributes,
     openness: OpenTag,
     upper: &Attributes,
-    extensions: &Extensions,
-    samples: &[Value],
-) -> M<Option<Values>>
-    requires { AreInhabitedWith extensions.now (value_trees samples.now) (fields_of lower.now) }
+) -> M<Option<Start>>
+    requires { AreSampledIn search.now (fields_of lower.now) }
     ensures { IfOk result (λ found.
-        IsAttributeStart extensions.now (fields_of lower.now) openness (fields_of upper.now)
-        (option_map entries_of found)) }
+        IsAttributeStart search.now.extensions.now (fields_of lower.now) openness
+        (fields_of upper.now) (option_map start_of found)) }
 {
     for (name, attribute) in upper.iter() {
-        let found = separating_field(alloc, lower, openness, name, attribute, extensions, samples)?;
+        let found = separating_field(search, lower, openness, name, attribute)?;
         if let Some(start) = found {
             return Ok(Some(start));
         }
@@ -186,61 +226,70 @@ fn separating_attribute(
 /// A start of a value of a record that another hasn't, if there is one.
 #[cycle(separating)]
 fn separating_start(
-    alloc: Global,
+    search: &Search,
     lower: &Attributes,
     openness: OpenTag,
     upper: &Attributes,
     upper_openness: OpenTag,
-    extensions: &Extensions,
-    samples: &[Value],
-) -> M<Option<Values>>
-    requires { AreInhabitedWith extensions.now (value_trees samples.now) (fields_of lower.now) }
-    ensures { IfOk result (λ found. IsRecordStart extensions.now (fields_of lower.now) openness
-        (fields_of upper.now) upper_openness (option_map entries_of found)) }
+) -> M<Option<Start>>
+    requires { AreSampledIn search.now (fields_of lower.now) }
+    ensures { IfOk result (λ found.
+        IsRecordStart search.now.extensions.now (fields_of lower.now) openness
+        (fields_of upper.now) upper_openness (option_map start_of found)) }
 {
-    let found = separating_attribute(alloc, lower, openness, upper, extensions, samples)?;
+    let found = separating_attribute(search, lower, openness, upper)?;
     if let Some(start) = found {
         return Ok(Some(start));
     }
     match upper_openness {
         OpenTag::OpenAttributes => Ok(None),
-        OpenTag::ClosedAttributes => {
-            separating_names(alloc, lower, openness, upper, extensions, samples)
-        }
+        OpenTag::ClosedAttributes => separating_names(search, lower, openness, upper),
     }
 }
 
-/// A record that the one record type has and the other hasn't, if there is one: a start, with
-/// samples of the attributes that it lacks.
+/// The values of a record that the one record type has and the other hasn't, if there is one: a
+/// start, with samples of the attributes that it lacks.
 #[cycle(separating)]
-fn separating_record(
-    alloc: Global,
+pub(crate) fn separating_values(
+    search: &Search,
     lower: &Attributes,
     openness: OpenTag,
     upper: &Attributes,
     upper_openness: OpenTag,
-    extensions: &Extensions,
-    samples: &[Value],
-) -> M<Option<RestrictedExpr>>
-    requires { AreInhabitedWith extensions.now (value_trees samples.now) (fields_of lower.now) }
+) -> M<Option<Start>>
+    requires { AreSampledIn search.now (fields_of lower.now) }
     ensures { IfOk result (λ found.
-        IsCounterexampleAnswer extensions.now (record_of (fields_of lower.now) openness)
-        (record_of (fields_of upper.now) upper_openness) (option_map tree_of found)) }
+        IsOutsideAnswer search.now.extensions.now (record_of (fields_of lower.now) openness)
+        (record_of (fields_of upper.now) upper_openness) (option_map record_found found)) }
 {
-    let found = separating_start(
-        alloc,
-        lower,
-        openness,
-        upper,
-        upper_openness,
-        extensions,
-        samples,
-    )?;
-    match found {
-        Some(start) => {
-            let values = fill(alloc, start, lower, extensions, samples)?;
-            Ok(Some(RestrictedExpr::Record(values)))
+    match separating_start(search, lower, openness, upper, upper_openness)? {
+        Some(Start { values, steps }) => {
+            let values = fill(search, values, lower)?;
+            Ok(Some(Start { values, steps }))
         }
+        None => Ok(None),
+    }
+}
+
+/// A record that the one record type has and the other hasn't, if there is one.
+#[cycle(separating)]
+fn separating_record(
+    search: &Search,
+    lower: &Attributes,
+    openness: OpenTag,
+    upper: &Attributes,
+    upper_openness: OpenTag,
+) -> M<Option<Found>>
+    requires { AreSampledIn search.now (fields_of lower.now) }
+    ensures { IfOk result (λ found.
+        IsOutsideAnswer search.now.extensions.now (record_of (fields_of lower.now) openness)
+        (record_of (fields_of upper.now) upper_openness) (option_map found_of found)) }
+{
+    match separating_values(search, lower, openness, upper, upper_openness)? {
+        Some(Start { values, steps }) => Ok(Some(Found {
+            expr: RestrictedExpr::Record(values),
+            steps,
+        })),
         None => Ok(None),
     }
 }
@@ -248,20 +297,14 @@ fn separating_record(
 /// A set that the one set type has and the other hasn't, if there is one: of one element, which
 /// separates the types of their elements.
 #[cycle(separating)]
-fn separating_set(
-    alloc: Global,
-    lower: &Type,
-    upper: &Type,
-    extensions: &Extensions,
-    samples: &[Value],
-) -> M<Option<RestrictedExpr>>
-    requires { IsInhabitedWith extensions.now (value_trees samples.now) (ty_of lower.now) }
+fn separating_set(search: &Search, lower: &Type, upper: &Type) -> M<Option<Found>>
+    requires { IsSampledIn search.now (ty_of lower.now) }
     ensures { IfOk result (λ found.
-        IsCounterexampleAnswer extensions.now (set_of (ty_of lower.now)) (set_of (ty_of upper.now))
-        (option_map tree_of found)) }
+        IsOutsideAnswer search.now.extensions.now (set_of (ty_of lower.now))
+        (set_of (ty_of upper.now)) (option_map found_of found)) }
 {
-    match separating_expr(alloc, lower, upper, extensions, samples)? {
-        Some(value) => Ok(Some(set_of_one(alloc, value)?)),
+    match separating_expr(search, lower, upper)? {
+        Some(found) => Ok(Some(in_set(search.alloc, found)?)),
         None => Ok(None),
     }
 }
@@ -269,27 +312,25 @@ fn separating_set(
 /// An expression of a value that the one type has and the other hasn't, if there is one.
 ///
 /// It goes down both types together, and what it finds on the way down is all that it builds on the
-/// way up, with samples of the other attributes of the records on that way.
+/// way up, with samples of the other attributes of the records on that way, and with the steps.
 #[cycle(separating)]
-fn separating_expr(
-    alloc: Global,
-    a: &Type,
-    b: &Type,
-    extensions: &Extensions,
-    samples: &[Value],
-) -> M<Option<RestrictedExpr>>
-    requires { IsInhabitedWith extensions.now (value_trees samples.now) (ty_of a.now) }
+pub(crate) fn separating_expr(search: &Search, a: &Type, b: &Type) -> M<Option<Found>>
+    requires { IsSampledIn search.now (ty_of a.now) }
     ensures { IfOk result (λ found.
-        IsCounterexampleAnswer extensions.now (ty_of a.now) (ty_of b.now)
-        (option_map tree_of found)) }
+        IsOutsideAnswer search.now.extensions.now (ty_of a.now) (ty_of b.now)
+        (option_map found_of found)) }
 {
     match (a, b) {
         (Type::Bool(lower), Type::Bool(upper)) => {
-            Ok(separating_truth(lower, upper).map(RestrictedExpr::Bool))
+            let found = separating_truth(lower, upper).map(RestrictedExpr::Bool);
+            Ok(found_here(search.alloc, found))
         }
         (Type::Long, Type::Long) => Ok(None),
         (Type::String, Type::String) => Ok(None),
-        (Type::Entity(lower), Type::Entity(upper)) => separating_entity(alloc, lower, upper),
+        (Type::Entity(lower), Type::Entity(upper)) => {
+            let found = separating_entity(search.alloc, lower, upper)?;
+            Ok(found_here(search.alloc, found))
+        }
         (
             Type::Set {
                 element_type: lower,
@@ -299,8 +340,11 @@ fn separating_expr(
             },
         ) => match (lower, upper) {
             (_, None) => Ok(None),
-            (None, Some(upper)) => Ok(Some(set_of_one(alloc, other_value(alloc, upper))?)),
-            (Some(lower), Some(upper)) => separating_set(alloc, lower, upper, extensions, samples),
+            (None, Some(upper)) => {
+                let set = set_of_one(search.alloc, other_value(search.alloc, upper))?;
+                Ok(found_here(search.alloc, Some(set)))
+            }
+            (Some(lower), Some(upper)) => separating_set(search, lower, upper),
         },
         (
             Type::Record {
@@ -311,77 +355,17 @@ fn separating_expr(
                 attrs: upper,
                 open_attributes: upper_openness,
             },
-        ) => separating_record(
-            alloc,
-            lower,
-            *openness,
-            upper,
-            *upper_openness,
-            extensions,
-            samples,
-        ),
+        ) => separating_record(search, lower, *openness, upper, *upper_openness),
         (Type::ExtensionType { name: lower }, Type::ExtensionType { name: upper }) => {
             if lower.is_same(upper) {
-                Ok(None)
-            } else {
-                Ok(Some(sample_of(alloc, a, extensions, samples)?))
+                return Ok(None);
             }
+            let sample = sample_of(search, a)?;
+            Ok(found_here(search.alloc, Some(sample)))
         }
-        _ => Ok(Some(sample_of(alloc, a, extensions, samples)?)),
+        _ => {
+            let sample = sample_of(search, a)?;
+            Ok(found_here(search.alloc, Some(sample)))
+        }
     }
-}
-
-/// A value that the one type has and the other hasn't, if there is one.
-///
-/// None is the answer exactly where each value of the first type is one of the second. The first
-/// has to be inhabited by the samples (`Type::is_sampled`); attributes may be optional, records open
-/// and unions of any size. This is wider than permissive subtyping: the closed record without
-/// attributes has its value in a closed one with an optional attribute, though it isn't below it.
-/// The value has no part that it doesn't need for being one of the first type, apart from what
-/// tells it from those of the second. Out of memory is the only refusal.
-pub fn value_outside(
-    alloc: Global,
-    a: &Type,
-    b: &Type,
-    extensions: &Extensions,
-    samples: &[Value],
-) -> M<Option<Value>>
-    requires { IsInhabitedWith extensions.now (value_trees samples.now) (ty_of a.now) }
-    ensures none { IfOk result (λ found.
-        (found ≡ None) ↔ ValuesIncluded extensions.now (ty_of a.now) (ty_of b.now)) }
-    ensures real { IfOk result (λ found. IfSome found (λ value. IsValue (value_tree value))) }
-    ensures has { IfOk result (λ found.
-        IfSome found (λ value. Has extensions.now (value_tree value) (ty_of a.now))) }
-    ensures lacks { IfOk result (λ found.
-        IfSome found (λ value. ¬ Has extensions.now (value_tree value) (ty_of b.now))) }
-{
-    match separating_expr(alloc, a, b, extensions, samples)? {
-        Some(expr) => Ok(Some(Value::new(expr))),
-        None => Ok(None),
-    }
-}
-
-/// A value that separates two types: the one has it and the other hasn't, if there is one.
-///
-/// There is one exactly where the first type isn't below the second in permissive mode. Both types
-/// have to be stated with the samples (`Type::is_stated`): then subtyping is inclusion of values.
-/// The value is that of `value_outside`. Out of memory is the only refusal.
-pub fn separating_value(
-    alloc: Global,
-    a: &Type,
-    b: &Type,
-    extensions: &Extensions,
-    samples: &[Value],
-) -> M<Option<Value>>
-    requires first { IsStatedWith extensions.now (value_trees samples.now) (ty_of a.now) }
-    requires second { IsStatedWith extensions.now (value_trees samples.now) (ty_of b.now) }
-    ensures none { IfOk result (λ found.
-        (found ≡ None) ↔ Below Permissive (ty_of a.now) (ty_of b.now)) }
-    ensures real { IfOk result (λ found. IfSome found (λ value. IsValue (value_tree value))) }
-    ensures has { IfOk result (λ found.
-        IfSome found (λ value. Has extensions.now (value_tree value) (ty_of a.now))) }
-    ensures lacks { IfOk result (λ found.
-        IfSome found (λ value. ¬ Has extensions.now (value_tree value) (ty_of b.now))) }
-{
-    value_outside(alloc, a, b, extensions, samples)
 }

@@ -20,6 +20,8 @@ mod large;
 #[cfg(test)]
 mod members;
 #[cfg(test)]
+mod parting;
+#[cfg(test)]
 mod requests;
 #[cfg(test)]
 mod separate;

@@ -23,8 +23,17 @@ fn deep(alloc: Global, word: &str) -> Result<Type, Fail> {
     one(alloc, "x", Type::set(Rc::new(alloc, inner)?))
 }
 
+/// The closed record of an address, the closed record of a city of a type.
+fn user(alloc: Global, word: &str) -> Result<Type, Fail> {
+    let address = one(alloc, "city", sample(alloc, word)?)?;
+    one(alloc, "address", address)
+}
+
 /// The type of a word.
-fn made(alloc: Global, word: &str) -> Result<Type, Fail> {
+pub(crate) fn made(alloc: Global, word: &str) -> Result<Type, Fail> {
+    if let Some(city) = word.strip_prefix("user-") {
+        return user(alloc, city);
+    }
     match word.strip_prefix("deep-") {
         Some(inner) => deep(alloc, inner),
         None => sample(alloc, word),
@@ -152,7 +161,7 @@ const OUTSIDE: &[(&str, &str, Option<bool>)] = &[
 ];
 
 /// The one value of an extension type that is handed in.
-fn samples(alloc: Global) -> Result<Vec<Value>, Fail> {
+pub(crate) fn samples(alloc: Global) -> Result<Vec<Value>, Fail> {
     let address = Value::new(value(alloc, "ip=x")?);
     Ok(vec![in alloc; address]?)
 }
