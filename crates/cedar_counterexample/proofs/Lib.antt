@@ -1,6 +1,7 @@
 pub mod FillingLemmas
 pub mod FreshLemmas
 pub mod NameLists
+pub mod NamedLemmas
 pub mod PutLemmas
 pub mod Sizes
 pub mod StartLemmas

@@ -8,7 +8,7 @@ abbrev mutual
   -- how many parts a type has
   pub ty_size : Ty → ℕ
   ty_size (set_of ty) = ty_size ty + 2
-  ty_size (record_of fields openness) = fields_size fields + 4
+  ty_size (record_of fields openness) = fields_size fields + 5
   ty_size _ = 0
 
   -- how many the types of attributes have

@@ -23,8 +23,10 @@ use Rattle.cedar_type_rules.specs.Ty.{Fields, Ty, end, field, record_of}
 use Rattle.cedar_type_rules.specs.declared.open_tag.OpenTag.{OpenTag}
 use Rattle.cedar_type_rules.specs.declared.open_tag.OpenTag.TheVariants.{ClosedAttributes, OpenAttributes}
 use Rattle.cedar_counterexample.proofs.FillingLemmas.{filled_has, nothing_or}
+use Rattle.cedar_counterexample.proofs.TypeCounterexamples.{separated_outside}
 use Rattle.cedar_counterexample.specs.Filling.{IsFilled, IsStart}
-use Rattle.cedar_counterexample.specs.Counterexample.{IsCounterexample, IsValueOf}
+use Rattle.cedar_counterexample.specs.Counterexample.{IsCounterexample, IsOutsideAnswer, IsValueOf, PlainFound, PlainStart, empty_start, start_through}
+use Rattle.cedar_counterexample.specs.Steps.{IsOutsideAt}
 
 -- the type of an attribute is inhabited where those of all are
 pub AreInhabitedWith-of : (extensions : Extensions) (samples : List Tree) (fields : Fields) (name : Text) (required : Bool) (ty : Ty)
@@ -46,7 +48,7 @@ alone_is name other value found is =
 -- where the other record requires a name that the one doesn't, nothing is a start
 pub missing_start : (extensions : Extensions) (lower upper : Fields) (openness upper_openness : OpenTag) (name : Text) (required : Bool) (ty : Ty)
     → ((own : Ty) → ¬ HasField lower name true own) → IsTrue required → HasField upper name required ty
-    → IsStart extensions lower openness upper upper_openness no_entry
+    → IsStart extensions lower openness upper upper_openness (empty_start name)
 missing_start extensions lower upper openness upper_openness name required ty never needed asked = record {
   real = tt;
   fits = λ n v r t found has. absurd cc;
@@ -60,6 +62,7 @@ missing_start extensions lower upper openness upper_openness name required ty ne
       absurd cc))
       (λ there. ⊎_elim (λ found. absurd (let e : None ≡ Some there.0 = found in cc)) (λ own. never own.0 own.1) (filled.listed name there.0 there.1))
       (nothing_or (entry_at name whole));
+  leads = λ apart. (let P : Bool → Type 0 = λ flag. HasField upper name flag ty in inr (refl, inl ((ty, subst P needed asked), never)));
 }
 
 -- what is filled up from a value that the type of its name hasn't isn't one of the other record
@@ -90,15 +93,17 @@ own_listed lower openness name own_required own value has =
 
 -- where a value separates the types of a name, it under that name is a start
 pub attribute_start : (extensions : Extensions) (lower upper : Fields) (openness upper_openness : OpenTag) (name : Text)
-    (own_required required : Bool) (own ty : Ty) (value : Tree) → IsSortedByName lower → IsText name → HasField lower name own_required own
-    → HasField upper name required ty → IsCounterexample extensions own ty value
-    → IsStart extensions lower openness upper upper_openness (entry name value no_entry)
-attribute_start extensions lower upper openness upper_openness name own_required required own ty value sorted_by_name named has also separates = record {
-  real = (named, separates.0.0, tt, λ among. omega (arith, among.1));
-  fits = own_fits extensions lower name own_required own value sorted_by_name has separates.0.1;
-  listed = own_listed lower openness name own_required own value has;
-  lacks = λ whole filled. lacks_alone extensions lower upper upper_openness name required ty value whole filled also separates.1;
-}
+    (own_required required : Bool) (own ty : Ty) (found : PlainFound) → IsSortedByName lower → IsText name → HasField lower name own_required own
+    → HasField upper name required ty → IsCounterexample extensions own ty found.value → IsOutsideAt extensions found.steps own ty
+    → IsStart extensions lower openness upper upper_openness (start_through name found)
+attribute_start extensions lower upper openness upper_openness name own_required required own ty found sorted_by_name named has also separates parts =
+    record {
+      real = (named, separates.0.0, tt, λ among. omega (arith, among.1));
+      fits = own_fits extensions lower name own_required own found.value sorted_by_name has separates.0.1;
+      listed = own_listed lower openness name own_required own found.value has;
+      lacks = λ whole filled. lacks_alone extensions lower upper upper_openness name required ty found.value whole filled also separates.1;
+      leads = λ apart. inl (own_required, own, required, ty, has, also, parts);
+    }
 
 -- a value under a name that the record lacks has no attribute to fit
 fresh_fits : (extensions : Extensions) (lower : Fields) (name : Text) (value : Tree) → ¬ Contains (field_names lower) name → (n : Text) (v : Tree)
@@ -110,12 +115,13 @@ fresh_fits extensions lower name value fresh n v r t found has =
 -- where an open record lacks a name of the other, a value that the type of the name hasn't is a start
 pub other_start : (extensions : Extensions) (lower upper : Fields) (upper_openness : OpenTag) (name : Text) (required : Bool) (ty : Ty)
     (value : Tree) → IsText name → ¬ Contains (field_names lower) name → HasField upper name required ty → IsValue value → ¬ Has extensions value ty
-    → IsStart extensions lower OpenAttributes upper upper_openness (entry name value no_entry)
+    → IsStart extensions lower OpenAttributes upper upper_openness (start_through name (record { value = value; steps = [] }))
 other_start extensions lower upper upper_openness name required ty value named fresh also real lacks = record {
   real = (named, real, tt, λ among. omega (arith, among.1));
   fits = fresh_fits extensions lower name value fresh;
   listed = tt;
   lacks = λ whole filled. lacks_alone extensions lower upper upper_openness name required ty value whole filled also lacks;
+  leads = λ apart. inr (refl, inr (inr (HasField-name upper name required ty also, refl, fresh)));
 }
 
 -- what is filled up from a value under a name that a closed record lacks isn't one of it
@@ -129,12 +135,14 @@ lacks_name extensions lower upper name value whole filled absent has =
 -- where a closed record lacks a name of the one, a value of its type is a start
 pub further_start : (extensions : Extensions) (lower upper : Fields) (openness : OpenTag) (name : Text) (own_required : Bool) (own : Ty) (value : Tree)
     → IsSortedByName lower → IsText name → HasField lower name own_required own → ¬ Contains (field_names upper) name
-    → IsValueOf extensions own value → IsStart extensions lower openness upper ClosedAttributes (entry name value no_entry)
+    → IsValueOf extensions own value
+    → IsStart extensions lower openness upper ClosedAttributes (start_through name (record { value = value; steps = [] }))
 further_start extensions lower upper openness name own_required own value sorted_by_name named has absent sample = record {
   real = (named, sample.0, tt, λ among. omega (arith, among.1));
   fits = own_fits extensions lower name own_required own value sorted_by_name has sample.1;
   listed = own_listed lower openness name own_required own value has;
   lacks = λ whole filled. lacks_name extensions lower upper name value whole filled absent;
+  leads = λ apart. inr (refl, inr (inl (HasField-name lower name own_required own has, refl, absent)));
 }
 
 -- an open record has all names of one whose attributes are included
@@ -153,23 +161,29 @@ open_names lower (field other required ty rest) parts name among =
 -- where an open record has all names of a closed one, a value under a further name is a start
 pub open_start : (extensions : Extensions) (lower upper : Fields) (name : Text) → IsText name → ¬ Contains (field_names lower) name
     → FieldsIncluded OpenAttributes lower upper
-    → IsStart extensions lower OpenAttributes upper ClosedAttributes (entry name (truth_value true) no_entry)
+    → IsStart extensions lower OpenAttributes upper ClosedAttributes (record { values = entry name (truth_value true) no_entry; steps = [] })
 open_start extensions lower upper name named fresh parts = record {
   real = (named, tt, tt, λ among. omega (arith, among.1));
   fits = fresh_fits extensions lower name (truth_value true) fresh;
   listed = tt;
   lacks = λ whole filled. lacks_name extensions lower upper name (truth_value true) whole filled
       (λ among. fresh (open_names lower upper parts name among));
+  leads = λ apart. apart;
 }
 
--- what is filled up from a start separates the records
-pub start_separates : (extensions : Extensions) (lower upper : Fields) (openness upper_openness : OpenTag) (start whole : Entries) → IsSortedByName lower
-    → IsStart extensions lower openness upper upper_openness start → IsFilled extensions lower start whole
-    → IsCounterexample extensions (record_of lower openness) (record_of upper upper_openness) (map_value whole)
-start_separates extensions lower upper openness upper_openness start whole sorted_by_name begun filled = (
-  (filled.real begun.real, filled_has extensions lower openness start whole sorted_by_name filled begun.fits begun.listed),
-  begun.lacks whole filled,
-)
+-- what is filled up from a start separates the records, and the steps lead to where they part
+pub start_separates : (extensions : Extensions) (lower upper : Fields) (openness upper_openness : OpenTag) (start : PlainStart) (whole : Entries)
+    → IsSortedByName lower → IsStart extensions lower openness upper upper_openness start → IsFilled extensions lower start.values whole
+    → IsOutsideAnswer extensions (record_of lower openness) (record_of upper upper_openness)
+    (Some (record { value = map_value whole; steps = start.steps }))
+start_separates extensions lower upper openness upper_openness start whole sorted_by_name begun filled =
+    let a = record_of lower openness in
+    let b = record_of upper upper_openness in
+    let separates : IsCounterexample extensions a b (map_value whole) = (
+      (filled.real begun.real, filled_has extensions lower openness start.values whole sorted_by_name filled begun.fits begun.listed),
+      begun.lacks whole filled,
+    ) in
+    (separates, begun.leads (separated_outside extensions a b (map_value whole) separates))
 
 -- a walk over the attributes of the other record: what is left of them decides about all
 pub record CounterexampleSoFar (lower : Fields) (openness : OpenTag) (upper left : Fields) : Type 0 where

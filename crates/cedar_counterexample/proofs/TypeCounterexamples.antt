@@ -1,5 +1,5 @@
 -- Values that separate types of one kind and of unlike kinds.
-use Rattle.std.proofs.Common.{◌≡◌, ◌≢◌, refl, sym, ap, ◌∙◌, ℕ, Bool, None}
+use Rattle.std.proofs.Common.{◌≡◌, ◌≢◌, refl, sym, ap, ◌∙◌, ℕ, Bool, None, Some}
 use Rattle.cedar_below.specs.Fits.{Gives}
 use Rattle.cedar_below.specs.IsValue.{IsValue}
 use Rattle.cedar_below.specs.PlainName.{PlainName}
@@ -10,9 +10,10 @@ use Rattle.cedar_type_rules.proofs.MemberLaws.{HasBy-above}
 use Rattle.cedar_type_rules.proofs.ValueInclusion.{extensions_included}
 use Rattle.cedar_type_rules.specs.Below.{Below}
 use Rattle.cedar_type_rules.specs.Has.{Has}
+use Rattle.cedar_type_rules.specs.InclusionLaws.{ValuesIncluded}
 use Rattle.cedar_type_rules.specs.Order.{kind_rank}
 use Rattle.cedar_type_rules.specs.Ty.{Fields, Ty, any_entity, any_set, extension_of, long, record_of, set_of, text, truth, union_of}
-use Rattle.cedar_counterexample.specs.Counterexample.{IsValueOf, IsCounterexample}
+use Rattle.cedar_counterexample.specs.Counterexample.{IsCounterexample, IsOutsideAnswer, IsValueOf, PlainFound, found_element}
 use Rattle.cedar_types.specs.Meaning.{attribute_step, attributes_step, ty_of, type_step}
 use Rattle.cedar_types.specs.declared.types.Type.{fold-roll-Type, roll-Type}
 use Rattle.cedar_types.specs.declared.types.Type.TheOpen as layer
@@ -59,6 +60,15 @@ extensions_separate extensions value a b differ sample = elim sample.1 [ ]
 pub sets_separate : (extensions : Extensions) (value : Tree) (a b : Ty) → IsCounterexample extensions a b value
     → IsCounterexample extensions (set_of a) (set_of b) (set_value (tree value no_tree))
 sets_separate extensions value a b separates = (((separates.0.0, tt), (separates.0.1, tt)), λ has. separates.1 has.0)
+
+-- where types of elements part, the sets do, at their elements
+pub sets_part : (extensions : Extensions) (found : PlainFound) (a b : Ty) → IsOutsideAnswer extensions a b (Some found)
+    → IsOutsideAnswer extensions (set_of a) (set_of b) (Some (found_element found))
+sets_part extensions found a b answer = (sets_separate extensions found.value a b answer.0, answer.1)
+
+-- where a value separates two types, not each value of the one is one of the other
+pub separated_outside : (extensions : Extensions) (a b : Ty) (value : Tree) → IsCounterexample extensions a b value → ¬ ValuesIncluded extensions a b
+separated_outside extensions a b value separates within = separates.1 (within value separates.0.0 separates.0.1)
 
 -- a type isn't below another from which a value separates it
 pub separated_apart : (extensions : Extensions) (a b : Ty) (value : Tree) → IsCounterexample extensions a b value → ¬ Below Permissive a b

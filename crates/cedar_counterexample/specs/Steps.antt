@@ -29,7 +29,7 @@ steps_of steps = map step_of steps.items
 
 -- what steps stand for that were noted on the way up, the last one first
 abbrev pub noted_steps : Vec Step Global → List PlainStep
-noted_steps steps = reverse (steps_of steps)
+noted_steps steps = map step_of (reverse steps.items)
 
 -- the upper record requires an attribute that the lower doesn't
 abbrev pub OnlyUpperRequires : Fields → Fields → Text → Type 0
@@ -72,3 +72,9 @@ IsOutsideAt extensions (attribute_step name ∷ steps) (record_of lower openness
     × IsOutsideAt extensions steps own ty)
     ⊎ ((steps ≡ []) × AttributeDiffers lower openness upper upper_openness name)
 IsOutsideAt _ _ _ _ = ⊥
+
+-- two types share no parts to step down to: not both are sets of elements, and not both records
+abbrev pub ShareNoParts : Ty → Ty → Type 0
+ShareNoParts (set_of lower) (set_of upper) = ⊥
+ShareNoParts (record_of lower openness) (record_of upper upper_openness) = ⊥
+ShareNoParts _ _ = Unit {0}

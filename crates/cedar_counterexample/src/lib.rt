@@ -7,14 +7,14 @@
 #![tactic(auto)]
 
 pub use found::{AttributesOutside, Outside};
-pub use outside::{attributes_outside, outside, separating_value, value_outside};
+pub use parting::{attributes_outside, outside, separating_value, value_outside};
 pub use sampling::{sample_attributes, sample_value};
 pub use steps::Step;
 
 mod found;
 mod fresh;
 mod named;
-mod outside;
+mod parting;
 mod putting;
 mod samples;
 mod sampling;

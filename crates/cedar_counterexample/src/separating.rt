@@ -14,6 +14,7 @@ ghost use Rattle.cedar_type_rules.specs.declared.open_tag.OpenTag.TheVariants.{C
 ghost use Rattle.cedar_counterexample.specs.Counterexample.{IsCounterexampleAnswer, IsOutsideAnswer, empty_start, found_element, found_of, record_found, start_of, start_through};
 ghost use Rattle.cedar_counterexample.specs.Filling.{IsAttributeStart, IsFieldStart, IsRecordStart};
 ghost use Rattle.cedar_counterexample.specs.Search.{AreSampledIn, IsSampledIn};
+ghost use Rattle.cedar_counterexample.specs.Steps.{ShareNoParts};
 ghost use Rattle.cedar_types.specs.Meaning.{attribute_of, fields_of, ty_of};
 
 use crate::found::{Found, Start};
@@ -114,6 +115,47 @@ fn start_of_none(alloc: Global, name: &String) -> M<Start>
     })
 }
 
+/// An expression of a value that the one type has and the other hasn't, if there is one, of two
+/// types that aren't both sets of elements and not both records.
+fn separating_leaf(search: &Search, a: &Type, b: &Type) -> M<Option<RestrictedExpr>>
+    requires sampled { IsSampledIn search.now (ty_of a.now) }
+    requires leaf { ShareNoParts (ty_of a.now) (ty_of b.now) }
+    ensures { IfOk result (λ found.
+        IsCounterexampleAnswer search.now.extensions.now (ty_of a.now) (ty_of b.now)
+        (option_map tree_of found)) }
+{
+    let alloc = search.alloc;
+    match (a, b) {
+        (Type::Bool(lower), Type::Bool(upper)) => {
+            Ok(separating_truth(lower, upper).map(RestrictedExpr::Bool))
+        }
+        (Type::Long, Type::Long) => Ok(None),
+        (Type::String, Type::String) => Ok(None),
+        (Type::Entity(lower), Type::Entity(upper)) => separating_entity(alloc, lower, upper),
+        (
+            Type::Set {
+                element_type: lower,
+            },
+            Type::Set {
+                element_type: upper,
+            },
+        ) => match (lower, upper) {
+            (_, None) => Ok(None),
+            (None, Some(upper)) => Ok(Some(set_of_one(alloc, other_value(alloc, upper))?)),
+            (Some(_), Some(_)) => unreachable!(),
+        },
+        (Type::Record { .. }, Type::Record { .. }) => unreachable!(),
+        (Type::ExtensionType { name: lower }, Type::ExtensionType { name: upper }) => {
+            if lower.is_same(upper) {
+                Ok(None)
+            } else {
+                Ok(Some(sample_of(search, a)?))
+            }
+        }
+        _ => Ok(Some(sample_of(search, a)?)),
+    }
+}
+
 /// A start of a value of a record that a closed one hasn't, each attribute of which it has: a
 /// sample under a name that the second lacks, and any value under a name that neither has where the
 /// first is open and has no such name.
@@ -195,7 +237,8 @@ fn separating_field(
     if attribute.is_required && !own.is_required {
         return Ok(Some(start_of_none(search.alloc, name)?));
     }
-    match separating_expr(search, &own.attr_type, &attribute.attr_type)? {
+    let found = separating_expr(search, &own.attr_type, &attribute.attr_type)?;
+    match found {
         Some(found) => Ok(Some(start_with(search.alloc, name, found)?)),
         None => Ok(None),
     }
@@ -263,7 +306,8 @@ pub(crate) fn separating_values(
         (record_of (fields_of upper.now) upper_openness) (option_map record_found found)) }
 {
     match separating_start(search, lower, openness, upper, upper_openness)? {
-        Some(Start { values, steps }) => {
+        Some(start) => {
+            let Start { values, steps } = start;
             let values = fill(search, values, lower)?;
             Ok(Some(Start { values, steps }))
         }
@@ -286,10 +330,11 @@ fn separating_record(
         (record_of (fields_of upper.now) upper_openness) (option_map found_of found)) }
 {
     match separating_values(search, lower, openness, upper, upper_openness)? {
-        Some(Start { values, steps }) => Ok(Some(Found {
-            expr: RestrictedExpr::Record(values),
-            steps,
-        })),
+        Some(start) => {
+            let Start { values, steps } = start;
+            let expr = RestrictedExpr::Record(values);
+            Ok(Some(Found { expr, steps }))
+        }
         None => Ok(None),
     }
 }
@@ -321,31 +366,14 @@ pub(crate) fn separating_expr(search: &Search, a: &Type, b: &Type) -> M<Option<F
         (option_map found_of found)) }
 {
     match (a, b) {
-        (Type::Bool(lower), Type::Bool(upper)) => {
-            let found = separating_truth(lower, upper).map(RestrictedExpr::Bool);
-            Ok(found_here(search.alloc, found))
-        }
-        (Type::Long, Type::Long) => Ok(None),
-        (Type::String, Type::String) => Ok(None),
-        (Type::Entity(lower), Type::Entity(upper)) => {
-            let found = separating_entity(search.alloc, lower, upper)?;
-            Ok(found_here(search.alloc, found))
-        }
         (
             Type::Set {
-                element_type: lower,
+                element_type: Some(lower),
             },
             Type::Set {
-                element_type: upper,
+                element_type: Some(upper),
             },
-        ) => match (lower, upper) {
-            (_, None) => Ok(None),
-            (None, Some(upper)) => {
-                let set = set_of_one(search.alloc, other_value(search.alloc, upper))?;
-                Ok(found_here(search.alloc, Some(set)))
-            }
-            (Some(lower), Some(upper)) => separating_set(search, lower, upper),
-        },
+        ) => separating_set(search, lower, upper),
         (
             Type::Record {
                 attrs: lower,
@@ -356,16 +384,9 @@ pub(crate) fn separating_expr(search: &Search, a: &Type, b: &Type) -> M<Option<F
                 open_attributes: upper_openness,
             },
         ) => separating_record(search, lower, *openness, upper, *upper_openness),
-        (Type::ExtensionType { name: lower }, Type::ExtensionType { name: upper }) => {
-            if lower.is_same(upper) {
-                return Ok(None);
-            }
-            let sample = sample_of(search, a)?;
-            Ok(found_here(search.alloc, Some(sample)))
-        }
         _ => {
-            let sample = sample_of(search, a)?;
-            Ok(found_here(search.alloc, Some(sample)))
+            let found = separating_leaf(search, a, b)?;
+            Ok(found_here(search.alloc, found))
         }
     }
 }

@@ -28,8 +28,8 @@ Items = List (String Global × AttributeType)
 
 pub fill-sample_of-requires : goal.fill-sample_of-requires
 fill-sample_of-requires t c =
-    let extensions = c.args.extensions.now in
-    let samples = value_trees c.args.samples.now in
+    let extensions = c.args.search.now.extensions.now in
+    let samples = value_trees c.args.search.now.samples.now in
     let all = fields_of c.args.attrs.now in
     let name = string_bytes c.in-Some.name.now in
     let attribute = attribute_of c.in-Some.attribute.now in
@@ -47,7 +47,7 @@ fill-sample_of-requires t c =
 pub fill-loop-name-preserved-then-not-contains_key :
     goal.fill-loop-name-preserved-then-not-contains_key
 fill-loop-name-preserved-then-not-contains_key t c =
-    let extensions = c.args.extensions.now in
+    let extensions = c.args.search.now.extensions.now in
     let all = fields_of c.args.attrs.now in
     let start = entries_of c.args.start in
     let now = entries_of c.loop-name.values in
@@ -68,7 +68,7 @@ fill-loop-name-preserved-then-not-contains_key t c =
 
 pub fill-loop-name-preserved : goal.fill-loop-name-preserved
 fill-loop-name-preserved t c =
-    let extensions = c.args.extensions.now in
+    let extensions = c.args.search.now.extensions.now in
     let all = fields_of c.args.attrs.now in
     let start = entries_of c.args.start in
     let now = entries_of c.loop-name.values in
@@ -88,14 +88,14 @@ fill-loop-name-preserved t c =
 
 pub sample_of-returns-in-Entity : goal.sample_of-returns-in-Entity
 sample_of-returns-in-Entity t c =
-    let extensions = c.args.extensions.now in
+    let extensions = c.args.search.now.extensions.now in
     IfOk-weaker c.sample_entity.result _ (λ sample. IsValueOf extensions (ty_of c.args.ty.now) (tree_of sample))
     (λ sample each. let P : Ty → Type 0 = λ ty. IsValueOf extensions ty (tree_of sample) in
     subst P (sym (ap ty_of c.in-Entity.is ∙ ty_of-entity c.in-Entity.kind)) (each extensions)) c.sample_entity.ensures
 
 pub sample_of-returns-in_ok-values-in-Record : goal.sample_of-returns-in_ok-values-in-Record
 sample_of-returns-in_ok-values-in-Record t c =
-    let extensions = c.args.extensions.now in
+    let extensions = c.args.search.now.extensions.now in
     let values = c.in_ok-values-in-Record.values in
     let fields = fields_of c.in-Record.attrs in
     let openness = c.in-Record.open_attributes in

@@ -14,5 +14,5 @@ decreases-sample_of l = ty_size (ty_of l.ty.now)
 
 abbrev pub invariant-fill-loop-name : goal.invariant-fill-loop-name
 invariant-fill-loop-name l =
-    FillingSoFar l.extensions (fields_of l.attrs) (entries_of l.fn.start)
+    FillingSoFar l.search.extensions.now (fields_of l.attrs) (entries_of l.fn.start)
     (fields_from (plain_attributes l.name-iterator)) (entries_of l.values)

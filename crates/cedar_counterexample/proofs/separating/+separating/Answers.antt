@@ -1,4 +1,4 @@
-use Rattle.std.proofs.Common.{◌≡◌, ◌<◌, ◌+◌, true, false, Contains, List, None, Option, Some, ap, arith, inl, refl, string_bytes, subst, sym, ◌∙◌, Global}
+use Rattle.std.proofs.Common.{rules, ◌≡◌, ◌<◌, ◌+◌, true, false, Contains, List, None, Option, Some, ap, arith, inl, refl, string_bytes, subst, sym, ◌∙◌, Global}
 use Rattle.std.proofs.lemmas.Bool.{false≢true}
 use Rattle.std.proofs.lemmas.Result.{IfOk-weaker}
 use Rattle.std.proofs.lemmas.Str.{IsUtf8-string_bytes}
@@ -24,7 +24,9 @@ use Rattle.cedar_counterexample.proofs.Sizes.{attribute_smaller, ty_size}
 use Rattle.cedar_counterexample.proofs.StartLemmas.{AreInhabitedWith-of, CounterexampleSoFar, attribute_start, missing_start, separating_next, start_separates}
 use Rattle.cedar_counterexample.proofs.TypeCounterexamples.{any_set_separates, ty_of-any_set}
 use Rattle.cedar_counterexample.specs.Filling.{IsAttributeStart, IsFieldStart, IsRecordStart, IsStart}
-use Rattle.cedar_counterexample.specs.Counterexample.{IsCounterexampleAnswer, IsCounterexample}
+use Rattle.cedar_counterexample.specs.Counterexample.{IsCounterexample, IsCounterexampleAnswer, IsOutsideAnswer, PlainFound, PlainStart, found_of, record_found, start_of}
+use Rattle.cedar_counterexample.specs.declared.found.Found.{Found}
+use Rattle.cedar_counterexample.specs.declared.found.Start.{Start}
 use Rattle.cedar_types.proofs.MemberParts.{ty_of-entity, ty_of-set}
 use Rattle.cedar_types.proofs.StatedSteps.{flag_same, type_same}
 use Rattle.cedar_types.specs.Attributes.{plain_attributes}
@@ -42,7 +44,7 @@ Items = List (String Global × AttributeType)
 
 pub separating_field-returns-in_default : goal.separating_field-returns-in_default
 separating_field-returns-in_default t c =
-    let extensions = c.args.extensions.now in
+    let extensions = c.args.search.now.extensions.now in
     let lower = fields_of c.args.lower.now in
     let name = string_bytes c.args.name.now in
     let attribute = attribute_of c.args.attribute.now in
@@ -50,26 +52,26 @@ separating_field-returns-in_default t c =
     let R : Text → Type 0 = λ text. ¬ Contains (field_names lower) text in
     let absent = subst R c.deref.ensures (λ among. false≢true (sym (ap is_some c.in_default.is) ∙ found.1 among)) in
     IfOk-weaker c.start_without.result _
-    (λ start. IsFieldStart extensions lower c.args.openness name attribute.0 attribute.1 (option_map entries_of start))
+    (λ start. IsFieldStart extensions lower c.args.openness name attribute.0 attribute.1 (option_map start_of start))
     (λ start each. each extensions lower absent) c.start_without.ensures
 
 pub separating_field-separating_expr-requires :
     goal.separating_field-separating_expr-requires
 separating_field-separating_expr-requires t c =
-    let samples = value_trees c.args.samples.now in
+    let samples = value_trees c.args.search.now.samples.now in
     let lower = fields_of c.args.lower.now in
     let own = attribute_of c.in-Some.own.now in
     let has = HasField-found c.deref.result.now lower own (sym c.in-Some.ensures.attribute) in
     let P : Ty → Type 0 = λ ty. ty_size ty < ty_size (attribute_of c.args.attribute.now).1 + 1 in
     let less = subst P (sym (type_same c.args.attribute.now c.deref-3.result.now c.deref-3.ensures)) (omega arith) in (
       omega (arith, less, c.decreases),
-      subst (IsInhabitedWith c.args.extensions.now samples) (sym (type_same c.in-Some.own.now c.deref-2.result.now c.deref-2.ensures))
-          (AreInhabitedWith-of c.args.extensions.now samples lower c.deref.result.now own.0 own.1 c.requires has),
+      subst (IsInhabitedWith c.args.search.now.extensions.now samples) (sym (type_same c.in-Some.own.now c.deref-2.result.now c.deref-2.ensures))
+          (AreInhabitedWith-of c.args.search.now.extensions.now samples lower c.deref.result.now own.0 own.1 c.requires has),
     )
 
 pub separating_field-returns-then-not-own : goal.separating_field-returns-then-not-own
 separating_field-returns-then-not-own t c = λ upper upper_openness also.
-    let extensions = c.args.extensions.now in
+    let extensions = c.args.search.now.extensions.now in
     let lower = fields_of c.args.lower.now in
     let name = string_bytes c.args.name.now in
     let attribute = attribute_of c.args.attribute.now in
@@ -77,47 +79,45 @@ separating_field-returns-then-not-own t c = λ upper upper_openness also.
     let H : Text → Type 0 = λ text. HasField lower text own.0 own.1 in
     let has = subst H c.deref.ensures (HasField-found c.deref.result.now lower own (sym c.in-Some.ensures.attribute)) in
     let optional = flag_same c.in-Some.own.now ∙ c.if-not-own.true in
-    let Q : Entries → Type 0 = IsStart extensions lower c.args.openness upper upper_openness in
-    subst Q (sym (no_entries c.new.result c.new.ensures.empty))
+    let Q : PlainStart → Type 0 = IsStart extensions lower c.args.openness upper upper_openness in
+    subst Q (sym c.in_ok-start_of_none.ensures)
     (missing_start extensions lower upper c.args.openness upper_openness name attribute.0 attribute.1
     (λ ty there. (let same = (HasField-once lower name own.0 true own.1 ty (IsSortedByName-fields c.args.lower.now) has there).0 in
     let wrong : true ≡ false = sym same ∙ optional in absurd cc))
     (flag_same c.args.attribute.now ∙ c.if-attribute.true) also)
 
-pub separating_field-returns-in_ok-alone-in-Some-found : goal.separating_field-returns-in_ok-alone-in-Some-found
-separating_field-returns-in_ok-alone-in-Some-found t c = λ upper upper_openness also.
-    let extensions = c.args.extensions.now in
+pub separating_field-returns-in_ok-start_with-in-Some-found : goal.separating_field-returns-in_ok-start_with-in-Some-found
+separating_field-returns-in_ok-start_with-in-Some-found t c = λ upper upper_openness also.
+    let extensions = c.args.search.now.extensions.now in
     let lower = fields_of c.args.lower.now in
     let name = string_bytes c.args.name.now in
     let attribute = attribute_of c.args.attribute.now in
     let own = attribute_of c.in-Some.own.now in
-    let value = tree_of c.in-Some-found.value in
     let H : Text → Type 0 = λ text. HasField lower text own.0 own.1 in
     let has = subst H c.deref.ensures (HasField-found c.deref.result.now lower own (sym c.in-Some.ensures.attribute)) in
-    let F : Option RestrictedExpr → Type 0 = λ found. IsCounterexampleAnswer extensions (ty_of c.deref-2.result.now)
-    (ty_of c.deref-3.result.now) (option_map tree_of found) in
-    let found : F (Some c.in-Some-found.value) = subst F c.in-Some-found.is c.in_ok-found.ensures in
-    let A : Ty → Type 0 = λ ty. IsCounterexample extensions ty (ty_of c.deref-3.result.now) value in
-    let B : Ty → Type 0 = λ ty. IsCounterexample extensions own.1 ty value in
-    let separates = subst B (type_same c.args.attribute.now c.deref-3.result.now c.deref-3.ensures)
+    let it = found_of c.in-Some-found.found in
+    let F : Option Found → Type 0 = λ found. IsOutsideAnswer extensions (ty_of c.deref-2.result.now)
+    (ty_of c.deref-3.result.now) (option_map found_of found) in
+    let found : F (Some c.in-Some-found.found) = subst F c.in-Some-found.is c.in_ok-found.ensures in
+    let A : Ty → Type 0 = λ ty. IsOutsideAnswer extensions ty (ty_of c.deref-3.result.now) (Some it) in
+    let B : Ty → Type 0 = λ ty. IsOutsideAnswer extensions own.1 ty (Some it) in
+    let answer = subst B (type_same c.args.attribute.now c.deref-3.result.now c.deref-3.ensures)
     (subst A (type_same c.in-Some.own.now c.deref-2.result.now c.deref-2.ensures) found) in
-    let is : entries_of c.in_ok-alone-in-Some-found.field-0 ≡ entry name value no_entry =
-    c.in_ok-alone-in-Some-found.ensures ∙ ap (λ text. entry text value no_entry) c.in_ok-clone-in-Some-found.ensures.cases in
-    let Q : Entries → Type 0 = IsStart extensions lower c.args.openness upper upper_openness in
-    subst Q (sym is)
-    (attribute_start extensions lower upper c.args.openness upper_openness name own.0 attribute.0 own.1 attribute.1 value
-    (IsSortedByName-fields c.args.lower.now) (IsUtf8-string_bytes c.args.name.now) has also separates)
+    let Q : PlainStart → Type 0 = IsStart extensions lower c.args.openness upper upper_openness in
+    subst Q (sym c.in_ok-start_with-in-Some-found.ensures)
+    (attribute_start extensions lower upper c.args.openness upper_openness name own.0 attribute.0 own.1 attribute.1 it
+    (IsSortedByName-fields c.args.lower.now) (IsUtf8-string_bytes c.args.name.now) has also answer.0 answer.1)
 
 pub separating_field-returns-in-None : goal.separating_field-returns-in-None
 separating_field-returns-in-None t c =
-    let extensions = c.args.extensions.now in
+    let extensions = c.args.search.now.extensions.now in
     let lower = fields_of c.args.lower.now in
     let attribute = attribute_of c.args.attribute.now in
     let own = attribute_of c.in-Some.own.now in
     let H : Text → Type 0 = λ text. HasField lower text own.0 own.1 in
     let has = subst H c.deref.ensures (HasField-found c.deref.result.now lower own (sym c.in-Some.ensures.attribute)) in
-    let F : Option RestrictedExpr → Type 0 = λ found. IsCounterexampleAnswer extensions (ty_of c.deref-2.result.now)
-    (ty_of c.deref-3.result.now) (option_map tree_of found) in
+    let F : Option Found → Type 0 = λ found. IsOutsideAnswer extensions (ty_of c.deref-2.result.now)
+    (ty_of c.deref-3.result.now) (option_map found_of found) in
     let found : F None = subst F c.in-None.is c.in_ok-found.ensures in
     let A : Ty → Type 0 = λ ty. IncludedByParts ty (ty_of c.deref-3.result.now) in
     let B : Ty → Type 0 = λ ty. IncludedByParts own.1 ty in
@@ -146,26 +146,26 @@ separating_attribute-separating_field-requires t c =
 
 pub separating_attribute-returns-in-Some-found : goal.separating_attribute-returns-in-Some-found
 separating_attribute-returns-in-Some-found t c = λ upper_openness.
-    let extensions = c.args.extensions.now in
+    let extensions = c.args.search.now.extensions.now in
     let lower = fields_of c.args.lower.now in
     let upper = fields_of c.args.upper.now in
     let name = string_bytes c.in-Some.name.now in
     let attribute = attribute_of c.in-Some.attribute.now in
     let P : Items → Type 0 = λ items. CounterexampleSoFar lower c.args.openness upper (fields_from (plain_attributes items)) in
     let so_far = subst P c.in-Some.ensures.steps c.loop-name.invariant in
-    let F : Option _ → Type 0 = λ found. IsFieldStart extensions lower c.args.openness name attribute.0 attribute.1 (option_map entries_of found) in
+    let F : Option _ → Type 0 = λ found. IsFieldStart extensions lower c.args.openness name attribute.0 attribute.1 (option_map start_of found) in
     let found : F (Some c.in-Some-found.start) = subst F c.in-Some-found.is c.in_ok-found.ensures in
     found upper upper_openness (so_far.within name attribute.0 attribute.1 (inl (refl, refl, refl)))
 
 pub separating_attribute-loop-name-preserved : goal.separating_attribute-loop-name-preserved
 separating_attribute-loop-name-preserved t c =
-    let extensions = c.args.extensions.now in
+    let extensions = c.args.search.now.extensions.now in
     let lower = fields_of c.args.lower.now in
     let upper = fields_of c.args.upper.now in
     let name = string_bytes c.in-Some.name.now in
     let attribute = attribute_of c.in-Some.attribute.now in
     let P : Items → Type 0 = λ items. CounterexampleSoFar lower c.args.openness upper (fields_from (plain_attributes items)) in
-    let F : Option _ → Type 0 = λ found. IsFieldStart extensions lower c.args.openness name attribute.0 attribute.1 (option_map entries_of found) in
+    let F : Option _ → Type 0 = λ found. IsFieldStart extensions lower c.args.openness name attribute.0 attribute.1 (option_map start_of found) in
     let found : F None = subst F c.in_default.is c.in_ok-found.ensures in
     separating_next lower c.args.openness upper name attribute.0 attribute.1 _ (subst P c.in-Some.ensures.steps c.loop-name.invariant) found
 
@@ -173,59 +173,41 @@ pub separating_start-returns-in-Some : goal.separating_start-returns-in-Some
 separating_start-returns-in-Some t c =
     let lower = fields_of c.args.lower.now in
     let upper = fields_of c.args.upper.now in
-    let F : Option _ → Type 0 = λ found. IsAttributeStart c.args.extensions.now lower c.args.openness upper (option_map entries_of found) in
+    let F : Option _ → Type 0 = λ found. IsAttributeStart c.args.search.now.extensions.now lower c.args.openness upper (option_map start_of found) in
     let found : F (Some c.in-Some.start) = subst F c.in-Some.is c.in_ok-found.ensures in
     found c.args.upper_openness
 
 pub separating_start-returns-in-ClosedAttributes : goal.separating_start-returns-in-ClosedAttributes
 separating_start-returns-in-ClosedAttributes t c =
-    let extensions = c.args.extensions.now in
+    let extensions = c.args.search.now.extensions.now in
     let lower = fields_of c.args.lower.now in
     let upper = fields_of c.args.upper.now in
     IfOk-weaker c.separating_names.result _
-    (λ found. IsRecordStart extensions lower c.args.openness upper c.args.upper_openness (option_map entries_of found))
-    (λ found it. let P : OpenTag → Type 0 = λ tag. IsRecordStart extensions lower c.args.openness upper tag (option_map entries_of found) in
+    (λ found. IsRecordStart extensions lower c.args.openness upper c.args.upper_openness (option_map start_of found))
+    (λ found it. let P : OpenTag → Type 0 = λ tag. IsRecordStart extensions lower c.args.openness upper tag (option_map start_of found) in
     subst P (sym c.in-ClosedAttributes.is) it) c.separating_names.ensures
 
-pub separating_expr-returns-in-Entity-Entity : goal.separating_expr-returns-in-Entity-Entity
-separating_expr-returns-in-Entity-Entity t c =
-    let extensions = c.args.extensions.now in
-    let lower = c.in-Entity-Entity.lower in
-    let upper = c.in-Entity-Entity.upper in
-    IfOk-weaker c.separating_entity.result _
-    (λ found. IsCounterexampleAnswer extensions (ty_of c.args.a.now) (ty_of c.args.b.now) (option_map tree_of found))
-    (λ found each. let A : Ty → Type 0 = λ ty. IsCounterexampleAnswer extensions ty (kind_ty upper) (option_map tree_of found) in
-    let B : Ty → Type 0 = λ ty. IsCounterexampleAnswer extensions (ty_of c.args.a.now) ty (option_map tree_of found) in
-    subst B (sym (ap ty_of c.in-Entity-Entity.is-1 ∙ ty_of-entity upper))
-    (subst A (sym (ap ty_of c.in-Entity-Entity.is-0 ∙ ty_of-entity lower)) (each extensions))) c.separating_entity.ensures
-
-pub separating_record-returns-in_ok-values-in-Some : goal.separating_record-returns-in_ok-values-in-Some
-separating_record-returns-in_ok-values-in-Some t c =
-    let extensions = c.args.extensions.now in
+pub separating_values-returns-in_ok-values-in-Some : goal.separating_values-returns-in_ok-values-in-Some
+separating_values-returns-in_ok-values-in-Some t c =
+    let extensions = c.args.search.now.extensions.now in
     let lower = fields_of c.args.lower.now in
     let upper = fields_of c.args.upper.now in
-    let values = c.in_ok-values-in-Some.values in
-    let F : Option _ → Type 0 = λ found. IsRecordStart extensions lower c.args.openness upper c.args.upper_openness
-    (option_map entries_of found) in
-    let found : F (Some c.in-Some.start) = subst F c.in-Some.is c.in_ok-found.ensures in
-    let separates = start_separates extensions lower upper c.args.openness c.args.upper_openness
-    (entries_of c.in-Some.start) (entries_of values) (IsSortedByName-fields c.args.lower.now) found c.in_ok-values-in-Some.ensures in
-    let V : Tree → Type 0 = IsCounterexample extensions (record_of lower c.args.openness) (record_of upper c.args.upper_openness) in
-    subst V (sym (tree_of-record values)) separates
+    let F : Option Start → Type 0 = λ found. IsRecordStart extensions lower c.args.openness upper c.args.upper_openness
+    (option_map start_of found) in
+    let begun : F (Some c.in-Some.start) = subst F c.in-Some.is c.in_ok-start.ensures in
+    start_separates extensions lower upper c.args.openness c.args.upper_openness (start_of c.in-Some.start)
+    (entries_of c.in_ok-values-in-Some.values) (IsSortedByName-fields c.args.lower.now) begun c.in_ok-values-in-Some.ensures
 
-pub separating_expr-returns-in_ok-set_of_one-in-None-Some :
-    goal.separating_expr-returns-in_ok-set_of_one-in-None-Some
-separating_expr-returns-in_ok-set_of_one-in-None-Some t c =
-    let extensions = c.args.extensions.now in
-    let element = c.in-None-Some.upper in
-    let value = tree_of c.other_value.result in
-    let lacks : ¬ Has extensions value (ty_of element.value) =
-    (let P : Ty → Type 0 = λ ty. ¬ Has extensions value ty in subst P (ap ty_of c.deref.ensures) (c.other_value.ensures.lacks extensions)) in
-    let separates = any_set_separates extensions value (ty_of element.value) c.other_value.ensures.real lacks in
-    let set = set_value (tree value no_tree) in
-    let A : Ty → Type 0 = λ ty. IsCounterexample extensions ty (set_of (ty_of element.value)) set in
-    let B : Ty → Type 0 = λ ty. IsCounterexample extensions (ty_of c.args.a.now) ty set in
-    let V : Tree → Type 0 = IsCounterexample extensions (ty_of c.args.a.now) (ty_of c.args.b.now) in
-    subst V (sym c.in_ok-set_of_one-in-None-Some.ensures)
-    (subst B (sym (ap ty_of (c.in-Set-Set.is-1 ∙ ap type.Set c.in-None-Some.is-1) ∙ ty_of-set element))
-    (subst A (sym (ap ty_of (c.in-Set-Set.is-0 ∙ ap type.Set c.in-None-Some.is-0) ∙ ty_of-any_set)) separates))
+pub separating_record-returns-in-Some : goal.separating_record-returns-in-Some
+separating_record-returns-in-Some t c =
+    let extensions = c.args.search.now.extensions.now in
+    let a = record_of (fields_of c.args.lower.now) c.args.openness in
+    let b = record_of (fields_of c.args.upper.now) c.args.upper_openness in
+    let F : Option Start → Type 0 = λ found. IsOutsideAnswer extensions a b (option_map record_found found) in
+    let found : F (Some c.in-Some.start) = subst F c.in-Some.is c.in_ok-start.ensures in
+    let V : Tree → Type 0 = IsCounterexample extensions a b in
+    (subst V (sym (tree_of-record c.in-Some.start.values)) found.0, found.1)
+
+pub separating_expr-returns-in_ok-found-in_default : goal.separating_expr-returns-in_ok-found-in_default
+separating_expr-returns-in_ok-found-in_default t c =
+    c.found_here.ensures c.args.search.now.extensions.now (ty_of c.args.a.now) (ty_of c.args.b.now) c.in_ok-found-in_default.ensures

@@ -15,8 +15,11 @@ decreases-separating_attribute l = fields_size (fields_of l.upper.now) + 1
 abbrev pub decreases-separating_start : goal.decreases-separating_start
 decreases-separating_start l = fields_size (fields_of l.upper.now) + 2
 
+abbrev pub decreases-separating_values : goal.decreases-separating_values
+decreases-separating_values l = fields_size (fields_of l.upper.now) + 3
+
 abbrev pub decreases-separating_record : goal.decreases-separating_record
-decreases-separating_record l = fields_size (fields_of l.upper.now) + 3
+decreases-separating_record l = fields_size (fields_of l.upper.now) + 4
 
 abbrev pub decreases-separating_set : goal.decreases-separating_set
 decreases-separating_set l = ty_size (ty_of l.upper.now) + 1

@@ -1,4 +1,4 @@
-use Rattle.std.proofs.Common.{◌≡◌, List, None, ap, inl, refl, string_bytes, subst, sym, true, ◌∙◌, Contains, Global}
+use Rattle.std.proofs.Common.{◌≡◌, List, [], None, ap, inl, map, refl, reverse, string_bytes, subst, sym, true, ◌∙◌, Contains, Global}
 use Rattle.std.proofs.lemmas.Bool.{false≢true}
 use Rattle.std.proofs.lemmas.Str.{IsUtf8-string_bytes}
 use Rattle.std.specs.declared.string.String.{String}
@@ -12,7 +12,8 @@ use Rattle.cedar_type_rules.specs.declared.open_tag.OpenTag.{OpenTag}
 use Rattle.cedar_type_rules.specs.declared.open_tag.OpenTag.TheVariants.{ClosedAttributes, OpenAttributes}
 use Rattle.cedar_below.proofs.ValueCopies.{tree_of-truth}
 use Rattle.cedar_counterexample.proofs.StartLemmas.{AreInhabitedWith-of, NamesSoFar, further_start, names_all, names_next, open_start}
-use Rattle.cedar_counterexample.specs.Counterexample.{IsValueOf}
+use Rattle.cedar_counterexample.specs.Counterexample.{IsValueOf, PlainStart, start_of}
+use Rattle.cedar_counterexample.specs.Steps.{step_of}
 use Rattle.cedar_counterexample.specs.Filling.{IsRecordStart, IsStart}
 use Rattle.cedar_type_rules.specs.IncludedByParts.{FieldsIncluded}
 use Rattle.cedar_types.proofs.StatedSteps.{type_same}
@@ -28,20 +29,20 @@ Items = List (String Global × AttributeType)
 
 pub sample_of-requires : goal.sample_of-requires
 sample_of-requires c =
-    let samples = value_trees c.args.samples.now in
+    let samples = value_trees c.args.search.now.samples.now in
     let lower = fields_of c.args.lower.now in
     let name = string_bytes c.in-Some.name.now in
     let attribute = attribute_of c.in-Some.attribute.now in
     let P : Items → Type 0 = λ items. NamesSoFar lower (fields_of c.args.upper.now) (fields_from (plain_attributes items)) in
     let so_far = subst P c.in-Some.ensures.steps c.loop-name.invariant in
-    subst (IsInhabitedWith c.args.extensions.now samples)
+    subst (IsInhabitedWith c.args.search.now.extensions.now samples)
     (sym (type_same c.in-Some.attribute.now c.deref-then-is_none.result.now c.deref-then-is_none.ensures))
-    (AreInhabitedWith-of c.args.extensions.now samples lower name attribute.0 attribute.1 c.requires.inhabited
+    (AreInhabitedWith-of c.args.search.now.extensions.now samples lower name attribute.0 attribute.1 c.requires.inhabited
     (so_far.within name attribute.0 attribute.1 (inl (refl, refl, refl))))
 
 pub returns-then-is_none : goal.returns-then-is_none
 returns-then-is_none c =
-    let extensions = c.args.extensions.now in
+    let extensions = c.args.search.now.extensions.now in
     let lower = fields_of c.args.lower.now in
     let upper = fields_of c.args.upper.now in
     let name = string_bytes c.in-Some.name.now in
@@ -54,10 +55,8 @@ returns-then-is_none c =
     let value = tree_of c.in_ok-sample.sample in
     let sample = subst (λ ty. IsValueOf extensions ty value)
     (type_same c.in-Some.attribute.now c.deref-then-is_none.result.now c.deref-then-is_none.ensures) c.in_ok-sample.ensures in
-    let is : entries_of c.in_ok-alone.field-0 ≡ entry name value no_entry =
-    c.in_ok-alone.ensures ∙ ap (λ text. entry text value no_entry) c.in_ok-clone.ensures.cases in
-    let Q : Entries → Type 0 = IsStart extensions lower c.args.openness upper ClosedAttributes in
-    subst Q (sym is) (further_start extensions lower upper c.args.openness name attribute.0 attribute.1 value
+    let Q : PlainStart → Type 0 = IsStart extensions lower c.args.openness upper ClosedAttributes in
+    subst Q (sym c.in_ok-start_at.ensures) (further_start extensions lower upper c.args.openness name attribute.0 attribute.1 value
     (IsSortedByName-fields c.args.lower.now) (IsUtf8-string_bytes c.in-Some.name.now)
     (so_far.within name attribute.0 attribute.1 (inl (refl, refl, refl))) absent sample)
 
@@ -72,24 +71,27 @@ loop-name-preserved c =
     names_next lower upper name attribute.0 attribute.1 _ (subst P c.in-Some.ensures.steps c.loop-name.invariant)
     (subst (Contains (field_names upper)) c.deref.ensures (found.0 c.if-is_none.ensures))
 
-pub returns-in_ok-alone-in-OpenAttributes : goal.returns-in_ok-alone-in-OpenAttributes
-returns-in_ok-alone-in-OpenAttributes c =
-    let extensions = c.args.extensions.now in
+pub returns-in_ok-values-in-OpenAttributes : goal.returns-in_ok-values-in-OpenAttributes
+returns-in_ok-values-in-OpenAttributes c =
+    let extensions = c.args.search.now.extensions.now in
     let lower = fields_of c.args.lower.now in
     let upper = fields_of c.args.upper.now in
     let name = c.in_ok-name-in-OpenAttributes.name in
-    let values = entries_of c.in_ok-alone-in-OpenAttributes.field-0 in
-    let is : values ≡ entry (string_bytes name) (truth_value true) no_entry =
-    c.in_ok-alone-in-OpenAttributes.ensures ∙ ap (λ value. entry (string_bytes name) value no_entry) (tree_of-truth true) in
-    let P : Entries → Type 0 = IsStart extensions lower OpenAttributes upper ClosedAttributes in
-    let Q : OpenTag → Type 0 = λ openness. IsStart extensions lower openness upper ClosedAttributes values in
+    let values = c.in_ok-values-in-OpenAttributes.values in
+    let start = start_of (record { values = values; steps = c.new-steps.result }) in
+    let is : entries_of values ≡ entry (string_bytes name) (truth_value true) no_entry =
+    c.in_ok-values-in-OpenAttributes.ensures ∙ ap (λ value. entry (string_bytes name) value no_entry) (tree_of-truth true) in
+    let whole : start ≡ record { values = entry (string_bytes name) (truth_value true) no_entry; steps = [] } =
+    λ i. record { values = is i; steps = map step_of (reverse (c.new-steps.ensures.items i)) } in
+    let P : PlainStart → Type 0 = IsStart extensions lower OpenAttributes upper ClosedAttributes in
+    let Q : OpenTag → Type 0 = λ openness. IsStart extensions lower openness upper ClosedAttributes start in
     let parts = subst (λ openness. FieldsIncluded openness lower upper) c.in-OpenAttributes.is c.requires.included in
-    subst Q (sym c.in-OpenAttributes.is) (subst P (sym is)
+    subst Q (sym c.in-OpenAttributes.is) (subst P (sym whole)
     (open_start extensions lower upper (string_bytes name) (IsUtf8-string_bytes name) c.in_ok-name-in-OpenAttributes.ensures parts))
 
 pub returns-in-ClosedAttributes : goal.returns-in-ClosedAttributes
 returns-in-ClosedAttributes c =
-    let extensions = c.args.extensions.now in
+    let extensions = c.args.search.now.extensions.now in
     let lower = fields_of c.args.lower.now in
     let upper = fields_of c.args.upper.now in
     let none = ap (λ (items : Items). fields_from (plain_attributes items)) c.in-None.ensures.steps.0 in

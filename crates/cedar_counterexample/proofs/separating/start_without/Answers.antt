@@ -1,4 +1,4 @@
-use Rattle.std.proofs.Common.{◌≡◌, ap, inr, string_bytes, subst, sym, ◌∙◌}
+use Rattle.std.proofs.Common.{◌≡◌, ap, inr, [], string_bytes, subst, sym, ◌∙◌}
 use Rattle.std.proofs.lemmas.Str.{IsUtf8-string_bytes}
 use Rattle.cedar_below.proofs.ValueCopies.{no_entries}
 use Rattle.cedar_below.specs.RestrictedExpr.{entries_of, tree_of}
@@ -7,6 +7,7 @@ use Rattle.cedar_type_rules.proofs.SubtypeLaws.{HasField-name}
 use Rattle.cedar_type_rules.specs.Has.{Has}
 use Rattle.cedar_type_rules.specs.declared.open_tag.OpenTag.{OpenTag}
 use Rattle.cedar_counterexample.proofs.StartLemmas.{missing_start, other_start}
+use Rattle.cedar_counterexample.specs.Counterexample.{PlainStart, start_through}
 use Rattle.cedar_counterexample.specs.Filling.{IsStart}
 use Rattle.cedar_types.proofs.StatedSteps.{flag_same, type_same}
 use Rattle.cedar_types.specs.Meaning.{attribute_of}
@@ -16,23 +17,22 @@ pub returns-then-attribute : goal.returns-then-attribute
 returns-then-attribute c = λ extensions lower absent upper upper_openness also.
     let name = string_bytes c.args.name.now in
     let attribute = attribute_of c.args.attribute.now in
-    let Q : Entries → Type 0 = IsStart extensions lower c.args.openness upper upper_openness in
-    subst Q (sym (no_entries c.new.result c.new.ensures.empty))
+    let Q : PlainStart → Type 0 = IsStart extensions lower c.args.openness upper upper_openness in
+    subst Q (sym c.in_ok-start_of_none.ensures)
     (missing_start extensions lower upper c.args.openness upper_openness name attribute.0 attribute.1
     (λ own has. absent (HasField-name lower name _ own has)) (flag_same c.args.attribute.now ∙ c.if-attribute.true) also)
 
-pub returns-in_ok-alone-in-OpenAttributes : goal.returns-in_ok-alone-in-OpenAttributes
-returns-in_ok-alone-in-OpenAttributes c = λ extensions lower absent upper upper_openness also.
+pub returns-in_ok-start_at-in-OpenAttributes : goal.returns-in_ok-start_at-in-OpenAttributes
+returns-in_ok-start_at-in-OpenAttributes c = λ extensions lower absent upper upper_openness also.
     let name = string_bytes c.args.name.now in
     let attribute = attribute_of c.args.attribute.now in
     let value = tree_of c.other_value-value.result in
     let same = type_same c.args.attribute.now c.deref.result.now c.deref.ensures in
     let lacks : ¬ Has extensions value attribute.1 = subst (λ ty. ¬ Has extensions value ty) same (c.other_value-value.ensures.lacks extensions) in
-    let is : entries_of c.in_ok-alone-in-OpenAttributes.field-0 ≡ entry name value no_entry =
-    c.in_ok-alone-in-OpenAttributes.ensures ∙ ap (λ text. entry text value no_entry) c.in_ok-clone-in-OpenAttributes.ensures.cases in
-    let Q : Entries → Type 0 = λ start. IsStart extensions lower c.args.openness upper upper_openness start in
-    let R : OpenTag → Type 0 = λ openness. IsStart extensions lower openness upper upper_openness (entry name value no_entry) in
-    subst Q (sym is) (subst R (sym c.in-OpenAttributes.is)
+    let start = start_through name (record { value = value; steps = [] }) in
+    let Q : PlainStart → Type 0 = IsStart extensions lower c.args.openness upper upper_openness in
+    let R : OpenTag → Type 0 = λ openness. IsStart extensions lower openness upper upper_openness start in
+    subst Q (sym c.in_ok-start_at-in-OpenAttributes.ensures) (subst R (sym c.in-OpenAttributes.is)
     (other_start extensions lower upper upper_openness name attribute.0 attribute.1 value
     (IsUtf8-string_bytes c.args.name.now) absent also c.other_value-value.ensures.real lacks))
 

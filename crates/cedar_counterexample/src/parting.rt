@@ -61,10 +61,12 @@ pub fn outside(
         samples,
     };
     match separating_expr(&search, a, b)? {
-        Some(Found { expr, steps }) => Ok(Some(Outside {
-            value: Value::new(expr),
-            steps: turned(steps),
-        })),
+        Some(found) => {
+            let Found { expr, steps } = found;
+            let steps = turned(steps);
+            let value = Value::new(expr);
+            Ok(Some(Outside { value, steps }))
+        }
         None => Ok(None),
     }
 }
@@ -133,7 +135,8 @@ pub fn attributes_outside(
         samples,
     };
     match separating_values(&search, a, openness, b, upper_openness)? {
-        Some(Start { values, steps }) => {
+        Some(start) => {
+            let Start { values, steps } = start;
             let steps = turned(steps);
             let attributes = named_values(alloc, values)?;
             Ok(Some(AttributesOutside { attributes, steps }))

@@ -7,7 +7,7 @@ use Rattle.cedar_type_rules.specs.Below.{Below}
 use Rattle.cedar_types.specs.Meaning.{ty_of}
 use Rattle.cedar_types.specs.Samples.{value_trees}
 use Rattle.cedar_types.specs.WellFormedTypes.{IsWellFormed-type}
-use Rattle.cedar_counterexample.proofs.separating.separating_value.Goals as goal
+use Rattle.cedar_counterexample.proofs.parting.separating_value.Goals as goal
 
 pub returns-clause-none : goal.returns-clause-none
 returns-clause-none c =

@@ -1,0 +1,41 @@
+use Rattle.std.proofs.Common.{None, Option, Some, refl, subst}
+use Rattle.std.specs.Option.{option_map}
+use Rattle.cedar_type_rules.proofs.StatedLemmas.{IsInhabited-with}
+use Rattle.cedar_type_rules.proofs.ValueInclusion.{inclusion_by_parts}
+use Rattle.cedar_type_rules.specs.Ty.{record_of}
+use Rattle.cedar_type_rules.specs.WellFormed.{IsWellFormed}
+use Rattle.cedar_type_rules.specs.declared.open_tag.OpenTag.{OpenTag}
+use Rattle.cedar_counterexample.proofs.TypeCounterexamples.{separated_outside}
+use Rattle.cedar_counterexample.specs.Counterexample.{IsOutsideAnswer, record_found}
+use Rattle.cedar_counterexample.specs.declared.found.Start.{Start}
+use Rattle.cedar_types.specs.Layers.{IsSortedByName-fields}
+use Rattle.cedar_types.specs.Meaning.{fields_of}
+use Rattle.cedar_types.specs.Samples.{value_trees}
+use Rattle.cedar_types.specs.WellFormedTypes.{AreTexts-fields, AreWellFormed-fields}
+use Rattle.cedar_types.specs.declared.attributes.Attributes.{Attributes}
+use Rattle.cedar_counterexample.proofs.parting.attributes_outside.Goals as goal
+
+-- attributes are those of a well-formed record
+formed : (all : Attributes) (openness : OpenTag) → IsWellFormed (record_of (fields_of all) openness)
+formed all openness = (IsSortedByName-fields all, AreWellFormed-fields all, AreTexts-fields all)
+
+pub returns-in_ok-attributes-in-Some-clause-none : goal.returns-in_ok-attributes-in-Some-clause-none
+returns-in_ok-attributes-in-Some-clause-none c =
+    let extensions = c.args.extensions.now in
+    let a = record_of (fields_of c.args.a.now) c.args.openness in
+    let b = record_of (fields_of c.args.b.now) c.args.upper_openness in
+    let F : Option Start → Type 0 = λ found. IsOutsideAnswer extensions a b (option_map record_found found) in
+    let found : F (Some c.in-Some.start) = subst F c.in-Some.is c.in_ok-start.ensures in
+    (λ none. absurd cc, λ within. absurd (separated_outside extensions a b (record_found c.in-Some.start).value found.0 within))
+
+pub returns-in-None-clause-none : goal.returns-in-None-clause-none
+returns-in-None-clause-none c =
+    let extensions = c.args.extensions.now in
+    let a = record_of (fields_of c.args.a.now) c.args.openness in
+    let b = record_of (fields_of c.args.b.now) c.args.upper_openness in
+    let F : Option Start → Type 0 = λ found. IsOutsideAnswer extensions a b (option_map record_found found) in
+    let found : F None = subst F c.in-None.is c.in_ok-start.ensures in
+    let lives = IsInhabited-with extensions (value_trees c.args.samples.now) a c.requires in (
+      λ _. (inclusion_by_parts a b (formed c.args.a.now c.args.openness) (formed c.args.b.now c.args.upper_openness) extensions lives).0 found,
+      λ _. refl,
+    )
