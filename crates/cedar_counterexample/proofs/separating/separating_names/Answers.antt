@@ -3,7 +3,7 @@ use Rattle.std.proofs.lemmas.Bool.{false≢true}
 use Rattle.std.proofs.lemmas.Str.{IsUtf8-string_bytes}
 use Rattle.std.specs.declared.string.String.{String}
 use Rattle.cedar_below.specs.RestrictedExpr.{entries_of, tree_of}
-use Rattle.cedar_below.specs.Tree.{Entries, entry, no_entry, truth_value}
+use Rattle.cedar_below.specs.Tree.{entry, no_entry, truth_value}
 use Rattle.cedar_type_rules.proofs.InclusionLemmas.{found-Decides}
 use Rattle.cedar_type_rules.specs.Fields.{field_names}
 use Rattle.cedar_type_rules.specs.Stated.{IsInhabitedWith}

@@ -1,8 +1,6 @@
-use Rattle.std.proofs.Common.{◌≡◌, ap, inr, [], string_bytes, subst, sym, ◌∙◌}
+use Rattle.std.proofs.Common.{inr, [], string_bytes, subst, sym, ◌∙◌}
 use Rattle.std.proofs.lemmas.Str.{IsUtf8-string_bytes}
-use Rattle.cedar_below.proofs.ValueCopies.{no_entries}
-use Rattle.cedar_below.specs.RestrictedExpr.{entries_of, tree_of}
-use Rattle.cedar_below.specs.Tree.{Entries, entry, no_entry}
+use Rattle.cedar_below.specs.RestrictedExpr.{tree_of}
 use Rattle.cedar_type_rules.proofs.SubtypeLaws.{HasField-name}
 use Rattle.cedar_type_rules.specs.Has.{Has}
 use Rattle.cedar_type_rules.specs.declared.open_tag.OpenTag.{OpenTag}
