@@ -34,14 +34,6 @@ pub record NamedSoFar (all : Pairs) (made : Named) (left : Pairs) : Type 0 where
   pub split : all ≡ opened made ++ left
   pub ordered : IsStrictlySortedBy string_cmp (keys_of all)
 
--- at first none is named
-pub named_none : (all : Pairs) (made : Named) (left : Pairs) → left ≡ all → made ≡ [] → IsStrictlySortedBy string_cmp (keys_of all)
-    → NamedSoFar all made left
-named_none all made left same empty ordered = record {
-  split = sym same ∙ ap (λ values. opened values ++ left) (sym empty);
-  ordered = ordered;
-}
-
 -- one more is named, and goes to the end
 pub named_more : (all : Pairs) (made after : Named) (left rest : Pairs) (name : String Global) (expr : RestrictedExpr) (value : Value)
     → left ≡ (name, expr) ∷ rest → value_expr value ≡ expr → after ≡ insert_entry string_cmp made name value → NamedSoFar all made left
@@ -55,13 +47,12 @@ named_more all made after left rest name expr value is opens inserted so_far =
     inserted
     ∙ insert_entry-end string_cmp made name value
     (above_front string_cmp_total (keys_of made) name (keys_of rest) (subst (IsStrictlySortedBy string_cmp) names so_far.ordered)) in
-    let more : opened after ≡ opened made ++ (name, expr) ∷ [] =
-    ap opened behind
-    ∙ (map-append (λ entry. (entry.0, value_expr entry.1)) made ((name, value) ∷ []) ∙ ap (λ last. opened made ++ (name, last) ∷ []) opens) in
-    record {
-      split = split ∙ (sym (append_assoc (opened made) ((name, expr) ∷ []) rest) ∙ ap (λ front. front ++ rest) (sym more));
-      ordered = so_far.ordered;
-    }
+    let more : opened made ++ (name, expr) ∷ [] ≡ opened after =
+    sym (ap opened behind
+    ∙ (map-append (λ entry. (entry.0, value_expr entry.1)) made ((name, value) ∷ []) ∙ ap (λ last. opened made ++ (name, last) ∷ []) opens)) in
+    let moved : opened made ++ (name, expr) ∷ rest ≡ opened after ++ rest =
+    sym (append_assoc (opened made) ((name, expr) ∷ []) rest) ∙ ap (λ front. front ++ rest) more in
+    record { split = split ∙ moved; ordered = so_far.ordered }
 
 -- what a named value stands for is what its expression does
 plain-opened : (values : Named) → map (λ (entry : String Global × Value). (string_bytes entry.0, tree_of (value_expr entry.1))) values

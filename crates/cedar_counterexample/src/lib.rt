@@ -13,6 +13,7 @@ pub use steps::Step;
 
 mod found;
 mod fresh;
+mod leaves;
 mod named;
 mod parting;
 mod putting;

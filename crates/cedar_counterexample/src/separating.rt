@@ -2,52 +2,29 @@
 
 ghost use Rattle.std.specs.Prelude.{◌≡◌, [], Contains, IfOk, string_bytes};
 ghost use Rattle.std.specs.Option.{option_map};
-ghost use Rattle.cedar_below.specs.IsValue.{IsValue};
 ghost use Rattle.cedar_below.specs.RestrictedExpr.{entries_of, tree_of};
-ghost use Rattle.cedar_below.specs.Tree.{set_value, tree, no_tree, entry, no_entry};
+ghost use Rattle.cedar_below.specs.Tree.{entry, no_entry};
 ghost use Rattle.cedar_below.specs.declared.extension.Extensions.{Extensions};
 ghost use Rattle.cedar_type_rules.specs.Fields.{field_names};
-ghost use Rattle.cedar_type_rules.specs.Has.{Has};
 ghost use Rattle.cedar_type_rules.specs.IncludedByParts.{FieldsIncluded};
 ghost use Rattle.cedar_type_rules.specs.Ty.{Fields, Ty, record_of, set_of};
 ghost use Rattle.cedar_type_rules.specs.declared.open_tag.OpenTag.TheVariants.{ClosedAttributes};
 ghost use Rattle.cedar_counterexample.specs.Counterexample.{IsCounterexampleAnswer, IsOutsideAnswer, empty_start, found_element, found_of, record_found, start_of, start_through};
 ghost use Rattle.cedar_counterexample.specs.Filling.{IsAttributeStart, IsFieldStart, IsRecordStart};
 ghost use Rattle.cedar_counterexample.specs.Search.{AreSampledIn, IsSampledIn};
-ghost use Rattle.cedar_counterexample.specs.Steps.{ShareNoParts};
 ghost use Rattle.cedar_types.specs.Meaning.{attribute_of, fields_of, ty_of};
 
 use crate::found::{Found, Start};
 use crate::fresh::fresh_name;
+use crate::leaves::{other_value, separating_leaf, set_of_one};
 use crate::putting::put;
 use crate::samples::{fill, sample_of};
 use crate::search::Search;
 use crate::steps::{Step, noted};
-use crate::unions::{separating_entity, separating_truth};
 use cedar_below::{M, RestrictedExpr};
 use cedar_types::{AttributeType, Attributes, OpenTag, Type};
 use std::alloc::Global;
 use std::collections::BTreeMap;
-
-/// A value that a type hasn't.
-fn other_value(alloc: Global, ty: &Type) -> RestrictedExpr
-    ensures real { IsValue (tree_of result) }
-    ensures lacks { (extensions : Extensions) → ¬ Has extensions (tree_of result) (ty_of ty.now) }
-{
-    match ty {
-        Type::Bool(_) => RestrictedExpr::String(String::new(alloc)),
-        _ => RestrictedExpr::Bool(true),
-    }
-}
-
-/// The set of one value.
-fn set_of_one(alloc: Global, value: RestrictedExpr) -> M<RestrictedExpr>
-    ensures { IfOk result (λ set. tree_of set ≡ set_value (tree (tree_of value) no_tree)) }
-{
-    let mut values = Vec::with_capacity(alloc, 1)?;
-    values.push(value)?;
-    Ok(RestrictedExpr::Set(values))
-}
 
 /// One value under a name.
 fn alone(alloc: Global, name: String, value: RestrictedExpr) -> M<BTreeMap<String, RestrictedExpr>>
@@ -113,47 +90,6 @@ fn start_of_none(alloc: Global, name: &String) -> M<Start>
         values: BTreeMap::new(alloc),
         steps,
     })
-}
-
-/// An expression of a value that the one type has and the other hasn't, if there is one, of two
-/// types that aren't both sets of elements and not both records.
-fn separating_leaf(search: &Search, a: &Type, b: &Type) -> M<Option<RestrictedExpr>>
-    requires sampled { IsSampledIn search.now (ty_of a.now) }
-    requires leaf { ShareNoParts (ty_of a.now) (ty_of b.now) }
-    ensures { IfOk result (λ found.
-        IsCounterexampleAnswer search.now.extensions.now (ty_of a.now) (ty_of b.now)
-        (option_map tree_of found)) }
-{
-    let alloc = search.alloc;
-    match (a, b) {
-        (Type::Bool(lower), Type::Bool(upper)) => {
-            Ok(separating_truth(lower, upper).map(RestrictedExpr::Bool))
-        }
-        (Type::Long, Type::Long) => Ok(None),
-        (Type::String, Type::String) => Ok(None),
-        (Type::Entity(lower), Type::Entity(upper)) => separating_entity(alloc, lower, upper),
-        (
-            Type::Set {
-                element_type: lower,
-            },
-            Type::Set {
-                element_type: upper,
-            },
-        ) => match (lower, upper) {
-            (_, None) => Ok(None),
-            (None, Some(upper)) => Ok(Some(set_of_one(alloc, other_value(alloc, upper))?)),
-            (Some(_), Some(_)) => unreachable!(),
-        },
-        (Type::Record { .. }, Type::Record { .. }) => unreachable!(),
-        (Type::ExtensionType { name: lower }, Type::ExtensionType { name: upper }) => {
-            if lower.is_same(upper) {
-                Ok(None)
-            } else {
-                Ok(Some(sample_of(search, a)?))
-            }
-        }
-        _ => Ok(Some(sample_of(search, a)?)),
-    }
 }
 
 /// A start of a value of a record that a closed one hasn't, each attribute of which it has: a

@@ -11,7 +11,7 @@ use Rattle.cedar_types.proofs.MemberParts.{ty_of-entity, ty_of-set}
 use Rattle.cedar_types.specs.EntityKind.{kind_ty}
 use Rattle.cedar_types.specs.Meaning.{ty_of}
 use Rattle.cedar_types.specs.declared.types.Type.TheVariants as type
-use Rattle.cedar_counterexample.proofs.separating.separating_leaf.Goals as goal
+use Rattle.cedar_counterexample.proofs.leaves.separating_leaf.Goals as goal
 
 pub returns-in-Entity-Entity : goal.returns-in-Entity-Entity
 returns-in-Entity-Entity c =
