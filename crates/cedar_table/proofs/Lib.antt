@@ -1,0 +1,2 @@
+mod CopiedLemmas
+mod SearchLemmas

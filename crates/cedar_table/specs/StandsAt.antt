@@ -1,0 +1,9 @@
+use Rattle.std.specs.Prelude.{◌≡◌, ◌<◌, ℕ, List, length}
+use Rattle.std.specs.List.{HoldsAt}
+use Rattle.std.specs.declared.cmp.Ordering.{Ordering}
+use Rattle.std.specs.declared.cmp.Ordering.TheVariants.{Equal}
+
+-- the entry at a place has the key
+abbrev pub StandsAt : {K V : Type 0} → (K → K → Ordering) → List (K × V) → K → ℕ → Type 0
+StandsAt cmp entries key place =
+    (place < length entries) × HoldsAt (λ entry. cmp key entry.0 ≡ Equal) entries place

@@ -1,0 +1,33 @@
+//! Tables copied, by calls that copy keys and values.
+
+ghost use Rattle.std.specs.Prelude.{◌≡◌, IfOk, Ok, Result};
+ghost use Rattle.std.specs.Fn.{FnReturnsAt};
+ghost use Rattle.std.specs.declared.cmp.Ordering.TheVariants.{Equal};
+ghost use Rattle.cedar_below.specs.Lists.{HoldsPairwise};
+ghost use Rattle.cedar_below.specs.declared.memory.Memory.{Memory};
+
+use crate::table::Table;
+use cedar_below::M;
+use std::collections::BTreeMap;
+
+/// A map of the copies of the entries of a table, in their order. The copy of a key has to tie with
+/// it.
+pub fn copied_entries<K: Ord + Drop, V: Drop, F: Fn(&K) -> M<K> + Drop, G: Fn(&V) -> M<V> + Drop>(
+    table: &Table<K, V>,
+    copy_key: F,
+    copy_value: G,
+) -> M<BTreeMap<K, V>>
+    requires key_callable { F.IsAlwaysCallable copy_key }
+    requires value_callable { G.IsAlwaysCallable copy_value }
+    requires ties { (key : K) (answer : Result K Memory) → FnReturnsAt F.Fn copy_key key answer
+        → IfOk answer (λ other. K.cmp key other ≡ Equal) }
+    ensures { IfOk result (λ copies.
+        HoldsPairwise (λ entry other. FnReturnsAt F.Fn copy_key entry.0 (Ok other.0)
+        × FnReturnsAt G.Fn copy_value entry.1 (Ok other.1)) table.now.entries copies.entries) }
+{
+    let mut copies = BTreeMap::new(*table.allocator());
+    for (key, value) in table {
+        copies.insert(copy_key(key)?, copy_value(value)?)?;
+    }
+    Ok(copies)
+}

@@ -1,0 +1,58 @@
+//! The place of a key in a sorted list of entries.
+
+ghost use Rattle.std.specs.Prelude.{◌≡◌, IfNone, IfSome, IsTrue, None};
+ghost use Rattle.std.specs.BTreeMap.{is_at};
+ghost use Rattle.std.specs.List.Sorted.{IsStrictlySortedBy};
+ghost use Rattle.std.specs.Map.{keys_of, lookup};
+ghost use Rattle.cedar_table.specs.StandsAt.{StandsAt};
+
+use crate::hints::Hints;
+use std::cmp::Ordering;
+use std::hash::Hash;
+
+/// Whether the entry at a place has the key.
+fn stands_at<K: Ord, V>(entries: &[(K, V)], key: &K, place: usize) -> bool
+    ensures { IsTrue result → StandsAt K.cmp entries.now key.now place }
+{
+    place < entries.len() && key.cmp(&entries[place].0) == Ordering::Equal
+}
+
+/// The place of a key, where a hint leads to it.
+fn hinted_place<K: Ord + Hash, V>(entries: &[(K, V)], hints: &Hints, key: &K) -> Option<usize>
+    ensures { IfSome result (StandsAt K.cmp entries.now key.now) }
+{
+    let place = hints.guess(key)?;
+    if stands_at(entries, key, place) {
+        Some(place)
+    } else {
+        None
+    }
+}
+
+/// The place of a key, by halving.
+fn halved_place<K: Ord, V>(entries: &[(K, V)], key: &K) -> Option<usize>
+    requires { IsStrictlySortedBy K.cmp (keys_of entries.now) }
+    ensures found { IfSome result (StandsAt K.cmp entries.now key.now) }
+    ensures lacking { IfNone result (lookup (is_at (K.cmp key.now)) entries.now ≡ None) }
+{
+    match entries.binary_search_by(|entry| entry.0.cmp(key)) {
+        Ok(place) => Some(place),
+        Err(_) => None,
+    }
+}
+
+/// The place of a key, where it is among the keys of a sorted list. Hints are tried first.
+pub(crate) fn place_of<K: Ord + Hash, V>(
+    entries: &[(K, V)],
+    hints: &Hints,
+    key: &K,
+) -> Option<usize>
+    requires { IsStrictlySortedBy K.cmp (keys_of entries.now) }
+    ensures found { IfSome result (StandsAt K.cmp entries.now key.now) }
+    ensures lacking { IfNone result (lookup (is_at (K.cmp key.now)) entries.now ≡ None) }
+{
+    match hinted_place(entries, hints, key) {
+        Some(place) => Some(place),
+        None => halved_place(entries, key),
+    }
+}

@@ -1,0 +1,154 @@
+//! Tables, and how they are made of maps and read.
+
+use crate::hints::Hints;
+use crate::iter::{Iter, Keys, Values};
+use crate::search::place_of;
+use cedar_below::M;
+use std::alloc::Global;
+use std::collections::BTreeMap;
+use std::hash::Hash;
+use std::marker::Model;
+
+/// Values by key, which don't change: entries in the order of their keys, each key once.
+///
+/// A look-up costs a hash where a hint leads to the key, and else it halves the list.
+pub struct Table<K: Ord, V> {
+    pub(crate) entries: Vec<(K, V)>,
+    hints: Hints,
+}
+
+impl<K: Ord, V> Model for Table<K, V> {
+    ghost use Rattle.std.specs.List.Sorted.{IsStrictlySortedBy};
+    ghost use Rattle.std.specs.Map.{keys_of};
+    ghost use Rattle.cedar_table.specs.Entries.{Entries};
+
+    ghost Value = { Entries K V };
+
+    ghost view = { λ a. record { entries = a.entries.items } };
+
+    ghost invariant = { λ a. IsStrictlySortedBy K.cmp (keys_of a.entries.items) };
+}
+
+// Written out: proofs of what holds a table then see one call, and nothing of its parts.
+impl<K: Ord + Drop, V: Drop> Drop for Table<K, V> {
+    fn drop(self) {
+        let Table {
+            entries: _entries,
+            hints: _hints,
+        } = self;
+    }
+}
+
+impl<K: Ord, V> Table<K, V> {
+    ghost use Rattle.std.specs.Prelude.{◌≡◌, []};
+    ghost use Rattle.std.specs.List.Sorted.{IsStrictlySortedBy};
+    ghost use Rattle.std.specs.Map.{keys_of, values_of};
+
+    /// The table without entries.
+    pub fn new(alloc: Global) -> Self
+        ensures empty { result.entries ≡ [] }
+        ensures ordered { IsStrictlySortedBy K.cmp (keys_of result.entries) }
+    {
+        Table {
+            entries: Vec::new(alloc),
+            hints: Hints::new(alloc),
+        }
+    }
+
+    /// The allocator of the entries.
+    pub(crate) fn allocator(&self) -> &Global {
+        self.entries.allocator()
+    }
+
+    /// The entries, in the order of their keys.
+    pub fn iter(&self) -> Iter<'_, K, V>
+        ensures rest { result ≡ self.now.entries }
+        ensures ordered { IsStrictlySortedBy K.cmp (keys_of self.now.entries) }
+    {
+        Iter::new(&self.entries)
+    }
+
+    /// The keys, in order.
+    pub fn keys(&self) -> Keys<'_, K, V>
+        ensures rest { result ≡ keys_of self.now.entries }
+        ensures ordered { IsStrictlySortedBy K.cmp (keys_of self.now.entries) }
+    {
+        Keys::new(&self.entries)
+    }
+
+    /// The values, in the order of their keys.
+    pub fn values(&self) -> Values<'_, K, V>
+        ensures rest { result ≡ values_of self.now.entries }
+        ensures ordered { IsStrictlySortedBy K.cmp (keys_of self.now.entries) }
+    {
+        Values::new(&self.entries)
+    }
+}
+
+impl<K: Ord + Hash + Drop, V: Drop> Table<K, V> {
+    ghost use Rattle.std.specs.Prelude.{◌≡◌, IfOk};
+    ghost use Rattle.std.specs.List.Sorted.{IsStrictlySortedBy};
+    ghost use Rattle.std.specs.Map.{keys_of};
+
+    /// The entries of a map. Out of memory is the only refusal.
+    pub fn from_map(alloc: Global, map: BTreeMap<K, V>) -> M<Self>
+        ensures { IfOk result (λ table. table.entries ≡ map.entries) }
+    {
+        let mut entries = Vec::with_capacity(alloc, map.len())?;
+        for entry in map {
+            entries.push(entry)?;
+        }
+        let hints = Hints::of(alloc, &entries)?;
+        Ok(Table { entries, hints })
+    }
+
+    /// The entries, in the order of their keys.
+    pub fn into_entries(self) -> Vec<(K, V)>
+        ensures entries { result.items ≡ self.entries }
+        ensures ordered { IsStrictlySortedBy K.cmp (keys_of self.entries) }
+    {
+        let Table {
+            entries,
+            hints: _hints,
+        } = self;
+        entries
+    }
+}
+
+impl<K: Ord + Hash, V> Table<K, V> {
+    ghost use Rattle.std.specs.Prelude.{◌≡◌, is_some};
+    ghost use Rattle.std.specs.Option.{option_copied};
+    ghost use Rattle.cedar_table.specs.Entries.{get_by};
+
+    /// The value of a key, if there is one.
+    pub fn get(&self, key: &K) -> Option<&V>
+        ensures value { option_copied result ≡ get_by (K.cmp key.now) self.now }
+    {
+        let place = place_of(&self.entries, &self.hints, key)?;
+        Some(&self.entries[place].1)
+    }
+
+    /// Whether the key is there.
+    pub fn contains_key(&self, key: &K) -> bool
+        ensures { result ≡ is_some (get_by (K.cmp key.now) self.now) }
+    {
+        self.get(key).is_some()
+    }
+}
+
+impl<'a, K: Ord, V> IntoIterator for &'a Table<K, V> {
+    ghost use Rattle.std.specs.Prelude.{◌≡◌};
+    ghost use Rattle.std.specs.List.Sorted.{IsStrictlySortedBy};
+    ghost use Rattle.std.specs.Map.{keys_of};
+
+    type Item = (&'a K, &'a V);
+
+    type IntoIter = Iter<'a, K, V>;
+
+    ghost into_iter_gives = { λ table rest. (rest ≡ table.now.entries)
+        × IsStrictlySortedBy K.cmp (keys_of table.now.entries) };
+
+    fn into_iter(self) -> Iter<'a, K, V> {
+        self.iter()
+    }
+}
