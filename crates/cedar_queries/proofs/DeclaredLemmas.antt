@@ -1,7 +1,7 @@
 -- What an entity type that is found declares.
 use Rattle.std.proofs.Common.{◌≡◌, ◌↔◌, Bool, IsTrue, Bor, Option, None, Some, is_some, map, ap, sym, ◌∙◌}
 use Rattle.std.proofs.lemmas.Bool.{false≢true}
-use Rattle.std.specs.BTreeMap.{BTreeMap, get_by}
+use Rattle.cedar_table.specs.Entries.{Entries, get_by}
 use Rattle.std.specs.Option.{option_and_then, option_copied, option_map, option_map_or}
 use Rattle.cedar_below.specs.EntityType.{type_name}
 use Rattle.cedar_below.specs.contracts.entity_type.EntityTypeOrd.TheImpl as type_ord
@@ -15,7 +15,7 @@ use Rattle.cedar_queries.proofs.LookupLemmas.{plain_type, type_found}
 use Rattle.cedar_type_rules.specs.Ty.{end}
 use Rattle.cedar_type_rules.specs.declared.open_tag.OpenTag.TheVariants.{OpenAttributes}
 
-module _ (types : BTreeMap EntityType ValidatorEntityType) (name : EntityType) (o : Option ValidatorEntityType)
+module _ (types : Entries EntityType ValidatorEntityType) (name : EntityType) (o : Option ValidatorEntityType)
     (is : get_by ((type_ord.ghosts).cmp name) types ≡ o) where
   -- what is found under a name, as plain data
   pub found : type_at (type_name name) (map plain_entry types.entries) ≡ option_map plain_type o

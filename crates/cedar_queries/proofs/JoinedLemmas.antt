@@ -10,7 +10,7 @@ use Rattle.cedar_type_rules.specs.Below.{Below}
 use Rattle.cedar_type_rules.specs.EntityUnion.{only_name}
 use Rattle.cedar_type_rules.specs.JoinAnswer.{IsReduceAnswer, JoinAnswer}
 use Rattle.cedar_type_rules.specs.OwnBound.{HaveOwnBound}
-use Rattle.cedar_type_rules.specs.Ty.{Ty, never, truth, long, text, any_entity, union_of, any_set, set_of, record_of, extension_of, Fields, end}
+use Rattle.cedar_type_rules.specs.Ty.{Ty, never, record_of, Fields, end}
 use Rattle.cedar_type_rules.specs.declared.open_tag.OpenTag.TheVariants.{OpenAttributes, ClosedAttributes}
 use Rattle.cedar_type_rules.specs.WellFormed.{IsWellFormed}
 

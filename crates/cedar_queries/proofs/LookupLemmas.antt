@@ -1,7 +1,7 @@
 -- What is found by name or by uid, as plain data.
 use Rattle.std.proofs.Common.{◌≡◌, Bool, true, false, cond, List, [], ◌∷◌, Option, Some, None, is_some, map, ap, refl, sym, subst, ◌∙◌, Contains}
 use Rattle.std.proofs.lemmas.Map.Made.{is_some-lookup}
-use Rattle.std.specs.BTreeMap.{BTreeMap, get_by}
+use Rattle.cedar_table.specs.Entries.{Entries, get_by}
 use Rattle.std.specs.Bool.{Decides}
 use Rattle.std.specs.Map.{lookup}
 use Rattle.std.specs.Option.{option_map, unwrap_or}
@@ -55,7 +55,7 @@ found-Decides {K} key test tests entries = (
 -- a map whose keys are ordered as what they stand for, and its entries as plain data
 module _ {K V P D : Type 0} (cmp : K → K → Ordering) (plain_cmp : P → P → Ordering) (name : K → P) (shown : V → D)
     (same : (a b : K) → cmp a b ≡ plain_cmp (name a) (name b))
-    (test : (p q : P) → Decides (is_eq (plain_cmp p q)) (p ≡ q)) (values : BTreeMap K V) (key : K) where
+    (test : (p q : P) → Decides (is_eq (plain_cmp p q)) (p ≡ q)) (values : Entries K V) (key : K) where
   -- what is found at a key, as plain data
   value_found : lookup (λ other. is_eq (plain_cmp (name key) other)) (map (λ entry. (name entry.0, shown entry.1)) values.entries)
       ≡ option_map shown (get_by (cmp key) values)
@@ -76,7 +76,7 @@ module _ {K V P D : Type 0} (cmp : K → K → Ordering) (plain_cmp : P → P �
       mapped None = refl
       mapped (Some it) = refl
 
-module _ (types : BTreeMap EntityType ValidatorEntityType) (name : EntityType) where
+module _ (types : Entries EntityType ValidatorEntityType) (name : EntityType) where
   -- the entity type of a name, as plain data
   pub type_found : lookup (λ other. is_eq (name_cmp (type_name name) other)) (map plain_entry types.entries)
       ≡ option_map plain_type (get_by ((type_ord.ghosts).cmp name) types)
@@ -99,7 +99,7 @@ module _ (types : BTreeMap EntityType ValidatorEntityType) (name : EntityType) w
   descendants_none is =
       ap (λ o. unwrap_or (option_map (λ (each : SchemaEntityType). each.descendants) o) []) (type_found ∙ ap (option_map plain_type) is)
 
-module _ (actions : BTreeMap EntityUID ValidatorActionId) (uid : EntityUID) where
+module _ (actions : Entries EntityUID ValidatorActionId) (uid : EntityUID) where
   -- the action of a uid, as plain data
   pub action_found : lookup (λ other. is_eq (uid_cmp (uid_of uid) other)) (map plain_action_entry actions.entries)
       ≡ option_map action_of (get_by ((uid_ord.ghosts).cmp uid) actions)

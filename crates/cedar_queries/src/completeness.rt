@@ -17,9 +17,9 @@ use crate::tests_of_values::IsExternal;
 use crate::unresolved::{UnresolvedDeclaration, is_complete, unresolved_declarations};
 use cedar_below::{EntityType, EntityUID, Loc, M, Memory};
 use cedar_schema_elements::SchemaNode;
+use cedar_table::Table;
 use itertools::Itertools;
 use std::alloc::Global;
-use std::collections::BTreeMap;
 use std::error::Error;
 use std::fmt;
 use std::hash::Hash;
@@ -110,7 +110,7 @@ impl From<Memory> for CompleteError {
 /// References to the names of those nodes that pass a test.
 fn selected_names<K: Ord + Hash, V: SchemaNode<K>, T: Test<V>>(
     alloc: Global,
-    nodes: &BTreeMap<K, V>,
+    nodes: &Table<K, V>,
     test: T,
 ) -> M<Vec<&K>>
     ensures { IfOk result (λ names. map (λ name. V.key_name name.now) names.items
@@ -138,7 +138,7 @@ fn in_order<'a, T: Ord>(references: Vec<&'a T>) -> M<Vec<&'a T>>
 /// The names of those nodes that pass a test, in order.
 fn names_in_order<K: Ord + Hash + Drop, V: SchemaNode<K>, T: Test<V>>(
     alloc: Global,
-    nodes: &BTreeMap<K, V>,
+    nodes: &Table<K, V>,
     test: T,
 ) -> M<Vec<K>>
     ensures names { IfOk result (λ names. IsPermutation

@@ -12,14 +12,14 @@ use crate::selected::Selected;
 use crate::tests_of_values::{HasDescendant, IsGroup};
 use cedar_below::{EntityType, EntityUID, M};
 use cedar_schema_elements::{ValidatorActionId, ValidatorEntityType};
+use cedar_table::Table;
 use std::alloc::Global;
-use std::collections::BTreeMap;
 
 /// The entity types, each under its name.
-pub type EntityTypes = BTreeMap<EntityType, ValidatorEntityType>;
+pub type EntityTypes = Table<EntityType, ValidatorEntityType>;
 
 /// The actions, each under its uid.
-pub type Actions = BTreeMap<EntityUID, ValidatorActionId>;
+pub type Actions = Table<EntityUID, ValidatorActionId>;
 
 /// The names of the entity types that have descendants of the given one.
 pub type Ancestors<'a> = Selected<'a, EntityType, ValidatorEntityType, HasDescendant<'a>>;

@@ -13,12 +13,12 @@ ghost use Rattle.cedar_types.specs.Meaning.{fields_of, ty_of};
 
 use cedar_below::{EntityType, M, Memory, ValidationMode};
 use cedar_schema_elements::ValidatorEntityType;
+use cedar_table::Table;
 use cedar_types::{AttributeType, Attributes, EntityKind, EntityLUB, JoinError, OpenTag, Type};
 use std::alloc::Global;
-use std::collections::BTreeMap;
 
 /// The entity types of a schema, each under its name.
-type EntityTypes = BTreeMap<EntityType, ValidatorEntityType>;
+type EntityTypes = Table<EntityType, ValidatorEntityType>;
 
 /// The attributes that an entity type declares; one that isn't there declares none.
 fn declared_attributes(alloc: Global, types: &EntityTypes, ty: &EntityType) -> M<Attributes>

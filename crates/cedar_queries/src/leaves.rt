@@ -12,16 +12,16 @@ ghost use Rattle.cedar_types.specs.Meaning.{fields_of, ty_of};
 
 use cedar_below::{EntityType, EntityUID, M};
 use cedar_schema_elements::{ValidatorActionId, ValidatorEntityType};
+use cedar_table::Table;
 use cedar_types::{Attributes, Type};
 use std::alloc::Global;
-use std::collections::BTreeMap;
 use std::iter::FusedIterator;
 
 /// The entity types of a schema, each under its name.
-type EntityTypes = BTreeMap<EntityType, ValidatorEntityType>;
+type EntityTypes = Table<EntityType, ValidatorEntityType>;
 
 /// The actions of a schema, each under its uid.
-type Actions = BTreeMap<EntityUID, ValidatorActionId>;
+type Actions = Table<EntityUID, ValidatorActionId>;
 
 /// The leaves of types that are yet to be gone over, in no order that is promised.
 ///

@@ -11,18 +11,19 @@ ghost use Rattle.cedar_queries.specs.KnownAttributes.{AreAttributesOf};
 ghost use Rattle.cedar_queries.specs.Possible.{AreDeclaredTypes, HasTags, IsDeclared, IsKnownUid, MayHaveAttribute, MayHaveTags, MemberMayHave};
 ghost use Rattle.cedar_type_rules.specs.Ty.{Fields, field_at};
 ghost use Rattle.cedar_type_rules.specs.declared.open_tag.OpenTag.TheVariants.{OpenAttributes};
+ghost use Rattle.cedar_types.specs.EntityKind.{kind_ty};
 ghost use Rattle.cedar_types.specs.EntityLUB.{lub_names};
 ghost use Rattle.cedar_types.specs.Meaning.{attribute_of, ty_of};
 
 use crate::known::all_attributes;
 use cedar_below::{EntityType, EntityUID, M};
 use cedar_schema_elements::{ValidatorActionId, ValidatorEntityType};
+use cedar_table::Table;
 use cedar_types::{AttributeType, EntityKind, EntityLUB, OpenTag, Type};
 use std::alloc::Global;
-use std::collections::BTreeMap;
 
 /// The entity types of a schema, each under its name.
-type EntityTypes = BTreeMap<EntityType, ValidatorEntityType>;
+type EntityTypes = Table<EntityType, ValidatorEntityType>;
 
 /// The attribute of a name among those of a type, if there is one. Out of memory is the only
 /// refusal.
@@ -148,13 +149,24 @@ fn all_declared(types: &EntityTypes, lub: &EntityLUB) -> bool
     true
 }
 
+/// Whether the entity types of a kind are all declared; any entity is of none that isn't.
+fn is_declared_kind(types: &EntityTypes, kind: &EntityKind) -> bool
+    ensures { IsTrue result ↔ AreDeclaredTypes (map plain_entry types.now.entries)
+        (kind_ty kind.now) }
+{
+    match kind {
+        EntityKind::Entity(lub) => all_declared(types, lub),
+        EntityKind::AnyEntity => true,
+    }
+}
+
 /// Whether the entity types of a union are all declared; of every other type there is none that
 /// isn't.
 pub fn has_declared_entity_types(types: &EntityTypes, ty: &Type) -> bool
     ensures { IsTrue result ↔ AreDeclaredTypes (map plain_entry types.now.entries) (ty_of ty.now) }
 {
     match ty {
-        Type::Entity(EntityKind::Entity(lub)) => all_declared(types, lub),
+        Type::Entity(kind) => is_declared_kind(types, kind),
         _ => true,
     }
 }
@@ -162,7 +174,7 @@ pub fn has_declared_entity_types(types: &EntityTypes, ty: &Type) -> bool
 /// Whether a uid is that of an action that is there, or of an entity type that is declared.
 pub fn is_known_uid(
     types: &EntityTypes,
-    actions: &BTreeMap<EntityUID, ValidatorActionId>,
+    actions: &Table<EntityUID, ValidatorActionId>,
     uid: &EntityUID,
 ) -> bool
     ensures { IsTrue result ↔ IsKnownUid (map plain_entry types.now.entries)

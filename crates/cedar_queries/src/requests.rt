@@ -17,8 +17,9 @@ use crate::selected::Selected;
 use crate::tests_of_values::ForRequest;
 use cedar_below::{EntityType, EntityUID};
 use cedar_schema_elements::ValidatorActionId;
+use cedar_table::Values;
 use cedar_types::Type;
-use std::collections::{btree_map, hash_set};
+use std::collections::hash_set;
 use std::iter::FusedIterator;
 use std::marker::Model;
 
@@ -38,7 +39,7 @@ enum Role {
 pub struct ApplicableTypes<'a> {
     role: Role,
     current: Option<hash_set::Iter<'a, EntityType>>,
-    rest: btree_map::Values<'a, EntityUID, ValidatorActionId>,
+    rest: Values<'a, EntityUID, ValidatorActionId>,
 }
 
 impl<'a> Model for ApplicableTypes<'a> {

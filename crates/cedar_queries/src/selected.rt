@@ -4,7 +4,7 @@ ghost use Rattle.std.specs.Prelude.{◌≡◌, Bool, length};
 ghost use Rattle.std.specs.Iterator.{at_most};
 ghost use Rattle.std.specs.Map.Iter.{TakesFirst, deref};
 
-use std::collections::{BTreeMap, btree_map};
+use cedar_table::{Iter, Table, Values};
 use std::iter::FusedIterator;
 use std::marker::Model;
 
@@ -20,7 +20,7 @@ pub trait Test<V>: Drop {
 /// The keys that are left of those entries of a map whose values pass a test, in order.
 #[derive(Drop)]
 pub struct Selected<'a, K, V, T: Test<V>> {
-    rest: btree_map::Iter<'a, K, V>,
+    rest: Iter<'a, K, V>,
     test: T,
 }
 
@@ -37,7 +37,7 @@ impl<'a, K: Ord, V, T: Test<V>> Selected<'a, K, V, T> {
     ghost use Rattle.cedar_queries.specs.Selected.{keys_where};
 
     /// The keys of all entries of the map whose values pass.
-    pub(crate) fn new(map: &'a BTreeMap<K, V>, test: T) -> Self
+    pub(crate) fn new(map: &'a Table<K, V>, test: T) -> Self
         ensures { result ≡ keys_where (T.holds test) map.now.entries }
     {
         Selected {
@@ -73,7 +73,7 @@ impl<'a, K, V, T: Test<V>> FusedIterator for Selected<'a, K, V, T> {}
 /// The values that are left of those of a map that pass a test, in the order of their keys.
 #[derive(Drop)]
 pub struct SelectedValues<'a, K, V, T: Test<V>> {
-    rest: btree_map::Values<'a, K, V>,
+    rest: Values<'a, K, V>,
     test: T,
 }
 
@@ -90,7 +90,7 @@ impl<'a, K: Ord, V, T: Test<V>> SelectedValues<'a, K, V, T> {
     ghost use Rattle.cedar_queries.specs.Selected.{values_where};
 
     /// All values of the map that pass.
-    pub(crate) fn new(map: &'a BTreeMap<K, V>, test: T) -> Self
+    pub(crate) fn new(map: &'a Table<K, V>, test: T) -> Self
         ensures { result ≡ values_where (T.holds test) map.now.entries }
     {
         SelectedValues {
