@@ -11,10 +11,12 @@ ghost use Rattle.cedar_schema_writer.specs.Refusal.{Refuses};
 use crate::actions::write_actions;
 use crate::entity_types::write_entity_types;
 use crate::known::{Known, action_types};
+use crate::uppers::upper_sets;
 use crate::write_back_fault::WriteBackFault;
 use cedar_below::{EntityType, EntityUID};
 use cedar_names::json_schema::{Fragment, RawName};
-use cedar_schema_elements::{ValidatorActionId, ValidatorEntityType, upper_sets};
+use cedar_schema_elements::{ValidatorActionId, ValidatorEntityType};
+use cedar_table::Table;
 use std::alloc::Global;
 use std::collections::BTreeMap;
 
@@ -31,8 +33,8 @@ use std::collections::BTreeMap;
 /// that memory ran out.
 pub fn json_schema(
     alloc: Global,
-    entity_types: &BTreeMap<EntityType, ValidatorEntityType>,
-    actions: &BTreeMap<EntityUID, ValidatorActionId>,
+    entity_types: &Table<EntityType, ValidatorEntityType>,
+    actions: &Table<EntityUID, ValidatorActionId>,
 ) -> Result<Fragment<RawName>, WriteBackFault>
     ensures writable { OnOk result ((entities : List ActionEntity)
         → IsWritable (parts_schema entity_types.now.entries actions.now.entries entities)) }

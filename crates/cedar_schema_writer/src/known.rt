@@ -17,8 +17,9 @@ use crate::write_back_fault::WriteBackFault;
 use cedar_below::{Eid, EntityType, EntityUID, M, Name};
 use cedar_names::json_schema::{ActionEntityUID, RawName};
 use cedar_schema_elements::{ValidatorActionId, ValidatorEntityType};
+use cedar_table::Table;
 use std::alloc::Global;
-use std::collections::{BTreeMap, HashSet, hash_set};
+use std::collections::{HashSet, hash_set};
 
 /// What a schema defines, once it is converted back.
 #[derive(Clone, Copy)]
@@ -26,9 +27,9 @@ pub(crate) struct Known<'a> {
     /// Where what is written is made.
     pub(crate) alloc: Global,
     /// The entity types, each under its name.
-    pub(crate) entity_types: &'a BTreeMap<EntityType, ValidatorEntityType>,
+    pub(crate) entity_types: &'a Table<EntityType, ValidatorEntityType>,
     /// The actions, each under its uid.
-    pub(crate) actions: &'a BTreeMap<EntityUID, ValidatorActionId>,
+    pub(crate) actions: &'a Table<EntityUID, ValidatorActionId>,
     /// The types of the actions.
     pub(crate) action_types: &'a HashSet<EntityType>,
 }
@@ -36,7 +37,7 @@ pub(crate) struct Known<'a> {
 /// The types of some actions.
 pub(crate) fn action_types(
     alloc: Global,
-    actions: &BTreeMap<EntityUID, ValidatorActionId>,
+    actions: &Table<EntityUID, ValidatorActionId>,
 ) -> M<HashSet<EntityType>>
     ensures { IfOk result (λ types. (name : PlainName) → Contains (map type_name types.keys) name
         ↔ Contains (map (λ (it : PlainUid × SchemaAction). it.0.ty)

@@ -12,4 +12,5 @@ mod known;
 mod names;
 mod parents;
 mod types;
+mod uppers;
 mod write_back_fault;

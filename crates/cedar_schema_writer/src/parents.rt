@@ -18,7 +18,8 @@ use crate::write_back_fault::WriteBackFault;
 use cedar_below::{EntityType, EntityUID, Name};
 use cedar_names::json_schema::{ActionEntityUID, RawName};
 use cedar_schema_elements::{SchemaNode, Uppers};
-use std::collections::{BTreeMap, BTreeSet};
+use cedar_table::Table;
+use std::collections::BTreeSet;
 use std::hash::Hash;
 
 /// A key of a hierarchy that can be written as a parent.
@@ -123,7 +124,7 @@ pub(crate) fn write_parents<K: WrittenKey<P>, P: Drop>(
 
 /// That each descendant of a node is one of the nodes.
 pub(crate) fn check_descendants<K: Ord + Hash, V: SchemaNode<K>>(
-    nodes: &BTreeMap<K, V>,
+    nodes: &Table<K, V>,
     node: &V,
 ) -> Result<(), WriteBackFault>
     ensures there { OnOk result ((lower : V.Name) → Contains (V.below node.now) lower

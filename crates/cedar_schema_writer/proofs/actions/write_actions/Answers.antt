@@ -32,7 +32,7 @@ loop-uid-init c =
           (IsSoundActionEntry c.args.known.now)
           (definitions_bag c.args.definitions.now.entries) (map plain_action_entry entries) _
           (ap (map plain_action_entry) c.into_iter-uid-iterator.ensures.into_iter_gives.0)
-          (uids_once entries c.into_iter-uid-iterator.ensures.into_iter_gives.5);
+          (uids_once entries c.into_iter-uid-iterator.ensures.into_iter_gives.1);
       proper = λ all. all;
     }
 

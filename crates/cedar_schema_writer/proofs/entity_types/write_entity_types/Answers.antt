@@ -30,7 +30,7 @@ loop-name-init c =
           (IsSoundEntityType c.args.known.now)
           (definitions_bag c.args.definitions.now.entries) (map plain_entry entries) _
           (ap (map plain_entry) c.into_iter-name-iterator.ensures.into_iter_gives.0)
-          (names_once entries c.into_iter-name-iterator.ensures.into_iter_gives.5);
+          (names_once entries c.into_iter-name-iterator.ensures.into_iter_gives.1);
       proper = λ all. all;
     }
 

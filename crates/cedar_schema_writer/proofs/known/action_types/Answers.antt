@@ -1,4 +1,4 @@
-use Rattle.std.proofs.Common.{◌≡◌, ◌++◌, List, [], ◌∷◌, ap, sym, subst, ◌∙◌, map, rules, refl, Contains}
+use Rattle.std.proofs.Common.{◌≡◌, ◌++◌, List, [], ◌∷◌, None, ap, sym, subst, ◌∙◌, map, refl, Contains}
 use Rattle.std.proofs.lemmas.List.{map-append}
 use Rattle.std.proofs.lemmas.Map.Iter.{iter_end}
 use Rattle.std.specs.Map.{keys_of}
@@ -39,7 +39,10 @@ loop-uid-preserved c =
 pub returns : goal.returns
 returns c =
     let uids = keys_of c.args.actions.now.entries in
-    let all : map deref c.loop-uid.yielded ≡ uids = search (rules, iter_end) in
+    let begins = c.into_iter-uid-iterator.ensures.into_iter_gives ∙ c.keys-uid-items.ensures.rest in
+    let all : map deref c.loop-uid.yielded ≡ uids =
+    (iter_end deref uids c.loop-uid.yielded c.into_iter-uid-iterator.result c.loop-uid.uid-iterator c.next.new.self None begins
+    c.loop-uid.yielded_by refl c.in-None.ensures.steps).0 in
     let P : List EntityUID → Type 0 = λ items. AnswersAlike (entity_type_eq.ghosts).eq c.loop-uid.types.keys (map (λ (uid : EntityUID). uid.ty) items) in
     λ name.
     let Q : List PlainName → Type 0 = λ items. Contains items name in

@@ -1,0 +1,72 @@
+//! What stands above the nodes of a table: descendants, inverted.
+
+ghost use Rattle.std.specs.Prelude.{◌≡◌, ◌⊎◌, ◌↔◌, Contains, IfOk, OnOk};
+ghost use Rattle.cedar_schema_elements.specs.Uppers.{IsUpper, ListsBelow};
+
+use cedar_below::M;
+use cedar_schema_elements::{SchemaNode, Uppers};
+use cedar_table::Table;
+use std::alloc::Global;
+use std::collections::{BTreeMap, BTreeSet};
+use std::hash::Hash;
+
+/// Puts a node above another.
+fn add_upper<K: Ord + Hash + Drop, V: SchemaNode<K>>(
+    alloc: Global,
+    uppers: &mut Uppers<K>,
+    lower: &K,
+    upper: &K,
+) -> M<()>
+    ensures { OnOk result ((key : K) (above : V.Name)
+        → IsUpper K.cmp V.key_name uppers.new key above
+        ↔ (IsUpper K.cmp V.key_name uppers.old key above
+        ⊎ ((V.key_name lower.now ≡ V.key_name key) × (V.key_name upper.now ≡ above)))) }
+{
+    let upper = V::copy_name(upper)?;
+    match uppers.get_mut(lower) {
+        Some(set) => {
+            set.insert(upper)?;
+        }
+        None => {
+            let mut set = BTreeSet::new(alloc);
+            set.insert(upper)?;
+            uppers.insert(V::copy_name(lower)?, set)?;
+        }
+    }
+    Ok(())
+}
+
+/// Puts a node above each of its descendants.
+fn add_uppers<K: Ord + Hash + Drop, V: SchemaNode<K>>(
+    alloc: Global,
+    uppers: &mut Uppers<K>,
+    upper: &K,
+    node: &V,
+) -> M<()>
+    ensures { OnOk result ((key : K) (above : V.Name)
+        → IsUpper K.cmp V.key_name uppers.new key above
+        ↔ (IsUpper K.cmp V.key_name uppers.old key above
+        ⊎ ((V.key_name upper.now ≡ above) × Contains (V.below node.now) (V.key_name key)))) }
+{
+    for lower in node.descendants() {
+        add_upper::<K, V>(alloc, uppers, lower, upper)?;
+    }
+    Ok(())
+}
+
+/// The keys of the nodes above each node: of those that list it among their descendants. Out of
+/// memory is the only refusal.
+pub(crate) fn upper_sets<K: Ord + Hash + Drop, V: SchemaNode<K>>(
+    alloc: Global,
+    nodes: &Table<K, V>,
+) -> M<Uppers<K>>
+    ensures { IfOk result (λ uppers.
+        (key : K) (above : V.Name) → IsUpper K.cmp V.key_name uppers key above
+        ↔ ListsBelow V.key_name V.below nodes.now.entries (V.key_name key) above) }
+{
+    let mut uppers = BTreeMap::new(alloc);
+    for (upper, node) in nodes {
+        add_uppers(alloc, &mut uppers, upper, node)?;
+    }
+    Ok(uppers)
+}
