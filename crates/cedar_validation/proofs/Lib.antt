@@ -9,6 +9,7 @@ mod KnownLemmas
 mod LastLemmas
 mod ListedEntries
 mod MentionLemmas
+mod MovedTables
 pub mod Pairwise
 mod RequestTypeLemmas
 mod Results

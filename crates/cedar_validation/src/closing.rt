@@ -1,6 +1,10 @@
 //! Descendants, closed.
 
 ghost use Rattle.std.specs.Prelude.{◌≡◌, ◌⊎◌, Contains, IfErr, IfOk, IsTrue, List, OnOk, map};
+ghost use Rattle.std.specs.HashMap as hash;
+ghost use Rattle.std.specs.List.{IsDistinct};
+ghost use Rattle.std.specs.List.Sorted.{IsStrictlySortedBy};
+ghost use Rattle.std.specs.Map.{keys_of};
 ghost use Rattle.cedar_schema_elements.specs.ValidatorActionId as action_specs;
 ghost use Rattle.cedar_schema_elements.specs.ValidatorActionId.{plain_action_entry};
 ghost use Rattle.cedar_schema_elements.specs.declared.action_id.ValidatorActionId.{ValidatorActionId as Action};
@@ -24,11 +28,31 @@ ghost use Rattle.cedar_validation.specs.Parts.{graph_fault, plain_schema};
 use crate::parts::{Actions, Types};
 use cedar_below::{EntityType, EntityUID, M, Memory};
 use cedar_declarations::SchemaError;
-use cedar_graph::{TcError, compute_tc, into_btree_map, into_hash_map};
+use cedar_graph::{TcError, compute_tc, into_btree_map};
 use cedar_schema_elements::{SchemaNode, ValidatorActionId, ValidatorEntityType};
+use cedar_table::Table;
 use std::alloc::Global;
-use std::collections::BTreeMap;
+use std::collections::{BTreeMap, HashMap};
 use std::hash::Hash;
+
+/// The entries of a table, in some order. Out of memory is the only refusal.
+fn into_hash_map<K: Ord + Hash + Drop, V: Drop>(
+    alloc: Global,
+    nodes: Table<K, V>,
+) -> M<HashMap<K, V>>
+    ensures moved { IfOk result (λ moved. hash.IsFromIterResult K.eq nodes.entries moved) }
+    ensures ordered { OnOk result (IsStrictlySortedBy K.cmp (keys_of nodes.entries)) }
+    ensures entries { IfOk result (λ moved. IsDistinct K.eq (keys_of nodes.entries)
+        → (entry : K × V) → Contains moved.entries entry → Contains nodes.entries entry) }
+{
+    let mut moved = HashMap::new(alloc);
+    for (key, value) in nodes.into_entries() {
+        moved.insert(key, value)?;
+    }
+    // That no two keys are equal is known from their iterator.
+    let _keys = moved.keys();
+    Ok(moved)
+}
 
 /// The nodes with their descendants closed: each with just those that one or more steps of the
 /// listed ones reach. A step to what isn't one of the nodes leads no further.
@@ -37,7 +61,7 @@ use std::hash::Hash;
 /// holds. The only other refusal is that memory ran out.
 fn closed_nodes<K: Ord + Hash + Drop, V: SchemaNode<K> + Drop>(
     alloc: Global,
-    nodes: BTreeMap<K, V>,
+    nodes: Table<K, V>,
     enforce_dag: bool,
 ) -> Result<BTreeMap<K, V>, TcError<K>>
     ensures located { IfOk result (λ closed.
@@ -59,7 +83,7 @@ fn closed_nodes<K: Ord + Hash + Drop, V: SchemaNode<K> + Drop>(
 
 /// The entity types with their descendants closed: each with just those that one or more steps of
 /// the listed ones reach. Out of memory is the only refusal.
-pub(crate) fn closed_types(alloc: Global, types: Types) -> M<Types>
+pub(crate) fn closed_types(alloc: Global, types: Table<EntityType, ValidatorEntityType>) -> M<Types>
     ensures located { IfOk result (λ closed.
         type_specs.AreLocatedAsKeys types.entries → type_specs.AreLocatedAsKeys closed.entries) }
     ensures closed { IfOk result (λ closed. (actions : List (Uid × Action)) (entities : List Entity)
@@ -84,7 +108,10 @@ fn refusal(refused: TcError<EntityUID>) -> SchemaError
 
 /// The actions with their descendants closed in the same way. An action that is on a cycle is
 /// refused.
-pub(crate) fn closed_actions(alloc: Global, actions: Actions) -> Result<Actions, SchemaError>
+pub(crate) fn closed_actions(
+    alloc: Global,
+    actions: Table<EntityUID, ValidatorActionId>,
+) -> Result<Actions, SchemaError>
     ensures located { IfOk result (λ closed. action_specs.AreLocatedAsKeys actions.entries
         → action_specs.AreLocatedAsKeys closed.entries) }
     ensures closed { IfOk result (λ closed. (types : List (Name × Node)) (entities : List Entity)

@@ -5,12 +5,13 @@ ghost use Rattle.cedar_below.specs.Lists.{HoldsPairwise};
 ghost use Rattle.cedar_validation.specs.Copies.{IsActionCopied, IsTypeCopied};
 
 use crate::parts::{Actions, Types};
-use cedar_below::{EntityType, EntityUID, M, copied_entries};
+use cedar_below::{EntityType, EntityUID, M};
 use cedar_schema_elements::{ValidatorActionId, ValidatorEntityType};
+use cedar_table::{Table, copied_entries};
 
 /// Equal entity types with the same locations, each under an equal name. Out of memory is the
 /// only refusal.
-pub fn copied_types(types: &Types) -> M<Types>
+pub fn copied_types(types: &Table<EntityType, ValidatorEntityType>) -> M<Types>
     ensures { IfOk result (λ copies. HoldsPairwise IsTypeCopied types.now.entries copies.entries) }
 {
     copied_entries(types, EntityType::clone, ValidatorEntityType::clone)
@@ -18,7 +19,7 @@ pub fn copied_types(types: &Types) -> M<Types>
 
 /// Equal actions with the same locations, each under an equal uid. Out of memory is the only
 /// refusal.
-pub fn copied_actions(actions: &Actions) -> M<Actions>
+pub fn copied_actions(actions: &Table<EntityUID, ValidatorActionId>) -> M<Actions>
     ensures { IfOk result (λ copies.
         HoldsPairwise IsActionCopied actions.now.entries copies.entries) }
 {

@@ -24,6 +24,7 @@ use crate::request_types::check_actions;
 use cedar_below::{Entities, EntityType, EntityUID, Extensions};
 use cedar_declarations::SchemaError;
 use cedar_schema_elements::{ValidatorActionId, ValidatorEntityType, action_entities};
+use cedar_table::Table;
 use std::alloc::Global;
 use std::collections::BTreeMap;
 
@@ -96,8 +97,8 @@ fn check_parts(alloc: Global, parts: &Parts, extensions: &Extensions) -> Result<
 /// of the validator of Cedar for a schema that is given by its parts.
 pub fn validate(
     alloc: Global,
-    entity_types: BTreeMap<EntityType, ValidatorEntityType>,
-    actions: BTreeMap<EntityUID, ValidatorActionId>,
+    entity_types: Table<EntityType, ValidatorEntityType>,
+    actions: Table<EntityUID, ValidatorActionId>,
     extensions: &Extensions,
 ) -> Result<Validated, SchemaError>
     ensures fault { IfErr result (λ error.

@@ -1,5 +1,6 @@
 use Rattle.std.proofs.lemmas.Result.{err_from_is_err_and}
-use Rattle.cedar_graph.proofs.MovedMaps.{each_alike, hashed_each, moved_each, tests_tied}
+use Rattle.cedar_graph.proofs.MovedMaps.{each_alike, moved_each, tests_tied}
+use Rattle.cedar_validation.proofs.MovedTables.{hashed_each}
 use Rattle.cedar_validation.proofs.Graphs.{Graph, closed_in_turn, none_on_cycle, refused_by_name}
 use Rattle.cedar_validation.proofs.closing.closed_nodes.Given.{Over}
 use Rattle.cedar_validation.proofs.closing.closed_nodes.Goals as goal
@@ -51,4 +52,4 @@ returns-clause-located g c = λ located.
     c.in_ok-into_btree_map.ensures.entries At
     (each_alike (graph g).laws (graph g).is_alike g.V.SchemaNode.IsLocatedAs g.met.V.SchemaNode.alike_located before after
     c.in_ok-hashed.ensures.moved.1 c.compute_tc.ensures.keys c.compute_tc.ensures.alike
-    (hashed_each (graph g).cmp (graph g).tied c.args.nodes c.in_ok-hashed.ensures.ordered before c.in_ok-hashed.ensures.entries At located))
+    (hashed_each (graph g).cmp (graph g).tied c.args.nodes.entries c.in_ok-hashed.ensures.ordered before c.in_ok-hashed.ensures.entries At located))
