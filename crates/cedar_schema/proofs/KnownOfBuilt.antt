@@ -1,5 +1,5 @@
 -- What a built schema declares of its entity types is clean and in the order of its names.
-use Rattle.std.proofs.Common.{◌≡◌, ◌∷◌, [], Bool, true, false, cond, Contains, List, Some, inl, inr, map, refl, subst}
+use Rattle.std.proofs.Common.{◌∷◌, [], true, false, cond, Contains, List, Some, inl, inr, map, refl, subst}
 use Rattle.std.specs.List.Sorted.{IsStrictlySortedBy}
 use Rattle.std.specs.Option.{option_map_or}
 use Rattle.std.specs.Ordering.{is_eq}

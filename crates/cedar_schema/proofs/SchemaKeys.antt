@@ -1,9 +1,8 @@
 -- Where the keys of every schema were written.
-use Rattle.std.proofs.Common.{◌≡◌, ◌∙◌, ◌∷◌, [], Contains, IfOk, List, Result, arith, map, refl, sym}
+use Rattle.std.proofs.Common.{◌≡◌, ◌∙◌, ◌∷◌, [], Contains, IfOk, List, Result, arith, map, refl}
 use Rattle.std.proofs.lemmas.List.Elements.{Contains-append_right}
 use Rattle.std.proofs.lemmas.Result.{IfOk-weaker}
 use Rattle.std.proofs.lemmas.Simd.{map-map}
-use Rattle.cedar_below.specs.Lists.{HoldsPairwise}
 use Rattle.cedar_schema.specs.SchemaKeys.{AreKeysLocated}
 use Rattle.cedar_schema.specs.ValidatorSchema.{action_entries, schema_entries}
 use Rattle.cedar_schema.specs.declared.schema.ValidatorSchema.{ValidatorSchema}

@@ -7,6 +7,7 @@ ghost use Rattle.cedar_schema.specs.ShownCommonTypes.{shown_common_type};
 ghost use Rattle.cedar_schema.specs.ShownNamespaces.{shown_entry};
 
 use crate::common_types::located_common_types;
+use crate::iterators::Namespaces;
 use crate::located_common_type::LocatedCommonType;
 use crate::located_namespace::LocatedNamespace;
 use crate::namespaces::{NamespacesByName, located_namespaces};
@@ -14,7 +15,7 @@ use cedar_below::{InternalName, M, copied_entries, copied_items};
 use cedar_fragments::namespace::ValidatorSchemaFragment;
 use cedar_names::json_schema::ConditionalName;
 use std::alloc::Global;
-use std::collections::{BTreeMap, btree_map};
+use std::collections::BTreeMap;
 use std::slice;
 
 /// What a schema shows of its fragments: common types and namespaces, with where these were
@@ -45,10 +46,10 @@ impl Located {
     }
 
     /// The namespaces that have a name, each once, in the order of their names.
-    pub fn namespaces(&self) -> btree_map::Values<'_, InternalName, LocatedNamespace>
+    pub fn namespaces(&self) -> Namespaces<'_>
         ensures { result ≡ map (λ entry. entry.1) (namespace_entries self.now) }
     {
-        self.namespaces.values()
+        Namespaces::new(self.namespaces.values())
     }
 
     /// The same common types and namespaces with the same locations. Out of memory is the only

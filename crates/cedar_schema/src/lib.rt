@@ -19,6 +19,7 @@ pub use cedar_types::{
     AttributeType, Attributes, BoolType, CoreTypeFault, EntityKind, EntityLUB, Entries, JoinError,
     JoinOrder, LubHelp, Names, OpenTag, Type, core_type_of, reduce,
 };
+pub use iterators::{ActionIds, Actions, EntityTypeNames, EntityTypes, Namespaces};
 pub use located_common_type::LocatedCommonType;
 pub use located_namespace::LocatedNamespace;
 pub use located_type::LocatedType;
@@ -30,6 +31,7 @@ mod collecting;
 mod common_types;
 mod converted_back;
 pub mod entity_type;
+mod iterators;
 pub mod laws;
 mod located;
 mod located_common_type;

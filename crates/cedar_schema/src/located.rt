@@ -1,10 +1,8 @@
 //! What a schema shows of the fragments that it was built from.
 
+use crate::iterators::Namespaces;
 use crate::located_common_type::LocatedCommonType;
-use crate::located_namespace::LocatedNamespace;
 use crate::schema::ValidatorSchema;
-use cedar_below::InternalName;
-use std::collections::btree_map;
 use std::slice;
 
 impl ValidatorSchema {
@@ -25,7 +23,7 @@ impl ValidatorSchema {
     /// The namespaces of the fragments that have a name, each once and in the order of their names,
     /// with where they were defined; `__cedar`, where the built-in types are, is among them. A
     /// schema that was put together without fragments has none.
-    pub fn namespaces(&self) -> btree_map::Values<'_, InternalName, LocatedNamespace>
+    pub fn namespaces(&self) -> Namespaces<'_>
         ensures { result ≡ map (λ entry. entry.1) (namespace_entries (located_of self.now)) }
     {
         self.located.namespaces()

@@ -1,5 +1,6 @@
 //! What a schema answers.
 
+use crate::iterators::{ActionIds, Actions, EntityTypeNames, EntityTypes};
 use crate::schema::ValidatorSchema;
 use cedar_below::{Entities, EntityType, EntityUID, Extensions, M, ValidationMode};
 use cedar_queries::{
@@ -10,8 +11,9 @@ use cedar_schema_elements::{
     UnlinkedRequestEnv, ValidatorActionId, ValidatorEntityType, action_entities,
 };
 use cedar_types::Type;
+use cedar_validation::copied_actions;
 use std::alloc::Global;
-use std::collections::{btree_map, hash_set};
+use std::collections::hash_set;
 
 impl ValidatorSchema {
     ghost use Rattle.std.specs.Prelude.{◌≡◌, ◌≢◌, ◌↔◌, ◌++◌, ◌∷◌, [], All, AllPairs, Any, Contains, IfErr, IfOk, IfSome, IsSome, IsTrue, OnOk, map};
@@ -50,7 +52,7 @@ impl ValidatorSchema {
     }
 
     /// The entity types, in the order of their names, one for each.
-    pub fn entity_types(&self) -> btree_map::Values<'_, EntityType, ValidatorEntityType>
+    pub fn entity_types(&self) -> EntityTypes<'_>
         ensures types { result ≡ map (λ entry. entry.1) (schema_entries self.now) }
         ensures in_order { IsStrictlySortedBy name_cmp
             (map (λ it. (entity_type_of it).name) result) }
@@ -59,7 +61,7 @@ impl ValidatorSchema {
     }
 
     /// The names of the entity types, in order, each once.
-    pub fn entity_type_names(&self) -> btree_map::Keys<'_, EntityType, ValidatorEntityType>
+    pub fn entity_type_names(&self) -> EntityTypeNames<'_>
         ensures names { result ≡ map (λ entry. entry.0) (schema_entries self.now) }
         ensures located { map type_loc result
             ≡ map (λ entry. types.name_loc entry.1) (schema_entries self.now) }
@@ -76,7 +78,7 @@ impl ValidatorSchema {
     }
 
     /// The actions, external ones too, in the order of their uids, one for each.
-    pub fn action_ids(&self) -> btree_map::Values<'_, EntityUID, ValidatorActionId>
+    pub fn action_ids(&self) -> ActionIds<'_>
         ensures actions { result ≡ map (λ entry. entry.1) (action_entries self.now) }
         ensures in_order { IsStrictlySortedBy uid_cmp (map (λ it. (action_of it).uid) result) }
     {
@@ -84,7 +86,7 @@ impl ValidatorSchema {
     }
 
     /// The uids of the actions, external ones too, in order, each once.
-    pub fn actions(&self) -> btree_map::Keys<'_, EntityUID, ValidatorActionId>
+    pub fn actions(&self) -> Actions<'_>
         ensures uids { result ≡ map (λ entry. entry.0) (action_entries self.now) }
         ensures located { map uid_loc result
             ≡ map (λ entry. action.name_loc entry.1) (action_entries self.now) }
@@ -307,6 +309,6 @@ impl ValidatorSchema {
             (schema_with (schema_of self.now).entity_types (action_entries self.now)
             (entities_of entities))) }
     {
-        action_entities(alloc, &self.action_ids)
+        action_entities(alloc, &copied_actions(&self.action_ids)?)
     }
 }

@@ -28,6 +28,7 @@ use cedar_schema_elements::{
     UnlinkedRequestEnv, ValidatorActionId, ValidatorEntityType, action_entities, environments,
 };
 pub use cedar_schema_writer::WriteBackFault;
+use cedar_table::Table;
 use cedar_validation::{
     Validated, actions_by_uid, copied_actions, copied_types, types_by_name, validate,
 };
@@ -45,8 +46,8 @@ use std::collections::BTreeMap;
 /// what is shown of fragments.
 #[derive_where(Debug, PartialEq, Eq)]
 pub struct ValidatorSchema {
-    pub(crate) entity_types: BTreeMap<EntityType, ValidatorEntityType>,
-    pub(crate) action_ids: BTreeMap<EntityUID, ValidatorActionId>,
+    pub(crate) entity_types: Table<EntityType, ValidatorEntityType>,
+    pub(crate) action_ids: Table<EntityUID, ValidatorActionId>,
     #[derive_where(skip(EqHashOrd))]
     pub(crate) action_entities: Entities,
     #[derive_where(skip(EqHashOrd))]
@@ -127,8 +128,8 @@ impl ValidatorSchema {
         // That no entities are in order is known from their iterator.
         let _in_order = action_entities.iter();
         ValidatorSchema {
-            entity_types: BTreeMap::new(alloc),
-            action_ids: BTreeMap::new(alloc),
+            entity_types: Table::new(alloc),
+            action_ids: Table::new(alloc),
             action_entities,
             environments: Vec::new(alloc),
             located: Located::nothing(alloc),
@@ -152,13 +153,15 @@ impl ValidatorSchema {
             action_entities,
             located,
         } = parts;
+        let environments = environments(alloc, &actions)?;
+        let entity_types = Table::from_map(alloc, entity_types)?;
+        let action_ids = Table::from_map(alloc, actions)?;
         // That names and uids are in order is known from their iterators.
         let _names = entity_types.keys();
-        let _uids = actions.keys();
-        let environments = environments(alloc, &actions)?;
+        let _uids = action_ids.keys();
         Ok(ValidatorSchema {
             entity_types,
-            action_ids: actions,
+            action_ids,
             action_entities,
             environments,
             located,
