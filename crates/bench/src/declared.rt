@@ -180,7 +180,7 @@ pub(crate) fn whole(alloc: Global, count: usize) -> Result<Vec<Fragment<RawName>
 }
 
 /// The first number of eight digits.
-const FIRST: usize = 10_000_000;
+pub(crate) const FIRST: usize = 10_000_000;
 
 /// As many entity types, each alone, whose names are some letters and a number of eight digits.
 pub(crate) fn eight_digits(

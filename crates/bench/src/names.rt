@@ -11,7 +11,10 @@ use std::ops::Range;
 /// first eight are just what makes a factor zero.
 pub(crate) const ALIKE: &str = "FloodOf000017770VMgAjaq9";
 
-/// Letters as many, with which they haven't.
+/// Letters as many, with which they have one hash in the table of a schema, whose seed is another.
+pub(crate) const ALIKE_IN_TABLES: &str = "FloodOf000100137D_KVxV0Q";
+
+/// Letters as many, with which they have unlike ones.
 pub(crate) const APART: &str = "FloodOf000017771VMgAjaq9";
 
 /// Some letters with a number after them.
@@ -35,7 +38,12 @@ pub(crate) fn raw(alloc: Global, letters: &str, number: usize) -> Result<RawName
 
 /// The entity type of a number.
 pub(crate) fn entity_type(alloc: Global, number: usize) -> Result<EntityType, Stop> {
-    Ok(EntityType::from_str(alloc, numbered(alloc, "E", number)?.as_str())?)
+    lettered(alloc, "E", number)
+}
+
+/// The entity type of some letters and a number.
+pub(crate) fn lettered(alloc: Global, letters: &str, number: usize) -> Result<EntityType, Stop> {
+    Ok(EntityType::from_str(alloc, numbered(alloc, letters, number)?.as_str())?)
 }
 
 /// The entity types of some numbers.

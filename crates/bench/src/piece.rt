@@ -49,6 +49,12 @@ pub(crate) enum Piece {
     CloseTrees,
     /// An entity type and an action looked up among as many of each.
     SchemaLookUp,
+    /// An entity type and an action that aren't among them.
+    LookUpLacking,
+    /// An entity type looked up among as many whose names hash alike in the table of a schema.
+    LookUpFlood,
+    /// An entity type looked up among as many with names as long that don't.
+    LookUpApart,
     /// The environments of requests of as many principals on as many resources, each looked at.
     Environments,
     /// What is known of the attributes of a union of as many entity types.
@@ -61,7 +67,9 @@ pub(crate) enum Piece {
     BuildEnvironments,
     /// As many entity types whose names hash alike, built from one fragment.
     BuildFlood,
-    /// As many entity types with names as long that don't.
+    /// As many entity types whose names hash alike in the table of a schema.
+    BuildTableFlood,
+    /// As many entity types with names as long that hash apart.
     BuildApart,
     /// A copy of a schema of as many entity types and actions.
     CopySchema,
@@ -77,7 +85,7 @@ pub(crate) enum Piece {
 }
 
 /// All pieces, in the order in which they are measured.
-pub(crate) const PIECES: [Piece; 35] = [
+pub(crate) const PIECES: [Piece; 39] = [
     Piece::SubtypeClosedStrict,
     Piece::SubtypeClosedPermissive,
     Piece::SubtypeOpenStrict,
@@ -101,12 +109,16 @@ pub(crate) const PIECES: [Piece; 35] = [
     Piece::CloseStar,
     Piece::CloseTrees,
     Piece::SchemaLookUp,
+    Piece::LookUpLacking,
+    Piece::LookUpFlood,
+    Piece::LookUpApart,
     Piece::Environments,
     Piece::KnownAttributes,
     Piece::Validate,
     Piece::ConvertBack,
     Piece::BuildEnvironments,
     Piece::BuildFlood,
+    Piece::BuildTableFlood,
     Piece::BuildApart,
     Piece::CopySchema,
     Piece::Scale,
@@ -151,12 +163,16 @@ impl Piece {
             Piece::CloseStar => "close-star",
             Piece::CloseTrees => "close-trees",
             Piece::SchemaLookUp => "schema-look-up",
+            Piece::LookUpLacking => "look-up-lacking",
+            Piece::LookUpFlood => "look-up-flood",
+            Piece::LookUpApart => "look-up-apart",
             Piece::Environments => "environments",
             Piece::KnownAttributes => "known-attributes",
             Piece::Validate => "validate",
             Piece::ConvertBack => "write-back",
             Piece::BuildEnvironments => "build-environments",
             Piece::BuildFlood => "build-flood",
+            Piece::BuildTableFlood => "build-table-flood",
             Piece::BuildApart => "build-apart",
             Piece::CopySchema => "copy-schema",
             Piece::Scale => "scale",
@@ -192,11 +208,16 @@ impl Piece {
             Piece::CloseChain => &[(50, 200), (150, 20), (500, 2)],
             Piece::CloseRing => &[(30, 500), (100, 50), (300, 5)],
             Piece::CloseStar | Piece::CloseTrees => &[(50, 1000), (500, 100), (5000, 5)],
-            Piece::SchemaLookUp => &[(100, 100_000), (1000, 100_000), (5000, 100_000)],
+            Piece::SchemaLookUp | Piece::LookUpLacking => {
+                &[(100, 100_000), (1000, 100_000), (5000, 100_000)]
+            }
+            Piece::LookUpFlood | Piece::LookUpApart => &[(1000, 100_000), (20_000, 100_000)],
             Piece::Environments => &[(10, 10_000), (30, 1000), (100, 100)],
             Piece::KnownAttributes => &[(10, 10_000), (30, 1000), (100, 1000)],
             Piece::BuildEnvironments => &[(30, 100), (100, 10), (300, 1), (1000, 1)],
-            Piece::BuildFlood | Piece::BuildApart => &[(1000, 1), (20_000, 1)],
+            Piece::BuildFlood | Piece::BuildTableFlood | Piece::BuildApart => {
+                &[(1000, 1), (20_000, 1)]
+            }
             Piece::CopySchema => &[(1000, 10), (10_000, 1)],
             Piece::Scale => &[(10_000, 1), (30_000, 1), (100_000, 1), (200_000, 1)],
             Piece::ParseJson | Piece::ReadJson | Piece::WriteJson => {

@@ -5,10 +5,10 @@ ghost use Rattle.cedar_below.specs.TypeNames.{TypeNamesFit};
 
 use crate::by_hand::{actions, growing_types, standard_types, uid};
 use crate::declared::{
-    applying_to_all, chain, crossing, eight_digits, split, whole, whole_fragment,
+    FIRST, applying_to_all, chain, crossing, eight_digits, split, whole, whole_fragment,
 };
 use crate::graphs::{Graph, Shape, graph};
-use crate::names::{ALIKE, APART, entity_type, numbered};
+use crate::names::{ALIKE, ALIKE_IN_TABLES, APART, entity_type, lettered, numbered};
 use crate::piece::Piece;
 use crate::stop::Stop;
 use crate::types::{
@@ -209,11 +209,19 @@ fn schema_alone(alloc: Global, question: OfSchema, count: usize) -> Result<Prepa
     on_borrowed(Borrowed::Schema(question, schema))
 }
 
-/// The last entity type and the last action of a schema, to be looked up.
-fn schema_look_up(alloc: Global, count: usize) -> Result<Prepared, Stop> {
-    let last = count.saturating_sub(1);
-    let (ty, action) = (entity_type(alloc, last)?, uid(alloc, last)?);
+/// The entity type and the action of a number, to be looked up among as many of each.
+fn schema_look_up(alloc: Global, count: usize, number: usize) -> Result<Prepared, Stop> {
+    let (ty, action) = (entity_type(alloc, number)?, uid(alloc, number)?);
     let schema = built(alloc, whole(alloc, count)?)?;
+    on_borrowed(Borrowed::Declared(schema, ty, action))
+}
+
+/// The last entity type of those of some letters and a number of eight digits, to be looked up, and
+/// an action where there are none.
+fn lettered_look_up(alloc: Global, letters: &str, count: usize) -> Result<Prepared, Stop> {
+    let last = FIRST.saturating_add(count.saturating_sub(1));
+    let (ty, action) = (lettered(alloc, letters, last)?, uid(alloc, last)?);
+    let schema = built(alloc, eight_digits(alloc, letters, count)?)?;
     on_borrowed(Borrowed::Declared(schema, ty, action))
 }
 
@@ -283,13 +291,17 @@ pub(crate) fn prepare(alloc: Global, piece: Piece, count: usize) -> Result<Prepa
         Piece::CloseRing => close(alloc, Shape::Ring, count),
         Piece::CloseStar => close(alloc, Shape::Star, count),
         Piece::CloseTrees => close(alloc, Shape::Trees, count),
-        Piece::SchemaLookUp => schema_look_up(alloc, count),
+        Piece::SchemaLookUp => schema_look_up(alloc, count, count.saturating_sub(1)),
+        Piece::LookUpLacking => schema_look_up(alloc, count, count),
+        Piece::LookUpFlood => lettered_look_up(alloc, ALIKE_IN_TABLES, count),
+        Piece::LookUpApart => lettered_look_up(alloc, APART, count),
         Piece::Environments => environments(alloc, count),
         Piece::KnownAttributes => known_attributes(alloc, count),
         Piece::Validate => validate(alloc, count),
         Piece::ConvertBack => schema_alone(alloc, OfSchema::ConvertBack, count),
         Piece::BuildEnvironments => build(crossing(alloc, count)?),
         Piece::BuildFlood => build(eight_digits(alloc, ALIKE, count)?),
+        Piece::BuildTableFlood => build(eight_digits(alloc, ALIKE_IN_TABLES, count)?),
         Piece::BuildApart => build(eight_digits(alloc, APART, count)?),
         Piece::CopySchema => schema_alone(alloc, OfSchema::Copy, count),
         Piece::Scale => build(whole(alloc, count)?),

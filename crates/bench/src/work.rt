@@ -5,7 +5,7 @@ use crate::prepared::{Borrowed, Given, OfOne, OfSchema, OfText, OfTwo, built, no
 use crate::stop::Stop;
 use cedar_json::fragment_from_json;
 use cedar_json_writer::fragment_to_json;
-use cedar_schema::below::{ValidationMode, Value};
+use cedar_schema::below::{EntityType, EntityUID, ValidationMode, Value};
 use cedar_schema::json_schema::{Fragment, RawName};
 use cedar_schema::lookup::SchemaLookup;
 use cedar_schema::member::separating_value;
@@ -67,6 +67,13 @@ fn separated(alloc: Global, one: &Type, other: &Type) -> Result<usize, Stop> {
     }
     let found = separating_value(alloc, one, other, &extensions, &[])?;
     Ok(usize::from(found.is_some()))
+}
+
+/// How many of an entity type and an action a schema has.
+fn found(schema: &ValidatorSchema, ty: &EntityType, uid: &EntityUID) -> usize {
+    let types = usize::from(schema.get_entity_type(ty).is_some());
+    let actions = usize::from(schema.get_action_id(uid).is_some());
+    types + actions
 }
 
 /// How many declarations of entity types and actions a fragment has.
@@ -148,9 +155,7 @@ impl Borrowed {
             Borrowed::Membership(ty, value) => Ok(has_type(alloc, ty, value)),
             Borrowed::Joins(types) => joined(alloc, types),
             Borrowed::Schema(question, schema) => question.work(alloc, schema),
-            Borrowed::Declared(schema, ty, uid) => Ok(usize::from(
-                schema.get_entity_type(ty).is_some() && schema.get_action_id(uid).is_some(),
-            )),
+            Borrowed::Declared(schema, ty, uid) => Ok(found(schema, ty, uid)),
             Borrowed::KnownAttributes(schema, ty) => {
                 Ok(ty.all_attributes(alloc, schema)?.keys().count())
             }

@@ -2,7 +2,7 @@
 
 use crate::questions::answer;
 use crate::schemas::schema_of;
-use cedar_schema::below::Loc;
+use cedar_schema::below::{Loc, M};
 use cedar_schema::{LocatedCommonType, LocatedType, Type, ValidatorSchema};
 use shorthand::checked::{holds, one_of, same};
 use shorthand::names::{entity_type, internal_name};
@@ -96,9 +96,77 @@ const FOUND: &[(&str, Questions)] = &[
     ),
     (
         "",
-        &[("names", ""), ("uids", ""), ("strict", ""), ("copy", "")],
+        &[
+            ("names", ""),
+            ("uids", ""),
+            ("strict", ""),
+            ("copy", ""),
+            ("find U", "None"),
+            ("find_action Action::view", "None"),
+        ],
+    ),
+    (
+        "entity U@3",
+        &[
+            ("find U", "U"),
+            ("find U@4", "U"),
+            ("find V", "None"),
+            ("find N::U", "None"),
+        ],
+    ),
+    (
+        "N@3: action view",
+        &[
+            ("find_action N::Action::view", "N::Action::\"view\""),
+            ("find_action N::Action@4::view", "N::Action::\"view\""),
+            ("find_action N::Action::edit", "None"),
+        ],
+    ),
+    (
+        "A: entity U; B: entity U; A::B: entity U; B::A: entity U; A::A: entity U; entity B",
+        &[
+            ("names", "B A::U A::A::U A::B::U B::U B::A::U"),
+            ("find U", "None"),
+            ("find A::U", "A::U"),
+            ("find B::U", "B::U"),
+            ("find A::A::U", "A::A::U"),
+            ("find A::B::U", "A::B::U"),
+            ("find B::A::U", "B::A::U"),
+            ("find B::B::U", "None"),
+            ("find A::B", "None"),
+            ("find C::U", "None"),
+        ],
     ),
 ];
+
+/// The declarations of as many entity types, `E0` and so on.
+fn many(alloc: Global, count: usize) -> M<String> {
+    let mut text = String::new(alloc);
+    for number in 0..count {
+        if number > 0 {
+            text.push_str("; ")?;
+        }
+        text.push_str(format!(in alloc; "entity E{number}")?.as_str())?;
+    }
+    Ok(text)
+}
+
+/// Whether a schema has an entity type whose name is some letter with a number behind it.
+fn has(alloc: Global, schema: &ValidatorSchema, letter: &str, number: usize) -> Result<bool, Fail> {
+    let name = entity_type(alloc, format!(in alloc; "{letter}{number}")?.as_str())?;
+    Ok(schema.get_entity_type(&name).is_some())
+}
+
+#[test]
+fn each_of_many_entity_types_is_found(rt: HostRuntime) -> Result<(), Fail> {
+    let alloc = rt.alloc();
+    let schema = schema_of(alloc, many(alloc, 5000)?.as_str())?;
+    for number in 0..5000 {
+        holds(has(alloc, &schema, "E", number)?, "declared")?;
+        holds(!has(alloc, &schema, "F", number)?, "not declared")?;
+    }
+    Ok(())
+}
 
 #[test]
 fn what_is_declared_is_found(rt: HostRuntime) -> Result<(), Fail> {
