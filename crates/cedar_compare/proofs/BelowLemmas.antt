@@ -108,18 +108,20 @@ module _ (extensions : Extensions) (old new : PlainSchema) (below : SchemaBelow 
 
   -- each request stays one
   request_above : (it : PlainRequest) → IsRequestIn extensions old it → IsRequestIn extensions new it
-  request_above it (environment, (action, among, asked), principal, uid, resource, has, first, second) =
+  request_above it (environment, (action, among, asked), types, has, first, second) =
       let other = below.actions environment.action action among in
       let more = requests_above action.kind other.0.kind environment it.context other.2 asked has in
       let declared = below.named environment (action, among, asked) in (
         record { principal = environment.principal; action = environment.action; resource = environment.resource; context = more.0 },
         (other.0, other.1, more.1),
-        principal,
-        uid,
-        resource,
+        record {
+          principal_type = types.principal_type;
+          of_action = types.of_action;
+          resource_type = types.resource_type;
+        },
         more.2,
-        ids_above it.principal (subst (HasEntityType old) principal declared.0) first,
-        ids_above it.resource (subst (HasEntityType old) resource declared.1) second,
+        ids_above it.principal (subst (HasEntityType old) (sym types.principal_type) declared.0) first,
+        ids_above it.resource (subst (HasEntityType old) (sym types.resource_type) declared.1) second,
       )
 
 -- a schema below another is kept by it

@@ -82,8 +82,10 @@ pub users_lose : (extensions : Extensions) (lower upper : EntityTypeKind) (id : 
     → LosesEntityType extensions (users lower) (users upper) user
 users_lose extensions lower upper id written has lacks = (
   bare id,
-  bare_is_real id written,
   refl,
-  kind_of_entity extensions lower (bare id) refl has,
-  λ of. lacks (entity_of_kind extensions upper (bare id) of).1,
+  (
+    bare_is_real id written,
+    kind_of_entity extensions lower (bare id) refl has,
+    λ of. lacks (entity_of_kind extensions upper (bare id) of).1,
+  ),
 )

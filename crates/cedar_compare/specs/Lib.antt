@@ -1,5 +1,17 @@
+pub mod Choices
+pub mod CompareFault
+pub mod Difference
 pub mod Entities
+pub mod Fresh
 pub mod Keeps
+pub mod Lookup
+pub mod Losses
+pub mod LostEntities
+pub mod LostRequests
+pub mod PlainRequests
 pub mod Requests
 pub mod Samples
 pub mod SchemaBelow
+pub mod Told
+pub mod Uppers
+pub mod Versions

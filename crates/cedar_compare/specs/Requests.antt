@@ -1,6 +1,7 @@
 -- The requests that a schema admits.
 use Rattle.std.specs.Prelude.{◌≡◌, Contains}
 use Rattle.cedar_below.specs.IsValue.{IsValue}
+use Rattle.cedar_below.specs.PlainName.{PlainName}
 use Rattle.cedar_below.specs.PlainUid.{PlainUid}
 use Rattle.cedar_below.specs.Tree.{Tree, uid_value}
 use Rattle.cedar_below.specs.declared.extension.Extensions.{Extensions}
@@ -22,6 +23,13 @@ IsRealRequest it =
     IsValue (uid_value it.principal) × IsValue (uid_value it.action)
     × IsValue (uid_value it.resource) × IsValue it.context
 
+-- the request is of a principal and a resource of these types, and of this action
+pub record IsOfTypes (principal : PlainName) (action : PlainUid) (resource : PlainName)
+    (it : PlainRequest) : Type 0 where
+  pub principal_type : it.principal.ty ≡ principal
+  pub of_action : it.action ≡ action
+  pub resource_type : it.resource.ty ≡ resource
+
 -- where the type of the uid is one of the schema, it may have the uid's id
 abbrev pub MayHaveId : PlainSchema → PlainUid → Type 0
 MayHaveId schema uid =
@@ -32,6 +40,6 @@ MayHaveId schema uid =
 abbrev pub IsRequestIn : Extensions → PlainSchema → PlainRequest → Type 0
 IsRequestIn extensions schema it =
     (environment : Environment) × IsEnvironmentOf schema environment
-    × (environment.principal ≡ it.principal.ty) × (environment.action ≡ it.action)
-    × (environment.resource ≡ it.resource.ty) × Has extensions it.context environment.context
+    × IsOfTypes environment.principal environment.action environment.resource it
+    × Has extensions it.context environment.context
     × MayHaveId schema it.principal × MayHaveId schema it.resource

@@ -1,0 +1,26 @@
+-- Entities without attributes, tags and ancestors, and enumerated entity types.
+use Rattle.std.proofs.Common.{◌≡◌, List, subst, sym, Contains}
+use Rattle.cedar_below.specs.declared.extension.Extensions.{Extensions}
+use Rattle.cedar_compare.specs.Difference.{IsAlike}
+use Rattle.cedar_compare.specs.Entities.{IsEntityOfKind, IsEntityOfType}
+use Rattle.cedar_compare.specs.Lookup.{IsKeyed}
+use Rattle.cedar_declarations.specs.EntityTypeKind.{EntityTypeKind, standard_kind, enumerated_kind, external_kind}
+use Rattle.cedar_declarations.specs.PlainSchema.{ActionEntity, PlainSchema, SchemaEntityType}
+use Rattle.cedar_declarations.specs.ValidSchema.{IsEnumerated}
+
+-- a kind of the sort of an enumerated one is enumerated
+pub alike_enumerated : (a b : EntityTypeKind) → IsAlike a b → IsEnumerated a → IsEnumerated b
+alike_enumerated (enumerated_kind choices) (enumerated_kind others) alike enumerated = tt
+alike_enumerated (standard_kind fields openness tags) b alike enumerated = absurd enumerated
+alike_enumerated external_kind b alike enumerated = absurd enumerated
+alike_enumerated a b alike enumerated = elim alike [ ]
+
+-- a kind that is told to be enumerated is
+pub is_enumerated : (kind : EntityTypeKind) (choices : List _) → kind ≡ enumerated_kind choices → IsEnumerated kind
+is_enumerated kind choices is = subst IsEnumerated (sym is) tt
+
+-- an entity of a type is of the kind of the type of its name
+pub of_its_kind : (extensions : Extensions) (schema : PlainSchema) → IsKeyed schema → (it : ActionEntity) (ty : SchemaEntityType)
+    → Contains schema.entity_types (it.uid.ty, ty) → IsEntityOfType extensions schema it → IsEntityOfKind extensions schema ty.kind it
+of_its_kind extensions schema keyed it ty there (other, among, of) =
+    subst (λ (t : SchemaEntityType). IsEntityOfKind extensions schema t.kind it) (keyed.types it.uid.ty other ty among there) of

@@ -1,0 +1,439 @@
+-- What is told of the environments of an action, one after another.
+use Rattle.std.proofs.Common.{◌≡◌, ◌≢◌, ◌⊎◌, ℕ, ◌<◌, ◌≤◌, ◌+◌, Bool, true, false, cond, is_lt, List, [], ◌∷◌, ◌++◌, AllPairs, Option, Some, None, get_or, length, suc, take, inl, inr, refl, ap, subst, sym, ◌∙◌, ⊎_elim, map, Contains, arith}
+use Rattle.std.proofs.lemmas.Bool.{false≢true}
+use Rattle.std.proofs.lemmas.Grind.{flat_map-append}
+use Rattle.std.proofs.lemmas.List.{append-nil, take_more}
+use Rattle.std.proofs.lemmas.List.Elements.{Contains-append_right}
+use Rattle.std.proofs.lemmas.List.Sorted.{Contains-permutation, IsPermutation-sym, ranks_by, sorted_far, sum_by-IsPermutation}
+use Rattle.std.proofs.lemmas.List.Sums.{sum_by-cons}
+use Rattle.std.specs.List.{AllByRecursion, flat_map, sum_by}
+use Rattle.std.specs.List.Sorted.{IsPermutation, IsSorted, IsStrictlySortedBy}
+use Rattle.std.specs.Option.{option_map}
+use Rattle.std.specs.Ordering.{is_eq, ordering_reverse}
+use Rattle.std.specs.declared.cmp.Ordering.{Ordering}
+use Rattle.std.specs.declared.cmp.Ordering.TheVariants.{Less, Equal, Greater}
+use Rattle.cedar_below.proofs.Lists.{Contains-cons, Contains-cons_cases, Contains-preimage}
+use Rattle.cedar_below.proofs.PlainNames.{name_cmp-Equal, name_cmp-total}
+use Rattle.cedar_below.specs.Lists.{SameItems, Twice}
+use Rattle.cedar_below.specs.PlainName.{PlainName, name_cmp}
+use Rattle.cedar_below.specs.PlainUid.{PlainUid}
+use Rattle.cedar_below.specs.Tree.{Tree}
+use Rattle.cedar_below.specs.declared.extension.Extensions.{Extensions}
+use Rattle.cedar_compare.proofs.AllLemmas.{principals_below}
+use Rattle.cedar_compare.proofs.RequestLemmas.{kept_requests, lacking, lost_request}
+use Rattle.cedar_compare.proofs.SortedLemmas.{all_at}
+use Rattle.cedar_compare.proofs.ToldLemmas.{AnswersSoFar, answered_append, answered_none, map_append, none_there, told_lost}
+use Rattle.cedar_compare.specs.Difference.{AreAnswers, IsAnswer, IsEnvironmentFor, KeepsOf, LacksChoice, PlainDifference, Subject, choice_gone, context_outside, environment_subject, gone, request_lost, subject_cmp}
+use Rattle.cedar_compare.specs.Keeps.{IsLostRequest}
+use Rattle.cedar_compare.specs.LostRequests.{IsAppliedBy, context_at, subjects_with}
+use Rattle.cedar_compare.specs.Lookup.{IsActionAt, IsKeyed}
+use Rattle.cedar_compare.specs.PlainRequests.{AreActionAnswers, HasEnvironment, IsContextIn, IsContextOutside, IsEnvironmentLacking, IsSampleRequest, IsUidOfType, IsUidOutside}
+use Rattle.cedar_compare.specs.Requests.{IsOfTypes, MayHaveId, PlainRequest}
+use Rattle.cedar_counterexample.specs.Steps.{IsOutsideAt, PlainStep}
+use Rattle.cedar_declarations.proofs.OccurrenceLemmas.{Contains-flat_map, Contains-given, Contains-image, Twice-distinct, name_test}
+use Rattle.cedar_declarations.specs.Environments.{Environment, IsEnvironmentOf, IsRequestOf}
+use Rattle.cedar_declarations.specs.PlainSchema.{ActionKind, PlainSchema, SchemaAction, defined_action, external_action}
+use Rattle.cedar_declarations.specs.ValidSchema.{IsContextOf}
+use Rattle.cedar_schema_elements.specs.ActionKind.{kind_context, kind_principals, kind_resources}
+use Rattle.cedar_type_rules.specs.Has.{Has}
+use Rattle.cedar_type_rules.specs.Ty.{Ty}
+
+-- the context of an environment is that of its action
+kind_of_environment : (kind : ActionKind) (environment : Environment) → IsRequestOf kind environment
+    → IsContextOf kind environment.context × (kind_context kind ≡ Some environment.context)
+    × Contains (kind_principals kind) environment.principal × Contains (kind_resources kind) environment.resource
+kind_of_environment (defined_action principals resources context) environment of =
+    (of.2, ap (λ (ty : Ty). Some ty) of.2, of.0, of.1)
+kind_of_environment external_action environment of = absurd of
+
+-- a principal, a resource and the context of a kind are an environment of it
+environment_of_kind : (kind : ActionKind) (environment : Environment) → Contains (kind_principals kind) environment.principal
+    → Contains (kind_resources kind) environment.resource → kind_context kind ≡ Some environment.context → IsRequestOf kind environment
+environment_of_kind (defined_action principals resources context) environment first second is =
+    (first, second, cc)
+environment_of_kind external_action environment first second is = absurd (none_there environment.principal first)
+
+-- the context of an environment of the schema is that of an action of it
+pub environment_context : (schema : PlainSchema) (environment : Environment) → IsEnvironmentOf schema environment
+    → IsContextIn schema environment.context
+environment_context schema environment (action, there, of) =
+    (environment.action, action, there, (kind_of_environment action.kind environment of).0)
+
+module _ (schema : PlainSchema) (uid : PlainUid) where
+  -- of what stands at the uid, the environments of the uid have the context
+  pub context_there : IsKeyed schema → (o : Option SchemaAction) → IsActionAt schema uid o → (principal resource : PlainName) (ty : Ty)
+      → IsEnvironmentOf schema (record { principal = principal; action = uid; resource = resource; context = ty })
+      → context_at o ≡ Some ty
+  context_there keyed None at principal resource ty (action, there, of) = absurd (at action there)
+  context_there keyed (Some it) at principal resource ty (action, there, of) =
+      ap (λ (a : SchemaAction). kind_context a.kind) (keyed.actions uid it action at there)
+      ∙ (kind_of_environment action.kind (record { principal = principal; action = uid; resource = resource; context = ty }) of).1
+
+  -- where no action at the uid is for a principal and a resource, the schema lacks the environment
+  pub lacking_there : IsKeyed schema → (o : Option SchemaAction) → IsActionAt schema uid o → (principal resource : PlainName)
+      → ¬ IsAppliedBy o principal resource → IsEnvironmentLacking schema principal uid resource
+  lacking_there keyed None at principal resource none (ty, (action, there, of)) = at action there
+  lacking_there keyed (Some it) at principal resource none (ty, (action, there, of)) =
+      let is = kind_of_environment action.kind (record { principal = principal; action = uid; resource = resource; context = ty }) of in
+      none (subst (λ (a : SchemaAction). Contains (kind_principals a.kind) principal × Contains (kind_resources a.kind) resource)
+      (sym (keyed.actions uid it action at there)) (is.2, is.3))
+
+  -- where one is, the schema has it
+  pub still_there : (o : Option SchemaAction) → IsActionAt schema uid o → (principal resource : PlainName)
+      → IsAppliedBy o principal resource → HasEnvironment schema principal uid resource
+  still_there None at principal resource applied = absurd applied
+  still_there (Some it) at principal resource applied = found it.kind refl
+    where
+      -- so it is of a kind with a context
+      found : (kind : ActionKind) → it.kind ≡ kind → HasEnvironment schema principal uid resource
+      found (defined_action principals resources context) is = (
+        context,
+        (
+          it,
+          at,
+          environment_of_kind it.kind (record { principal = principal; action = uid; resource = resource; context = context }) applied.0
+              applied.1 (ap kind_context is),
+        ),
+      )
+      found external_action is = absurd (none_there principal (subst (λ k. Contains (kind_principals k) principal) is applied.0))
+
+module _ (extensions : Extensions) (old new : PlainSchema) (principal : PlainName) (uid : PlainUid) (resource : PlainName) (ty : Ty)
+    (asked : IsEnvironmentOf old (record { principal = principal; action = uid; resource = resource; context = ty })) where
+  module _ (first second : PlainUid) (it : PlainRequest) (of_first : IsUidOfType old principal first)
+      (of_second : IsUidOfType old resource second) (sample : IsSampleRequest extensions first uid second ty it) where
+    -- a sample is of the types of its uids
+    sample_types : IsOfTypes principal uid resource it
+    sample_types = record {
+      principal_type = ap (λ (u : PlainUid). u.ty) sample.principal_is ∙ of_first.0;
+      of_action = sample.action_is;
+      resource_type = ap (λ (u : PlainUid). u.ty) sample.resource_is ∙ of_second.0;
+    }
+
+    -- so it is told of its environment
+    sample_subject : environment_subject it.principal.ty it.action it.resource.ty ≡ environment_subject principal uid resource
+    sample_subject =
+        ap (λ p. environment_subject p it.action it.resource.ty) sample_types.principal_type
+        ∙ (ap (λ a. environment_subject principal a it.resource.ty) sample_types.of_action
+        ∙ ap (λ r. environment_subject principal uid r) sample_types.resource_type)
+
+    -- and it is lost where the new schema refuses it in each such environment
+    sample_lost : ((other : Ty) → IsEnvironmentOf new (record { principal = principal; action = uid; resource = resource; context = other })
+        → Has extensions it.context other → MayHaveId new it.principal → MayHaveId new it.resource → ⊥)
+        → IsLostRequest extensions old new it
+    sample_lost refused =
+        lost_request extensions old new principal uid resource ty asked it sample_types sample.real sample.has
+        (subst (MayHaveId old) (sym sample.principal_is) of_first.1) (subst (MayHaveId old) (sym sample.resource_is) of_second.1) refused
+
+    -- an environment for it is one of its types
+    environment_there : (schema : PlainSchema) (environment : Environment) → IsEnvironmentFor schema it environment
+        → HasEnvironment schema principal uid resource
+    environment_there schema environment (of, types) =
+        let P : PlainName → PlainUid → PlainName → Type 0 = λ p a r. HasEnvironment schema p a r in
+        subst (λ p. P p uid resource) (sym types.principal_type ∙ sample_types.principal_type)
+        (subst (λ a. P environment.principal a resource) (sym types.of_action ∙ sample_types.of_action)
+        (subst (λ r. P environment.principal environment.action r) (sym types.resource_type ∙ sample_types.resource_type)
+        (environment.context, of)))
+
+    -- the difference of an environment that the new schema lacks
+    pub gone_answer : IsEnvironmentLacking new principal uid resource
+        → IsAnswer extensions old new (environment_subject principal uid resource) (Some (request_lost it gone))
+    gone_answer lacks = (
+      sample_subject,
+      (
+        sample_lost (λ other of has may may'. lacks (other, of)),
+        λ environment for_it. lacks (environment_there new environment for_it),
+      ),
+    )
+
+    -- that of one whose principal or resource may have an id which the new schema's may not
+    pub choice_answer : (lost : PlainUid) → (lost ≡ first) ⊎ (lost ≡ second) → LacksChoice new lost
+        → IsAnswer extensions old new (environment_subject principal uid resource) (Some (request_lost it (choice_gone lost)))
+    choice_answer lost is lacks =
+        let is_one : (lost ≡ it.principal) ⊎ (lost ≡ it.resource) =
+        ⊎_elim (λ one. inl (one ∙ sym sample.principal_is)) (λ other. inr (other ∙ sym sample.resource_is)) is in (
+          sample_subject,
+          (
+            sample_lost (λ other of has may may'. lacking new lost lacks (⊎_elim
+                (λ one. subst (MayHaveId new) (sym one) may)
+                (λ one. subst (MayHaveId new) (sym one) may')
+                is_one)),
+            (is_one, lacks),
+          ),
+        )
+
+    -- that of one whose context the new schema's can't be
+    pub context_answer : IsKeyed new → (o : Option SchemaAction) → IsActionAt new uid o → (value : Tree) (steps told : List PlainStep)
+        → IsContextOutside extensions ty (context_at o) (Some (value, steps)) → it.context ≡ value → told ≡ steps
+        → HasEnvironment new principal uid resource
+        → IsAnswer extensions old new (environment_subject principal uid resource) (Some (request_lost it (context_outside told)))
+    context_answer keyed o at value steps told (upper, is, real, has, hasn't, outside) same same_steps (other, still) =
+        let upper_is : (one : Ty)
+        → IsEnvironmentOf new (record { principal = principal; action = uid; resource = resource; context = one }) → upper ≡ one = λ one of.
+        some_same upper one (sym is ∙ context_there new uid keyed o at principal resource one of) in (
+          sample_subject,
+          (
+            sample_lost (λ one of has' may may'. hasn't (subst (λ v. Has extensions v upper) same
+                (subst (Has extensions it.context) (sym (upper_is one of)) has'))),
+            (
+              record { principal = principal; action = uid; resource = resource; context = ty },
+              record { principal = principal; action = uid; resource = resource; context = other },
+              (asked, sample_types),
+              (still, sample_types),
+              subst (λ s. IsOutsideAt extensions s ty other) (sym same_steps)
+                  (subst (IsOutsideAt extensions steps ty) (upper_is other still) outside),
+            ),
+          ),
+        )
+      where
+        -- what two equal options hold is equal
+        some_same : (one other : Ty) → Some one ≡ Some other → one ≡ other
+        some_same one other same = cc
+
+  -- the requests of an environment are kept where nothing is outside
+  pub kept_answer : IsKeyed old → IsKeyed new → (o : Option SchemaAction) → IsActionAt new uid o
+      → IsContextOutside extensions ty (context_at o) None → HasEnvironment new principal uid resource
+      → IsUidOutside old new principal None → IsUidOutside old new resource None
+      → IsAnswer extensions old new (environment_subject principal uid resource) None
+  kept_answer keyed keyed' o at within (other, still) first second =
+      kept_requests extensions old new keyed principal uid resource ty other asked still
+      (within other (context_there new uid keyed' o at principal resource other still)) first second
+
+-- what stands in front of a name in order is below it
+front_below : (front : List PlainName) (name : PlainName) (rest : List PlainName) → IsStrictlySortedBy name_cmp (front ++ name ∷ rest)
+    → (other : PlainName) → Contains front other → name_cmp other name ≡ Less
+unfolding IsStrictlySortedBy
+front_below [] name rest sorted other among = absurd (none_there other among)
+front_below (first ∷ front) name rest sorted other among = ⊎_elim
+    (λ same. subst (λ n. name_cmp n name ≡ Less) same (all_at (λ n. name_cmp first n ≡ Less) (front ++ name ∷ rest) name sorted.0
+    (Contains-append_right front (name ∷ rest) name (Contains-cons name rest name (inl refl)))))
+    (λ later. front_below front name rest sorted.1 other later)
+    (Contains-cons_cases first front other among)
+
+module _ (extensions : Extensions) (old new : PlainSchema) where
+  -- what is found of a subject is added to what is told
+  pub told_found : (all rest : List Subject) (told : List PlainDifference) (first : Subject) (it : PlainDifference)
+      → IsAnswer extensions old new first (Some it)
+      → AnswersSoFar extensions old new all (first ∷ rest) told → AnswersSoFar extensions old new all rest (told ++ it ∷ [])
+  told_found all rest told first it answer so_far = told_lost extensions old new all rest told first it answer.0 answer.1 so_far
+
+  -- the answers to the environments of one more principal
+  pub principals_more : (uid : PlainUid) (resources front : List PlainName) (principal : PlainName) (rest : List PlainName)
+      (told more : List PlainDifference) → IsStrictlySortedBy name_cmp (front ++ principal ∷ rest)
+      → AreAnswers extensions old new (flat_map (λ p. subjects_with uid p resources) front) told
+      → AreAnswers extensions old new (subjects_with uid principal resources) more
+      → AreAnswers extensions old new (flat_map (λ p. subjects_with uid p resources) (front ++ principal ∷ [])) (told ++ more)
+  principals_more uid resources front principal rest told more sorted one other =
+      let with : PlainName → List Subject = λ p. subjects_with uid p resources in
+      let P : List Subject → Type 0 = λ subjects. AreAnswers extensions old new subjects (told ++ more) in
+      subst P (sym (flat_map-append with front (principal ∷ []) ∙ ap (λ xs. flat_map with front ++ xs) (append-nil (with principal))))
+      (answered_append extensions old new (flat_map with front) (with principal) told more below one other)
+    where
+      -- the environments so far are below those of the principal
+      below : (a b : Subject) → Contains (flat_map (λ p. subjects_with uid p resources) front) a
+          → Contains (subjects_with uid principal resources) b → subject_cmp a b ≡ Less
+      below a b among there =
+          let found = Contains-flat_map (λ p. subjects_with uid p resources) front a among in
+          let one = Contains-preimage (environment_subject found.0 uid) resources a found.2 in
+          let other = Contains-preimage (environment_subject principal uid) resources b there in
+          subst (λ s. subject_cmp s b ≡ Less) one.2 (subst (λ s. subject_cmp (environment_subject found.0 uid one.0) s ≡ Less) other.2
+          (principals_below uid found.0 principal one.0 other.0 (front_below front principal rest sorted found.0 found.1)))
+
+  -- where no context is at a uid, nothing is told of its environments
+  pub no_answers : IsKeyed old → (uid : PlainUid) (o : Option SchemaAction) → IsActionAt old uid o → context_at o ≡ None
+      → AreActionAnswers extensions old new uid []
+  no_answers keyed uid o at nothing = (
+    [],
+    record {
+      all = λ it of named. absurd (none_left it of named);
+      alone = λ it there. absurd (none_there it there);
+    },
+    answered_none extensions old new,
+  )
+    where
+      -- there is none of them
+      none_left : (it : Environment) → IsEnvironmentOf old it → ¬ (it.action ≡ uid)
+      none_left it of named =
+          let P : PlainUid → Type 0 = λ u. IsEnvironmentOf old
+          (record { principal = it.principal; action = u; resource = it.resource; context = it.context }) in
+          let is : context_at o ≡ Some it.context = context_there old uid keyed o at it.principal it.resource it.context (subst P named of) in
+          let wrong : None ≡ Some it.context = sym nothing ∙ is in absurd cc
+
+  module _ (uid : PlainUid) (action : SchemaAction) (there : Contains old.actions (uid, action)) where
+    -- an action's context with each of its principals and resources is an environment of the schema
+    pub asked_of : (ty : Ty) → kind_context action.kind ≡ Some ty → (principal resource : PlainName)
+        → Contains (kind_principals action.kind) principal → Contains (kind_resources action.kind) resource
+        → IsEnvironmentOf old (record { principal = principal; action = uid; resource = resource; context = ty })
+    asked_of ty is principal resource first second = (
+      action,
+      there,
+      environment_of_kind action.kind (record { principal = principal; action = uid; resource = resource; context = ty }) first second is,
+    )
+
+    -- the answers to the environments of its principals and its resources are those to the action
+    pub action_answers : IsKeyed old → (principals resources : List PlainName) (told : List PlainDifference)
+        → SameItems principals (kind_principals action.kind) → SameItems resources (kind_resources action.kind)
+        → AreAnswers extensions old new (flat_map (λ p. subjects_with uid p resources) principals) told
+        → AreActionAnswers extensions old new uid told
+    action_answers keyed principals resources told first second answers = (
+      flat_map with principals,
+      record {
+        all = λ it (other, there', of) named. (let same : action ≡ other =
+            keyed.actions uid action other there (subst (λ u. Contains old.actions (u, other)) named there') in
+            let is = kind_of_environment other.kind it of in
+            let P : SchemaAction → Type 0 = λ a. Contains (kind_principals a.kind) it.principal in
+            let Q : SchemaAction → Type 0 = λ a. Contains (kind_resources a.kind) it.resource in
+            Contains-given with principals it.principal (environment_subject it.principal uid it.resource)
+            ((first it.principal).1 (subst P (sym same) is.2))
+            (Contains-image (environment_subject it.principal uid) resources it.resource ((second it.resource).1 (subst Q (sym same) is.3))));
+        alone = λ it among. (let found = Contains-flat_map with principals it among in
+            let one = Contains-preimage (environment_subject found.0 uid) resources it found.2 in
+            (found.0, one.0, sym one.2));
+      },
+      answers,
+    )
+      where
+        -- the environments of a principal
+        with : PlainName → List Subject
+        with = λ p. subjects_with uid p resources
+
+-- what holds of each member holds by recursion
+all_by : {A : Type 0} (P : A → Type 0) (xs : List A) → ((x : A) → Contains xs x → P x) → AllByRecursion P xs
+all_by P [] each = tt
+all_by P (x ∷ xs) each =
+    (each x (Contains-cons x xs x (inl refl)), all_by P xs (λ y among. each y (Contains-cons x xs y (inr among))))
+
+-- a test counts where it is met
+abbrev one_if : Bool → ℕ
+one_if b = cond b 1 0
+
+-- how often a name stands among names
+abbrev times : PlainName → List PlainName → ℕ
+times name names = sum_by (λ other. one_if (is_eq (name_cmp name other))) names
+
+-- the first of some names counts or not
+times_cons : (name first : PlainName) (rest : List PlainName)
+    → times name (first ∷ rest) ≡ one_if (is_eq (name_cmp name first)) + times name rest
+times_cons name first rest = sum_by-cons (λ other. one_if (is_eq (name_cmp name other))) first rest
+
+-- it counts where it is the name
+counts : (name first : PlainName) → name ≡ first → one_if (is_eq (name_cmp name first)) ≡ 1
+counts name first same = ap one_if ((name_test name first).1 same)
+
+-- and else not
+counts_not : (name first : PlainName) → ¬ (name ≡ first) → one_if (is_eq (name_cmp name first)) ≡ 0
+counts_not name first other = none (is_eq (name_cmp name first)) refl
+  where
+    -- as the test says
+    none : (b : Bool) → is_eq (name_cmp name first) ≡ b → one_if b ≡ 0
+    none true is = absurd (other ((name_test name first).0 is))
+    none false is = refl
+
+-- a name that is among others stands there
+times_there : (name : PlainName) (names : List PlainName) → Contains names name → 1 ≤ times name names
+times_there name [] among = absurd (none_there name among)
+times_there name (first ∷ rest) among = ⊎_elim
+    (λ same. omega (arith, times_cons name first rest, counts name first (sym same)))
+    (λ later. omega (arith, times_cons name first rest, times_there name rest later))
+    (Contains-cons_cases first rest name among)
+
+-- one that isn't doesn't
+times_none : (name : PlainName) (names : List PlainName) → ¬ Contains names name → times name names ≡ 0
+times_none name [] none = refl
+times_none name (first ∷ rest) none =
+    let one = counts_not name first (λ same. none (Contains-cons first rest name (inl (sym same)))) in
+    let others = times_none name rest (λ later. none (Contains-cons first rest name (inr later))) in
+    omega (arith, times_cons name first rest, one, others)
+
+-- one that doesn't stand twice stands once at most
+times_once : (name : PlainName) (names : List PlainName) → ¬ Twice names name → times name names ≤ 1
+times_once name [] once = omega arith
+times_once name (first ∷ rest) once = here (is_eq (name_cmp name first)) refl (times_once name rest (λ twice. once (inr twice)))
+  where
+    -- the first is the name, or is another
+    here : (b : Bool) → is_eq (name_cmp name first) ≡ b → times name rest ≤ 1 → times name (first ∷ rest) ≤ 1
+    here true is others =
+        let same = (name_test name first).0 is in
+        let none = times_none name rest (λ later. once (inl (sym same, later))) in
+        omega (arith, times_cons name first rest, counts name first same, none)
+    here false is others =
+        let other = counts_not name first (λ same. false≢true (sym is ∙ (name_test name first).1 same)) in
+        omega (arith, times_cons name first rest, other, others)
+
+-- of two names that differ the one is below that isn't above
+below_other : (name other : PlainName) → ¬ (name ≡ other) → is_lt (name_cmp other name) ≡ false → name_cmp name other ≡ Less
+below_other name other differs not_above = by (name_cmp name other) refl
+  where
+    -- they aren't equal, and the one isn't above
+    by : (r : Ordering) → name_cmp name other ≡ r → r ≡ Less
+    by Less is = refl
+    by Equal is = absurd (differs ((name_cmp-Equal name other).0 is))
+    by Greater is =
+        let above : name_cmp other name ≡ Less = name_cmp-total.antisymm other name ∙ ap ordering_reverse is in
+        absurd (false≢true (sym not_above ∙ ap is_lt above))
+
+-- names in order, of which none stands twice, are in strict order
+strictly_sorted : (names : List PlainName) → IsSorted name_cmp names → ((name : PlainName) → times name names ≤ 1)
+    → IsStrictlySortedBy name_cmp names
+unfolding IsStrictlySortedBy
+strictly_sorted [] sorted once = tt
+strictly_sorted (first ∷ rest) sorted once = (
+  all_by (λ other. name_cmp first other ≡ Less) rest below,
+  strictly_sorted rest
+      (λ k d low high. subst (λ n. is_lt (name_cmp (get_or (first ∷ rest) n d) (get_or rest k d)) ≡ false) (later k)
+      (sorted (suc k) d (omega arith) (omega (arith, high))))
+      (λ name. omega (arith, times_cons name first rest, once name)),
+)
+  where
+    -- a place among the others is the next among all
+    later : (k : ℕ) → suc k + 1 ≡ suc (k + 1)
+    later k = omega arith
+
+    -- the first is below each of the others
+    below : (other : PlainName) → Contains rest other → name_cmp first other ≡ Less
+    below other (k, within, is) =
+        let far : is_lt (name_cmp (get_or rest k other) first) ≡ false =
+        sorted_far (λ a b. is_lt (name_cmp a b)) (ranks_by name_cmp-total (λ (name : PlainName). name)) (first ∷ rest) sorted 0 (suc k) other
+        (omega arith) (omega (arith, within)) in
+        below_other first other
+        (λ same. omega (
+          arith,
+          times_cons first first rest,
+          counts first first refl,
+          times_there first rest (subst (λ n. Contains rest n) (sym same) (k, within, is)),
+          once first,
+        ))
+        (subst (λ n. is_lt (name_cmp n first) ≡ false) is far)
+
+-- some names in order, each of which stands once, are in strict order
+pub sorted_once : (names sorted : List PlainName) → AllPairs (λ a b. a ≢ b) names → IsPermutation names sorted
+    → IsSorted name_cmp sorted → IsStrictlySortedBy name_cmp sorted
+sorted_once names sorted distinct permutation order = strictly_sorted sorted order (λ name.
+    omega (
+      arith,
+      sum_by-IsPermutation (λ other. one_if (is_eq (name_cmp name other))) names sorted permutation,
+      times_once name names (Twice-distinct names name distinct),
+    ))
+
+-- and they are the same names
+pub sorted_same : {A : Type 0} (names sorted : List A) → IsPermutation names sorted → SameItems sorted names
+sorted_same names sorted permutation item = (
+  λ among. Contains-permutation sorted names item (IsPermutation-sym names sorted permutation) among,
+  λ among. Contains-permutation names sorted item permutation among,
+)
+
+-- where one more item is copied as one that stands for the same, the copies stand for one more of the items
+pub copied_more : {A B : Type 0} (f : A → B) (items copies more : List A) (i : ℕ) (item copy : A) → i < length items
+    → item ≡ get_or items i item → map f copies ≡ map f (take i items) → more ≡ copies ++ copy ∷ [] → f copy ≡ f item
+    → map f more ≡ map f (take (i + 1) items)
+copied_more f items copies more i item copy within is so_far added same =
+    let front : map f (take (i + 1) items) ≡ map f (take i items) ++ f item ∷ [] =
+    ap (map f) (take_more items i item within ∙ ap (λ x. take i items ++ x ∷ []) (sym is)) ∙ map_append f (take i items) (item ∷ []) in
+    ap (map f) added ∙ (map_append f copies (copy ∷ []) ∙ (ap (λ xs. xs ++ f copy ∷ []) so_far
+    ∙ (ap (λ x. map f (take i items) ++ x ∷ []) same ∙ sym front)))
+
+-- where no difference is found of a subject, it is kept
+pub kept_none : {A : Type 0} (plain : A → PlainDifference) (extensions : Extensions) (old new : PlainSchema) (subject : Subject)
+    (found : Option A) → ((it : A) → found ≡ Some it → ⊥) → IsAnswer extensions old new subject (option_map plain found)
+    → KeepsOf extensions old new subject
+kept_none plain extensions old new subject None none answer = answer
+kept_none plain extensions old new subject (Some it) none answer = absurd (none it refl)

@@ -1,0 +1,50 @@
+use Rattle.std.proofs.Common.{List, Contains, ap, map, subst, sym, ◌∙◌}
+use Rattle.cedar_below.specs.EntityUID.{uid_of}
+use Rattle.cedar_below.specs.PlainUid.{PlainUid}
+use Rattle.cedar_compare.proofs.ActionUpperLemmas.{action_past_none, actions_left, no_action_left}
+use Rattle.cedar_compare.proofs.FindLemmas.{plain_keys}
+use Rattle.cedar_compare.specs.Uppers.{AreActionUppersSoFar}
+use Rattle.cedar_schema.specs.ValidatorSchema.{action_entries, schema_of}
+use Rattle.cedar_schema_elements.specs.ValidatorActionId.{action_of}
+use Rattle.cedar_compare.proofs.action_uppers.add_unlisted.Goals as goal
+
+pub loop-uid-init : goal.loop-uid-init
+loop-uid-init c =
+    let one = schema_of c.args.one.now in
+    let other = schema_of c.args.other.now in
+    record {
+      told = actions_left one other (map uid_of c.into_iter-uid-iterator.result) c.args.uppers.now
+          (plain_keys uid_of action_of (action_entries c.args.one.now)
+          ∙ sym (ap (map uid_of) (c.into_iter-uid-iterator.ensures.into_iter_gives ∙ c.actions-uid-items.ensures.uids)));
+      kept = λ before. before;
+    }
+
+pub loop-uid-preserved-in-Continue-1 : goal.loop-uid-preserved-in-Continue-1
+loop-uid-preserved-in-Continue-1 c =
+    let one = schema_of c.args.one.now in
+    let other = schema_of c.args.other.now in
+    record {
+      told = λ before. c.in_ok-add_descendants.ensures.told (map uid_of c.next.new.self)
+          (subst (λ (uids : List PlainUid). AreActionUppersSoFar one other (λ lower upper. Contains uids upper) c.loop-uid.uppers)
+          (ap (map uid_of) c.in-Some.ensures.steps) (c.loop-uid.invariant.told before));
+      kept = λ before. c.in_ok-add_descendants.ensures.kept (c.loop-uid.invariant.kept before);
+    }
+
+pub loop-uid-preserved : goal.loop-uid-preserved
+loop-uid-preserved c =
+    let one = schema_of c.args.one.now in
+    let other = schema_of c.args.other.now in
+    record {
+      told = λ before. action_past_none one other (uid_of c.in-Some.uid.now) (map uid_of c.next.new.self) c.loop-uid.uppers c.in_default.ensures
+          (subst (λ (uids : List PlainUid). AreActionUppersSoFar one other (λ lower upper. Contains uids upper) c.loop-uid.uppers)
+          (ap (map uid_of) c.in-Some.ensures.steps) (c.loop-uid.invariant.told before));
+      kept = c.loop-uid.invariant.kept;
+    }
+
+pub returns-clause-told : goal.returns-clause-told
+returns-clause-told c = λ before.
+    no_action_left (schema_of c.args.one.now) (schema_of c.args.other.now) (map uid_of c.loop-uid.uid-iterator) c.loop-uid.uppers
+    (ap (map uid_of) c.in-None.ensures.steps.0) (c.loop-uid.invariant.told before)
+
+pub returns-clause-kept : goal.returns-clause-kept
+returns-clause-kept c = c.loop-uid.invariant.kept

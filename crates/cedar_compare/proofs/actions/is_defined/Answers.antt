@@ -1,0 +1,20 @@
+use Rattle.std.proofs.Common.{subst}
+use Rattle.std.proofs.lemmas.Bool.{false≢true}
+use Rattle.cedar_below.specs.EntityUID.{uid_of}
+use Rattle.cedar_compare.proofs.FindLemmas.{defined_as, fails, not_external, not_fails}
+use Rattle.cedar_declarations.specs.ActionEntities.{IsDefinedKind}
+use Rattle.cedar_schema.specs.ValidatorSchema.{schema_of}
+use Rattle.cedar_schema_elements.specs.ValidatorActionId.{action_of}
+use Rattle.cedar_compare.proofs.actions.is_defined.Goals as goal
+
+pub returns-in-Some : goal.returns-in-Some
+returns-in-Some c =
+    let action = action_of c.in-Some.action.now in (
+      λ yes. (action, c.in-Some.ensures, not_external action.kind (λ external. not_fails c.is_external.result yes (c.is_external.ensures.1 external))),
+      λ defined. fails c.is_external.result
+          (λ yes. subst IsDefinedKind (c.is_external.ensures.0 yes)
+          (defined_as (schema_of c.args.schema.now) c.requires (uid_of c.args.uid.now) action c.in-Some.ensures defined)),
+    )
+
+pub returns-in-None : goal.returns-in-None
+returns-in-None c = (λ wrong. absurd (false≢true wrong), λ (it, among, defined). absurd (c.in-None.ensures it among))

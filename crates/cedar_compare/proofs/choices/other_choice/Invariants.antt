@@ -1,0 +1,7 @@
+use Rattle.std.proofs.Common.{All, Contains, take}
+use Rattle.cedar_below.specs.Eid.{eid_text}
+use Rattle.cedar_compare.specs.Choices.{choice_texts}
+use Rattle.cedar_compare.proofs.choices.other_choice.Given as goal
+
+abbrev pub invariant-loop-eid : goal.invariant-loop-eid
+invariant-loop-eid l = All (λ eid. Contains (choice_texts l.others) (eid_text eid)) (take l.eid-index l.eid-items)

@@ -1,0 +1,60 @@
+use Rattle.std.proofs.Common.{◌∷◌, Some, subst, sym, ◌∙◌}
+use Rattle.std.proofs.lemmas.Bool.{false≢true}
+use Rattle.std.specs.List.Sorted.{IsPermutation}
+use Rattle.cedar_compare.proofs.CompareLemmas.{leaf_here, leaf_next, leaves_start}
+use Rattle.cedar_compare.proofs.LeftLemmas.{sure_all}
+use Rattle.cedar_compare.proofs.SampledLemmas.{schema_inhabited}
+use Rattle.cedar_queries.specs.GivesLeaf.{GivesLeaf, pending_types}
+use Rattle.cedar_queries.specs.Leaves.{leaves_of, schema_leaves}
+use Rattle.cedar_queries.specs.declared.leaves.TypeIterator.{TypeIterator}
+use Rattle.cedar_schema.specs.ValidatorSchema.{schema_of}
+use Rattle.cedar_type_rules.specs.Stated.{IsInhabitedWith}
+use Rattle.cedar_types.specs.Meaning.{ty_of}
+use Rattle.cedar_types.specs.Samples.{value_trees}
+use Rattle.cedar_compare.proofs.comparing.unsampled.Goals as goal
+
+pub loop-ty-init : goal.loop-ty-init
+loop-ty-init c =
+    let schema = schema_of c.args.schema.now in
+    let all = schema_leaves schema.entity_types schema.actions in
+    leaves_start (IsInhabitedWith c.args.extensions.now (value_trees c.args.samples.now)) all
+    (leaves_of (pending_types c.into_iter-ty-iterator.result))
+    (subst (λ (it : TypeIterator). IsPermutation all (leaves_of (pending_types it))) (sym c.into_iter-ty-iterator.ensures.into_iter_gives)
+    c.in_ok-ty-items.ensures)
+
+pub returns-then-not-is_sampled-clause-some : goal.returns-then-not-is_sampled-clause-some
+returns-then-not-is_sampled-clause-some c =
+    let schema = schema_of c.args.schema.now in
+    let all = schema_leaves schema.entity_types schema.actions in
+    let before = pending_types c.loop-ty.ty-iterator in
+    let after = pending_types c.next.new.self in
+    let ty = ty_of c.in_ok-ty.ty.now in
+    let leaf : IsPermutation (leaves_of before) (ty ∷ leaves_of after) =
+    subst (λ r. GivesLeaf before (Some r) after) c.in_ok-ty.was c.in-Some.ensures.steps in (
+      ty,
+      leaf_here (IsInhabitedWith c.args.extensions.now (value_trees c.args.samples.now)) all (leaves_of before) (leaves_of after) ty
+          leaf c.loop-ty.invariant,
+      λ inhabited. false≢true (sym c.if-not-is_sampled.true ∙ c.is_sampled.ensures.sampled.1 inhabited),
+      c.in_ok-to_string.ensures.ok,
+    )
+
+pub loop-ty-preserved : goal.loop-ty-preserved
+loop-ty-preserved c =
+    let schema = schema_of c.args.schema.now in
+    let all = schema_leaves schema.entity_types schema.actions in
+    let before = pending_types c.loop-ty.ty-iterator in
+    let after = pending_types c.next.new.self in
+    let ty = ty_of c.in_ok-ty.ty.now in
+    let leaf : IsPermutation (leaves_of before) (ty ∷ leaves_of after) =
+    subst (λ r. GivesLeaf before (Some r) after) c.in_ok-ty.was c.in-Some.ensures.steps in
+    leaf_next (IsInhabitedWith c.args.extensions.now (value_trees c.args.samples.now)) all (leaves_of before) (leaves_of after) ty
+    leaf (c.is_sampled.ensures.sampled.0 c.if-not-is_sampled.false) c.loop-ty.invariant
+
+pub returns-clause-none : goal.returns-clause-none
+returns-clause-none c =
+    let schema = schema_of c.args.schema.now in
+    let all = schema_leaves schema.entity_types schema.actions in
+    let samples = value_trees c.args.samples.now in
+    λ _. schema_inhabited c.args.extensions.now samples schema
+    (sure_all (IsInhabitedWith c.args.extensions.now samples) all (leaves_of (pending_types c.loop-ty.ty-iterator))
+    c.in-None.ensures.steps.0 c.loop-ty.invariant)

@@ -1,0 +1,28 @@
+use Rattle.std.proofs.Common.{◌≡◌, ◌∷◌, [], List, ap, map, subst, sym, ◌∙◌}
+use Rattle.std.specs.BTreeSet.{insert_key}
+use Rattle.cedar_below.proofs.ValueCopies.{uid_real}
+use Rattle.cedar_below.specs.EntityType.{type_name}
+use Rattle.cedar_below.specs.EntityUID.{uid_of}
+use Rattle.cedar_below.specs.IsValue.{IsValue}
+use Rattle.cedar_below.specs.PlainUid.{PlainUid}
+use Rattle.cedar_below.specs.Tree.{uid_value}
+use Rattle.cedar_below.specs.contracts.entity_uid.EntityUIDOrd.TheImpl as uid_ord
+use Rattle.cedar_below.specs.declared.entity_uid.EntityUID.{EntityUID}
+use Rattle.cedar_compare.proofs.EntityLemmas.{no_values}
+use Rattle.cedar_compare.specs.Fresh.{IsFreshIn}
+use Rattle.cedar_compare.specs.Versions.{new_of}
+use Rattle.cedar_schema_elements.specs.ActionEntities.{named_values}
+use Rattle.cedar_compare.proofs.entity_types.entity_below.Goals as goal
+
+pub returns : goal.returns
+returns c =
+    let upper = c.in_ok-clone.field-0 in
+    let put : c.insert.new.self.keys ≡ upper ∷ [] =
+    c.in_ok-_new.ensures.keys ∙ ap (λ (keys : List EntityUID). insert_key (uid_ord.ghosts).cmp keys upper) c.new-ancestors.ensures.empty in
+    record {
+      fresh = subst (IsFreshIn (new_of c.args.versions.now) (type_name c.args.name.now)) (sym c.new.ensures.uid) c.in_ok-uid.ensures;
+      real = subst (λ (u : PlainUid). IsValue (uid_value u)) (sym c.new.ensures.uid) (uid_real c.in_ok-uid.uid);
+      attributes_are = ap named_values c.new.ensures.attrs;
+      tags_are = ap named_values c.new.ensures.tags ∙ no_values c.new-tags.result c.new-tags.ensures.empty;
+      ancestors_are = c.new.ensures.ancestors ∙ (ap (map uid_of) put ∙ ap (λ u. u ∷ []) c.in_ok-clone.ensures.uid);
+    }

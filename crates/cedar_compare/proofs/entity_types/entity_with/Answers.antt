@@ -1,0 +1,21 @@
+use Rattle.std.proofs.Common.{ap, map, subst, sym, ◌∙◌}
+use Rattle.cedar_below.proofs.ValueCopies.{uid_real}
+use Rattle.cedar_below.specs.EntityType.{type_name}
+use Rattle.cedar_below.specs.EntityUID.{uid_of}
+use Rattle.cedar_below.specs.IsValue.{IsValue}
+use Rattle.cedar_below.specs.PlainUid.{PlainUid}
+use Rattle.cedar_below.specs.Tree.{uid_value}
+use Rattle.cedar_compare.proofs.EntityLemmas.{no_values}
+use Rattle.cedar_compare.specs.Fresh.{IsFreshIn}
+use Rattle.cedar_compare.specs.Versions.{new_of}
+use Rattle.cedar_schema_elements.specs.ActionEntities.{named_values}
+use Rattle.cedar_compare.proofs.entity_types.entity_with.Goals as goal
+
+pub returns : goal.returns
+returns c = record {
+  fresh = subst (IsFreshIn (new_of c.args.versions.now) (type_name c.args.name.now)) (sym c.new-2.ensures.uid) c.in_ok-uid.ensures;
+  real = subst (λ (u : PlainUid). IsValue (uid_value u)) (sym c.new-2.ensures.uid) (uid_real c.in_ok-uid.uid);
+  attributes_are = ap named_values c.new-2.ensures.attrs;
+  tags_are = ap named_values c.new-2.ensures.tags ∙ no_values c.new-tags.result c.new-tags.ensures.empty;
+  ancestors_are = c.new-2.ensures.ancestors ∙ ap (map uid_of) c.new.ensures.empty;
+}

@@ -1,0 +1,13 @@
+use Rattle.cedar_below.specs.EntityType.{type_name}
+use Rattle.cedar_compare.proofs.LostLemmas.{gone_loss}
+use Rattle.cedar_compare.specs.Lookup.{plain_type}
+use Rattle.cedar_compare.specs.Versions.{new_of, old_of}
+use Rattle.cedar_schema_elements.specs.ActionEntities.{named_values, plain_action_entity}
+use Rattle.cedar_compare.proofs.entity_types.gone.Goals as goal
+
+pub returns : goal.returns
+returns c =
+    let versions = c.args.versions.now in
+    gone_loss versions.extensions.now (old_of versions) (new_of versions) (type_name c.args.name.now) (plain_type c.args.old.now) c.requires.old
+    (plain_action_entity c.in_ok-entity_with.field-0) (named_values c.in_ok-attributes.attributes) c.requires.versions.old_keyed c.requires.standard
+    c.in_ok-entity_with.ensures c.in_ok-attributes.ensures c.requires.lacking

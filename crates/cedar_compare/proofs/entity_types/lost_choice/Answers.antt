@@ -1,0 +1,51 @@
+use Rattle.std.proofs.Common.{ap, refl, subst, sym, ◌∙◌}
+use Rattle.std.proofs.lemmas.Bool.{false≢true}
+use Rattle.cedar_below.specs.Eid.{eid_text}
+use Rattle.cedar_below.specs.EntityType.{type_name}
+use Rattle.cedar_below.specs.PlainUid.{PlainUid}
+use Rattle.cedar_compare.proofs.EntityLemmas.{real_entity}
+use Rattle.cedar_compare.specs.Difference.{type_subject}
+use Rattle.cedar_compare.specs.Entities.{IsEntityIn, IsEntityOfKind, IsEntityOfType}
+use Rattle.cedar_compare.specs.LostEntities.{bare_entity}
+use Rattle.cedar_compare.specs.Versions.{new_of, old_of}
+use Rattle.cedar_declarations.specs.EntityTypeKind.{EntityTypeKind}
+use Rattle.cedar_declarations.specs.PlainSchema.{ActionEntity}
+use Rattle.cedar_schema_elements.specs.ActionEntities.{plain_action_entity}
+use Rattle.cedar_compare.proofs.entity_types.lost_choice.Goals as goal
+
+pub returns-then-is_kept : goal.returns-then-is_kept
+returns-then-is_kept c =
+    let versions = c.args.versions.now in
+    subst (IsEntityIn versions.extensions.now (new_of versions)) c.in_ok-witness.ensures (c.is_kept.ensures.0 c.if-is_kept.true)
+
+pub choice_cause-requires-clause-lost : goal.choice_cause-requires-clause-lost
+choice_cause-requires-clause-lost c = λ in_new.
+    let versions = c.args.versions.now in
+    let same = c.uid.ensures.uid ∙ ap (λ (e : ActionEntity). e.uid) c.in_ok-witness.ensures in
+    false≢true (sym c.if-is_kept.false ∙ c.is_kept.ensures.1 (subst (IsEntityIn versions.extensions.now (new_of versions)) (sym c.in_ok-witness.ensures)
+    (subst (λ (u : PlainUid). IsEntityIn versions.extensions.now (new_of versions) (bare_entity u.ty u.eid)) same in_new)))
+
+pub returns : goal.returns
+returns c =
+    let versions = c.args.versions.now in
+    let extensions = versions.extensions.now in
+    let old = old_of versions in
+    let is = c.in_ok-witness.ensures in
+    let it = plain_action_entity c.in_ok-witness.witness in
+    let bare = bare_entity (type_name c.args.name.now) (eid_text c.args.eid.now) in
+    let choice = c.requires.old in
+    let of : IsEntityOfType extensions old bare = (
+      choice.0,
+      choice.1,
+      subst (λ (k : EntityTypeKind). IsEntityOfKind extensions old k bare) (sym choice.2.1) (choice.2.2, refl, refl, refl),
+    ) in (
+      ap (λ (e : ActionEntity). type_subject e.uid.ty) is,
+      (
+        (
+          real_entity c.in_ok-witness.witness (ap (λ (e : ActionEntity). e.attributes) is) (ap (λ (e : ActionEntity). e.tags) is),
+          subst (IsEntityOfType extensions old) (sym is) of,
+          λ in_new. false≢true (sym c.if-is_kept.false ∙ c.is_kept.ensures.1 in_new),
+        ),
+        c.in_ok-cause.ensures it (sym c.uid.ensures.uid),
+      ),
+    )

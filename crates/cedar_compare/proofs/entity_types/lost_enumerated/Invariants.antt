@@ -1,0 +1,14 @@
+use Rattle.std.proofs.Common.{All, take}
+use Rattle.cedar_below.specs.Eid.{eid_text}
+use Rattle.cedar_below.specs.EntityType.{type_name}
+use Rattle.cedar_compare.specs.Entities.{IsEntityIn}
+use Rattle.cedar_compare.specs.LostEntities.{bare_entity}
+use Rattle.cedar_compare.specs.Versions.{new_of}
+use Rattle.cedar_compare.proofs.entity_types.lost_enumerated.Given as goal
+
+abbrev pub invariant-loop-eid : goal.invariant-loop-eid
+invariant-loop-eid l = record {
+  head : IsEntityIn l.versions.extensions.now (new_of l.versions) (bare_entity (type_name l.name) (eid_text l.choices.head));
+  tail : All (λ eid. IsEntityIn l.versions.extensions.now (new_of l.versions) (bare_entity (type_name l.name) (eid_text eid)))
+      (take l.eid-index l.eid-items);
+}

@@ -1,0 +1,16 @@
+use Rattle.std.proofs.Common.{subst, sym}
+use Rattle.cedar_below.specs.EntityType.{type_name}
+use Rattle.cedar_compare.proofs.SampledLemmas.{attributes_sampled}
+use Rattle.cedar_compare.specs.Lookup.{plain_type}
+use Rattle.cedar_compare.specs.Versions.{old_of}
+use Rattle.cedar_type_rules.specs.Stated.{AreInhabitedWith}
+use Rattle.cedar_types.specs.Samples.{value_trees}
+use Rattle.cedar_compare.proofs.entity_types.some_attributes.Goals as goal
+
+pub sample_attributes-requires : goal.sample_attributes-requires
+sample_attributes-requires c =
+    let extensions = c.args.versions.now.extensions.now in
+    let samples = value_trees c.args.versions.now.samples.now in
+    subst (AreInhabitedWith extensions samples) (sym c.attributes.ensures.fields)
+    (attributes_sampled extensions samples (old_of c.args.versions.now) (type_name c.args.name.now) (plain_type c.args.old.now)
+    c.requires.versions.sampled c.requires.old c.requires.standard)

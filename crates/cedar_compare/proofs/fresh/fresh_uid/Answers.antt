@@ -1,0 +1,18 @@
+use Rattle.std.proofs.Common.{◌≤◌, ap, arith, length, ◌∙◌}
+use Rattle.std.proofs.lemmas.Grind.{common_steps}
+use Rattle.cedar_below.specs.EntityType.{type_name}
+use Rattle.cedar_below.specs.EntityUID.{uid_of}
+use Rattle.cedar_compare.proofs.FreshLemmas.{fresh_of}
+use Rattle.cedar_schema.specs.ValidatorSchema.{schema_of}
+use Rattle.cedar_compare.proofs.fresh.fresh_uid.Goals as goal
+
+pub returns : goal.returns
+returns c =
+    let actions = c.longest_action_id.result in
+    let choices = c.longest_choice_of.result in
+    let longest = c.max-longest.result in
+    let first : actions ≤ longest = grind (arith, common_steps, c.max-longest.ensures) in
+    let second : choices ≤ longest = grind (arith, common_steps, c.max-longest.ensures) in
+    fresh_of (schema_of c.args.schema.now) (type_name c.args.name.now) (uid_of c.new.result) actions choices longest
+    (c.new.ensures.ty ∙ c.in_ok-clone.ensures.name) (ap length c.new.ensures.eid ∙ c.in_ok-eid.ensures) first second
+    c.longest_action_id.ensures c.longest_choice_of.ensures

@@ -1,0 +1,15 @@
+use Rattle.std.proofs.Common.{map}
+use Rattle.cedar_below.specs.Entities.{entities_of}
+use Rattle.cedar_below.specs.Lists.{Included}
+use Rattle.cedar_compare.proofs.ToldLemmas.{AnswersSoFar}
+use Rattle.cedar_compare.specs.Losses.{action_subjects}
+use Rattle.cedar_compare.specs.Told.{plain_difference}
+use Rattle.cedar_compare.specs.Versions.{new_of, old_of}
+use Rattle.cedar_compare.proofs.losses.lost_actions.Given as goal
+
+abbrev pub invariant-loop-entity : goal.invariant-loop-entity
+invariant-loop-entity l = record {
+  told : AnswersSoFar l.versions.extensions.now (old_of l.versions) (new_of l.versions) (action_subjects (entities_of l.entities))
+      (action_subjects l.entity-iterator) (map plain_difference l.lost.items);
+  among : Included l.entity-iterator (entities_of l.entities);
+}

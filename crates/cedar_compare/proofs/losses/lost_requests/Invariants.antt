@@ -1,0 +1,10 @@
+use Rattle.std.proofs.Common.{map}
+use Rattle.cedar_below.specs.EntityUID.{uid_of}
+use Rattle.cedar_compare.proofs.AllLemmas.{RequestsSoFar}
+use Rattle.cedar_compare.specs.Told.{plain_difference}
+use Rattle.cedar_compare.specs.Versions.{new_of, old_of}
+use Rattle.cedar_compare.proofs.losses.lost_requests.Given as goal
+
+abbrev pub invariant-loop-uid : goal.invariant-loop-uid
+invariant-loop-uid l =
+    RequestsSoFar l.versions.extensions.now (old_of l.versions) (new_of l.versions) (map uid_of l.uid-iterator) (map plain_difference l.lost.items)

@@ -1,0 +1,18 @@
+use Rattle.std.proofs.Common.{List, Option, subst, sym}
+use Rattle.cedar_below.specs.EntityType.{type_name}
+use Rattle.cedar_below.specs.Text.{Text}
+use Rattle.cedar_compare.proofs.FindLemmas.{choices_there}
+use Rattle.cedar_compare.specs.Lookup.{plain_type}
+use Rattle.cedar_compare.specs.PlainRequests.{AreChoicesAt}
+use Rattle.cedar_schema.specs.ValidatorSchema.{schema_of}
+use Rattle.cedar_compare.proofs.requests.choices_at.Goals as goal
+
+pub returns-in-Some : goal.returns-in-Some
+returns-in-Some c =
+    let schema = schema_of c.args.schema.now in
+    let name = type_name c.args.name.now in
+    let P : Option (List Text) → Type 0 = AreChoicesAt schema name in
+    subst P (sym c.choices_of.ensures) (choices_there schema c.requires name (plain_type c.in-Some.ty.now) c.in-Some.ensures)
+
+pub returns-in-None : goal.returns-in-None
+returns-in-None c = λ it among. absurd (c.in-None.ensures it among)

@@ -1,0 +1,50 @@
+use Rattle.std.proofs.Common.{Option, refl, subst, sym}
+use Rattle.std.specs.Option.{option_map}
+use Rattle.cedar_below.proofs.ValueCopies.{uid_real}
+use Rattle.cedar_below.specs.EntityType.{type_name}
+use Rattle.cedar_below.specs.EntityUID.{uid_of}
+use Rattle.cedar_below.specs.Tree.{Tree}
+use Rattle.cedar_compare.proofs.RequestSteps.{context_answer}
+use Rattle.cedar_compare.specs.LostEntities.{plain_outside}
+use Rattle.cedar_compare.specs.LostRequests.{context_at, new_action}
+use Rattle.cedar_compare.specs.PlainRequests.{IsContextOutside}
+use Rattle.cedar_counterexample.specs.Steps.{steps_of}
+use Rattle.cedar_compare.specs.Told.{plain_request}
+use Rattle.cedar_compare.specs.Versions.{new_of, old_of}
+use Rattle.cedar_compare.specs.declared.difference.Request.{Request}
+use Rattle.cedar_counterexample.specs.declared.found.Outside.{Outside}
+use Rattle.cedar_type_rules.specs.Has.{Has}
+use Rattle.cedar_types.specs.Meaning.{ty_of}
+use Rattle.cedar_types.specs.Samples.{value_tree}
+use Rattle.cedar_compare.proofs.requests.context_lost.Goals as goal
+
+-- the request has the value that is outside as its context
+pub returns : goal.returns
+returns c =
+    let versions = c.args.versions.now in
+    let requests = c.args.requests.now in
+    let found = c.args.found.now in
+    let ty = ty_of requests.context.now in
+    let o = new_action requests in
+    let P : Option Outside → Type 0 = λ it. IsContextOutside versions.extensions.now ty (context_at o) (option_map plain_outside it) in
+    let outside = subst P c.requires.found c.requires.requests.context in
+    let copy = c.in_ok-clone-2.ensures in
+    let Q : Tree → Type 0 = λ value. Has versions.extensions.now value ty in
+    let request : Request = record {
+      principal = c.in_ok-some_uid.field-0;
+      action = c.in_ok-clone.field-0;
+      resource = c.in_ok-some_uid-2.field-0;
+      context = c.in_ok-clone-2.field-0;
+    } in
+    context_answer versions.extensions.now (old_of versions) (new_of versions) (type_name c.args.principal.now) (uid_of requests.uid.now)
+    (type_name c.args.resource.now) ty c.requires.asked (uid_of c.in_ok-some_uid.field-0) (uid_of c.in_ok-some_uid-2.field-0)
+    (plain_request request) c.in_ok-some_uid.ensures c.in_ok-some_uid-2.ensures
+    (record {
+      principal_is = refl;
+      action_is = c.in_ok-clone.ensures.uid;
+      resource_is = refl;
+      real = (uid_real c.in_ok-some_uid.field-0, uid_real c.in_ok-clone.field-0, uid_real c.in_ok-some_uid-2.field-0, copy.1);
+      has = subst Q (sym copy.0) outside.3;
+    })
+    c.requires.versions.new_keyed o c.requires.requests.action (value_tree found.value) (steps_of found.steps)
+    (steps_of c.in_ok-copied_steps.field-0) outside copy.0 c.in_ok-copied_steps.ensures c.requires.still

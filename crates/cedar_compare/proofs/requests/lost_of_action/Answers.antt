@@ -1,0 +1,122 @@
+use Rattle.std.proofs.Common.{◌≡◌, Bor, Err, Global, IfOk, List, None, Ok, Option, Result, Some, Vec, ap, get_or, map, refl, subst, sym, ◌∙◌}
+use Rattle.std.proofs.lemmas.List.Elements.{Contains-get_or}
+use Rattle.std.specs.List.{flat_map}
+use Rattle.std.specs.Option.{option_copied, option_map}
+use Rattle.cedar_below.specs.EntityType.{type_name}
+use Rattle.cedar_below.specs.EntityUID.{uid_of}
+use Rattle.cedar_below.specs.Lists.{SameItems}
+use Rattle.cedar_below.specs.PlainName.{PlainName}
+use Rattle.cedar_below.specs.PlainUid.{PlainUid}
+use Rattle.cedar_below.specs.declared.entity_type.EntityType.{EntityType}
+use Rattle.cedar_compare.proofs.RequestSteps.{action_answers, asked_of, no_answers}
+use Rattle.cedar_compare.specs.Difference.{AreAnswers, PlainDifference}
+use Rattle.cedar_compare.specs.LostRequests.{context_at, subjects_with}
+use Rattle.cedar_compare.specs.PlainRequests.{AreActionAnswers}
+use Rattle.cedar_compare.specs.Told.{plain_difference}
+use Rattle.cedar_compare.specs.Versions.{new_of, old_of}
+use Rattle.cedar_compare.specs.declared.difference.Difference.{Difference}
+use Rattle.cedar_declarations.proofs.OccurrenceLemmas.{Contains-image}
+use Rattle.cedar_declarations.specs.Environments.{IsEnvironmentOf}
+use Rattle.cedar_schema_elements.specs.ActionKind.{kind_principals, kind_resources}
+use Rattle.cedar_schema_elements.specs.ValidatorActionId.{action_of}
+use Rattle.cedar_type_rules.specs.Ty.{Ty}
+use Rattle.cedar_types.specs.Meaning.{ty_of}
+use Rattle.cedar_compare.proofs.requests.lost_of_action.Goals as goal
+
+-- the names of some entity types
+abbrev names : List (Bor EntityType) → List PlainName
+names types = map (λ ty. type_name ty.now) types
+
+-- where nothing is found, nothing is shown
+nothing_shown : {A B : Type 0} (shows : A → B) (found : Option (Bor A)) → ((it : Bor A) → found ≡ Some it → ⊥)
+    → option_map shows (option_copied found) ≡ None
+nothing_shown shows None none = refl
+nothing_shown shows (Some it) none = absurd (none it refl)
+
+-- what follows from a fact of each result holds where the fact does
+result_on : {A E : Type 0} (P Q : A → Type 0) (result : Result A E) → ((it : A) → P it → Q it) → IfOk result P → IfOk result Q
+result_on P Q (Ok it) on fact = on it fact
+result_on P Q (Err fault) on fact = tt
+
+-- names in order are those of the entity types that are lent
+lent_names : (ordered lent : List (Bor EntityType)) (given all : List PlainName) → SameItems (names ordered) given → given ≡ all
+    → lent ≡ ordered → SameItems (names lent) all
+lent_names ordered lent given all same is shown =
+    let P : List PlainName → Type 0 = SameItems (names lent) in
+    let Q : List (Bor EntityType) → Type 0 = λ types. SameItems (names types) given in
+    subst P is (subst Q (sym shown) same)
+
+pub returns-in_default : goal.returns-in_default
+returns-in_default c =
+    let versions = c.args.versions.now in
+    let extensions = versions.extensions.now in
+    let old = old_of versions in
+    let new = new_of versions in
+    let uid = uid_of c.args.uid.now in
+    let P : List PlainDifference → Type 0 = AreActionAnswers extensions old new uid in
+    subst P (sym (ap (map plain_difference) c.new.ensures.items))
+    (no_answers extensions old new c.requires.old_keyed uid (option_map action_of (option_copied c.find_action.result)) c.find_action.ensures
+    (ap context_at (nothing_shown action_of c.find_action.result c.in_default.not-Some)))
+
+pub returns-in_default-context : goal.returns-in_default-context
+returns-in_default-context c =
+    let versions = c.args.versions.now in
+    let extensions = versions.extensions.now in
+    let old = old_of versions in
+    let new = new_of versions in
+    let uid = uid_of c.args.uid.now in
+    let P : List PlainDifference → Type 0 = AreActionAnswers extensions old new uid in
+    subst P (sym (ap (map plain_difference) c.new-in_default-context.ensures.items))
+    (no_answers extensions old new c.requires.old_keyed uid (Some (action_of c.in-Some.old.now)) c.in-Some.ensures
+    (sym c.context.ensures.ty ∙ nothing_shown ty_of c.context.result c.in_default-context.not-Some))
+
+pub lost_with_principals-requires-clause-asked : goal.lost_with_principals-requires-clause-asked
+lost_with_principals-requires-clause-asked c =
+    let versions = c.args.versions.now in
+    let extensions = versions.extensions.now in
+    let old = old_of versions in
+    let new = new_of versions in
+    let uid = uid_of c.args.uid.now in
+    let ty = ty_of c.in-Some-context.context.now in
+    let action = action_of c.in-Some.old.now in
+    let requests = c.in_ok-requests.requests in
+    let principals = c.deref.result.now in
+    let resources = c.deref-2.result.now in
+    let first = lent_names c.in_ok-principals.principals.items principals (map type_name c.principals.result) (kind_principals action.kind)
+    c.in_ok-principals.ensures.same c.principals.ensures.names c.deref.ensures.value in
+    let second = lent_names c.in_ok-resources.resources.items resources (map type_name c.resources.result) (kind_resources action.kind)
+    c.in_ok-resources.ensures.same c.resources.ensures.names c.deref-2.ensures.value in
+    let name : Bor EntityType → PlainName = λ it. type_name it.now in
+    λ k d within k' d' within'.
+    let p = get_or principals k d in
+    let r = get_or resources k' d' in
+    let P : PlainUid → Ty → Type 0 = λ u t. IsEnvironmentOf old
+    (record { principal = name p; action = u; resource = name r; context = t }) in
+    subst (λ u. P u (ty_of requests.context.now)) (ap uid_of (sym c.in_ok-requests.ensures.uid))
+    (subst (λ t. P uid t) (ap ty_of (sym c.in_ok-requests.ensures.context))
+    (asked_of extensions old new uid action c.in-Some.ensures ty (sym c.in-Some-context.ensures.ty) (name p) (name r)
+    ((first (name p)).0 (Contains-image name principals p (Contains-get_or principals k d within)))
+    ((second (name r)).0 (Contains-image name resources r (Contains-get_or resources k' d' within')))))
+
+pub returns : goal.returns
+returns c =
+    let versions = c.args.versions.now in
+    let extensions = versions.extensions.now in
+    let old = old_of versions in
+    let new = new_of versions in
+    let uid = uid_of c.args.uid.now in
+    let action = action_of c.in-Some.old.now in
+    let requests = c.in_ok-requests.requests in
+    let principals = c.deref.result.now in
+    let resources = c.deref-2.result.now in
+    let first = lent_names c.in_ok-principals.principals.items principals (map type_name c.principals.result) (kind_principals action.kind)
+    c.in_ok-principals.ensures.same c.principals.ensures.names c.deref.ensures.value in
+    let second = lent_names c.in_ok-resources.resources.items resources (map type_name c.resources.result) (kind_resources action.kind)
+    c.in_ok-resources.ensures.same c.resources.ensures.names c.deref-2.ensures.value in
+    let P : PlainUid → Vec Difference Global → Type 0 = λ u lost. AreAnswers extensions old new
+    (flat_map (λ p. subjects_with u p (names resources)) (names principals)) (map plain_difference lost.items) in
+    let Q : Vec Difference Global → Type 0 = λ lost. AreActionAnswers extensions old new uid (map plain_difference lost.items) in
+    result_on (P (uid_of requests.uid.now)) Q c.lost_with_principals.result
+    (λ lost answers. action_answers extensions old new uid action c.in-Some.ensures c.requires.old_keyed (names principals) (names resources)
+    (map plain_difference lost.items) first second (subst (λ u. P u lost) (ap uid_of c.in_ok-requests.ensures.uid) answers))
+    c.lost_with_principals.ensures

@@ -1,0 +1,16 @@
+use Rattle.std.proofs.Common.{drop, map}
+use Rattle.cedar_below.specs.EntityType.{type_name}
+use Rattle.cedar_below.specs.EntityUID.{uid_of}
+use Rattle.cedar_compare.proofs.ToldLemmas.{AnswersSoFar}
+use Rattle.cedar_compare.specs.LostRequests.{subjects_with}
+use Rattle.cedar_compare.specs.Told.{plain_difference}
+use Rattle.cedar_compare.specs.Versions.{new_of, old_of}
+use Rattle.cedar_compare.proofs.requests.lost_with_principal.Given as goal
+
+abbrev pub invariant-loop-resource : goal.invariant-loop-resource
+invariant-loop-resource l =
+    AnswersSoFar l.versions.extensions.now (old_of l.versions) (new_of l.versions)
+    (subjects_with (uid_of l.requests.uid.now) (type_name l.principal) (map (λ resource. type_name resource.now) l.resources))
+    (subjects_with (uid_of l.requests.uid.now) (type_name l.principal)
+    (map (λ resource. type_name resource.now) (drop l.resource-index l.resources)))
+    (map plain_difference l.lost.items)

@@ -1,0 +1,16 @@
+use Rattle.std.proofs.Common.{map, take}
+use Rattle.std.specs.List.{flat_map}
+use Rattle.cedar_below.specs.EntityType.{type_name}
+use Rattle.cedar_below.specs.EntityUID.{uid_of}
+use Rattle.cedar_compare.specs.Difference.{AreAnswers}
+use Rattle.cedar_compare.specs.LostRequests.{subjects_with}
+use Rattle.cedar_compare.specs.Told.{plain_difference}
+use Rattle.cedar_compare.specs.Versions.{new_of, old_of}
+use Rattle.cedar_compare.proofs.requests.lost_with_principals.Given as goal
+
+abbrev pub invariant-loop-principal : goal.invariant-loop-principal
+invariant-loop-principal l =
+    AreAnswers l.versions.extensions.now (old_of l.versions) (new_of l.versions)
+    (flat_map (λ principal. subjects_with (uid_of l.requests.uid.now) principal (map (λ resource. type_name resource.now) l.resources))
+    (map (λ principal. type_name principal.now) (take l.principal-index l.principals)))
+    (map plain_difference l.lost.items)

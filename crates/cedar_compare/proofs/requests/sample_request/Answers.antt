@@ -1,0 +1,22 @@
+use Rattle.std.proofs.Common.{refl}
+use Rattle.cedar_below.proofs.ValueCopies.{uid_real}
+use Rattle.cedar_compare.proofs.SampledLemmas.{context_sampled}
+use Rattle.cedar_compare.specs.Versions.{old_of}
+use Rattle.cedar_types.specs.Meaning.{ty_of}
+use Rattle.cedar_types.specs.Samples.{value_trees}
+use Rattle.cedar_compare.proofs.requests.sample_request.Goals as goal
+
+pub sample_value-requires : goal.sample_value-requires
+sample_value-requires c =
+    let versions = c.args.versions.now in
+    context_sampled versions.extensions.now (value_trees versions.samples.now) (old_of versions) (ty_of c.args.requests.now.context.now)
+    c.requires.versions.sampled c.requires.context
+
+pub returns : goal.returns
+returns c = record {
+  principal_is = refl;
+  action_is = c.in_ok-clone.ensures.uid;
+  resource_is = refl;
+  real = (uid_real c.args.principal, uid_real c.in_ok-clone.field-0, uid_real c.args.resource, c.in_ok-context.ensures.real);
+  has = c.in_ok-context.ensures.has;
+}

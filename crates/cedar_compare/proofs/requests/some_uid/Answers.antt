@@ -1,0 +1,22 @@
+use Rattle.std.proofs.Common.{◌≡◌, subst, sym, ◌∙◌}
+use Rattle.std.specs.Option.{option_copied, option_map}
+use Rattle.cedar_below.specs.EntityType.{type_name}
+use Rattle.cedar_below.specs.EntityUID.{uid_of}
+use Rattle.cedar_below.specs.Text.{Text}
+use Rattle.cedar_compare.proofs.RequestLemmas.{may_have_id}
+use Rattle.cedar_compare.specs.Choices.{MayHave, choice_texts}
+use Rattle.cedar_compare.specs.Versions.{old_of}
+use Rattle.cedar_compare.proofs.requests.some_uid.Goals as goal
+
+-- the id is one of the choices of the type, if it has some
+pub returns : goal.returns
+returns c =
+    let name = type_name c.args.name.now in
+    let choices = option_map choice_texts (option_copied c.choices_at.result) in
+    let uid = uid_of c.new.result in
+    let named : uid.ty ≡ name = c.new.ensures.ty ∙ c.in_ok-clone.ensures.name in
+    let P : Text → Type 0 = MayHave choices in (
+      named,
+      may_have_id (old_of c.args.versions.now) c.requires.old_keyed name choices uid c.choices_at.ensures named
+          (subst P (sym c.new.ensures.eid) c.in_ok-eid.ensures),
+    )

@@ -1,0 +1,45 @@
+use Rattle.std.proofs.Common.{◌≡◌, Option, None, subst, sym, ◌∙◌}
+use Rattle.std.specs.Option.{option_copied, option_map}
+use Rattle.cedar_below.specs.Eid.{eid_text}
+use Rattle.cedar_below.specs.EntityType.{type_name}
+use Rattle.cedar_below.specs.EntityUID.{uid_of}
+use Rattle.cedar_below.specs.Text.{Text}
+use Rattle.cedar_below.specs.declared.eid.Eid.{Eid}
+use Rattle.cedar_compare.proofs.RequestLemmas.{lacks_choice, may_have_id, uid_found}
+use Rattle.cedar_compare.specs.Choices.{IsIdOutside, MayHave, choice_texts}
+use Rattle.cedar_compare.specs.Versions.{new_of, old_of}
+use Rattle.cedar_compare.proofs.requests.uid_outside.Goals as goal
+
+-- the id is one that the old version's choices have and the new version's lack
+pub returns-in_ok-clone-in-Some : goal.returns-in_ok-clone-in-Some
+returns-in_ok-clone-in-Some c =
+    let versions = c.args.versions.now in
+    let name = type_name c.args.name.now in
+    let old = option_map choice_texts (option_copied c.choices_at-old.result) in
+    let new = option_map choice_texts (option_copied c.choices_at-new.result) in
+    let uid = uid_of c.new.result in
+    let named : uid.ty ≡ name = c.new.ensures.ty ∙ c.in_ok-clone-in-Some.ensures.name in
+    let P : Option Eid → Type 0 = λ found. IsIdOutside old new (option_map eid_text found) in
+    let outside = subst P c.in-Some.is c.in_ok-eid.ensures in
+    let Q : Text → Type 0 = MayHave old in
+    let R : Text → Type 0 = λ id. ¬ MayHave new id in (
+      (
+        named,
+        may_have_id (old_of versions) c.requires.old_keyed name old uid c.choices_at-old.ensures named
+            (subst Q (sym c.new.ensures.eid) outside.0),
+      ),
+      lacks_choice (new_of versions) c.requires.new_keyed name new uid c.choices_at-new.ensures named
+          (subst R (sym c.new.ensures.eid) outside.1),
+    )
+
+-- no id is
+pub returns-in-None : goal.returns-in-None
+returns-in-None c =
+    let versions = c.args.versions.now in
+    let name = type_name c.args.name.now in
+    let old = option_map choice_texts (option_copied c.choices_at-old.result) in
+    let new = option_map choice_texts (option_copied c.choices_at-new.result) in
+    let P : Option Eid → Type 0 = λ found. IsIdOutside old new (option_map eid_text found) in
+    let within = subst P c.in-None.is c.in_ok-eid.ensures in
+    uid_found (old_of versions) (new_of versions) c.requires.old_keyed c.requires.new_keyed name old new c.choices_at-old.ensures
+    c.choices_at-new.ensures None (λ uid wrong. absurd cc) (λ same id may. within id may)

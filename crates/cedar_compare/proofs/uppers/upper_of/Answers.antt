@@ -1,0 +1,19 @@
+use Rattle.std.proofs.Common.{Option, subst, sym}
+use Rattle.std.specs.Option.{option_copied, option_map}
+use Rattle.cedar_below.specs.Eid.{eid_text}
+use Rattle.cedar_below.specs.EntityType.{type_name}
+use Rattle.cedar_below.specs.declared.eid.Eid.{Eid}
+use Rattle.cedar_compare.specs.Choices.{IsIdOutside, MayHave, choice_texts, kind_choices}
+use Rattle.cedar_compare.specs.Lookup.{plain_type}
+use Rattle.cedar_declarations.specs.PlainSchema.{SchemaEntityType}
+use Rattle.cedar_compare.proofs.uppers.upper_of.Goals as goal
+
+pub returns-in-Some-2-clause-kept : goal.returns-in-Some-2-clause-kept
+returns-in-Some-2-clause-kept c = λ it among may.
+    let id = eid_text c.in-Some-2.eid in
+    let old = option_map choice_texts (option_copied c.choices_of-choices.result) in
+    let new = option_map choice_texts (option_copied c.choices_of.result) in
+    let found = subst (λ (o : Option Eid). IsIdOutside old new (option_map eid_text o)) c.in-Some-2.is c.in_ok-eid-2.ensures in
+    let same = c.requires.new_keyed.types (type_name c.args.name.now) it (plain_type c.in-Some.new.now) among c.in-Some.ensures in
+    found.1 (subst (λ choices. MayHave choices id) (sym c.choices_of.ensures)
+    (subst (λ (t : SchemaEntityType). MayHave (kind_choices t.kind) id) same may))

@@ -1,0 +1,93 @@
+-- What is found on the way to an entity that is lost.
+use Rattle.std.specs.Prelude.{◌≡◌, List, [], Option, Some, None, Contains}
+use Rattle.cedar_below.specs.IsValue.{IsValue}
+use Rattle.cedar_below.specs.PlainName.{PlainName}
+use Rattle.cedar_below.specs.PlainUid.{PlainUid}
+use Rattle.cedar_below.specs.Text.{Text}
+use Rattle.cedar_below.specs.Tree.{Entries, Tree, entry, map_value, no_entry}
+use Rattle.cedar_below.specs.declared.extension.Extensions.{Extensions}
+use Rattle.cedar_compare.specs.Difference.{AreTagsOutside, IsLoss, IsTypeCause, PlainCause, PlainDifference, subject_of, type_subject}
+use Rattle.cedar_compare.specs.Entities.{AreTagsOf, IsEntityIn, MayStandAbove}
+use Rattle.cedar_counterexample.specs.Steps.{PlainStep, steps_of}
+use Rattle.cedar_counterexample.specs.declared.found.Outside.{Outside}
+use Rattle.cedar_declarations.specs.EntityTypeKind.{enumerated_kind}
+use Rattle.cedar_declarations.specs.PlainSchema.{ActionEntity, PlainSchema, SchemaEntityType}
+use Rattle.cedar_type_rules.specs.Has.{Has}
+use Rattle.cedar_type_rules.specs.Ty.{Fields, Ty, record_of}
+use Rattle.cedar_type_rules.specs.declared.open_tag.OpenTag.{OpenTag}
+use Rattle.cedar_types.specs.Samples.{value_tree}
+
+-- values are a real record of a type
+abbrev pub IsSampleOf : Extensions → Fields → OpenTag → Entries → Type 0
+IsSampleOf extensions fields openness values =
+    IsValue (map_value values) × Has extensions (map_value values) (record_of fields openness)
+
+-- one tag, whose name is empty
+abbrev pub one_tag : Tree → Entries
+one_tag value = entry [] value no_entry
+
+-- a value that is outside, with the steps to where it is
+abbrev pub plain_outside : Outside → Tree × List PlainStep
+plain_outside it = (value_tree it.value, steps_of it.steps)
+
+-- what is found of the tags of two types: a value of a tag that only the first has, or that all tags
+-- of the one are tags of the other
+abbrev pub IsTagOutside : Extensions → Option Ty → Option Ty → Option (Tree × List PlainStep)
+    → Type 0
+IsTagOutside extensions old new None = (tags : Entries) → IsValue (map_value tags)
+    → AreTagsOf extensions old tags → AreTagsOf extensions new tags
+IsTagOutside extensions old new (Some found) =
+    IsValue found.0 × AreTagsOf extensions old (one_tag found.0)
+    × (¬ AreTagsOf extensions new (one_tag found.0)) × AreTagsOutside extensions found.1 old new
+
+-- a cause is true of each entity of a type that has the uid above it
+abbrev pub IsUpperCause : Extensions → PlainSchema → PlainSchema → PlainName → PlainUid
+    → PlainCause → Type 0
+IsUpperCause extensions old new name upper cause = (it : ActionEntity) → it.uid.ty ≡ name
+    → Contains it.ancestors upper → IsTypeCause extensions old new it cause
+
+-- the entity of a uid, without attributes, tags and ancestors
+abbrev pub bare_entity : PlainName → Text → ActionEntity
+bare_entity name id = record {
+  uid = record { ty = name; eid = id };
+  attributes = no_entry;
+  tags = no_entry;
+  ancestors = [];
+}
+
+-- a difference is a true one of the entity type of a name
+abbrev pub IsTypeLoss : Extensions → PlainSchema → PlainSchema → PlainName → PlainDifference
+    → Type 0
+IsTypeLoss extensions old new name difference =
+    (subject_of difference ≡ type_subject name) × IsLoss extensions old new difference
+
+-- what is found of a choice: that its entity is one of the new schema, or a true difference
+abbrev pub IsChoiceAnswer : Extensions → PlainSchema → PlainSchema → PlainName → Text
+    → Option PlainDifference → Type 0
+IsChoiceAnswer extensions old new name id None = IsEntityIn extensions new (bare_entity name id)
+IsChoiceAnswer extensions old new name id (Some difference) =
+    IsTypeLoss extensions old new name difference
+
+-- the uid is a choice of an enumerated entity type of the schema
+abbrev pub IsChoiceOf : PlainSchema → PlainUid → Type 0
+IsChoiceOf schema uid = (it : SchemaEntityType) × Contains schema.entity_types (uid.ty, it)
+    × ((choices : List Text) × (it.kind ≡ enumerated_kind choices) × Contains choices uid.eid)
+
+-- what is found of what stands above entities of a type: a true difference, or that what may stand
+-- above them still may
+abbrev pub IsBelowAnswer : Extensions → PlainSchema → PlainSchema → PlainName
+    → Option PlainDifference → Type 0
+IsBelowAnswer extensions old new name None = (upper : PlainUid) → MayStandAbove old name upper
+    → MayStandAbove new name upper
+IsBelowAnswer extensions old new name (Some difference) =
+    IsTypeLoss extensions old new name difference
+
+-- what is found beside the attributes of a type: a true difference, or that its tags and what may
+-- stand above its entities are kept
+abbrev pub IsBesideAnswer : Extensions → PlainSchema → PlainSchema → PlainName → Option Ty
+    → Option Ty → Option PlainDifference → Type 0
+IsBesideAnswer extensions old new name tags other_tags None =
+    IsTagOutside extensions tags other_tags None
+    × ((upper : PlainUid) → MayStandAbove old name upper → MayStandAbove new name upper)
+IsBesideAnswer extensions old new name tags other_tags (Some difference) =
+    IsTypeLoss extensions old new name difference

@@ -1,0 +1,96 @@
+-- What may no longer stand above entities.
+use Rattle.std.specs.Prelude.{◌⊎◌, List, Option, Some, None, Contains}
+use Rattle.std.specs.BTreeMap.{BTreeMap, get_by}
+use Rattle.std.specs.Option.{option_map}
+use Rattle.cedar_below.specs.EntityType.{type_name}
+use Rattle.cedar_below.specs.EntityUID.{uid_of}
+use Rattle.cedar_below.specs.PlainName.{PlainName, name_cmp}
+use Rattle.cedar_below.specs.PlainUid.{PlainUid, uid_cmp}
+use Rattle.cedar_below.specs.Text.{Text}
+use Rattle.cedar_below.specs.declared.entity_type.EntityType.{EntityType}
+use Rattle.cedar_below.specs.declared.entity_uid.EntityUID.{EntityUID}
+use Rattle.cedar_compare.specs.Choices.{MayHave, kind_choices}
+use Rattle.cedar_compare.specs.Difference.{IsActionCause, PlainCause}
+use Rattle.cedar_compare.specs.Entities.{MayStandAbove}
+use Rattle.cedar_declarations.specs.ActionEntities.{DefinesAction}
+use Rattle.cedar_declarations.specs.PlainSchema.{PlainSchema, SchemaEntityType}
+use Rattle.cedar_declarations.specs.ValidSchema.{ListsDescendantAction}
+
+-- what is kept under the name of an entity type
+abbrev pub upper_at : BTreeMap EntityType EntityUID → EntityType → Option PlainUid
+upper_at uppers name =
+    option_map uid_of (get_by (λ key. name_cmp (type_name name) (type_name key)) uppers)
+
+-- what is kept under the uid of an action
+abbrev pub action_upper_at : BTreeMap EntityUID EntityUID → EntityUID → Option PlainUid
+action_upper_at uppers uid =
+    option_map uid_of (get_by (λ key. uid_cmp (uid_of uid) (uid_of key)) uppers)
+
+-- what becomes of the uids of an entity type that may stand above others, where these are its
+-- choices, if there are some: the new schema's entity type of the name, which may have all its ids,
+-- or that none there may have the one id
+abbrev pub IsUpperKept : PlainSchema → PlainName → Option (List Text) → Text
+    → Option SchemaEntityType → Type 0
+IsUpperKept new name choices id None = (it : SchemaEntityType)
+    → Contains new.entity_types (name, it) → ¬ MayHave (kind_choices it.kind) id
+IsUpperKept new name choices id (Some it) = Contains new.entity_types (name, it)
+    × ((other : Text) → MayHave choices other → MayHave (kind_choices it.kind) other)
+
+-- an entity type is there and lists the name among its descendants
+abbrev pub IsListedBy : Option SchemaEntityType → PlainName → Type 0
+IsListedBy None lower = ⊥
+IsListedBy (Some it) lower = Contains it.descendants lower
+
+-- what is found above the entities of a type, but for uids that are left: one that may stand there
+-- in the old schema and not in the new, or that there is none
+abbrev pub IsUpperSoFar : PlainSchema → PlainSchema → (PlainUid → Type 0) → PlainName
+    → Option PlainUid → Type 0
+IsUpperSoFar old new IsLeft name None = (upper : PlainUid) → MayStandAbove old name upper
+    → IsLeft upper ⊎ MayStandAbove new name upper
+IsUpperSoFar old new IsLeft name (Some upper) =
+    MayStandAbove old name upper × ¬ MayStandAbove new name upper
+
+-- for each entity type there stands what is found above it, but for what is left
+abbrev pub AreUppersSoFar : PlainSchema → PlainSchema → (PlainName → PlainUid → Type 0)
+    → BTreeMap EntityType EntityUID → Type 0
+AreUppersSoFar old new IsLeft uppers = (name : EntityType)
+    → IsUpperSoFar old new (IsLeft (type_name name)) (type_name name) (upper_at uppers name)
+
+-- for each entity type there stands what is found above it, of whatever may stand there
+abbrev pub AreUppersLost : PlainSchema → PlainSchema → BTreeMap EntityType EntityUID → Type 0
+AreUppersLost old new = AreUppersSoFar old new (λ name upper. ⊥)
+
+-- one of two schemas alone lists the one action below the other
+abbrev pub ListsApart : PlainSchema → PlainSchema → PlainUid → PlainUid → Type 0
+ListsApart old new lower upper =
+    (ListsDescendantAction old lower upper × ¬ ListsDescendantAction new lower upper)
+    ⊎ (ListsDescendantAction new lower upper × ¬ ListsDescendantAction old lower upper)
+
+-- what is found above an action, but for what is left: an action that one of two schemas alone
+-- lists above it, or that the other lists each that the one does
+abbrev pub IsActionUpperSoFar : PlainSchema → PlainSchema → (PlainUid → Type 0) → PlainUid
+    → Option PlainUid → Type 0
+IsActionUpperSoFar one other IsLeft uid None = (upper : PlainUid)
+    → ListsDescendantAction one uid upper → IsLeft upper ⊎ ListsDescendantAction other uid upper
+IsActionUpperSoFar one other IsLeft uid (Some upper) = ListsApart one other uid upper
+
+-- for each action there stands what is found above it, but for what is left
+abbrev pub AreActionUppersSoFar : PlainSchema → PlainSchema → (PlainUid → PlainUid → Type 0)
+    → BTreeMap EntityUID EntityUID → Type 0
+AreActionUppersSoFar one other IsLeft uppers = (uid : EntityUID)
+    → IsActionUpperSoFar one other (IsLeft (uid_of uid)) (uid_of uid) (action_upper_at uppers uid)
+
+-- what is found of an action: why its entity is lost, or that the new schema defines it and both list
+-- the same above it
+abbrev pub IsActionAnswer : PlainSchema → PlainSchema → PlainUid → Option PlainCause → Type 0
+IsActionAnswer old new uid None = DefinesAction new uid
+    × ((upper : PlainUid) → ListsDescendantAction old uid upper → ListsDescendantAction new uid upper)
+    × ((upper : PlainUid) → ListsDescendantAction new uid upper → ListsDescendantAction old uid upper)
+IsActionAnswer old new uid (Some cause) = IsActionCause old new uid cause
+
+-- for each action there stands what is found above it: an action that one of two schemas alone
+-- lists above it, or that both list the same
+abbrev pub AreActionUppers : PlainSchema → PlainSchema → BTreeMap EntityUID EntityUID → Type 0
+AreActionUppers old new uppers =
+    AreActionUppersSoFar old new (λ uid upper. ⊥) uppers
+    × AreActionUppersSoFar new old (λ uid upper. ⊥) uppers

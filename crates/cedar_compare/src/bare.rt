@@ -1,0 +1,101 @@
+//! Entities without attributes and tags.
+
+ghost use Rattle.std.specs.Prelude.{◌≡◌, ◌↔◌, Contains, IsTrue, [], map};
+ghost use Rattle.cedar_below.specs.Entity.{entity_ancestors, entity_attrs, entity_tags, entity_uid};
+ghost use Rattle.cedar_below.specs.Entities.{entities_of};
+ghost use Rattle.cedar_below.specs.EntityType.{type_name};
+ghost use Rattle.cedar_below.specs.EntityUID.{uid_of};
+ghost use Rattle.cedar_below.specs.PlainUid.{PlainUid};
+ghost use Rattle.cedar_below.specs.Tree.{map_value, no_entry};
+ghost use Rattle.cedar_below.specs.declared.extension.Extensions.{Extensions};
+ghost use Rattle.cedar_compare.specs.Entities.{IsEntityOfType, MayStandAbove};
+ghost use Rattle.cedar_compare.specs.Lookup.{IsKeyed};
+ghost use Rattle.cedar_schema.specs.ValidatorSchema.{schema_of};
+ghost use Rattle.cedar_schema_elements.specs.ActionEntities.{named_values, plain_action_entity};
+ghost use Rattle.cedar_type_rules.specs.Has.{Has};
+ghost use Rattle.cedar_type_rules.specs.Ty.{record_of};
+ghost use Rattle.cedar_type_rules.specs.declared.open_tag.OpenTag.{OpenTag};
+ghost use Rattle.cedar_types.specs.Meaning.{fields_of};
+
+use crate::choices::{choices_of, has_choice};
+use crate::versions::find_type;
+use cedar_below::{Entity, EntityType, EntityUID};
+use cedar_schema::{ValidatorEntityTypeKind, ValidatorSchema};
+use cedar_types::Attributes;
+
+/// Whether no attribute is required.
+fn requires_nothing(attrs: &Attributes) -> bool
+    ensures { (extensions : Extensions) (openness : OpenTag) → IsTrue result
+        ↔ Has extensions (map_value no_entry) (record_of (fields_of attrs.now) openness) }
+{
+    for (_, attribute) in attrs.iter() {
+        if attribute.is_required() {
+            return false;
+        }
+    }
+    true
+}
+
+/// Whether a uid may stand above entities of a type.
+fn may_stand_above(schema: &ValidatorSchema, name: &EntityType, upper: &EntityUID) -> bool
+    requires { IsKeyed (schema_of schema.now) }
+    ensures { IsTrue result
+        ↔ MayStandAbove (schema_of schema.now) (type_name name.now) (uid_of upper.now) }
+{
+    let Some(ty) = find_type(schema, upper.entity_type()) else {
+        return false;
+    };
+    if !ty.has_descendant_entity_type(name) {
+        return false;
+    }
+    match choices_of(&ty.kind) {
+        Some(choices) => has_choice(choices, upper.eid()),
+        None => true,
+    }
+}
+
+/// Whether each ancestor of an entity may stand above those of its type.
+fn may_all_stand_above(schema: &ValidatorSchema, entity: &Entity) -> bool
+    requires { IsKeyed (schema_of schema.now) }
+    ensures { IsTrue result ↔ ((upper : PlainUid) → Contains (entity_ancestors entity.now) upper
+        → MayStandAbove (schema_of schema.now) (entity_uid entity.now).ty upper) }
+{
+    for upper in entity.ancestors() {
+        if !may_stand_above(schema, entity.uid().entity_type(), upper) {
+            return false;
+        }
+    }
+    true
+}
+
+/// Whether an entity has no ancestors.
+pub(crate) fn is_without_ancestors(entity: &Entity) -> bool
+    ensures { IsTrue result ↔ (entity_ancestors entity.now ≡ []) }
+{
+    match entity.ancestors().next() {
+        Some(_) => false,
+        None => true,
+    }
+}
+
+/// Whether an entity without attributes and tags is of an entity type of a schema.
+pub(crate) fn is_bare_of_type(schema: &ValidatorSchema, entity: &Entity) -> bool
+    requires keyed { IsKeyed (schema_of schema.now) }
+    requires attributes { named_values (entity_attrs entity.now) ≡ no_entry }
+    requires tags { named_values (entity_tags entity.now) ≡ no_entry }
+    ensures { (extensions : Extensions) → IsTrue result
+        ↔ IsEntityOfType extensions (schema_of schema.now) (plain_action_entity entity.now) }
+{
+    let Some(ty) = find_type(schema, entity.uid().entity_type()) else {
+        return false;
+    };
+    match &ty.kind {
+        ValidatorEntityTypeKind::Standard(_) => {
+            requires_nothing(ty.attributes()) && may_all_stand_above(schema, entity)
+        }
+        ValidatorEntityTypeKind::Enum(choices) => {
+            has_choice(choices, entity.uid().eid()) && is_without_ancestors(entity)
+        }
+        ValidatorEntityTypeKind::External => false,
+    }
+}

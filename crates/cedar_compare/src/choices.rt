@@ -1,0 +1,103 @@
+//! The ids that entities of a type may have.
+
+ghost use Rattle.std.specs.Prelude.{◌≡◌, ◌↔◌, ◌+◌, ◌≤◌, Contains, IfOk, IfSome, IsTrue, None, length, map};
+ghost use Rattle.std.specs.Option.{option_copied, option_map};
+ghost use Rattle.cedar_below.specs.Eid.{eid_text};
+ghost use Rattle.cedar_below.specs.Text.{Text};
+ghost use Rattle.cedar_compare.specs.Choices.{IsIdOutside, MayHave, choice_texts, kind_choices};
+ghost use Rattle.cedar_schema_elements.specs.EntityTypeKind.{plain_kind};
+
+use cedar_below::{Eid, M, NonEmpty};
+use cedar_schema::ValidatorEntityTypeKind;
+use std::alloc::Global;
+
+/// The choices of an enumerated entity type, and of others none.
+pub(crate) fn choices_of(kind: &ValidatorEntityTypeKind) -> Option<&NonEmpty<Eid>>
+    ensures { option_map choice_texts (option_copied result) ≡ kind_choices (plain_kind kind.now) }
+{
+    match kind {
+        ValidatorEntityTypeKind::Enum(choices) => Some(choices),
+        ValidatorEntityTypeKind::Standard(_) => None,
+        ValidatorEntityTypeKind::External => None,
+    }
+}
+
+/// Whether an id is one of some choices.
+pub(crate) fn has_choice(choices: &NonEmpty<Eid>, eid: &Eid) -> bool
+    ensures { IsTrue result ↔ Contains (choice_texts choices.now) (eid_text eid.now) }
+{
+    choices.head == *eid || choices.tail.contains(eid)
+}
+
+/// The first of some choices that isn't one of others, if there is one.
+fn other_choice<'a>(choices: &'a NonEmpty<Eid>, others: &NonEmpty<Eid>) -> Option<&'a Eid>
+    ensures { IsIdOutside (Some (choice_texts choices.now)) (Some (choice_texts others.now))
+        (option_map eid_text (option_copied result)) }
+{
+    if !has_choice(others, &choices.head) {
+        return Some(&choices.head);
+    }
+    for eid in &choices.tail {
+        if !has_choice(others, eid) {
+            return Some(eid);
+        }
+    }
+    None
+}
+
+/// The length of the longest of some choices.
+pub(crate) fn longest_choice(choices: &NonEmpty<Eid>) -> usize
+    ensures { (id : Text) → Contains (choice_texts choices.now) id → length id ≤ result }
+{
+    let mut longest = choices.head.as_str().len();
+    for eid in &choices.tail {
+        longest = longest.max(eid.as_str().len());
+    }
+    longest
+}
+
+/// An id of one `x` more than a number says.
+pub(crate) fn id_of_length(alloc: Global, count: usize) -> M<Eid>
+    ensures { IfOk result (λ eid. length (eid_text eid) ≡ count + 1) }
+{
+    let mut text = String::new(alloc);
+    for _ in 0..count {
+        text.push('x')?;
+    }
+    text.push('x')?;
+    Ok(Eid(text))
+}
+
+/// An id that an entity may have, where these are the choices, if there are some.
+pub(crate) fn some_id(alloc: Global, choices: Option<&NonEmpty<Eid>>) -> M<Eid>
+    ensures { IfOk result (λ eid.
+        MayHave (option_map choice_texts (option_copied choices.entry)) (eid_text eid)) }
+{
+    match choices {
+        Some(choices) => choices.head.clone(),
+        None => id_of_length(alloc, 0),
+    }
+}
+
+/// An id that an entity may have where the one are the choices and may not have where the others
+/// are, if there is one.
+pub(crate) fn id_outside(
+    alloc: Global,
+    old: Option<&NonEmpty<Eid>>,
+    new: Option<&NonEmpty<Eid>>,
+) -> M<Option<Eid>>
+    ensures { IfOk result (λ found.
+        IsIdOutside (option_map choice_texts (option_copied old.entry))
+        (option_map choice_texts (option_copied new.entry)) (option_map eid_text found)) }
+{
+    let Some(new) = new else {
+        return Ok(None);
+    };
+    match old {
+        None => Ok(Some(id_of_length(alloc, longest_choice(new))?)),
+        Some(old) => match other_choice(old, new) {
+            Some(eid) => Ok(Some(eid.clone()?)),
+            None => Ok(None),
+        },
+    }
+}

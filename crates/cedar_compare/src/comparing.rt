@@ -1,0 +1,171 @@
+//! Two versions of a schema, compared.
+
+ghost use Rattle.std.specs.Prelude.{◌≡◌, ◌↔◌, [], IfErr, IfOk, IfSome, None, OnOk, map, string_bytes};
+ghost use Rattle.cedar_below.specs.Entities.{entities_of};
+ghost use Rattle.cedar_compare.specs.CompareFault.{IsCompareFault, IsComparable, IsUnsampledType, IsVersionFault};
+ghost use Rattle.cedar_compare.specs.Difference.{AreLosses};
+ghost use Rattle.cedar_compare.specs.Keeps.{Keeps};
+ghost use Rattle.cedar_compare.specs.Told.{plain_difference};
+ghost use Rattle.cedar_compare.specs.Versions.{IsSchemaSampled};
+ghost use Rattle.cedar_declarations.specs.ActionEntities.{AreActionEntities};
+ghost use Rattle.cedar_schema.specs.ValidatorSchema.{action_entries, schema_of};
+ghost use Rattle.cedar_schema_elements.specs.ActionEntities.{schema_with};
+ghost use Rattle.cedar_types.specs.Samples.{value_trees};
+
+use crate::compare_fault::{CompareFault, Version};
+use crate::difference::Difference;
+use crate::losses::losses;
+use crate::versions::Versions;
+use cedar_below::{Entities, Extensions, M, Value};
+use cedar_schema::ValidatorSchema;
+use std::alloc::Global;
+
+/// What two versions of a schema admit apart from each other.
+#[derive(Debug, Drop)]
+pub struct Comparison {
+    /// What the old version admits and the new doesn't: entity types in the order of their names,
+    /// actions in the order of their uids, and environments in the order of their actions, their
+    /// principals and their resources.
+    pub lost: Vec<Difference>,
+    /// What the new version admits and the old doesn't, in the same order.
+    pub gained: Vec<Difference>,
+}
+
+/// A type in a schema of which there is no sample, as it is printed, if there is one.
+fn unsampled(
+    alloc: Global,
+    schema: &ValidatorSchema,
+    extensions: &Extensions,
+    samples: &[Value],
+) -> M<Option<String>>
+    ensures none { IfOk result (λ found. (found ≡ None)
+        → IsSchemaSampled extensions.now (value_trees samples.now) (schema_of schema.now)) }
+    ensures some { IfOk result (λ found. IfSome found (λ text. IsUnsampledType extensions.now
+        (value_trees samples.now) (schema_of schema.now) (string_bytes text))) }
+{
+    for ty in schema.leaf_types(alloc)? {
+        let ty = ty?;
+        if !ty.is_sampled(extensions, samples) {
+            return Ok(Some(ty.to_string(alloc)?));
+        }
+    }
+    Ok(None)
+}
+
+/// That a version can be compared.
+fn check(
+    alloc: Global,
+    version: Version,
+    schema: &ValidatorSchema,
+    extensions: &Extensions,
+    samples: &[Value],
+) -> Result<(), CompareFault>
+    ensures comparable { OnOk result (IsComparable extensions.now (value_trees samples.now)
+        (schema_of schema.now)) }
+    ensures fault { IfErr result (IsVersionFault extensions.now (value_trees samples.now) version
+        (schema_of schema.now)) }
+{
+    if !schema.is_complete() {
+        return Err(CompareFault::Incomplete(version));
+    }
+    match unsampled(alloc, schema, extensions, samples)? {
+        Some(ty) => Err(CompareFault::Unsampled(version, ty)),
+        None => Ok(()),
+    }
+}
+
+/// What the new of two versions takes away, where these are the entities of the actions of each.
+fn lost<'a>(
+    alloc: Global,
+    old: &'a ValidatorSchema,
+    new: &'a ValidatorSchema,
+    old_actions: &'a Entities,
+    new_actions: &'a Entities,
+    extensions: &'a Extensions,
+    samples: &'a [Value],
+) -> M<Vec<Difference>>
+    requires old { IsComparable extensions.now (value_trees samples.now) (schema_of old.now) }
+    requires old_actions { AreActionEntities (schema_with (schema_of old.now).entity_types
+        (action_entries old.now) (entities_of old_actions.now)) }
+    requires new_actions { AreActionEntities (schema_with (schema_of new.now).entity_types
+        (action_entries new.now) (entities_of new_actions.now)) }
+    ensures losses { IfOk result (λ lost. AreLosses extensions.now (schema_of old.now)
+        (schema_of new.now) (map plain_difference lost.items)) }
+    ensures kept { IfOk result (λ lost. (lost.items ≡ [])
+        → Keeps extensions.now (schema_of old.now) (schema_of new.now)) }
+{
+    // That names and uids are in order is known from their iterators.
+    let _old_names = old.entity_type_names();
+    let _old_uids = old.actions();
+    let _new_names = new.entity_type_names();
+    let _new_uids = new.actions();
+    let versions = Versions {
+        alloc,
+        old,
+        new,
+        new_actions,
+        extensions,
+        samples,
+    };
+    losses(&versions, old_actions)
+}
+
+/// What a new version of a schema takes away and what it adds.
+///
+/// `lost` names each entity type, each action and each environment of which the old version admits
+/// an entity or a request that the new one doesn't, once, each with such an entity or request as a
+/// witness, and with why it is lost; `gained` is the same of the new version and the old one. So
+/// nothing is lost exactly where every entity and every request of the old version is one of the
+/// new. An entity is one of a schema where its attributes and tags have their types and each of its
+/// ancestors may stand there, as a choice of an enumerated type does alone; a request where one of
+/// the schema's environments has the types of its principal and resource and its action, and its
+/// context has the environment's type (the Cedar reference on schemas, RFC 53 and RFC 82).
+///
+/// The samples are values of the extension types, one of each at least. The refusals are
+/// `Incomplete` where one of the two schemas declares something to be elsewhere, `Unsampled` where
+/// a type in one of them is `Never` or an extension type without a sample, and `Memory`.
+pub fn compare(
+    alloc: Global,
+    old: &ValidatorSchema,
+    new: &ValidatorSchema,
+    extensions: &Extensions,
+    samples: &[Value],
+) -> Result<Comparison, CompareFault>
+    ensures old { OnOk result (IsComparable extensions.now (value_trees samples.now)
+        (schema_of old.now)) }
+    ensures new { OnOk result (IsComparable extensions.now (value_trees samples.now)
+        (schema_of new.now)) }
+    ensures fault { IfErr result (IsCompareFault extensions.now (value_trees samples.now)
+        (schema_of old.now) (schema_of new.now)) }
+    ensures lost { IfOk result (λ it. AreLosses extensions.now (schema_of old.now)
+        (schema_of new.now) (map plain_difference it.lost.items)) }
+    ensures gained { IfOk result (λ it. AreLosses extensions.now (schema_of new.now)
+        (schema_of old.now) (map plain_difference it.gained.items)) }
+    ensures kept { IfOk result (λ it. (it.lost.items ≡ [])
+        ↔ Keeps extensions.now (schema_of old.now) (schema_of new.now)) }
+{
+    check(alloc, Version::Old, old, extensions, samples)?;
+    check(alloc, Version::New, new, extensions, samples)?;
+    let old_actions = old.action_entities(alloc, extensions)?;
+    let new_actions = new.action_entities(alloc, extensions)?;
+    Ok(Comparison {
+        lost: lost(
+            alloc,
+            old,
+            new,
+            &old_actions,
+            &new_actions,
+            extensions,
+            samples,
+        )?,
+        gained: lost(
+            alloc,
+            new,
+            old,
+            &new_actions,
+            &old_actions,
+            extensions,
+            samples,
+        )?,
+    })
+}
