@@ -5,6 +5,7 @@ use crate::answers::{
 };
 use crate::attribute_types::{action_answer, entity_answer};
 use crate::building::{BuiltFiles, built};
+use crate::comparing::{Telling, compare_files};
 use crate::files::FileAccess;
 use crate::finding::{Finding, Source};
 use crate::graph::graph;
@@ -183,18 +184,67 @@ fn linked<F: FileAccess>(
     }
 }
 
-/// Whether standard input is named more than once.
-fn reads_input_twice(names: &[&str]) -> bool {
-    let mut seen = false;
+/// How often standard input is named.
+fn input_count(names: &[&str]) -> usize {
+    let mut count: usize = 0;
     for name in names {
         if *name == "-" {
-            if seen {
-                return true;
-            }
-            seen = true;
+            count = count.saturating_add(1);
         }
     }
-    false
+    count
+}
+
+/// That standard input is named more than once.
+fn reads_input_twice(alloc: Global) -> M<Outcome> {
+    usage(alloc, "standard input (`-`) can be read only once")
+}
+
+/// What the command that compares gives.
+fn compared<F: FileAccess>(
+    alloc: Global,
+    files: &mut F,
+    matches: &ArgMatches<'_>,
+) -> Result<Outcome, Stop> {
+    let old = words_of(alloc, matches, "old")?;
+    let new = words_of(alloc, matches, "new")?;
+    if input_count(&old).saturating_add(input_count(&new)) > 1 {
+        return Ok(reads_input_twice(alloc)?);
+    }
+    let telling = Telling {
+        manner: manner(matches),
+        is_all: matches.get_flag("all"),
+    };
+    compare_files(alloc, files, &old, &new, telling)
+}
+
+/// What the command that lays out gives.
+fn laid_out<F: FileAccess>(
+    alloc: Global,
+    files: &mut F,
+    matches: &ArgMatches<'_>,
+) -> Result<Outcome, Stop> {
+    let name = matches.get_str("FILE").unwrap_or("-");
+    let is_test = matches.get_flag("check");
+    format(alloc, files, name, manner(matches), is_test)
+}
+
+/// What a command gives over files that are given together.
+fn over_files<F: FileAccess>(
+    alloc: Global,
+    files: &mut F,
+    command: &str,
+    matches: &ArgMatches<'_>,
+) -> Result<Outcome, Stop> {
+    let names = words_of(alloc, matches, "FILE")?;
+    if input_count(&names) > 1 {
+        return Ok(reads_input_twice(alloc)?);
+    }
+    match command {
+        "check" => check(alloc, files, &names, manner(matches)),
+        "link" => linked(alloc, files, matches, &names),
+        _ => over_schema(alloc, files, command, matches, &names),
+    }
 }
 
 /// What a command gives.
@@ -204,23 +254,9 @@ pub(crate) fn outcome_of<F: FileAccess>(
     command: &str,
     matches: &ArgMatches<'_>,
 ) -> Result<Outcome, Stop> {
-    if command == "format" {
-        let name = matches.get_str("FILE").unwrap_or("-");
-        return format(
-            alloc,
-            files,
-            name,
-            manner(matches),
-            matches.get_flag("check"),
-        );
-    }
-    let names = words_of(alloc, matches, "FILE")?;
-    if reads_input_twice(&names) {
-        return Ok(usage(alloc, "standard input (`-`) can be read only once")?);
-    }
     match command {
-        "check" => check(alloc, files, &names, manner(matches)),
-        "link" => linked(alloc, files, matches, &names),
-        _ => over_schema(alloc, files, command, matches, &names),
+        "format" => laid_out(alloc, files, matches),
+        "compare" => compared(alloc, files, matches),
+        _ => over_files(alloc, files, command, matches),
     }
 }

@@ -1,11 +1,15 @@
-//! What the program `cedar_check` does: files of schemas are read, built, shown, drawn, linked and
-//! laid out.
+//! What the program `cedar_check` does: files of schemas are read, built, shown, drawn, linked, laid
+//! out and compared.
 #![tactic(auto)]
 
 mod answers;
 mod asked;
 mod attribute_types;
 mod building;
+mod cause_text;
+mod comparing;
+mod difference_json;
+mod difference_lines;
 mod fault_text;
 mod files;
 mod finding;
@@ -19,7 +23,10 @@ mod outcome;
 mod position;
 mod reading;
 mod running;
+mod sides;
 mod status;
+mod steps;
+mod witness;
 mod words;
 
 pub use files::{FileAccess, FileFault};

@@ -74,6 +74,8 @@ fn finish<O: Write, E: Write>(outcome: M<Outcome>, out: &mut O, err: &mut E) -> 
 /// - 3: memory ran out; `err` has the line `memory`, and nothing was printed on `out`.
 /// - 4: `out` or the file that was to be written couldn't be written.
 /// - 5: a file couldn't be read; it is told as those that are refused.
+/// - 6: two versions of a schema were compared, and the new one takes something away; what that is
+///   is printed on `out`, with what it adds.
 ///
 /// A failed write to `err` is ignored.
 pub fn run<F: FileAccess, O: Write, E: Write>(
@@ -83,7 +85,7 @@ pub fn run<F: FileAccess, O: Write, E: Write>(
     out: &mut O,
     err: &mut E,
 ) -> u8
-    ensures { result < 6 }
+    ensures { result < 7 }
 {
     let outcome = match asked(alloc, files, words) {
         Ok(outcome) => outcome,

@@ -17,12 +17,14 @@ pub(crate) enum Status {
     Unwritten,
     /// A file couldn't be read.
     Unread,
+    /// The new version of a schema takes something away.
+    Lost,
 }
 
 impl Status {
     /// The status as a number: from 0 on, in the order of the variants.
     pub(crate) fn code(self) -> u8
-        ensures { result < 6 }
+        ensures { result < 7 }
     {
         match self {
             Status::Done => 0,
@@ -31,6 +33,7 @@ impl Status {
             Status::Memory => 3,
             Status::Unwritten => 4,
             Status::Unread => 5,
+            Status::Lost => 6,
         }
     }
 }

@@ -21,6 +21,8 @@ struct Choice {
     unless: &'static [&'static str],
     /// The options that may not be there beside it.
     against: &'static [&'static str],
+    /// Whether it names files. It has to be there then, and one or more stand behind it.
+    names_files: bool,
 }
 
 /// A command.
@@ -32,8 +34,8 @@ struct Row {
     about: &'static str,
     /// An example of its use.
     example: &'static str,
-    /// What is said of the files that it reads.
-    files: &'static str,
+    /// What is said of the files that it reads, unless options name them.
+    files: Option<&'static str>,
     /// What comes of each of them.
     action: ArgAction,
     /// Its options.
@@ -49,6 +51,7 @@ const JSON: Choice = Choice {
     help: "Tell refusals as objects of JSON, one a line, on standard output",
     unless: &[],
     against: &[],
+    names_files: false,
 };
 
 /// The options of a command that has no others.
@@ -65,6 +68,7 @@ const BUILD: &[Choice] = &[
         help: "Refuse a schema that leaves something external",
         unless: &[],
         against: &[],
+        names_files: false,
     },
 ];
 
@@ -79,6 +83,7 @@ const TYPE: &[Choice] = &[
         help: "The entity type of which to show attributes",
         unless: &["action"],
         against: &[],
+        names_files: false,
     },
     Choice {
         name: "attribute",
@@ -88,6 +93,7 @@ const TYPE: &[Choice] = &[
         help: "An attribute; each further one a step down",
         unless: &[],
         against: &[],
+        names_files: false,
     },
     Choice {
         name: "tags",
@@ -97,6 +103,7 @@ const TYPE: &[Choice] = &[
         help: "The type of the tags, in place of that of attributes",
         unless: &[],
         against: &["attribute", "action"],
+        names_files: false,
     },
     Choice {
         name: "action",
@@ -106,6 +113,7 @@ const TYPE: &[Choice] = &[
         help: "The action of which to show the context",
         unless: &["entity"],
         against: &["entity"],
+        names_files: false,
     },
 ];
 
@@ -120,6 +128,7 @@ const ENVS: &[Choice] = &[
         help: "Only those of this type of principal",
         unless: &[],
         against: &[],
+        names_files: false,
     },
     Choice {
         name: "action",
@@ -129,6 +138,7 @@ const ENVS: &[Choice] = &[
         help: "Only those of this action",
         unless: &[],
         against: &[],
+        names_files: false,
     },
     Choice {
         name: "resource",
@@ -138,6 +148,7 @@ const ENVS: &[Choice] = &[
         help: "Only those of this type of resource",
         unless: &[],
         against: &[],
+        names_files: false,
     },
 ];
 
@@ -152,6 +163,7 @@ const LINK: &[Choice] = &[
         help: "Write to this file, which may be none of those read",
         unless: &[],
         against: &[],
+        names_files: false,
     },
 ];
 
@@ -166,6 +178,51 @@ const FORMAT: &[Choice] = &[
         help: "Write nothing, and end with status 1 where the file differs",
         unless: &[],
         against: &[],
+        names_files: false,
+    },
+];
+
+/// The options of the command that compares.
+const COMPARE: &[Choice] = &[
+    Choice {
+        name: "old",
+        short: None,
+        action: ArgAction::Append,
+        values: &["FILE"],
+        help: "The files of the old version; `-` is standard input",
+        unless: &[],
+        against: &[],
+        names_files: true,
+    },
+    Choice {
+        name: "new",
+        short: None,
+        action: ArgAction::Append,
+        values: &["FILE"],
+        help: "The files of the new version",
+        unless: &[],
+        against: &[],
+        names_files: true,
+    },
+    Choice {
+        name: "all",
+        short: None,
+        action: ArgAction::SetTrue,
+        values: &[],
+        help: "Show each request, in place of the first 20 of an action",
+        unless: &[],
+        against: &[],
+        names_files: false,
+    },
+    Choice {
+        name: "json",
+        short: None,
+        action: ArgAction::SetTrue,
+        values: &[],
+        help: "Tell all differences, or refusals, as objects of JSON, one a line",
+        unless: &[],
+        against: &[],
+        names_files: false,
     },
 ];
 
@@ -178,7 +235,7 @@ const ROWS: &[Row] = &[
         name: "check",
         about: "Reads each file as a fragment, without building",
         example: "Example: cedar_check check photos.json",
-        files: FILES,
+        files: Some(FILES),
         action: ArgAction::Append,
         choices: PLAIN,
     },
@@ -186,7 +243,7 @@ const ROWS: &[Row] = &[
         name: "build",
         about: "Builds one schema of all files, and counts what it declares",
         example: "Example: cedar_check build photos.json",
-        files: FILES,
+        files: Some(FILES),
         action: ArgAction::Append,
         choices: BUILD,
     },
@@ -194,7 +251,7 @@ const ROWS: &[Row] = &[
         name: "show",
         about: "Shows what the schema declares, in sorted lines",
         example: "Example: cedar_check show photos.json",
-        files: FILES,
+        files: Some(FILES),
         action: ArgAction::Append,
         choices: PLAIN,
     },
@@ -202,7 +259,7 @@ const ROWS: &[Row] = &[
         name: "type",
         about: "Shows the type of an entity type's attributes or tags, or of an action's context",
         example: "Example: cedar_check type photos.json --entity PhotoApp::Photo --attribute size",
-        files: FILES,
+        files: Some(FILES),
         action: ArgAction::Append,
         choices: TYPE,
     },
@@ -210,7 +267,7 @@ const ROWS: &[Row] = &[
         name: "envs",
         about: "Shows the environments of requests: principal, action and resource",
         example: "Example: cedar_check envs photos.json --principal PhotoApp::User",
-        files: FILES,
+        files: Some(FILES),
         action: ArgAction::Append,
         choices: ENVS,
     },
@@ -218,7 +275,7 @@ const ROWS: &[Row] = &[
         name: "graph",
         about: "Draws the hierarchies as a graph in Graphviz DOT",
         example: "Example: cedar_check graph photos.json | dot -Tsvg > photos.svg",
-        files: FILES,
+        files: Some(FILES),
         action: ArgAction::Append,
         choices: PLAIN,
     },
@@ -226,7 +283,7 @@ const ROWS: &[Row] = &[
         name: "link",
         about: "Writes what all files declare together as one fragment",
         example: "Example: cedar_check link photos.json printing.json -o whole.json",
-        files: FILES,
+        files: Some(FILES),
         action: ArgAction::Append,
         choices: LINK,
     },
@@ -234,18 +291,34 @@ const ROWS: &[Row] = &[
         name: "format",
         about: "Lays a file out in the order of the format, with all that it says",
         example: "Example: cedar_check format photos.json --check",
-        files: "The file; `-` is standard input",
+        files: Some("The file; `-` is standard input"),
         action: ArgAction::Set,
         choices: FORMAT,
     },
+    Row {
+        name: "compare",
+        about: "Compares two versions of a schema: what the new one takes away, and what it adds",
+        example: "Example: cedar_check compare --old photos.json --new photos_next.json",
+        files: None,
+        action: ArgAction::Append,
+        choices: COMPARE,
+    },
 ];
 
-/// The files that a command of a row reads.
-fn files<'a>(alloc: Global, row: &Row) -> Arg<'a> {
-    Arg::new(alloc, "FILE")
-        .help(row.files)
+/// The command with the files that it reads, unless options name them.
+fn with_files<'a>(
+    alloc: Global,
+    command: Command<'a>,
+    row: &Row,
+) -> Result<Command<'a>, AllocError> {
+    let Some(help) = row.files else {
+        return Ok(command);
+    };
+    let files = Arg::new(alloc, "FILE")
+        .help(help)
         .action(row.action)
-        .required(true)
+        .required(true);
+    command.arg(files)
 }
 
 /// An option, under its short name too if it has one.
@@ -256,6 +329,15 @@ fn shortened<'a>(option: Arg<'a>, short: Option<char>) -> Arg<'a> {
     }
 }
 
+/// An option that has to be there where it names files, and takes one or more of them each time.
+fn with_values<'a>(option: Arg<'a>, names_files: bool) -> Arg<'a> {
+    if names_files {
+        option.required(true).num_args(1usize..)
+    } else {
+        option
+    }
+}
+
 /// The option of a row.
 fn option<'a>(alloc: Global, choice: &Choice) -> Result<Arg<'a>, AllocError> {
     let option = Arg::new(alloc, choice.name)
@@ -263,17 +345,17 @@ fn option<'a>(alloc: Global, choice: &Choice) -> Result<Arg<'a>, AllocError> {
         .action(choice.action)
         .value_names(choice.values)
         .help(choice.help);
-    shortened(option, choice.short)
+    with_values(shortened(option, choice.short), choice.names_files)
         .required_unless_present_any(choice.unless)?
         .conflicts_with_all(choice.against)
 }
 
 /// The command of a row.
 fn command<'a>(alloc: Global, row: &Row) -> Result<Command<'a>, AllocError> {
-    let mut command = Command::new(alloc, row.name)
+    let command = Command::new(alloc, row.name)
         .about(row.about)
-        .after_help(row.example)
-        .arg(files(alloc, row))?;
+        .after_help(row.example);
+    let mut command = with_files(alloc, command, row)?;
     for choice in row.choices {
         command = command.arg(option(alloc, choice)?)?;
     }
@@ -284,7 +366,7 @@ fn command<'a>(alloc: Global, row: &Row) -> Result<Command<'a>, AllocError> {
 pub(crate) fn program<'a>(alloc: Global) -> Result<Command<'a>, AllocError> {
     let mut program = Command::new(alloc, "cedar_check")
         .version("0.1.0")
-        .about("Reads, builds, shows and links schemas of the Cedar policy language")
+        .about("Reads, builds, shows, links and compares schemas of the Cedar policy language")
         .subcommand_required(true);
     for row in ROWS {
         program = program.subcommand(command(alloc, row)?)?;

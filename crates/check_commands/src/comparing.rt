@@ -1,0 +1,131 @@
+//! Two versions of a schema, compared: what the new one takes away and what it adds.
+
+use crate::building::built;
+use crate::difference_json::push_objects;
+use crate::difference_lines::push_lines;
+use crate::files::FileAccess;
+use crate::finding::Finding;
+use crate::outcome::{Manner, Outcome, Stop, refused};
+use crate::sides::Sides;
+use crate::status::Status;
+use cedar_below::{M, Memory, Name, NameFault, RestrictedExpr, Value};
+use cedar_compare::{CompareFault, Comparison, Difference, compare};
+use cedar_json::cedar_extensions;
+use cedar_schema::ValidatorSchema;
+use std::alloc::Global;
+
+/// A function of each of Cedar's extension types that gives a value of it, and what it is given.
+const CALLS: &[(&str, &str)] = &[
+    ("ip", "10.0.0.1"),
+    ("decimal", "1.0"),
+    ("datetime", "2024-01-01"),
+    ("duration", "1h"),
+];
+
+/// Adds the value that a function gives of a text, if the word is the name of one.
+fn push_sample(alloc: Global, samples: &mut Vec<Value>, name: &str, text: &str) -> M<()> {
+    let function = match Name::from_str(alloc, name) {
+        Ok(function) => function,
+        Err(NameFault::Memory(refused)) => return Err(refused),
+        Err(_) => return Ok(()),
+    };
+    let args = vec![in alloc; RestrictedExpr::String(String::from_str(alloc, text)?)]?;
+    samples.push(Value::new(RestrictedExpr::ExtensionCall { function, args }))?;
+    Ok(())
+}
+
+/// A value of each of Cedar's extension types.
+fn samples(alloc: Global) -> M<Vec<Value>> {
+    let mut samples = Vec::new(alloc);
+    for (name, text) in CALLS {
+        push_sample(alloc, &mut samples, name, text)?;
+    }
+    Ok(samples)
+}
+
+/// The differences between two versions of a schema, told in a manner.
+#[derive(Clone, Copy, Drop)]
+pub(crate) struct Telling {
+    /// How they are told.
+    pub(crate) manner: Manner,
+    /// Whether all requests of each action are shown.
+    pub(crate) is_all: bool,
+}
+
+impl Telling {
+    /// Adds some differences.
+    fn push(
+        self,
+        alloc: Global,
+        text: &mut String,
+        sides: &Sides<'_>,
+        differences: &[Difference],
+    ) -> M<()> {
+        match self.manner {
+            Manner::Lines => push_lines(alloc, text, sides, differences, self.is_all),
+            Manner::Json => push_objects(alloc, text, sides, differences),
+        }
+    }
+}
+
+/// What is told of a comparison.
+fn compared(
+    alloc: Global,
+    telling: Telling,
+    old: &ValidatorSchema,
+    new: &ValidatorSchema,
+    comparison: &Comparison,
+) -> M<Outcome> {
+    let mut text = String::new(alloc);
+    telling.push(
+        alloc,
+        &mut text,
+        &Sides::of_lost(old, new),
+        &comparison.lost,
+    )?;
+    telling.push(
+        alloc,
+        &mut text,
+        &Sides::of_gained(old, new),
+        &comparison.gained,
+    )?;
+    let status = if comparison.lost.is_empty() {
+        Status::Done
+    } else {
+        Status::Lost
+    };
+    Ok(Outcome {
+        text,
+        notes: String::new(alloc),
+        status,
+    })
+}
+
+/// What is told of schemas that aren't compared.
+fn not_compared(alloc: Global, manner: Manner, fault: &CompareFault) -> M<Outcome> {
+    let kind = match fault {
+        CompareFault::Incomplete(_) => "Incomplete",
+        CompareFault::Unsampled(_, _) => "Unsampled",
+        CompareFault::Memory(_) => return Err(Memory),
+    };
+    let message = format!(in alloc; "{fault}")?;
+    refused(alloc, manner, &[], Finding::general(kind, message))
+}
+
+/// Compares the schema that old files declare with the one that new files declare.
+pub(crate) fn compare_files<F: FileAccess>(
+    alloc: Global,
+    files: &mut F,
+    old: &[&str],
+    new: &[&str],
+    telling: Telling,
+) -> Result<Outcome, Stop> {
+    let old = built(alloc, files, old, telling.manner)?;
+    let new = built(alloc, files, new, telling.manner)?;
+    let extensions = cedar_extensions(alloc)?;
+    let samples = samples(alloc)?;
+    match compare(alloc, &old.schema, &new.schema, &extensions, &samples) {
+        Ok(comparison) => { Ok(compared(alloc, telling, &old.schema, &new.schema, &comparison)?) }
+        Err(fault) => Ok(not_compared(alloc, telling.manner, &fault)?),
+    }
+}
