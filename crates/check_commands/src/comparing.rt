@@ -1,5 +1,7 @@
 //! Two versions of a schema, compared: what the new one takes away and what it adds.
 
+ghost use Rattle.std.specs.Prelude.{◌≡◌, ◌↔◌, [], IfOk};
+
 use crate::building::built;
 use crate::difference_json::push_objects;
 use crate::difference_lines::push_lines;
@@ -75,7 +77,10 @@ fn compared(
     old: &ValidatorSchema,
     new: &ValidatorSchema,
     comparison: &Comparison,
-) -> M<Outcome> {
+) -> M<Outcome>
+    ensures { IfOk result (λ outcome.
+        (outcome.status ≡ Status.Done) ↔ (comparison.now.lost.items ≡ [])) }
+{
     let mut text = String::new(alloc);
     telling.push(
         alloc,
