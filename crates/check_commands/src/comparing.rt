@@ -45,10 +45,10 @@ fn samples(alloc: Global) -> M<Vec<Value>> {
     Ok(samples)
 }
 
-/// The differences between two versions of a schema, told in a manner.
+/// How the differences between two versions of a schema are told.
 #[derive(Clone, Copy, Drop)]
 pub(crate) struct Telling {
-    /// How they are told.
+    /// Whether as lines or as JSON.
     pub(crate) manner: Manner,
     /// Whether all requests of each action are shown.
     pub(crate) is_all: bool,
