@@ -1,5 +1,5 @@
-//! What the program `cedar_check` does: files of schemas are read, built, shown, drawn, linked, laid
-//! out and compared.
+//! What the program `cedar_check` does: files of schemas are read, built, shown, drawn, linked,
+//! laid out and compared.
 #![tactic(auto)]
 
 mod answers;
