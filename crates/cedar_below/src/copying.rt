@@ -1,4 +1,4 @@
-//! Lists, maps and what may be there, copied by calls that copy their items.
+//! Copies of lists, of maps and of what may be there, by calls that copy their items.
 
 ghost use Rattle.std.specs.Prelude.{◌≡◌, IfOk, Ok, Result};
 ghost use Rattle.std.specs.Fn.{FnReturnsAt};
@@ -10,7 +10,7 @@ use crate::memory::M;
 use std::collections::BTreeMap;
 use std::default::Emptied;
 
-/// The copies of some items, in their order.
+/// The copies of some items, in their order. Out of memory is the only refusal.
 pub fn copied_items<V: Drop, F: Fn(&V) -> M<V> + Drop>(items: &Vec<V>, copy: F) -> M<Vec<V>>
     requires { F.IsAlwaysCallable copy }
     ensures { IfOk result (λ copies.
@@ -24,7 +24,7 @@ pub fn copied_items<V: Drop, F: Fn(&V) -> M<V> + Drop>(items: &Vec<V>, copy: F) 
     Ok(copies)
 }
 
-/// The copy of what may be there.
+/// The copy of what may be there. Out of memory is the only refusal.
 pub fn copied_option<V: Drop, F: Fn(&V) -> M<V> + Drop>(it: &Option<V>, copy: F) -> M<Option<V>>
     requires { F.IsAlwaysCallable copy }
     ensures { IfOk result (HoldsOfBoth (λ item other.
@@ -36,7 +36,8 @@ pub fn copied_option<V: Drop, F: Fn(&V) -> M<V> + Drop>(it: &Option<V>, copy: F)
     }
 }
 
-/// The copies of the entries of a map, in their order. The copy of a key has to tie with it.
+/// The copies of the entries of a map, in their order. The copy of a key has to tie with it. Out of
+/// memory is the only refusal.
 pub fn copied_entries<K: Ord + Drop, V: Drop, F: Fn(&K) -> M<K> + Drop, G: Fn(&V) -> M<V> + Drop>(
     entries: &BTreeMap<K, V>,
     copy_key: F,

@@ -1,4 +1,4 @@
-//! Ids of entities.
+//! Ids of entities: any texts.
 
 ghost use Rattle.std.specs.Prelude.{◌≡◌, IfOk, string_bytes};
 ghost use Rattle.cedar_below.specs.Eid.{eid_text};
@@ -17,7 +17,7 @@ impl Eid {
         self.0.as_str()
     }
 
-    /// An equal id.
+    /// An equal id. Out of memory is the only refusal.
     pub fn clone(&self) -> M<Self>
         ensures { IfOk result (λ copy. eid_text copy ≡ eid_text self.now) }
     {

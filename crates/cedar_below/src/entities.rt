@@ -44,8 +44,8 @@ impl Entities {
         }
     }
 
-    /// Puts an entity in, and gives back the one of the same uid that it takes the place of. Where
-    /// memory is wanted nothing changes.
+    /// Puts an entity in, and gives back the one of the same uid that it takes the place of. Out of
+    /// memory is the only refusal, after which all entities are as before.
     pub fn insert(&mut self, entity: Entity) -> M<Option<Entity>>
         ensures replaced { IfOk result (λ replaced.
             replaced ≡ entity_at self.old (entity_uid entity)) }

@@ -1,4 +1,4 @@
-//! Names of entity types.
+//! Names of entity types, which are never reserved.
 
 ghost use Rattle.std.specs.Prelude.{◌≡◌, ◌↔◌, IsTrue, IfErr, IfOk, OnOk, None};
 ghost use Rattle.cedar_below.specs.EntityType.{type_name, type_loc, is_type_shared};
@@ -98,7 +98,8 @@ impl EntityType {
         self.0.basename().as_str() == ACTION
     }
 
-    /// The same entity type with the same location, shared: each copy of it is a count.
+    /// The same entity type with the same location, shared: a copy of it then only counts one more
+    /// owner. Out of memory is the only refusal.
     pub fn into_shared(self) -> M<Self>
         ensures name { IfOk result (λ shared. type_name shared ≡ type_name self) }
         ensures loc { IfOk result (λ shared. type_loc shared ≡ type_loc self) }
@@ -107,7 +108,8 @@ impl EntityType {
         Ok(EntityType(self.0.into_shared()?))
     }
 
-    /// An equal entity type with the same location. That of a shared one is shared with it.
+    /// An equal entity type with the same location. That of a shared one is shared with it. Out of
+    /// memory is the only refusal.
     pub fn clone(&self) -> M<Self>
         ensures name { IfOk result (λ copy. type_name copy ≡ type_name self.now) }
         ensures loc { IfOk result (λ copy. type_loc copy ≡ type_loc self.now) }

@@ -84,8 +84,8 @@ impl EntityUID {
         }
     }
 
-    /// The same uid with the same locations, shared: each copy of it is two counts, of its type and
-    /// of its id.
+    /// The same uid with the same locations, shared: a copy of it then only counts one more owner
+    /// of its type and of its id. Out of memory is the only refusal.
     pub fn into_shared(self) -> M<Self>
         ensures uid { IfOk result (λ shared. uid_of shared ≡ uid_of self) }
         ensures loc { IfOk result (λ shared. uid_loc shared ≡ uid_loc self) }
@@ -159,7 +159,7 @@ impl EntityUID {
     }
 
     /// An equal uid with the same locations, its own and its type's. What is shared of a uid is
-    /// shared with its copy.
+    /// shared with its copy. Out of memory is the only refusal.
     pub fn clone(&self) -> M<Self>
         ensures uid { IfOk result (λ copy. uid_of copy ≡ uid_of self.now) }
         ensures loc { IfOk result (λ copy. uid_loc copy ≡ uid_loc self.now) }

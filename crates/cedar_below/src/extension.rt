@@ -1,4 +1,4 @@
-//! Extension types and functions.
+//! Extension types and functions: what a schema may name beside Cedar's own types.
 
 ghost use Rattle.std.specs.Prelude.{◌≡◌, ◌↔◌, IsTrue, IsOk, IsSome, IfOk, IfErr, OnErr, OnOk, Contains, map};
 ghost use Rattle.cedar_below.specs.Extensions.{extension_types, function_named};

@@ -1,4 +1,4 @@
-//! Values that are owned, or shared.
+//! Values that have one owner, or are shared by several.
 
 ghost use Rattle.std.specs.Prelude.{◌≡◌, ◌↔◌, IfOk, IfSome, IsSome, IsTrue, None, Some, false, true};
 ghost use Rattle.std.specs.Cmp.{on_equiv, on_per, on_po, on_total};
@@ -66,7 +66,7 @@ impl<T> Held<T> {
 }
 
 impl<T: Drop> Held<T> {
-    /// The same value, shared from now on, or want of memory.
+    /// The same value, shared from now on. Out of memory is the only refusal.
     pub fn into_shared(self, alloc: Global) -> M<Self>
         ensures value { IfOk result (λ shared. shared.value ≡ self.value) }
         ensures form { IfOk result (λ shared. shared.is_shared ≡ true) }
@@ -94,7 +94,8 @@ impl<T: Drop> Held<T> {
         }
     }
 
-    /// Another owner of a shared value, None where the value has one owner, or want of memory.
+    /// Another owner of a shared value, or None where the value has one owner. Out of memory is the
+    /// only refusal.
     pub fn other_owner(&self) -> M<Option<Self>>
         ensures value { IfOk result (λ found.
             IfSome found (λ other. other.value ≡ self.now.value)) }

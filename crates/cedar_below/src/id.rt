@@ -1,4 +1,4 @@
-//! Identifiers.
+//! Identifiers: the parts of names.
 
 ghost use Rattle.std.specs.Prelude.{◌≡◌, ◌≢◌, ◌↔◌, IsTrue, IsSome, IfSome, IfOk, IfErr, string_bytes};
 ghost use Rattle.std.specs.List.{list_all};
@@ -120,7 +120,7 @@ impl Id {
         self.text.as_str() == RESERVED
     }
 
-    /// An equal identifier.
+    /// An equal identifier. Out of memory is the only refusal.
     pub fn clone(&self) -> M<Self>
         ensures { IfOk result (λ copy. id_text copy ≡ id_text self.now) }
     {

@@ -88,7 +88,8 @@ impl InternalName {
         }
     }
 
-    /// The same name with the same location, shared: each copy of it is a count.
+    /// The same name with the same location, shared: a copy of it then only counts one more owner.
+    /// Out of memory is the only refusal.
     pub fn into_shared(self) -> M<Self>
         ensures name { IfOk result (λ shared. name_of shared ≡ name_of self) }
         ensures loc { IfOk result (λ shared. name_loc shared ≡ name_loc self) }
@@ -147,7 +148,8 @@ impl InternalName {
         self.basename().is_reserved() || has_reserved(self.path())
     }
 
-    /// An equal name with the same location. That of a shared name is shared with it.
+    /// An equal name with the same location. That of a shared name is shared with it. Out of memory
+    /// is the only refusal.
     pub fn clone(&self) -> M<Self>
         ensures name { IfOk result (λ copy. name_of copy ≡ name_of self.now) }
         ensures loc { IfOk result (λ copy. name_loc copy ≡ name_loc self.now) }

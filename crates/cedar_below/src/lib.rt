@@ -1,4 +1,12 @@
-//! The layers below a Cedar schema: names, uids, values, core types, extensions and entities.
+//! What a Cedar schema stands on: names, uids, values, core types, extensions and entities.
+//!
+//! An [`Id`] is an identifier, an [`InternalName`] a base name with a path before it, a [`Name`]
+//! one that isn't reserved, an [`EntityType`] the name of an entity type, and an [`EntityUID`] such
+//! a name with an id. `from_str` reads each of them from just the text that it prints as.
+//! [`RestrictedExpr`] and [`Value`] are values, [`Entity`] and [`Entities`] are entities, and
+//! [`Extensions`] has the extension types and functions that a schema may name. A call that may
+//! need memory answers [`M`]: a value, or out of memory. A [`Loc`] is a place in a source text.
+//! [`theorems`] has laws of how names and uids compare.
 #![tactic(auto)]
 
 pub use copying::{copied_entries, copied_items, copied_option};

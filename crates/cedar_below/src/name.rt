@@ -121,7 +121,8 @@ impl Name {
         self.name
     }
 
-    /// The same name with the same location, shared: each copy of it is a count.
+    /// The same name with the same location, shared: a copy of it then only counts one more owner.
+    /// Out of memory is the only refusal.
     pub fn into_shared(self) -> M<Self>
         ensures name { IfOk result (λ shared. plain_name shared ≡ plain_name self) }
         ensures loc { IfOk result (λ shared. plain_loc shared ≡ plain_loc self) }
@@ -132,7 +133,8 @@ impl Name {
         })
     }
 
-    /// An equal name with the same location. That of a shared name is shared with it.
+    /// An equal name with the same location. That of a shared name is shared with it. Out of memory
+    /// is the only refusal.
     pub fn clone(&self) -> M<Self>
         ensures name { IfOk result (λ copy. plain_name copy ≡ plain_name self.now) }
         ensures loc { IfOk result (λ copy. plain_loc copy ≡ plain_loc self.now) }

@@ -28,7 +28,7 @@ fn clone_ids(ids: &Vec<Eid>) -> M<Vec<Eid>>
 }
 
 impl NonEmpty<Eid> {
-    /// Equal ids in the same order.
+    /// Equal ids in the same order. Out of memory is the only refusal.
     pub fn clone(&self) -> M<Self>
         ensures { IfOk result (λ copy.
             map eid_text (items_of copy) ≡ map eid_text (items_of self.now)) }

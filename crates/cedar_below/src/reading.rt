@@ -1,4 +1,4 @@
-//! Names read from text.
+//! Names read from text, byte by byte.
 
 ghost use Rattle.std.specs.Prelude.{◌≡◌, IfOk, IfErr, None};
 ghost use Rattle.cedar_below.specs.InternalName.{name_loc, name_of};

@@ -73,7 +73,7 @@ impl UnreservedId {
         self.id
     }
 
-    /// An equal identifier.
+    /// An equal identifier. Out of memory is the only refusal.
     pub fn clone(&self) -> M<Self>
         ensures { IfOk result (λ copy. unreserved_id_text copy ≡ unreserved_id_text self.now) }
     {

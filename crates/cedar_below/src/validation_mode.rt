@@ -1,4 +1,4 @@
-//! The two modes of validation.
+//! The two modes of validation: strict and permissive.
 
 /// How far types may differ and still be related.
 #[derive(Clone, Copy, Debug, PartialEq, Eq)]

@@ -36,7 +36,7 @@ pub enum RestrictedExpr {
 }
 
 impl RestrictedExpr {
-    /// An expression that stands for the same value.
+    /// An expression that stands for the same value. Out of memory is the only refusal.
     pub fn clone(&self) -> M<Self>
         ensures { IfOk result (λ copy. IsCopy (tree_of self.now) (tree_of copy)) }
     {
@@ -72,7 +72,7 @@ impl Value {
         &self.expr
     }
 
-    /// The same value.
+    /// The same value. Out of memory is the only refusal.
     pub fn clone(&self) -> M<Self>
         ensures { IfOk result (λ copy.
             IsCopy (tree_of (value_expr self.now)) (tree_of (value_expr copy))) }

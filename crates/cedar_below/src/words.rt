@@ -1,4 +1,4 @@
-//! Identifiers of known words.
+//! Identifiers of words that are known to be identifiers.
 
 ghost use Rattle.std.specs.Prelude.{◌≡◌, IfOk, string_bytes};
 ghost use Rattle.cedar_below.specs.Id.{id_text};

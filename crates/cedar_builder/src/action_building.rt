@@ -1,4 +1,4 @@
-//! The actions of a schema.
+//! The actions of a schema, built: the steps for them in turn.
 
 ghost use Rattle.std.specs.Prelude.{◌≡◌, ◌⊎◌, IfErr, IfOk, OnOk};
 ghost use Rattle.cedar_schema_elements.specs.ValidatorActionId.{AreLocatedAsKeys};

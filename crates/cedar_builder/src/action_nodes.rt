@@ -1,4 +1,4 @@
-//! Actions as declarations of them give them.
+//! What the steps that actions and entity types have in common ask of an action.
 
 ghost use Rattle.std.specs.Prelude.{◌≡◌};
 ghost use Rattle.cedar_below.specs.EntityUID.{uid_of};

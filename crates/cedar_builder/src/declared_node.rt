@@ -1,4 +1,4 @@
-//! What is declared, collected in a map, each under its name.
+//! The declarations of a name, put together and collected in a map under that name.
 
 ghost use Rattle.std.specs.Prelude.{◌≡◌, ◌≢◌, ◌⊎◌, ◌↔◌, Bool, Contains, IfErr, IfOk, OnOk, false, map};
 ghost use Rattle.std.specs.HashMap.{get};

@@ -1,4 +1,4 @@
-//! The entity types of a schema.
+//! The entity types of a schema, built: the steps for them in turn.
 
 ghost use Rattle.std.specs.Prelude.{◌≡◌, ◌⊎◌, IfErr, IfOk, OnOk};
 ghost use Rattle.cedar_schema_elements.specs.ValidatorEntityType.{AreLocatedAsKeys};

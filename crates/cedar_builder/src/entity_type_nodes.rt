@@ -1,4 +1,4 @@
-//! Entity types as declarations of them give them.
+//! What the steps that entity types and actions have in common ask of an entity type.
 
 ghost use Rattle.std.specs.Prelude.{◌≡◌};
 ghost use Rattle.cedar_below.specs.PlainName.{IsReserved, PlainName};

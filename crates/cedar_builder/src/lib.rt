@@ -1,4 +1,8 @@
 //! The entity types and the actions of a schema, built from what is declared of them.
+//!
+//! [`entity_types`] and [`actions`] are two steps of the builder. Each puts the declarations of a
+//! name together, elaborates its definition, makes descendants of the declared parents, with all
+//! that chains of these reach, and refuses what is at fault.
 #![tactic(auto)]
 
 pub use action_building::actions;

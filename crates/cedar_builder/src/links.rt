@@ -1,4 +1,4 @@
-//! Nodes linked with their descendants.
+//! Entity types or actions linked with their descendants: all that chains of parents reach.
 
 ghost use Rattle.std.specs.Prelude.{◌↔◌, IfErr, IsTrue, OnOk};
 ghost use Rattle.std.specs.HashMap.{get};

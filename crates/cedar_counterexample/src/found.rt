@@ -1,4 +1,4 @@
-//! What is found outside a type.
+//! What is found for two types: a value of the one alone, and the steps to where they part.
 
 use crate::steps::Step;
 use cedar_below::{RestrictedExpr, Value};

@@ -1,4 +1,4 @@
-//! What a search for a value is given.
+//! What a search for a value is given: memory, extensions and samples.
 
 use cedar_below::{Extensions, Value};
 use std::alloc::Global;

@@ -1,4 +1,4 @@
-//! Steps down a type.
+//! Steps down a type: to an attribute, or to the elements of a set.
 
 ghost use Rattle.std.specs.Prelude.{◌≡◌, ◌∷◌, IfOk};
 ghost use Rattle.cedar_counterexample.specs.Steps.{noted_steps, step_of, steps_of};

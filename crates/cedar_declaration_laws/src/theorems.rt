@@ -1,4 +1,4 @@
-//! Laws of declarations: what a bag declares, and when two bags declare the same.
+//! The laws of declarations, each as a function whose contract is the law.
 
 ghost use Rattle.std.specs.Prelude.{◌≡◌, List};
 ghost use Rattle.cedar_below.specs.Extensions.{extension_types};

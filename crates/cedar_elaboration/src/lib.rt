@@ -1,5 +1,9 @@
-//! Types over full names, elaborated as types of the validator, and the common types that
-//! fragments define: those that are declared, the built-in ones and their aliases.
+//! Types over full names, elaborated as types of the validator.
+//!
+//! [`elaborate`] takes one type, with what is in scope ([`TypeScope`]): a reference to a common
+//! type becomes what that one was elaborated as. [`common_types`] elaborates common types, each
+//! once and after those that it refers to. [`defined_common_types`] is a step of the builder, and
+//! takes the declared common types with the built-in ones and their aliases.
 #![tactic(auto)]
 
 pub use common::common_types;

@@ -1,4 +1,9 @@
 //! Cedar's JSON schema format, read into the plain data of schema fragments.
+//!
+//! [`fragment_from_json`] reads a text, and [`fragment_from_slice`] its bytes. Each declaration
+//! keeps where it stands in the text. A refusal ([`JsonSchemaFault`]) says what is wrong and where
+//! ([`Place`], [`FaultKind`]). [`cedar_extensions`] gives Cedar's own extension types and
+//! functions.
 #![tactic(auto)]
 
 mod action_reading;

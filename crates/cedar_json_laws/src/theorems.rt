@@ -1,4 +1,4 @@
-//! Laws of schemas that are written as JSON and built again of what is read.
+//! The law of schemas that are written as JSON and built again of what is read.
 
 ghost use Rattle.std.specs.Prelude.{◌≡◌, ℕ, List, IsTrue, Ok, Err};
 ghost use Rattle.cedar_below.specs.Extensions.{extension_types};

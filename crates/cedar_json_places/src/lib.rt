@@ -1,4 +1,7 @@
-//! Where a fragment was written what a refusal of the builder names.
+//! Where to point in the text of a fragment for a refusal of the builder.
+//!
+//! [`place_of`] gives the place, and [`second_place_of`] the other one where a refusal is about
+//! two.
 //!
 //! | Refusal | Place | Second place |
 //! |---|---|---|
@@ -16,8 +19,8 @@
 //! | what never comes, and memory | none | none |
 //!
 //! Names and uids in refusals have the places at which they were written. A table beside the
-//! fragment, made before it is built, has the places of what refusals name by a text alone, and
-//! of all declarations.
+//! fragment ([`Places::of`]), made before it is built, has the places of what refusals name by a
+//! text alone, and of all declarations.
 #![tactic(auto)]
 
 mod listing;

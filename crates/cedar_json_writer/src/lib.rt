@@ -1,4 +1,9 @@
-//! Schema fragments, and values, entities and requests of Cedar, written as Cedar's JSON.
+//! Schema fragments, values, entities and requests, written as Cedar's JSON.
+//!
+//! [`fragment_to_json`] writes a fragment in Cedar's JSON schema format; [`value_to_json`],
+//! [`entity_to_json`] and [`request_to_json`] write a value, an entity and a request. What the
+//! format can't say is refused ([`WriteFault`], [`Unwritable`]). That a fragment is read back as it
+//! was is said in [`theorems`].
 #![tactic(auto)]
 
 mod actions;

@@ -1,4 +1,5 @@
-//! The leaves of types, one after another.
+//! The leaves of types, one after another: what is neither a record nor a set of elements of a
+//! type.
 
 ghost use Rattle.std.specs.Prelude.{◌≡◌, ◌++◌, IfOk, map};
 ghost use Rattle.std.specs.Bool.{MatchBool};

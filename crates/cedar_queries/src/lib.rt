@@ -1,5 +1,9 @@
-//! What a schema answers of its entity types and its actions, and what is known of the attributes
-//! and tags of types over them.
+//! What a schema answers, over tables of its entity types and its actions.
+//!
+//! `ValidatorSchema` of `cedar_schema` hands these answers on: what stands above and below in the
+//! hierarchy, the principals and resources of actions, what is declared elsewhere
+//! ([`check_complete`]), the leaves of types ([`leaf_types`]), and what is known of the attributes
+//! and tags of types ([`all_attributes`], [`may_have_attr`]). [`theorems`] has laws of them.
 #![tactic(auto)]
 
 pub use completeness::{CompleteError, IncompleteSchemaError, check_complete};

@@ -1,4 +1,4 @@
-//! What types may have.
+//! Whether values of a type may have an attribute or tags, and which types and uids are known.
 
 ghost use Rattle.std.specs.Prelude.{◌≡◌, ◌↔◌, Any, All, IfOk, IsTrue, map};
 ghost use Rattle.std.specs.Option.{option_map};

@@ -1,4 +1,4 @@
-//! What entity types and actions are asked for.
+//! The tests by which entity types and actions are selected.
 
 ghost use Rattle.std.specs.Prelude.{◌&&◌};
 ghost use Rattle.cedar_schema_elements.specs.ActionKind.{kind_principals, kind_resources};

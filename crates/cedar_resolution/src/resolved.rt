@@ -1,4 +1,4 @@
-//! How fragments come to name what is defined.
+//! Fragments resolved: each reference becomes the full name of what it stands for.
 
 ghost use Rattle.std.specs.Prelude.{◌≡◌, ◌⊎◌, ◌++◌, IfOk, IfErr, OnOk};
 ghost use Rattle.std.specs.List.{flat_map};

@@ -1,4 +1,4 @@
-//! Laws of the declarations of fragments: what is at fault in no bag of theirs.
+//! Laws of the declarations of fragments: which faults no bag of theirs has.
 
 ghost use Rattle.std.specs.Prelude.{List};
 ghost use Rattle.cedar_below.specs.PlainName.{PlainName};

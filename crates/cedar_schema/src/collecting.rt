@@ -1,4 +1,4 @@
-//! What a schema shows of its fragments.
+//! What a schema shows of its fragments, collected before it is built.
 
 ghost use Rattle.std.specs.Prelude.{◌≡◌, ◌∷◌, [], IfOk, map};
 ghost use Rattle.std.specs.Slice.Iter.{iter_rest};

@@ -1,4 +1,4 @@
-//! What a schema answers.
+//! What a schema answers. The answers themselves are those of `cedar_queries`.
 
 use crate::iterators::{ActionIds, Actions, EntityTypeNames, EntityTypes};
 use crate::schema::ValidatorSchema;

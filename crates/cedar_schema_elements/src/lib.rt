@@ -1,5 +1,11 @@
-//! What a schema of the Cedar validator holds: entity types, actions, the entities of actions,
-//! and the environments of requests.
+//! What a schema of the validator holds: entity types, actions, the entities of actions, and the
+//! environments of requests.
+//!
+//! [`ValidatorEntityType`] and [`ValidatorActionId`] are an entity type and an action, each with
+//! its descendants. Both are nodes of a hierarchy ([`SchemaNode`]), and [`upper_sets`] gives what
+//! stands above each node. [`ValidatorApplySpec`] says which principals and resources an action is
+//! for. [`action_entities`] and [`environments`] make the entities of actions and the environments
+//! of their requests ([`UnlinkedRequestEnv`]). [`theorems`] has laws of how these compare.
 #![tactic(auto)]
 
 pub use action_id::ValidatorActionId;

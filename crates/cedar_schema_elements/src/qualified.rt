@@ -1,4 +1,5 @@
-//! How the requests of an action come to name what is defined.
+//! The requests of an action over conditional names become those over the entity types that they
+//! name.
 
 ghost use Rattle.std.specs.Prelude.{◌↔◌, Contains, IfErr, IfOk, OnOk, map};
 ghost use Rattle.cedar_below.specs.EntityType.{type_name};

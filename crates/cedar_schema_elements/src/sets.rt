@@ -1,4 +1,4 @@
-//! Sets of entity types and of uids.
+//! Sets of entity types and of uids, collected and copied.
 
 ghost use Rattle.std.specs.Prelude.{◌≡◌, IsTrue, IfOk, Result, List, map};
 ghost use Rattle.std.specs.Fn.{FnReturnsAt};

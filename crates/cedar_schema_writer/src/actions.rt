@@ -1,4 +1,4 @@
-//! Actions, written.
+//! Actions, converted back as declarations.
 
 ghost use Rattle.std.specs.Prelude.{◌≡◌, ◌↔◌, Contains, IfErr, IfOk, List, OnOk, Option, false, map};
 ghost use Rattle.cedar_schema_elements.specs.ValidatorActionId.{action_of};

@@ -1,4 +1,4 @@
-//! Entity types, written.
+//! Entity types, converted back as declarations.
 
 ghost use Rattle.std.specs.Prelude.{◌≡◌, ◌↔◌, Contains, IfErr, IfOk, OnOk, Option, map};
 ghost use Rattle.std.specs.Option.{option_copied, option_map};

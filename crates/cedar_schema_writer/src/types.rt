@@ -1,4 +1,4 @@
-//! Types, written.
+//! Types, converted back as expressions of a fragment.
 
 ghost use Rattle.std.specs.Prelude.{◌≡◌, IfErr, IfOk, OnOk, Option, Some, string_bytes};
 ghost use Rattle.std.specs.BTreeMap.{insert_entry};

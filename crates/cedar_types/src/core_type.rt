@@ -1,4 +1,4 @@
-//! Core types of types.
+//! Core types of types: those that extension functions are typed by.
 
 ghost use Rattle.std.specs.Prelude.{◌≡◌, ◌⊎◌, OnOk, IfOk, IfErr, Some, None, string_bytes};
 ghost use Rattle.std.specs.BTreeMap.{insert_entry};

@@ -13,7 +13,7 @@ use std::cmp::Ordering;
 use std::slice;
 
 /// A union of entity types: a nonempty set of them, in order and without repeats. Several are
-/// shared, so that a copy of their union is a count.
+/// shared, so that a copy of their union only counts one more owner.
 #[derive(Debug, PartialEq, Eq, PartialOrd, Ord, Hash)]
 pub struct EntityLUB {
     lub_elements: Held<Vec<EntityType>>,

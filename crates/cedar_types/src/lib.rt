@@ -1,4 +1,10 @@
 //! The types of the Cedar validator.
+//!
+//! [`Type`] is a type: a truth value, a number, a text, entities ([`EntityKind`], [`EntityLUB`]), a
+//! set, a record ([`Attributes`]) or an extension type. It has subtyping (`is_subtype`), least
+//! upper bounds (`least_upper_bound`, `reduce_to_least_upper_bound`), membership of values
+//! (`typecheck_value`) and printing. [`core_type_of`] gives the core type of a type. Contracts cite
+//! the rules of `cedar_type_rules`, of which [`theorems`] has the laws over these types.
 #![tactic(auto)]
 
 pub use attributes::{AttributeType, Attributes};

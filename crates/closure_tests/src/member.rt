@@ -14,8 +14,11 @@ use std::collections::{HashMap, HashSet, hash_set};
 /// member of.
 #[derive(Drop)]
 pub struct Member {
+    /// Its own key.
     pub key: u32,
+    /// What a closure has to leave alone.
     pub mark: u32,
+    /// The keys of what it is a member of.
     pub owners: HashSet<u32>,
 }
 

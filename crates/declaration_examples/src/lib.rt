@@ -1,4 +1,8 @@
-//! Worked examples of what bags of declarations say.
+//! Worked examples of what bags of declarations say, each as a function whose contract is the
+//! example.
+//!
+//! [`examples`] has small bags and what is right or wrong with them, and [`converted_back`] what
+//! can be converted back and what can't.
 #![tactic(auto)]
 
 pub mod converted_back;

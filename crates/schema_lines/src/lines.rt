@@ -25,7 +25,8 @@ fn kind_word(kind: &ValidatorEntityTypeKind) -> &'static str {
     }
 }
 
-/// An action's uid: its type, and its id as it is, between quotes.
+/// An action's uid: its type, and its id as it is, between quotes. Out of memory is the only
+/// refusal.
 pub fn uid_text(alloc: Global, uid: &EntityUID) -> M<String> {
     let ty = uid.entity_type();
     let id = uid.eid().as_str();
@@ -179,7 +180,8 @@ fn text_of(alloc: Global, lines: &[String]) -> M<String> {
     Ok(text)
 }
 
-/// A text with an escape in the place of each character that would control a terminal.
+/// A text with an escape in the place of each character that would control a terminal. Out of
+/// memory is the only refusal.
 pub fn escaped(alloc: Global, text: &str) -> M<String> {
     let mut escaped = String::new(alloc);
     for character in text.chars() {
@@ -213,12 +215,14 @@ fn sorted_lines(alloc: Global, schema: &ValidatorSchema, spelling: Spelling) -> 
 /// - `action UID KIND` for each action, KIND being `defined` or `external`
 /// - `context UID TYPE` for the type of its context, `member UID OTHER` for each of its descendants
 /// - `env PRINCIPAL UID RESOURCE` for each environment of requests
+///
+/// Out of memory is the only refusal.
 pub fn lines_of(alloc: Global, schema: &ValidatorSchema) -> M<String> {
     text_of(alloc, &sorted_lines(alloc, schema, Spelling::Plain)?)
 }
 
 /// The same lines, safe to be shown: ids stand in quotes as uids print, and each other character
-/// that would control a terminal stands as such an escape.
+/// that would control a terminal stands as such an escape. Out of memory is the only refusal.
 pub fn escaped_lines_of(alloc: Global, schema: &ValidatorSchema) -> M<String> {
     let mut text = String::new(alloc);
     for line in &sorted_lines(alloc, schema, Spelling::Escaped)? {

@@ -1,4 +1,4 @@
-//! The names that are defined.
+//! The names that are defined, which references are resolved against.
 
 use cedar_below::{EntityUID, InternalName};
 use std::alloc::Global;

@@ -1,4 +1,4 @@
-//! How actions come to name what is defined.
+//! Actions over conditional names become actions over full names.
 
 ghost use Rattle.std.specs.Prelude.{◌≡◌, IfOk, IfErr, OnOk, MatchOption, Some, map, Contains, string_bytes};
 ghost use Rattle.std.specs.List.{flat_map};

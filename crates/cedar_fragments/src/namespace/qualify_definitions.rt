@@ -1,4 +1,4 @@
-//! How definitions of namespaces, and fragments, come to name what is defined.
+//! Definitions of namespaces, and fragments, over conditional names become those over full names.
 
 ghost use Rattle.std.specs.Prelude.{◌≡◌, IfOk, IfErr, OnOk};
 ghost use Rattle.cedar_below.specs.declared.entity_type.EntityType.{EntityType as ActionEntityType};

@@ -1,4 +1,4 @@
-//! How common types and entity types come to name what is defined.
+//! Common types and entity types over conditional names become those over full names.
 
 ghost use Rattle.std.specs.Prelude.{◌≡◌, IfOk, IfErr, Some};
 ghost use Rattle.std.specs.Option.{option_map};

@@ -1,4 +1,4 @@
-//! How types over conditional names come to name what is defined.
+//! Types over conditional names become types over full names.
 
 ghost use Rattle.std.specs.Prelude.{◌≡◌, IfOk, IfErr, map, Contains};
 ghost use Rattle.cedar_below.specs.Lists.{HoldsPairwise};

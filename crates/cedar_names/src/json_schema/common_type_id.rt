@@ -84,7 +84,7 @@ impl CommonTypeId {
         self.id.as_str()
     }
 
-    /// An equal base name.
+    /// An equal base name. Out of memory is the only refusal.
     pub fn clone(&self) -> M<Self>
         ensures { IfOk result (λ copy. common_type_text copy ≡ common_type_text self.now) }
     {

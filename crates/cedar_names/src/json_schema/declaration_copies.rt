@@ -16,7 +16,7 @@ use crate::json_schema::type_of::Type;
 use cedar_below::{M, Name, UnreservedId, Value, copied_entries, copied_items, copied_option};
 use std::collections::BTreeMap;
 
-/// Equal names with the same locations, in their order.
+/// Equal names with the same locations, in their order. Out of memory is the only refusal.
 pub fn copied_names<N: FragmentName + Drop>(names: &Vec<N>) -> M<Vec<N>>
     ensures { IfOk result (λ copies. HoldsPairwise N.is_alike names.now.items copies.items) }
 {

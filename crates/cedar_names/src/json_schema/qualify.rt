@@ -1,4 +1,4 @@
-//! How a type that was written in a namespace comes to say what its names may stand for.
+//! Types over raw names become types over conditional names, in the namespace that they stand in.
 
 ghost use Rattle.std.specs.Prelude.{◌≡◌, IfOk};
 ghost use Rattle.cedar_names.specs.ConditionalExpr.{conditional_expr, conditional_variant, conditional_record, positional_expr, positional_variant, positional_record, ReferencesFit};

@@ -82,7 +82,7 @@ impl RawName {
 
     /// The name in full of what is declared under this name in the namespace: an unqualified name
     /// with the namespace before it, and a qualified name itself. In the empty namespace, None, it
-    /// is the name itself.
+    /// is the name itself. Out of memory is the only refusal.
     pub fn qualify_with(self, alloc: Global, namespace: Option<&InternalName>) -> M<InternalName>
         ensures name { IfOk result (λ full.
             name_of full ≡ qualified_name (namespace_name namespace.entry) (raw_name self)) }
@@ -96,7 +96,7 @@ impl RawName {
 
     /// The reference that the name is where it is written in the namespace: an unqualified name may
     /// stand for the name in the namespace, and then for itself. A qualified name, and any name in
-    /// the empty namespace, may stand for itself alone.
+    /// the empty namespace, may stand for itself alone. Out of memory is the only refusal.
     pub fn conditionally_qualify_with(
         self,
         alloc: Global,
@@ -120,7 +120,7 @@ impl RawName {
         }
     }
 
-    /// An equal name with the same location.
+    /// An equal name with the same location. Out of memory is the only refusal.
     pub fn clone(&self) -> M<Self>
         ensures name { IfOk result (λ copy. raw_name copy ≡ raw_name self.now) }
         ensures loc { IfOk result (λ copy. raw_loc copy ≡ raw_loc self.now) }

@@ -3,13 +3,13 @@
 use cedar_below::{Loc, UnreservedId};
 use std::collections::BTreeMap;
 
-/// A type as a schema writes it: elaborated, or a reference to a common type.
+/// A type as a schema writes it: a form of type, or a reference to a common type.
 #[derive(Debug, Drop)]
 #[cycle(schema_type)]
 pub enum Type<N> {
-    /// A type variant.
+    /// A type that is written as what it is.
     Plain {
-        /// The type.
+        /// The form of type.
         ty: TypeVariant<N>,
         /// Where it was written, if that is known.
         loc: Option<Loc>,
@@ -23,7 +23,7 @@ pub enum Type<N> {
     },
 }
 
-/// A type variant.
+/// The forms of type that a schema can write.
 #[derive(Debug, Drop)]
 #[cycle(schema_type)]
 pub enum TypeVariant<N> {
