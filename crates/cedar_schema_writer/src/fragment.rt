@@ -22,8 +22,8 @@ use std::collections::BTreeMap;
 
 /// The fragment that declares a schema again, over its entity types and actions: one declaration
 /// for each, with its parents, in the definition of its namespace. Names are written in full,
-/// common types are elaborated, nothing has attributes of actions, and just the actions that are
-/// defined have an `appliesTo` part. (Cedar's schemas in JSON form.)
+/// common types are unfolded, no action has attributes, and just the actions that are defined have
+/// an `appliesTo` part. (Cedar's schemas in JSON form.)
 ///
 /// It answers `Unwritable` exactly where no fragment would say the same: where a type is none that
 /// a schema can write (`True`, `False`, `Never`, the any-set, any entity, a union of two entity
