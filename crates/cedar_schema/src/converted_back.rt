@@ -14,9 +14,9 @@ impl ValidatorSchema {
     ghost use Rattle.cedar_schema_writer.specs.Refusal.{Refuses};
 
     /// The fragment that declares the schema again: one declaration for each entity type and each
-    /// action, with a definition for each namespace that has one. Common types are elaborated,
-    /// names are written in full, parents are all that have the name among their descendants, and
-    /// an action has an `appliesTo` part exactly if it is defined.
+    /// action, with a definition for each namespace that has one. Common types are unfolded, names
+    /// are written in full, parents are all that have the name among their descendants, and an
+    /// action has an `appliesTo` part exactly if it is defined.
     ///
     /// It answers `Unwritable` exactly where no fragment would say the same: a type is none that a
     /// schema can write (`True`, `False`, `Never`, the any-set, any entity, a union of two entity

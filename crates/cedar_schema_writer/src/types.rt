@@ -34,7 +34,7 @@ pub(crate) fn plain(ty: TypeVariant<RawName>) -> json_schema::Type<RawName>
     json_schema::Type::Plain { ty, loc: None }
 }
 
-/// An attribute of a type that is elaborated.
+/// An attribute of a type, as it is written.
 fn flag_and_expr(ty: TypeVariant<RawName>, required: bool) -> TypeOfAttribute<RawName>
     ensures { (namespace : Option PlainName)
         → raw_attribute namespace result ≡ (required, raw_variant namespace ty) }
@@ -112,7 +112,7 @@ fn write_extension(alloc: Global, name: &Name) -> Result<TypeVariant<RawName>, W
     })
 }
 
-/// A type, elaborated in the namespace.
+/// A type, as it is written in the namespace.
 #[cycle(written)]
 pub(crate) fn to_json_type(
     known: &Known,
@@ -145,7 +145,7 @@ pub(crate) fn to_json_type(
     }
 }
 
-/// The closed record type of some attributes, elaborated in the namespace.
+/// The closed record type of some attributes, as it is written in the namespace.
 #[cycle(written)]
 pub(crate) fn write_record(
     known: &Known,
