@@ -1,4 +1,5 @@
-//! Checks, builds, shows and links schemas of the Cedar policy language that stand in files.
+//! Checks, builds, shows, draws, links, lays out and compares schemas of the Cedar policy language
+//! that stand in files.
 #![tactic(auto)]
 
 use check_commands::{FileAccess, FileFault, run, unread};
