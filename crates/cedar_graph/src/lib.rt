@@ -1,9 +1,8 @@
 //! The closure of edges between nodes: each node gets an edge to all that a chain of edges reaches.
 //!
-//! Keys and targets of edges are numbered. Each key has a row of bits, one for each number, in
-//! words of 64 bits. A row is joined with each row whose number stands in it, a word at a time,
-//! until there is none left, and what stands in it then is converted back as edges. A target
-//! without a node has a number and no row, so it leads no further.
+//! Keys and targets of edges are numbered, and each key has a list of the numbers of its targets.
+//! What a key reaches is gathered from list to list, each number once, and converted back as edges.
+//! A target without a node has a number and no list, so it leads no further.
 #![tactic(auto)]
 
 pub use adding::add_edges;
@@ -16,11 +15,10 @@ pub use tc_node::TCNode;
 mod adding;
 mod closing;
 mod closure;
+mod list_edges;
 mod moving;
 mod numbering;
 mod ordering;
-mod row_edges;
-mod rows;
 mod targets;
 mod tc_error;
 mod tc_node;
