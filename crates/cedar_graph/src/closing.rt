@@ -180,7 +180,7 @@ pub(crate) fn closed_lists(
     ensures count { IfOk result (λ closed. closed.1 ≤ vec_len targets.now * vec_len targets.now) }
 {
     let mut marks = vec![in alloc; Mark::Fresh; columns]?;
-    let mut closed = Vec::new(alloc);
+    let mut closed = Vec::with_capacity(alloc, targets.len())?;
     let mut joins = 0;
     for from in 0..targets.len() {
         let (found, lists) = reached(alloc, &closed, targets, from, &mut marks)?;

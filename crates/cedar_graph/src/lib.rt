@@ -1,13 +1,18 @@
-//! The closure of edges between nodes: each node gets an edge to all that a chain of edges reaches.
+//! Graphs: nodes closed over chains of edges, and numbers in topological order.
 //!
-//! Keys and targets of edges are numbered, and each key has a list of the numbers of its targets.
-//! What a key reaches is gathered from list to list, each number once, and converted back as edges.
-//! A target without a node has a number and no list, so it leads no further.
+//! [`compute_tc`] gives each node of a map ([`TCNode`]) an edge to all that a chain of edges
+//! reaches, or names a node on a cycle ([`TcError`]); [`compute_tc_counted`] counts its work too.
+//! [`topo_sort`] orders numbers, each after those that it leads to ([`Ordered`]). [`add_edges`] and
+//! [`into_btree_map`] make such maps ready and hand them on.
+//!
+//! To close a map, keys and targets of edges are numbered, and each key has a list of the numbers
+//! of its targets. What a key reaches is gathered from list to list, each number once, and becomes
+//! edges again. A target without a node has a number and no list, so it leads no further.
 #![tactic(auto)]
 
 pub use adding::add_edges;
 pub use closure::{compute_tc, compute_tc_counted};
-pub use moving::{into_btree_map, into_hash_map};
+pub use moving::into_btree_map;
 pub use ordering::{Ordered, topo_sort};
 pub use tc_error::TcError;
 pub use tc_node::TCNode;

@@ -105,7 +105,7 @@ fn rows_for(entries: usize) -> usize {
     (2 * entries.min(u32::MAX as usize)).next_power_of_two()
 }
 
-/// Rows with hints to entries, or want of memory.
+/// Rows with hints to entries. Out of memory is the only refusal.
 fn hint_rows<K: Hash, V>(alloc: Global, seed: u64, entries: &[(K, V)]) -> M<Vec<Option<Hint>>> {
     let mut rows = vec![in alloc; None; rows_for(entries.len())]?;
     for (place, entry) in entries.iter().enumerate() {
@@ -138,7 +138,7 @@ impl Hints {
         }
     }
 
-    /// Hints to the entries of a list, or want of memory.
+    /// Hints to the entries of a list. Out of memory is the only refusal.
     pub(crate) fn of<K: Hash, V>(alloc: Global, entries: &[(K, V)]) -> M<Self>
         ensures { IfOk result (λ hints. AreHinted K.hash_input hints entries.now) }
     {

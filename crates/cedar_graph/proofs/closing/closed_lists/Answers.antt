@@ -16,8 +16,8 @@ loop-from-init c =
     record {
       marks = omega (arith, c.in_ok-marks.ensures.len, c.in_ok-marks.marks.ok.0);
       fresh = λ number. ap (λ list. mark_of list number) marks ∙ all_fresh c.args.columns number;
-      len = c.new-closed.ensures.len;
-      closed = λ from to below. absurd (omega (arith, below, ap length c.new-closed.ensures.items));
+      len = c.in_ok-closed.ensures.len;
+      closed = λ from to below. absurd (omega (arith, below, ap length c.in_ok-closed.ensures.items));
       count = omega arith;
     }
 
