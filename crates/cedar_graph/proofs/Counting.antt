@@ -1,6 +1,6 @@
 -- How many numbers below a limit pass a test.
-use Rattle.std.proofs.Common.{◌≡◌, ◌≢◌, ℕ, zero, suc, ◌+◌, ◌<◌, ◌≤◌, Bool, true, false, cond, refl, arith, ap, ap₂, ◌∙◌, ⊎_elim}
-use Rattle.std.proofs.lemmas.Bool.{cases_eq}
+use Rattle.std.proofs.Common.{◌≡◌, ℕ, zero, suc, ◌+◌, ◌<◌, ◌≤◌, Bool, true, false, cond, refl, arith, ap, ◌∙◌, inl, inr}
+use Rattle.std.proofs.lemmas.Bool.{both_ways, cases_eq}
 
 -- the count
 pub count_below : (ℕ → Bool) → ℕ → ℕ
@@ -16,29 +16,35 @@ count_below-le test (suc n) =
     let step : (b : Bool) → count_below test n + cond b 1 0 ≤ suc n = elim [ true ↦ omega arith | false ↦ omega arith ] in
     step (test n)
 
--- tests that agree below the limit pass as many
-count_below-same : (test other : ℕ → Bool) (n : ℕ) → ((k : ℕ) → k < n → other k ≡ test k) → count_below other n
-    ≡ count_below test n
-unfolding count_below
-count_below-same test other zero same = refl
-count_below-same test other (suc n) same =
-    ap₂ (λ a b. a + cond b 1 0) (count_below-same test other n (λ k below. same k (omega arith))) (same n (omega arith))
+-- a test that passes only where another does counts no more
+cond_less : (a b : Bool) → (b ≡ true → a ≡ true) → cond b 1 0 ≤ cond a 1 0
+cond_less true true passed = omega arith
+cond_less true false passed = omega arith
+cond_less false false passed = omega arith
+cond_less false true passed = absurd (both_ways false refl (passed refl))
 
--- one number fewer passes
-pub count_below-removed : (test other : ℕ → Bool) (j n : ℕ) → j < n → test j ≡ true → other j ≡ false
-    → ((k : ℕ) → k ≢ j → other k ≡ test k) → count_below other n + 1 ≡ count_below test n
+-- where each number that passes passed before, no more pass
+count_below-less : (test other : ℕ → Bool) (n : ℕ) → ((k : ℕ) → other k ≡ true → test k ≡ true)
+    → count_below other n ≤ count_below test n
 unfolding count_below
-count_below-removed test other j zero below passes fails same = absurd (omega arith)
-count_below-removed test other j (suc n) below passes fails same =
-    ⊎_elim
-    (λ (here : n ≡ j).
-    let low : count_below other n ≡ count_below test n =
-    count_below-same test other n (λ k less. same k (λ e. omega arith)) in
-    let was : test n ≡ true = ap test here ∙ passes in
-    let now : other n ≡ false = ap other here ∙ fails in
-    rw (was, now) (omega arith))
-    (λ (apart : n ≢ j).
-    let low : count_below other n + 1 ≡ count_below test n =
-    count_below-removed test other j n (omega arith) passes fails same in
-    rw (same n apart) (omega arith))
-    (cases_eq n j)
+count_below-less test other zero before = omega arith
+count_below-less test other (suc n) before =
+    let less = count_below-less test other n before in
+    let step = cond_less (test n) (other n) (before n) in
+    omega (arith, less, step)
+
+-- where each number that passes passed before, and one number doesn't any more, fewer pass
+pub count_below-fewer : (test other : ℕ → Bool) (j n : ℕ) → j < n → test j ≡ true → other j ≡ false
+    → ((k : ℕ) → other k ≡ true → test k ≡ true) → count_below other n + 1 ≤ count_below test n
+unfolding count_below
+count_below-fewer test other j zero below passes fails before = absurd (omega (arith, below))
+count_below-fewer test other j (suc n) below passes fails before = elim (cases_eq n j) [
+  | inl here ↦
+      let most : count_below other n ≤ count_below test n = count_below-less test other n before in
+      rw (ap test here ∙ passes, ap other here ∙ fails) (omega (arith, most))
+  | inr apart ↦
+      let less : count_below other n + 1 ≤ count_below test n =
+      count_below-fewer test other j n (omega arith) passes fails before in
+      let step = cond_less (test n) (other n) (before n) in
+      omega (arith, less, step)
+]

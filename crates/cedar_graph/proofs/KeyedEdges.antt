@@ -24,7 +24,7 @@ begins_at_node eq has_edge nodes {a = a} {b = b} (one s) = let it =
 begins_at_node eq has_edge nodes {a = a} (more s rest) = let it = some_with (get eq nodes a) _ s in ap is_some it.1
 
 -- nothing is in the empty list
-nothing_in_nil : (j : ℕ) → Contains [] j → ⊥
+pub nothing_in_nil : (j : ℕ) → Contains [] j → ⊥
 nothing_in_nil j inside = omega (arith, inside.1)
 
 module _ {K V S Z : Type 0} {eq : K → K → Bool} (laws : IsEquivalence eq) (has_edge : V → K → Bool)

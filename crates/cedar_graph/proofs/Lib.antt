@@ -1,6 +1,6 @@
 pub mod AddedEdges
-pub mod Bits
 pub mod Counting
+pub mod Gathering
 pub mod Growing
 pub mod KeyedEdges
 pub mod Lists

@@ -90,7 +90,7 @@ snoc_cases (first ∷ xs) x (b ∷ before) y after same =
     tail (each ∷ others) = others
 
 -- distinct items stay so with another at the end
-distinct_snoc : (xs : List ℕ) (x : ℕ) → AllPairs (λ a b. a ≢ b) xs → (¬ Contains xs x) → AllPairs (λ a b. a ≢ b) (xs ++ x ∷ [])
+pub distinct_snoc : (xs : List ℕ) (x : ℕ) → AllPairs (λ a b. a ≢ b) xs → (¬ Contains xs x) → AllPairs (λ a b. a ≢ b) (xs ++ x ∷ [])
 distinct_snoc xs x distinct other i j d below within same =
     let long : length (xs ++ x ∷ []) ≡ length xs + 1 = length-append xs (x ∷ []) in
     let first = get_or-append xs (x ∷ []) d i in

@@ -1,7 +1,7 @@
 pub mod Edges
+pub mod Gathered
 pub mod Growth
 pub mod Numbered
 pub mod Numbering
 pub mod Order
-pub mod Row
 pub mod TcError

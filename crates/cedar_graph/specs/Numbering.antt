@@ -2,7 +2,6 @@
 use Rattle.std.specs.Prelude.{◌≡◌, ◌↔◌, ℕ, Bool, IsTrue, List, Some, IsSomeAnd, slice_get, Contains, Vec}
 use Rattle.std.specs.HashMap.{HashMap, get}
 use Rattle.cedar_graph.specs.Numbered.{items_at}
-use Rattle.cedar_graph.specs.Row.{has_bit}
 
 module _ {K : Type 0} (eq : K → K → Bool) where
   -- a name that is equal to the key stands at the number
@@ -30,13 +29,12 @@ module _ {K : Type 0} (eq : K → K → Bool) where
         → (number : ℕ) × IsNumbered eq names key number × Contains numbers number
 
 module _ {K : Type 0} (eq : K → K → Bool) where
-  -- the number of the key stands in the row
-  abbrev pub StandsInRow : List K → List ℕ → K → Type 0
-  StandsInRow names row key = (number : ℕ) × IsTrue (has_bit row number)
-      × IsNumbered eq names key number
+  -- the number of the key stands in the list
+  abbrev pub StandsIn : List K → List ℕ → K → Type 0
+  StandsIn names numbers key = (number : ℕ) × Contains numbers number × IsNumbered eq names key number
 
 module _ {K : Type 0} (eq : K → K → Bool) where
-  -- the number of the second key stands in the row of the first
-  abbrev pub RowHas : {Z : Type 0} → List K → List (Vec ℕ Z) → K → K → Type 0
-  RowHas names rows from to = (number : ℕ) × IsNumbered eq names from number
-      × StandsInRow eq names (items_at rows number) to
+  -- the number of the second key stands in the list of the first
+  abbrev pub ListHas : {Z : Type 0} → List K → List (Vec ℕ Z) → K → K → Type 0
+  ListHas names lists from to = (number : ℕ) × IsNumbered eq names from number
+      × StandsIn eq names (items_at lists number) to

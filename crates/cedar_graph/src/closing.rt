@@ -1,142 +1,203 @@
-//! Rows closed under chains: a row comes to hold all that a chain of steps reaches.
+//! What chains of targets reach from each number that has a list of them.
 
-ghost use Rattle.std.specs.Prelude.{All, Contains, ◌≡◌, ℕ, ◌+◌, ◌*◌, ◌^◌, ◌<◌, ◌≤◌, length, vec_len, ◌↔◌, IsTrue, IfOk, OnOk, IfSome, IfNone};
+ghost use Rattle.std.specs.Prelude.{◌≡◌, ◌≢◌, ◌++◌, ℕ, ◌*◌, ◌<◌, ◌≤◌, ◌↔◌, All, Contains, IfNone, IfOk, IfSome, IsTrue, List, OnOk, length, vec_len};
 ghost use Rattle.cedar_below.specs.Chain.{Chain};
-ghost use Rattle.cedar_graph.specs.Numbered.{items_at, InRow, IsTarget};
-ghost use Rattle.cedar_graph.specs.Row.{has_bit};
+ghost use Rattle.cedar_graph.specs.Gathered.{AreClosed, AreGathered, AreReached, GathersMore, mark_of};
+ghost use Rattle.cedar_graph.specs.Numbered.{IsTarget};
+ghost use Rattle.cedar_graph.specs.declared.closing.Mark.TheVariants.{Done, Fresh};
 
-use crate::rows::{first_common, has, join, put, remove};
 use cedar_below::M;
 use std::alloc::Global;
 
-/// Joins to the row each row that waits and whose number stands in it, and answers how many it
-/// joined.
-fn close_row(rows: &Vec<Vec<u64>>, row: &mut [u64], from: usize, waiting: &mut [u64]) -> usize
-    requires same_row { row.old ≡ items_at rows.now.items from }
-    requires same_len { (i : ℕ) → i < vec_len rows.now
-        → length (items_at rows.now.items i) ≡ length waiting.old }
-    requires small { length waiting.old ≤ 2 ^ 58 }
-    requires in_range { from < vec_len rows.now }
-    requires have_rows { (i : ℕ) → IsTrue (has_bit waiting.old i) → i < vec_len rows.now }
-    ensures kept { (k : ℕ) → InRow rows.now.items from k → IsTrue (has_bit row.new k) }
-    ensures sound { (k : ℕ) → IsTrue (has_bit row.new k) → Chain (InRow rows.now.items) from k }
-    ensures closed { (j k : ℕ) → IsTrue (has_bit waiting.old j) → IsTrue (has_bit row.new j)
-        → InRow rows.now.items j k → IsTrue (has_bit row.new k) }
-    ensures count { result ≤ vec_len rows.now }
-{
-    let mut joins = 0;
-    while let Some(next) = first_common(row, waiting) {
-        remove(waiting, next);
-        join(row, &rows[next]);
-        joins += 1;
-    }
-    joins
+/// How far a number is gone through while what one number reaches is gathered.
+#[derive(Clone, Copy)]
+pub(crate) enum Mark {
+    /// It isn't gathered.
+    Fresh,
+    /// It is gathered, and what it leads to may not be.
+    Met,
+    /// It is gathered, and so is all that it leads to, once the numbers at hand are.
+    Done,
 }
 
-/// Closes each row, and answers how many joins of two rows it made.
-fn close_rows(rows: &mut Vec<Vec<u64>>, leading: &Vec<u64>) -> M<u128>
-    requires same_len { (i : ℕ) → i < vec_len rows.old
-        → length (items_at rows.old.items i) ≡ vec_len leading.now }
-    requires small { vec_len leading.now ≤ 2 ^ 58 }
-    requires few { vec_len rows.old ≤ 64 * vec_len leading.now }
-    requires have_rows { (i : ℕ) → IsTrue (has_bit leading.now.items i) → i < vec_len rows.old }
-    requires leads { (i j : ℕ) → InRow rows.old.items i j → IsTrue (has_bit leading.now.items i) }
-    ensures len { vec_len rows.new ≡ vec_len rows.old }
-    ensures same_len { (i : ℕ) → i < vec_len rows.new
-        → length (items_at rows.new.items i) ≡ vec_len leading.now }
-    ensures closed { OnOk result ((i j : ℕ)
-        → InRow rows.new.items i j ↔ Chain (InRow rows.old.items) i j) }
-    ensures count { IfOk result (λ joins. joins ≤ vec_len rows.old * vec_len rows.old) }
+/// Gathers the number, unless it is gathered already, and marks it, unless it is done.
+fn gather(found: &mut Vec<usize>, marks: &mut Vec<Mark>, number: usize, mark: Mark) -> M<()>
+    requires gathered { AreGathered marks.old.items found.old.items }
+    requires in_range { number < vec_len marks.old }
+    requires not_fresh { mark ≢ Fresh }
+    ensures { OnOk result (GathersMore mark (λ passes. passes ≡ number) marks.old.items
+        found.old.items marks.new.items found.new.items) }
 {
-    let mut joins = 0;
-    for i in 0..rows.len() {
-        let mut row = rows[i].clone()?;
-        let mut waiting = leading.clone()?;
-        joins += close_row(rows, &mut row, i, &mut waiting) as u128;
-        rows[i] = row;
+    match marks[number] {
+        Mark::Fresh => {
+            found.push(number)?;
+            marks[number] = mark;
+            Ok(())
+        }
+        Mark::Met => {
+            marks[number] = mark;
+            Ok(())
+        }
+        Mark::Done => Ok(()),
     }
-    Ok(joins)
 }
 
-/// The row of the numbers.
-fn row_of(alloc: Global, numbers: &[usize], words: usize) -> M<Vec<u64>>
-    requires { All (λ number. number < 64 * words) numbers.now }
-    ensures len { IfOk result (λ row. vec_len row ≡ words) }
-    ensures stands { IfOk result (λ row.
-        (number : ℕ) → IsTrue (has_bit row.items number) ↔ Contains numbers.now number) }
+/// Gathers each of the numbers.
+fn gather_all(found: &mut Vec<usize>, marks: &mut Vec<Mark>, numbers: &[usize], mark: Mark) -> M<()>
+    requires gathered { AreGathered marks.old.items found.old.items }
+    requires within { All (λ number. number < vec_len marks.old) numbers.now }
+    requires not_fresh { mark ≢ Fresh }
+    ensures { OnOk result (GathersMore mark (Contains numbers.now) marks.old.items
+        found.old.items marks.new.items found.new.items) }
 {
-    let mut row = vec![in alloc; 0u64; words]?;
     for number in numbers {
-        put(&mut row, *number);
+        gather(found, marks, *number, mark)?;
     }
-    Ok(row)
+    Ok(())
 }
 
-/// A row for each list of targets.
-fn direct_rows(alloc: Global, targets: &Vec<Vec<usize>>, words: usize) -> M<Vec<Vec<u64>>>
-    requires { (i j : ℕ) → IsTarget targets.now.items i j → j < 64 * words }
-    ensures len { IfOk result (λ rows. vec_len rows ≡ vec_len targets.now) }
-    ensures same_len { IfOk result (λ rows.
-        (i : ℕ) → i < vec_len rows → length (items_at rows.items i) ≡ words) }
-    ensures same_steps { IfOk result (λ rows.
-        (i j : ℕ) → InRow rows.items i j ↔ IsTarget targets.now.items i j) }
+/// The numbers to be gathered for a number that has a list, and how far these are gone through
+/// then: all that it reaches, if that is known, else its targets.
+fn following<'a>(
+    closed: &'a Vec<Vec<usize>>,
+    targets: &'a Vec<Vec<usize>>,
+    number: usize,
+) -> (&'a Vec<usize>, Mark)
+    requires closed { AreClosed targets.now.items closed.now.items }
+    requires has_list { number < vec_len targets.now }
+    ensures sound { (to : ℕ) → Contains result.0.now.items to
+        → Chain (IsTarget targets.now.items) number to }
+    ensures complete { (to : ℕ) → IsTarget targets.now.items number to
+        → Contains result.0.now.items to }
+    ensures done { result.1 ≡ Done → (via to : ℕ) → Contains result.0.now.items via
+        → IsTarget targets.now.items via to → Contains result.0.now.items to }
+    ensures not_fresh { result.1 ≢ Fresh }
 {
-    let mut rows = Vec::new(alloc);
-    for numbers in targets {
-        rows.push(row_of(alloc, numbers, words)?)?;
+    match closed.get(number) {
+        Some(reached) => (reached, Mark::Done),
+        None => (&targets[number], Mark::Met),
     }
-    Ok(rows)
 }
 
-/// The row of the numbers that have targets.
-fn leading_row(alloc: Global, targets: &Vec<Vec<usize>>, words: usize) -> M<Vec<u64>>
-    requires { vec_len targets.now ≤ 64 * words }
-    ensures len { IfOk result (λ row. vec_len row ≡ words) }
-    ensures have_rows { IfOk result (λ row.
-        (i : ℕ) → IsTrue (has_bit row.items i) → i < vec_len targets.now) }
-    ensures leads { IfOk result (λ row.
-        (i j : ℕ) → IsTarget targets.now.items i j → IsTrue (has_bit row.items i)) }
+/// Whether the number has a list and isn't done.
+fn leads_on(targets: &Vec<Vec<usize>>, marks: &Vec<Mark>, number: usize) -> bool
+    requires { number < vec_len marks.now }
+    ensures { IsTrue result ↔ (number < vec_len targets.now)
+        × (mark_of marks.now.items number ≢ Done) }
 {
-    let mut row = vec![in alloc; 0u64; words]?;
-    for (i, numbers) in targets.iter().enumerate() {
-        if !numbers.is_empty() {
-            put(&mut row, i);
+    number < targets.len() && !matches!(marks[number], Mark::Done)
+}
+
+/// Gathers what a number leads to that is gathered and has a list.
+fn follow(
+    closed: &Vec<Vec<usize>>,
+    targets: &Vec<Vec<usize>>,
+    from: usize,
+    number: usize,
+    found: &mut Vec<usize>,
+    marks: &mut Vec<Mark>,
+) -> M<()>
+    requires closed { AreClosed targets.now.items closed.now.items }
+    requires within { (i j : ℕ) → IsTarget targets.now.items i j → j < vec_len marks.old }
+    requires reached { AreReached targets.now.items from marks.old.items found.old.items }
+    requires has_list { number < vec_len targets.now }
+    requires gathered { Contains found.old.items number }
+    ensures len { OnOk result (length marks.new.items ≡ length marks.old.items) }
+    ensures reached { OnOk result
+        (AreReached targets.now.items from marks.new.items found.new.items) }
+    ensures grown { OnOk result
+        ((rest : List ℕ) × (found.new.items ≡ found.old.items ++ rest)) }
+    ensures stays { OnOk result ((other : ℕ) → mark_of marks.old.items other ≡ Done
+        → mark_of marks.new.items other ≡ Done) }
+    ensures done { OnOk result (mark_of marks.new.items number ≡ Done) }
+{
+    let (numbers, mark) = following(closed, targets, number);
+    gather_all(found, marks, numbers, mark)?;
+    marks[number] = Mark::Done;
+    Ok(())
+}
+
+/// All that chains of targets reach from a number, each once, and how many lists were gone through
+/// for it.
+fn reached(
+    alloc: Global,
+    closed: &Vec<Vec<usize>>,
+    targets: &Vec<Vec<usize>>,
+    from: usize,
+    marks: &mut Vec<Mark>,
+) -> M<(Vec<usize>, usize)>
+    requires closed { AreClosed targets.now.items closed.now.items }
+    requires within { (i j : ℕ) → IsTarget targets.now.items i j → j < vec_len marks.old }
+    requires fresh { (number : ℕ) → mark_of marks.old.items number ≡ Fresh }
+    requires has_list { from < vec_len targets.now }
+    ensures len { OnOk result (length marks.new.items ≡ length marks.old.items) }
+    ensures gathered { IfOk result (λ found. AreGathered marks.new.items found.0.items) }
+    ensures reached { IfOk result (λ found. (to : ℕ) → Contains found.0.items to
+        ↔ Chain (IsTarget targets.now.items) from to) }
+    ensures count { IfOk result (λ found. found.1 ≤ vec_len targets.now) }
+{
+    let mut found = Vec::new(alloc);
+    let mut place = 0;
+    let mut joins = 0;
+    gather_all(&mut found, marks, &targets[from], Mark::Met)?;
+    while place < found.len() {
+        let number = found[place];
+        place += 1;
+        if leads_on(targets, marks, number) {
+            follow(closed, targets, from, number, &mut found, marks)?;
+            joins += 1;
         }
     }
-    Ok(row)
+    Ok((found, joins))
 }
 
-/// The rows closed under the targets, and how many joins of two rows it took.
-pub(crate) fn closed_rows(
+/// Marks the numbers that were gathered as fresh again.
+fn forget(marks: &mut Vec<Mark>, numbers: &[usize])
+    requires { AreGathered marks.old.items numbers.now }
+    ensures len { length marks.new.items ≡ length marks.old.items }
+    ensures fresh { (number : ℕ) → mark_of marks.new.items number ≡ Fresh }
+{
+    for number in numbers {
+        marks[*number] = Mark::Fresh;
+    }
+}
+
+/// All that chains of targets reach from each number that has a list, and how many lists were gone
+/// through for that.
+///
+/// What a number reaches is gathered from list to list, as long as there are numbers whose list
+/// wasn't gone through. In place of the targets of an earlier number stands all that it reaches,
+/// which is known then.
+pub(crate) fn closed_lists(
     alloc: Global,
     targets: &Vec<Vec<usize>>,
     columns: usize,
-) -> M<(Vec<Vec<u64>>, u128)>
-    requires few { vec_len targets.now ≤ columns }
+) -> M<(Vec<Vec<usize>>, u128)>
     requires within { (i j : ℕ) → IsTarget targets.now.items i j → j < columns }
     ensures len { IfOk result (λ closed. vec_len closed.0 ≡ vec_len targets.now) }
-    ensures wide { IfOk result (λ closed.
-        (i : ℕ) → i < vec_len closed.0 → i < 64 * length (items_at closed.0.items i)) }
-    ensures small { IfOk result (λ closed. (i : ℕ) → length (items_at closed.0.items i) ≤ 2 ^ 58) }
     ensures closed { IfOk result (λ closed. (i j : ℕ)
-        → InRow closed.0.items i j ↔ Chain (IsTarget targets.now.items) i j) }
+        → IsTarget closed.0.items i j ↔ Chain (IsTarget targets.now.items) i j) }
     ensures count { IfOk result (λ closed. closed.1 ≤ vec_len targets.now * vec_len targets.now) }
 {
-    let words = columns / 64 + 1;
-    let mut rows = direct_rows(alloc, targets, words)?;
-    let leading = leading_row(alloc, targets, words)?;
-    let joins = close_rows(&mut rows, &leading)?;
-    Ok((rows, joins))
+    let mut marks = vec![in alloc; Mark::Fresh; columns]?;
+    let mut closed = Vec::with_capacity(alloc, targets.len())?;
+    let mut joins = 0;
+    for from in 0..targets.len() {
+        let (found, lists) = reached(alloc, &closed, targets, from, &mut marks)?;
+        forget(&mut marks, &found);
+        closed.push(found)?;
+        joins += lists as u128;
+    }
+    Ok((closed, joins))
 }
 
-/// The least number that stands in its own row.
-pub(crate) fn first_on_cycle(rows: &Vec<Vec<u64>>) -> Option<usize>
-    requires { (i : ℕ) → i < vec_len rows.now → i < 64 * length (items_at rows.now.items i) }
-    ensures found { IfSome result (λ i. InRow rows.now.items i i) }
-    ensures none { IfNone result ((i : ℕ) → ¬ InRow rows.now.items i i) }
+/// The least number that stands in its own list.
+pub(crate) fn first_on_cycle(lists: &Vec<Vec<usize>>) -> Option<usize>
+    ensures found { IfSome result (λ i. IsTarget lists.now.items i i) }
+    ensures none { IfNone result ((i : ℕ) → ¬ IsTarget lists.now.items i i) }
 {
-    for i in 0..rows.len() {
-        if has(&rows[i], i) {
+    for i in 0..lists.len() {
+        if lists[i].contains(&i) {
             return Some(i);
         }
     }

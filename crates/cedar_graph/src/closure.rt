@@ -1,15 +1,15 @@
 //! The closure of the edges of a map of nodes.
 
-ghost use Rattle.std.specs.Prelude.{◌≡◌, ℕ, ◌*◌, ◌^◌, ◌<◌, ◌≤◌, ◌↔◌, length, vec_len, IsTrue, IfOk, IfErr, OnOk};
+ghost use Rattle.std.specs.Prelude.{◌≡◌, ℕ, ◌*◌, ◌<◌, ◌≤◌, vec_len, IsTrue, IfOk, IfErr, OnOk};
 ghost use Rattle.std.specs.HashMap.{get, keys, hash_map_len};
 ghost use Rattle.cedar_graph.specs.Edges.{HasEdge, Reaches, AreAlike};
-ghost use Rattle.cedar_graph.specs.Numbered.{items_at, InRow};
+ghost use Rattle.cedar_graph.specs.Numbered.{IsTarget};
 ghost use Rattle.cedar_graph.specs.TcError.{IsRefusal};
-ghost use Rattle.cedar_graph.specs.Numbering.{IsNumbered, RowHas};
+ghost use Rattle.cedar_graph.specs.Numbering.{IsNumbered, ListHas};
 
-use crate::closing::{closed_rows, first_on_cycle};
+use crate::closing::{closed_lists, first_on_cycle};
+use crate::list_edges::add_all_edges;
 use crate::numbering::{Numbering, numbered_keys};
-use crate::row_edges::add_all_row_edges;
 use crate::targets::all_targets;
 use crate::tc_error::TcError;
 use crate::tc_node::TCNode;
@@ -24,8 +24,8 @@ struct Closed<K> {
     /// The keys by their numbers.
     names: Vec<K>,
     /// The numbers that chains reach from each key of the map.
-    rows: Vec<Vec<u64>>,
-    /// How many joins of two rows it took.
+    lists: Vec<Vec<usize>>,
+    /// How many lists were gone through for that.
     joins: u128,
 }
 
@@ -34,37 +34,38 @@ fn closed_names<K: Eq + Hash + Drop, V: TCNode<K>>(
     alloc: Global,
     nodes: &HashMap<K, V>,
 ) -> M<Closed<K>>
-    ensures few { IfOk result (λ closed. vec_len closed.rows ≤ vec_len closed.names) }
-    ensures wide { IfOk result (λ closed. (i : ℕ) → i < vec_len closed.rows
-        → i < 64 * length (items_at closed.rows.items i)) }
-    ensures small { IfOk result (λ closed.
-        (i : ℕ) → length (items_at closed.rows.items i) ≤ 2 ^ 58) }
+    ensures few { IfOk result (λ closed. vec_len closed.lists ≤ vec_len closed.names) }
     ensures within { IfOk result (λ closed.
-        (i j : ℕ) → InRow closed.rows.items i j → j < vec_len closed.names) }
+        (i j : ℕ) → IsTarget closed.lists.items i j → j < vec_len closed.names) }
     ensures single { IfOk result (λ closed.
         (key : K) (i j : ℕ) → IsNumbered K.eq closed.names.items key i
         → IsNumbered K.eq closed.names.items key j → i ≡ j) }
     ensures sound { IfOk result (λ closed.
-        (from to : K) → RowHas K.eq closed.names.items closed.rows.items from to
+        (from to : K) → ListHas K.eq closed.names.items closed.lists.items from to
         → Reaches K.eq V.has_edge nodes.now from to) }
     ensures complete { IfOk result (λ closed.
         (from to : K) → Reaches K.eq V.has_edge nodes.now from to
-        → RowHas K.eq closed.names.items closed.rows.items from to) }
+        → ListHas K.eq closed.names.items closed.lists.items from to) }
     ensures count { IfOk result (λ closed.
         closed.joins ≤ hash_map_len nodes.now * hash_map_len nodes.now) }
 {
     let mut numbering = numbered_keys::<K, V>(alloc, nodes)?;
     let targets = all_targets(alloc, nodes, &mut numbering)?;
-    let (rows, joins) = closed_rows(alloc, &targets, numbering.names.len())?;
+    let (lists, joins) = closed_lists(alloc, &targets, numbering.names.len())?;
     let Numbering {
         names,
         numbers: _numbers,
     } = numbering;
-    Ok(Closed { names, rows, joins })
+    Ok(Closed {
+        names,
+        lists,
+        joins,
+    })
 }
 
-/// The closure of `compute_tc`, which answers how many joins of two rows of bits it made: at most
-/// the square of the number of keys.
+/// The closure of `compute_tc`, which answers how many lists of targets it went through, one for
+/// each number whose own list was added to that of another: at most the square of the number of
+/// keys.
 ///
 /// With `enforce_dag` it is refused with `HasCycle` where some node reaches itself, whose key it
 /// holds. The only other refusal is that memory ran out. After either, each old edge stands and
@@ -90,15 +91,15 @@ pub fn compute_tc_counted<K: Eq + Hash + Drop, V: TCNode<K>>(
 {
     let Closed {
         mut names,
-        rows,
+        lists,
         joins,
     } = closed_names(alloc, nodes)?;
     if enforce_dag {
-        if let Some(number) = first_on_cycle(&rows) {
+        if let Some(number) = first_on_cycle(&lists) {
             return Err(TcError::HasCycle(names.swap_remove(number)));
         }
     }
-    add_all_row_edges(nodes, &names, &rows)?;
+    add_all_edges(nodes, &names, &lists)?;
     Ok(joins)
 }
 

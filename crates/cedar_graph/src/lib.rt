@@ -1,14 +1,18 @@
-//! The closure of edges between nodes: each node gets an edge to all that a chain of edges reaches.
+//! Graphs: nodes closed over chains of edges, and numbers in topological order.
 //!
-//! Keys and targets of edges are numbered. Each key has a row of bits, one for each number, in
-//! words of 64 bits. A row is joined with each row whose number stands in it, a word at a time,
-//! until there is none left, and what stands in it then is converted back as edges. A target
-//! without a node has a number and no row, so it leads no further.
+//! [`compute_tc`] gives each node of a map ([`TCNode`]) an edge to all that a chain of edges
+//! reaches, or names a node on a cycle ([`TcError`]); [`compute_tc_counted`] counts its work too.
+//! [`topo_sort`] orders numbers, each after those that it leads to ([`Ordered`]). [`add_edges`] and
+//! [`into_btree_map`] make such maps ready and hand them on.
+//!
+//! To close a map, keys and targets of edges are numbered, and each key has a list of the numbers
+//! of its targets. What a key reaches is gathered from list to list, each number once, and becomes
+//! edges again. A target without a node has a number and no list, so it leads no further.
 #![tactic(auto)]
 
 pub use adding::add_edges;
 pub use closure::{compute_tc, compute_tc_counted};
-pub use moving::{into_btree_map, into_hash_map};
+pub use moving::into_btree_map;
 pub use ordering::{Ordered, topo_sort};
 pub use tc_error::TcError;
 pub use tc_node::TCNode;
@@ -16,11 +20,10 @@ pub use tc_node::TCNode;
 mod adding;
 mod closing;
 mod closure;
+mod list_edges;
 mod moving;
 mod numbering;
 mod ordering;
-mod row_edges;
-mod rows;
 mod targets;
 mod tc_error;
 mod tc_node;

@@ -1,4 +1,4 @@
-//! The entries of a map moved into one of the other kind, each with its key as it stands.
+//! The entries of a hashed map moved into the order of their keys, each with its key as it stands.
 
 ghost use Rattle.std.specs.Prelude.{Contains, IfOk, OnOk};
 ghost use Rattle.std.specs.BTreeMap as tree;
@@ -27,25 +27,6 @@ pub fn into_btree_map<K: Hash + Ord + Drop, V: Drop>(
         moved.insert(key, value)?;
     }
     // That the keys are in order is known from their iterator.
-    let _keys = moved.keys();
-    Ok(moved)
-}
-
-/// The entries in some order. Out of memory is the only refusal.
-pub fn into_hash_map<K: Hash + Ord + Drop, V: Drop>(
-    alloc: Global,
-    nodes: BTreeMap<K, V>,
-) -> M<HashMap<K, V>>
-    ensures moved { IfOk result (λ moved. hash.IsFromIterResult K.eq nodes.entries moved) }
-    ensures ordered { OnOk result (tree.IsOrdered K.cmp nodes) }
-    ensures entries { IfOk result (λ moved. IsDistinct K.eq (keys_of nodes.entries)
-        → (entry : K × V) → Contains moved.entries entry → Contains nodes.entries entry) }
-{
-    let mut moved = HashMap::new(alloc);
-    for (key, value) in nodes {
-        moved.insert(key, value)?;
-    }
-    // That no two keys are equal is known from their iterator.
     let _keys = moved.keys();
     Ok(moved)
 }

@@ -73,8 +73,8 @@ pub(crate) fn numbered_keys<K: Eq + Hash + Drop, V: TCNode<K>>(
         IsNumbered K.eq numbering.names.items key i)) }
 {
     let mut numbering = Numbering {
-        names: Vec::new(alloc),
-        numbers: HashMap::new(alloc),
+        names: Vec::with_capacity(alloc, nodes.len())?,
+        numbers: HashMap::with_capacity(alloc, nodes.len())?,
     };
     for key in nodes.keys() {
         add_number::<K, V>(&mut numbering, key)?;

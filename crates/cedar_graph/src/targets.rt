@@ -50,7 +50,7 @@ pub(crate) fn all_targets<K: Eq + Hash + Drop, V: TCNode<K>>(
         (λ node. AreNumbersOf K.eq numbering.new.names.items (V.has_edge node)
         (items_at targets.items i))) }
 {
-    let mut targets = Vec::new(alloc);
+    let mut targets = Vec::with_capacity(alloc, nodes.len())?;
     for node in nodes.values() {
         targets.push(targets_of(alloc, node, numbering)?)?;
     }

@@ -1,2 +1,3 @@
 mod CopiedLemmas
+mod HintLemmas
 mod SearchLemmas

@@ -9,14 +9,16 @@ ghost use Rattle.cedar_below.specs.declared.memory.Memory.{Memory};
 use crate::table::Table;
 use cedar_below::M;
 use std::collections::BTreeMap;
+use std::hash::Hash;
 
 /// A map of the copies of the entries of a table, in their order. The copy of a key has to tie with
 /// it.
-pub fn copied_entries<K: Ord + Drop, V: Drop, F: Fn(&K) -> M<K> + Drop, G: Fn(&V) -> M<V> + Drop>(
-    table: &Table<K, V>,
-    copy_key: F,
-    copy_value: G,
-) -> M<BTreeMap<K, V>>
+pub fn copied_entries<
+    K: Ord + Hash + Drop,
+    V: Drop,
+    F: Fn(&K) -> M<K> + Drop,
+    G: Fn(&V) -> M<V> + Drop,
+>(table: &Table<K, V>, copy_key: F, copy_value: G) -> M<BTreeMap<K, V>>
     requires key_callable { F.IsAlwaysCallable copy_key }
     requires value_callable { G.IsAlwaysCallable copy_value }
     requires ties { (key : K) (answer : Result K Memory) → FnReturnsAt F.Fn copy_key key answer

@@ -1,19 +1,27 @@
 //! Hints: where in a list of entries a key may stand, by the hash of the key.
 
+ghost use Rattle.std.specs.Prelude.{◌≡◌, ℕ, false, IfNone, IfOk, IfSome, IsTrue, length};
+ghost use Rattle.cedar_table.specs.Hints.{AreHinted, LeadToAll, LeadsTo, hash_by, row_of, tag_of};
+
 use cedar_below::M;
 use std::alloc::Global;
 use std::hash::{FoldHasher, Hash, Hasher};
 
 /// How many rows are looked at for one hash.
-const PROBES: usize = 4;
+const PROBES: usize = 64;
 
-/// What each hash begins with, so that names that are alike to the hash tables of std aren't alike
-/// here.
-const SEED: u64 = 0xb7e1_5162_8aed_2a6b;
+/// What hashes begin with: the first of these with which each entry has a hint. Names that are
+/// alike to the hash tables of std, or with one of these, are apart with the others.
+const SEEDS: [u64; 4] = [
+    0xb7e1_5162_8aed_2a6b,
+    0x9d5c_1e83_46f0_b217,
+    0x31a9_f4d2_c06b_7e85,
+    0xe468_0bc7_5f12_d39d,
+];
 
 /// That an entry may stand at a place.
 #[derive(Clone, Copy)]
-struct Hint {
+pub(crate) struct Hint {
     /// The upper half of the hash of the entry's key.
     tag: u32,
     /// The place of the entry.
@@ -22,25 +30,73 @@ struct Hint {
 
 /// Rows of hints, as many as a power of two. Each hint is in the first row that was free of those
 /// that are looked at for its hash; where all of these were taken there is none.
-///
-/// Nothing is promised of a hint: whoever follows it looks whether the entry there has the key that
-/// is sought.
 #[derive(Drop)]
 pub(crate) struct Hints {
+    /// What hashes begin with.
+    seed: u64,
+    /// The rows.
     rows: Vec<Option<Hint>>,
+    /// Whether a hint leads to each entry, so that a key to which none leads isn't there.
+    pub(crate) complete: bool,
 }
 
-/// The hash of a key.
-fn hash_of<K: Hash>(key: &K) -> u64 {
+/// The hash of a key, begun with a number.
+fn hash_of<K: Hash>(seed: u64, key: &K) -> u64
+    ensures { result ≡ hash_by seed (K.hash_input key.now) }
+{
     let mut state = FoldHasher::default();
-    state.write_u64(SEED);
+    state.write_u64(seed);
     key.hash(&mut state);
     state.finish()
 }
 
 /// The part of a hash that a hint keeps.
-fn tag_of(hash: u64) -> u32 {
+fn hash_tag(hash: u64) -> u32
+    ensures { result ≡ tag_of hash }
+{
     (hash >> 32) as u32
+}
+
+/// The row that is looked at for a hash in a step.
+fn row_at(rows: &[Option<Hint>], hash: u64, step: usize) -> usize
+    ensures { result ≡ row_of (length rows.now) hash step }
+{
+    (hash as usize).wrapping_add(step) & rows.len().saturating_sub(1)
+}
+
+/// The place to which a hint leads, if one does.
+fn place_hinted(rows: &[Option<Hint>], hash: u64) -> Option<usize>
+    ensures found { IfSome result (LeadsTo rows.now hash) }
+    ensures lacking { IfNone result ((place : ℕ) → ¬ LeadsTo rows.now hash place) }
+{
+    let tag = hash_tag(hash);
+    for step in 0..PROBES {
+        match rows.get(row_at(rows, hash, step)) {
+            Some(Some(hint)) if hint.tag != tag => {}
+            Some(Some(hint)) => return Some(hint.place as usize),
+            _ => return None,
+        }
+    }
+    None
+}
+
+/// Puts a hint into the first free row for its hash, where no earlier one has its tag.
+fn put_hint(rows: &mut [Option<Hint>], hash: u64, place: usize) {
+    let tag = hash_tag(hash);
+    let Ok(place) = u32::try_from(place) else {
+        return;
+    };
+    for step in 0..PROBES {
+        let row = row_at(rows, hash, step);
+        match rows.get_mut(row) {
+            Some(Some(hint)) if hint.tag != tag => {}
+            Some(free @ None) => {
+                *free = Some(Hint { tag, place });
+                return;
+            }
+            _ => return,
+        }
+    }
 }
 
 /// How many rows there are for so many entries: a power of two, and twice as many as there are
@@ -49,59 +105,67 @@ fn rows_for(entries: usize) -> usize {
     (2 * entries.min(u32::MAX as usize)).next_power_of_two()
 }
 
+/// Rows with hints to entries. Out of memory is the only refusal.
+fn hint_rows<K: Hash, V>(alloc: Global, seed: u64, entries: &[(K, V)]) -> M<Vec<Option<Hint>>> {
+    let mut rows = vec![in alloc; None; rows_for(entries.len())]?;
+    for (place, entry) in entries.iter().enumerate() {
+        put_hint(&mut rows, hash_of(seed, &entry.0), place);
+    }
+    Ok(rows)
+}
+
+/// Whether a hint leads to each entry.
+fn lead_to_all<K: Hash, V>(rows: &[Option<Hint>], seed: u64, entries: &[(K, V)]) -> bool
+    ensures { IsTrue result → LeadToAll K.hash_input seed rows.now entries.now }
+{
+    for (place, entry) in entries.iter().enumerate() {
+        if place_hinted(rows, hash_of(seed, &entry.0)) != Some(place) {
+            return false;
+        }
+    }
+    true
+}
+
 impl Hints {
     /// No hints.
-    pub(crate) fn new(alloc: Global) -> Self {
+    pub(crate) fn new(alloc: Global) -> Self
+        ensures { result.complete ≡ false }
+    {
         Hints {
+            seed: SEEDS[0],
             rows: Vec::new(alloc),
+            complete: false,
         }
     }
 
-    /// Hints to the entries of a list, or want of memory.
-    pub(crate) fn of<K: Hash, V>(alloc: Global, entries: &[(K, V)]) -> M<Self> {
-        let mut hints = Hints {
-            rows: vec![in alloc; None; rows_for(entries.len())]?,
-        };
-        for (place, entry) in entries.iter().enumerate() {
-            hints.add(hash_of(&entry.0), place);
-        }
-        Ok(hints)
-    }
-
-    /// The row that is looked at for a hash in a step.
-    fn row(&self, hash: u64, step: usize) -> usize {
-        (hash as usize).wrapping_add(step) & self.rows.len().wrapping_sub(1)
-    }
-
-    /// Puts a hint into the first free row for its hash, where no earlier one has its tag.
-    fn add(&mut self, hash: u64, place: usize) {
-        let tag = tag_of(hash);
-        let Ok(place) = u32::try_from(place) else {
-            return;
-        };
-        for step in 0..PROBES {
-            let row = self.row(hash, step);
-            match self.rows.get_mut(row) {
-                Some(Some(hint)) if hint.tag != tag => {}
-                Some(free @ None) => {
-                    *free = Some(Hint { tag, place });
-                    return;
-                }
-                _ => return,
+    /// Hints to the entries of a list. Out of memory is the only refusal.
+    pub(crate) fn of<K: Hash, V>(alloc: Global, entries: &[(K, V)]) -> M<Self>
+        ensures { IfOk result (λ hints. AreHinted K.hash_input hints entries.now) }
+    {
+        for seed in SEEDS {
+            let rows = hint_rows(alloc, seed, entries)?;
+            if lead_to_all(&rows, seed, entries) {
+                return Ok(Hints {
+                    seed,
+                    rows,
+                    complete: true,
+                });
             }
         }
+        Ok(Hints {
+            seed: SEEDS[0],
+            rows: hint_rows(alloc, SEEDS[0], entries)?,
+            complete: false,
+        })
     }
 
     /// Where the entry of a key may stand, if there is a hint.
-    pub(crate) fn guess<K: Hash>(&self, key: &K) -> Option<usize> {
-        let hash = hash_of(key);
-        for step in 0..PROBES {
-            match self.rows.get(self.row(hash, step)) {
-                Some(Some(hint)) if hint.tag != tag_of(hash) => {}
-                Some(Some(hint)) => return Some(hint.place as usize),
-                _ => return None,
-            }
-        }
-        None
+    pub(crate) fn guess<K: Hash>(&self, key: &K) -> Option<usize>
+        ensures found { IfSome result (LeadsTo self.now.rows.items
+            (hash_by self.now.seed (K.hash_input key.now))) }
+        ensures lacking { IfNone result ((place : ℕ) → ¬ LeadsTo self.now.rows.items
+            (hash_by self.now.seed (K.hash_input key.now)) place) }
+    {
+        place_hinted(&self.rows, hash_of(self.seed, key))
     }
 }

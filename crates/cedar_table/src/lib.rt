@@ -1,4 +1,7 @@
-//! Values by key in one sorted list, with hints where in it a key may stand.
+//! Tables: values by key that don't change, in one sorted list.
+//!
+//! [`Table`] is made of a map, and finds a value by a hint from its key's hash. Contracts speak of
+//! the list alone.
 #![tactic(auto)]
 
 pub use copying::copied_entries;

@@ -1,27 +1,33 @@
 //! The place of a key in a sorted list of entries.
 
-ghost use Rattle.std.specs.Prelude.{◌≡◌, IfNone, IfSome, IsTrue, None};
+ghost use Rattle.std.specs.Prelude.{◌≡◌, ◌↔◌, IfNone, IfSome, IsTrue, None};
 ghost use Rattle.std.specs.BTreeMap.{is_at};
 ghost use Rattle.std.specs.List.Sorted.{IsStrictlySortedBy};
 ghost use Rattle.std.specs.Map.{keys_of, lookup};
+ghost use Rattle.cedar_table.specs.Hints.{AreHinted};
 ghost use Rattle.cedar_table.specs.StandsAt.{StandsAt};
 
 use crate::hints::Hints;
-use std::cmp::Ordering;
 use std::hash::Hash;
 
 /// Whether the entry at a place has the key.
 fn stands_at<K: Ord, V>(entries: &[(K, V)], key: &K, place: usize) -> bool
-    ensures { IsTrue result → StandsAt K.cmp entries.now key.now place }
+    ensures { IsTrue result ↔ StandsAt K.cmp entries.now key.now place }
 {
-    place < entries.len() && key.cmp(&entries[place].0) == Ordering::Equal
+    place < entries.len() && *key == entries[place].0
 }
 
-/// The place of a key, where a hint leads to it.
+/// The place of a key, where a hint leads to it. Where the hints are complete, a key to which none
+/// leads isn't there.
 fn hinted_place<K: Ord + Hash, V>(entries: &[(K, V)], hints: &Hints, key: &K) -> Option<usize>
-    ensures { IfSome result (StandsAt K.cmp entries.now key.now) }
+    requires { AreHinted K.hash_input hints.now entries.now }
+    ensures found { IfSome result (StandsAt K.cmp entries.now key.now) }
+    ensures lacking { IfNone result (IsTrue hints.now.complete
+        → lookup (is_at (K.cmp key.now)) entries.now ≡ None) }
 {
-    let place = hints.guess(key)?;
+    let Some(place) = hints.guess(key) else {
+        return None;
+    };
     if stands_at(entries, key, place) {
         Some(place)
     } else {
@@ -47,12 +53,14 @@ pub(crate) fn place_of<K: Ord + Hash, V>(
     hints: &Hints,
     key: &K,
 ) -> Option<usize>
-    requires { IsStrictlySortedBy K.cmp (keys_of entries.now) }
+    requires sorted { IsStrictlySortedBy K.cmp (keys_of entries.now) }
+    requires hinted { AreHinted K.hash_input hints.now entries.now }
     ensures found { IfSome result (StandsAt K.cmp entries.now key.now) }
     ensures lacking { IfNone result (lookup (is_at (K.cmp key.now)) entries.now ≡ None) }
 {
     match hinted_place(entries, hints, key) {
         Some(place) => Some(place),
+        None if hints.complete => None,
         None => halved_place(entries, key),
     }
 }

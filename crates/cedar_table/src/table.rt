@@ -11,26 +11,29 @@ use std::marker::Model;
 
 /// Values by key, which don't change: entries in the order of their keys, each key once.
 ///
-/// A look-up costs a hash where a hint leads to the key, and else it halves the list.
-pub struct Table<K: Ord, V> {
+/// A look-up costs a hash. Only where some key has no hint, since too many hash alike, a key to
+/// which no hint leads is looked for by halving the list.
+pub struct Table<K: Ord + Hash, V> {
     pub(crate) entries: Vec<(K, V)>,
     hints: Hints,
 }
 
-impl<K: Ord, V> Model for Table<K, V> {
+impl<K: Ord + Hash, V> Model for Table<K, V> {
     ghost use Rattle.std.specs.List.Sorted.{IsStrictlySortedBy};
     ghost use Rattle.std.specs.Map.{keys_of};
     ghost use Rattle.cedar_table.specs.Entries.{Entries};
+    ghost use Rattle.cedar_table.specs.Hints.{AreHinted};
 
     ghost Value = { Entries K V };
 
     ghost view = { λ a. record { entries = a.entries.items } };
 
-    ghost invariant = { λ a. IsStrictlySortedBy K.cmp (keys_of a.entries.items) };
+    ghost invariant = { λ a. IsStrictlySortedBy K.cmp (keys_of a.entries.items)
+        × AreHinted K.hash_input a.hints a.entries.items };
 }
 
 // Written out: proofs of what holds a table then see one call, and nothing of its parts.
-impl<K: Ord + Drop, V: Drop> Drop for Table<K, V> {
+impl<K: Ord + Hash + Drop, V: Drop> Drop for Table<K, V> {
     fn drop(self) {
         let Table {
             entries: _entries,
@@ -39,7 +42,7 @@ impl<K: Ord + Drop, V: Drop> Drop for Table<K, V> {
     }
 }
 
-impl<K: Ord, V> Table<K, V> {
+impl<K: Ord + Hash, V> Table<K, V> {
     ghost use Rattle.std.specs.Prelude.{◌≡◌, []};
     ghost use Rattle.std.specs.List.Sorted.{IsStrictlySortedBy};
     ghost use Rattle.std.specs.Map.{keys_of, values_of};
@@ -136,7 +139,7 @@ impl<K: Ord + Hash, V> Table<K, V> {
     }
 }
 
-impl<'a, K: Ord, V> IntoIterator for &'a Table<K, V> {
+impl<'a, K: Ord + Hash, V> IntoIterator for &'a Table<K, V> {
     ghost use Rattle.std.specs.Prelude.{◌≡◌};
     ghost use Rattle.std.specs.List.Sorted.{IsStrictlySortedBy};
     ghost use Rattle.std.specs.Map.{keys_of};

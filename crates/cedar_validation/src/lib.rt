@@ -1,4 +1,8 @@
 //! The check of a schema that was put together by hand.
+//!
+//! [`types_by_name`] and [`actions_by_uid`] put its parts under their names. [`validate`] closes
+//! their descendants and gives the parts back ([`Validated`]), or a fault of them. [`copied_types`]
+//! and [`copied_actions`] copy parts. [`theorems`] says that closing again is closing once.
 #![tactic(auto)]
 
 pub use copies::{copied_actions, copied_types};

@@ -1,41 +1,48 @@
-use Rattle.std.proofs.Common.{◌≡◌, ◌≢◌, ◌<◌, ◌≤◌, ◌*◌, length, sym, ◌∙◌, ap, subst, arith, ⊎_elim}
+use Rattle.std.proofs.Common.{◌≡◌, ◌↔◌, IsTrue, Contains, eqb, sym, ◌∙◌, ap, subst, inl, inr, arith}
 use Rattle.std.proofs.lemmas.Bool.{both_ways, cases_eq, cases_lt}
-use Rattle.cedar_graph.specs.Numbered.{items_at, InRow}
-use Rattle.cedar_graph.specs.Row.{has_bit}
-use Rattle.cedar_graph.proofs.Bits.{has_bit-nil}
-use Rattle.cedar_graph.proofs.Lists.{items_at-read, items_at-past}
+use Rattle.std.proofs.lemmas.Bool.Decides.{Decides-eqb}
+use Rattle.std.proofs.lemmas.List.Elements.{contains_decides}
+use Rattle.cedar_graph.proofs.Gathering.{read_any}
+use Rattle.cedar_graph.proofs.KeyedEdges.{nothing_in_nil}
+use Rattle.cedar_graph.specs.Numbered.{IsTarget, items_at}
+use Rattle.cedar_graph.proofs.Lists.{items_at-past, items_at-read}
 use Rattle.cedar_graph.proofs.closing.first_on_cycle.Goals as goal
-use Rattle.cedar_graph.proofs.closing.first_on_cycle.Goals.{After-deref}
+use Rattle.cedar_graph.proofs.closing.first_on_cycle.Goals.{After-contains}
 
--- the row of this turn stands at its place
-read : (c : After-deref) → c.deref.result.now ≡ items_at c.args.rows.now.items c.loop-i.i
+-- the list of this turn stands at its place
+read : (c : After-contains) → items_at c.args.lists.now.items c.loop-i.i-counter ≡ c.deref.result.now
 read c =
-    let within : c.loop-i.i < length c.args.rows.now.items = omega arith in
-    c.deref.ensures.value ∙ ap (λ v. v.items) c.index.ensures
-    ∙ sym (items_at-read c.args.rows.now.items c.loop-i.i c.index.result.now within)
+    items_at-read c.args.lists.now.items c.loop-i.i-counter c.index.result.now
+    (omega (arith, c.loop-i-test.true, c.len-i-end.ensures, c.args.lists.now.ok.0))
+    ∙ ap (λ list. list.items) (sym c.index.ensures) ∙ sym c.deref.ensures.value
 
-pub has-requires : goal.has-requires
-has-requires c = subst (λ xs. c.loop-i.i < 64 * length xs) (sym (read c)) (c.requires c.loop-i.i (omega arith))
+-- and is told to hold the number or not
+told : (c : After-contains) → IsTrue c.contains.result ↔ Contains c.deref.result.now c.loop-i.i-counter
+told c =
+    let number = c.loop-i.i-counter in
+    let decides = contains_decides eqb Decides-eqb c.deref.result.now number c.contains.result c.contains.ensures.cases in (
+      λ yes. let it = decides.0 yes in (it.0, it.1, it.2 number),
+      λ stands. decides.1 (stands.0, stands.1, λ d. read_any c.deref.result.now stands.0 d number stands.1 stands.2),
+    )
 
-pub returns-then-has-clause-found : goal.returns-then-has-clause-found
-returns-then-has-clause-found c =
-    ap (λ r. has_bit r c.loop-i.i) (sym (read (goal.at.returns-then-has-clause-found c).After-deref))
-    ∙ sym c.has.ensures ∙ c.if-has.true
+pub returns-then-contains-clause-found : goal.returns-then-contains-clause-found
+returns-then-contains-clause-found c =
+    let d = (goal.at.returns-then-contains-clause-found c).After-contains in
+    subst (λ xs. Contains xs c.loop-i.i-counter) (sym (read d)) ((told d).0 c.if-contains.true)
 
 pub loop-i-preserved : goal.loop-i-preserved
-loop-i-preserved c = λ k below stands. ⊎_elim
-    (λ (same : k ≡ c.loop-i.i).
-    let here = read (goal.at.loop-i-preserved c).After-deref in
-    let moved : InRow c.args.rows.now.items c.loop-i.i c.loop-i.i =
-    subst (λ i. InRow c.args.rows.now.items i i) same stands in
-    both_ways _ (sym c.has.ensures ∙ c.if-has.false) (ap (λ r. has_bit r c.loop-i.i) here ∙ moved))
-    (λ (apart : k ≢ c.loop-i.i). c.loop-i.invariant k (omega arith) stands)
-    (cases_eq k c.loop-i.i)
+loop-i-preserved c = λ k below stands. elim (cases_eq k c.loop-i.i-counter) [
+  | inl same ↦
+      let d = (goal.at.loop-i-preserved c).After-contains in
+      both_ways _ c.if-contains.false ((told d).1 (subst (λ xs. Contains xs c.loop-i.i-counter) (read d)
+      (subst (λ n. IsTarget c.args.lists.now.items n n) same stands)))
+  | inr apart ↦ c.loop-i.invariant k (omega (arith, below, apart)) stands
+]
 
 pub returns-clause-none : goal.returns-clause-none
-returns-clause-none c = λ k stands. ⊎_elim
-    (λ (below : k < c.loop-i.i). c.loop-i.invariant k below stands)
-    (λ (above : c.loop-i.i ≤ k).
-    let none = items_at-past c.args.rows.now.items k (omega arith) in
-    both_ways _ (ap (λ r. has_bit r k) none ∙ has_bit-nil k) stands)
-    (cases_lt k c.loop-i.i)
+returns-clause-none c = λ i stands. elim (cases_lt i c.loop-i.i-counter) [
+  | inl below ↦ c.loop-i.invariant i below stands
+  | inr past ↦ nothing_in_nil i (subst (λ xs. Contains xs i)
+      (items_at-past c.args.lists.now.items i (omega (arith, past, c.loop-i-test.false, c.len-i-end.ensures, c.args.lists.now.ok.0)))
+      stands)
+]

@@ -9,7 +9,7 @@ use Rattle.cedar_below.proofs.Chains.{held_after}
 use Rattle.cedar_graph.proofs.KeyedEdges.{step_of_keys, step_of_numbers, target_named, names_for_all}
 use Rattle.cedar_graph.proofs.Numbers.{numbers_from_keys, keys_from_numbers, one_number, number_below}
 use Rattle.cedar_graph.proofs.closure.closed_names.Goals as goal
-use Rattle.cedar_graph.proofs.closure.closed_names.Goals.{In_ok-targets, In_ok-rows}
+use Rattle.cedar_graph.proofs.closure.closed_names.Goals.{In_ok-targets, In_ok-lists}
 
 -- each key of the map has the number of its place
 in_order : (g : _) (c : In_ok-targets g) (i : ℕ)
@@ -47,20 +47,17 @@ few g c =
     let most = names_for_all g.K.PartialEq.eq all names.items (in_order g c) (length all) (omega arith) in
     omega (arith, entries, most, len g c, names.ok.0, c.in_ok-targets.targets.ok.0)
 
-pub closed_rows-requires-clause-few : goal.closed_rows-requires-clause-few
-closed_rows-requires-clause-few g c =
-    let most = few g (goal.at.closed_rows-requires-clause-few g c).In_ok-targets in
-    omega (arith, most, c.len.ensures)
-
-pub closed_rows-requires-clause-within : goal.closed_rows-requires-clause-within
-closed_rows-requires-clause-within g c = λ i j edge.
-    let under = below g (goal.at.closed_rows-requires-clause-within g c).In_ok-targets i j edge in
-    omega (arith, under, c.len.ensures)
+pub closed_lists-requires : goal.closed_lists-requires
+closed_lists-requires g c = record {
+  within = λ i j edge.
+      let under = below g (goal.at.closed_lists-requires g c).In_ok-targets i j edge in
+      omega (arith, under, c.len.ensures);
+}
 
 pub returns-clause-few : goal.returns-clause-few
 returns-clause-few g c =
     let most = few g (goal.at.returns-clause-few g c).In_ok-targets in
-    let same = c.in_ok-rows.ensures.len in
+    let same = c.in_ok-lists.ensures.len in
     omega (arith, most, same)
 
 pub returns-clause-within : goal.returns-clause-within
@@ -68,7 +65,7 @@ returns-clause-within g c = λ i j stands.
     let d = (goal.at.returns-clause-within g c).In_ok-targets in
     held_after (λ k. k < vec_len c.all_targets.new.numbering.names) i (λ k edge. below g d i k edge)
     (λ k l _ edge. below g d k l edge)
-    ((c.in_ok-rows.ensures.closed i j).0 stands)
+    ((c.in_ok-lists.ensures.closed i j).0 stands)
 
 pub returns-clause-sound : goal.returns-clause-sound
 returns-clause-sound g c = λ from to it.
@@ -81,7 +78,7 @@ returns-clause-sound g c = λ from to it.
     (step_of_numbers g.met.K.Eq.laws g.V.TCNode.has_edge g.met.V.TCNode.edges_respect_eq c.args.nodes.now
     c.in_ok-numbering.ensures.unique names targets
     (in_order g d) c.in_ok-targets.ensures.targets (len g d))
-    ((c.in_ok-rows.ensures.closed it.0 it.2.0).0 it.2.1) from to it.1 it.2.2
+    ((c.in_ok-lists.ensures.closed it.0 it.2.0).0 it.2.1) from to it.1 it.2.2
 
 pub returns-clause-complete : goal.returns-clause-complete
 returns-clause-complete g c = λ from to chain.
@@ -95,4 +92,4 @@ returns-clause-complete g c = λ from to chain.
     c.in_ok-numbering.ensures.unique names targets
     (in_order g d) c.in_ok-targets.ensures.targets (len g d))
     chain in
-    (it.0, it.2, (it.1, (c.in_ok-rows.ensures.closed it.0 it.1).1 it.4, it.3))
+    (it.0, it.2, (it.1, (c.in_ok-lists.ensures.closed it.0 it.1).1 it.4, it.3))

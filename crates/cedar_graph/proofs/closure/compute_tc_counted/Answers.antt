@@ -1,12 +1,16 @@
+use Rattle.std.proofs.Common.{subst}
+use Rattle.cedar_graph.specs.Numbered.{IsTarget}
+use Rattle.std.proofs.lemmas.Bool.{both_ways}
 use Rattle.std.proofs.Common.{◌≡◌, ◌<◌, Some, length, slice_get, refl, arith, ⊎_elim}
 use Rattle.std.specs.HashMap.{get}
 use Rattle.std.proofs.lemmas.Option.{slice_get_read}
 use Rattle.cedar_below.specs.Chain.{one}
-use Rattle.cedar_graph.specs.Numbering.{RowHas}
+use Rattle.cedar_graph.specs.Numbering.{ListHas}
 use Rattle.cedar_graph.proofs.Growing.{edge_sound}
 use Rattle.cedar_graph.proofs.KeyedEdges.{begins_at_node}
 use Rattle.cedar_graph.proofs.Numbers.{numbered_from_name}
 use Rattle.cedar_graph.proofs.closure.compute_tc_counted.Goals as goal
+use Rattle.cedar_graph.proofs.closure.compute_tc_counted.Goals.{then-enforce_dag+in_default, else-enforce_dag}
 
 pub returns-in_err-names-clause-sound : goal.returns-in_err-names-clause-sound
 returns-in_err-names-clause-sound g c = λ from to edge. one edge
@@ -27,25 +31,37 @@ returns-in-Some-clause-fault g c =
     let numbered = numbered_from_name g.K.PartialEq.eq names.items key key number found (g.met.K.Eq.laws.refl key) in
     (c.if-enforce_dag.true, c.in_ok-names.ensures.sound key key (number, numbered, (number, itself, numbered)))
 
-pub returns-in_err-add_all_row_edges-clause-sound : goal.returns-in_err-add_all_row_edges-clause-sound
-returns-in_err-add_all_row_edges-clause-sound g c = λ from to edge. ⊎_elim
+pub returns-in_err-add_all_edges-clause-sound : goal.returns-in_err-add_all_edges-clause-sound
+returns-in_err-add_all_edges-clause-sound g c = λ from to edge. ⊎_elim
     (λ before. one before)
     (λ may. c.in_ok-names.ensures.sound from to may)
     (edge_sound g.V.TCNode.has_edge g.V.TCNode.is_alike
-    (RowHas g.K.PartialEq.eq c.in_ok-names.field-0.names.items c.in_ok-names.field-0.rows.items from)
-    (get g.K.PartialEq.eq c.args.nodes.now from) (get g.K.PartialEq.eq c.add_all_row_edges.new.nodes from) to
-    (c.in_err-add_all_row_edges.ensures.grows from) edge)
+    (ListHas g.K.PartialEq.eq c.in_ok-names.field-0.names.items c.in_ok-names.field-0.lists.items from)
+    (get g.K.PartialEq.eq c.args.nodes.now from) (get g.K.PartialEq.eq c.add_all_edges.new.nodes from) to
+    (c.in_err-add_all_edges.ensures.grows from) edge)
 
 pub returns-clause-sound : goal.returns-clause-sound
 returns-clause-sound g c = λ from to edge. ⊎_elim
     (λ before. one before)
     (λ may. c.in_ok-names.ensures.sound from to may)
     (edge_sound g.V.TCNode.has_edge g.V.TCNode.is_alike
-    (RowHas g.K.PartialEq.eq c.in_ok-names.field-0.names.items c.in_ok-names.field-0.rows.items from)
-    (get g.K.PartialEq.eq c.args.nodes.now from) (get g.K.PartialEq.eq c.add_all_row_edges.new.nodes from) to
-    (c.in_ok-add_all_row_edges.ensures.grows from) edge)
+    (ListHas g.K.PartialEq.eq c.in_ok-names.field-0.names.items c.in_ok-names.field-0.lists.items from)
+    (get g.K.PartialEq.eq c.args.nodes.now from) (get g.K.PartialEq.eq c.add_all_edges.new.nodes from) to
+    (c.in_ok-add_all_edges.ensures.grows from) edge)
+
+pub swap_remove-requires : goal.swap_remove-requires
+swap_remove-requires g c = c.in_ok-names.ensures.within c.in-Some.number c.in-Some.number c.in-Some.ensures.found
+
+pub returns-clause-acyclic : goal.returns-clause-acyclic
+returns-clause-acyclic g c = λ enforced key chain. elim c.if-enforce_dag.branch [
+  | then-enforce_dag+in_default w ↦
+      let it = c.in_ok-names.ensures.complete key key chain in
+      let same = c.in_ok-names.ensures.single key it.2.0 it.0 it.2.2 it.1 in
+      w.in_default.ensures.none it.0 (subst (IsTarget c.in_ok-names.field-0.lists.items it.0) same it.2.1)
+  | else-enforce_dag w ↦ both_ways c.args.enforce_dag w.if-enforce_dag.false enforced
+]
 
 pub returns-clause-complete : goal.returns-clause-complete
 returns-clause-complete g c = λ from to chain.
-    c.in_ok-add_all_row_edges.ensures.complete from to (c.in_ok-names.ensures.complete from to chain)
+    c.in_ok-add_all_edges.ensures.complete from to (c.in_ok-names.ensures.complete from to chain)
     (begins_at_node g.K.PartialEq.eq g.V.TCNode.has_edge c.args.nodes.now chain)

@@ -16,6 +16,6 @@ returns g c =
     let stands : At items = subst At c.deref.ensures.value c.in_ok-place.ensures.found in
     record {
       value = ap (λ (it : g.row.K.Denot × g.row.V.Denot). Some it.1) c.index.ensures
-          ∙ (sym (found_at g.met.K.Ord.total items c.self.invariant key c.in_ok-place.place entry stands)
+          ∙ (sym (found_at g.met.K.Ord.total items c.self.invariant.0 key c.in_ok-place.place entry stands)
           ∙ ap (λ (table : Entries g.row.K.Denot g.row.V.Denot). lookup (is_at (cmp key)) table.entries) c.self.view_is);
     }

@@ -1,0 +1,98 @@
+-- The place to which a hint leads: there is one at most, and none where no row of those looked at has a hint to it.
+use Rattle.std.proofs.Common.{Bool, IfSome, IsTrue, true, refl, ◌≡◌, ◌≢◌, ◌<◌, ℕ, IsSomeAnd, List, None, Option, Some, ap, arith, length, slice_get, subst, sym, ◌∙◌, inl, inr}
+use Rattle.std.proofs.lemmas.Bool.{cases_eq, cases_lt}
+use Rattle.std.proofs.lemmas.Map.Entries.{place_from_lookup}
+use Rattle.std.proofs.lemmas.Option.{get_or_from_slice_get, slice_get_within}
+use Rattle.std.specs.BTreeMap.{is_at}
+use Rattle.std.specs.Cmp.{Equal-is}
+use Rattle.std.specs.Hash.{HashWrites}
+use Rattle.std.specs.Map.{lookup}
+use Rattle.std.specs.Ordering.{is_eq}
+use Rattle.std.specs.declared.cmp.Ordering.{Ordering}
+use Rattle.cedar_table.specs.StandsAt.{StandsAt}
+use Rattle.cedar_table.specs.declared.hints.Hints.{Hints}
+use Rattle.cedar_table.specs.Hints.{AreHinted, hash_by, LeadsTo, RowHas, row_of, tag_of}
+use Rattle.cedar_table.specs.declared.hints.Hint.{Hint}
+
+-- what is never some value is none
+none_from_no_some : {X : Type 0} (option : Option X) → ((x : X) → ¬ (option ≡ Some x)) → option ≡ None
+none_from_no_some None never = refl
+none_from_no_some (Some x) never = absurd (never x refl)
+
+-- a hint that passes in two ways
+both : (row : Option (Option Hint)) (First Second : Hint → Type 0) → IsSomeAnd row (λ each. IsSomeAnd each First)
+    → IsSomeAnd row (λ each. IsSomeAnd each Second) → (hint : Hint) × First hint × Second hint
+both None First Second first second = absurd first
+both (Some None) First Second first second = absurd first
+both (Some (Some hint)) First Second first second = (hint, first, second)
+
+-- a hint that passes also passes where less is asked
+pub weaker : (row : Option (Option Hint)) (First Second : Hint → Type 0) → ((hint : Hint) → First hint → Second hint)
+    → IsSomeAnd row (λ each. IsSomeAnd each First) → IsSomeAnd row (λ each. IsSomeAnd each Second)
+weaker None First Second onwards first = absurd first
+weaker (Some None) First Second onwards first = absurd first
+weaker (Some (Some hint)) First Second onwards first = onwards hint first
+
+module _ (rows : List (Option Hint)) (hash : ℕ) where
+  -- the row that is looked at in a step
+  abbrev row : ℕ → Option (Option Hint)
+  row step = slice_get rows (row_of (length rows) hash step)
+
+  -- no hint to a place stands where hints of other tags do
+  apart : (place step : ℕ) → RowHas rows hash step (λ hint. hint.tag ≢ tag_of hash)
+      → ¬ RowHas rows hash step (λ hint. (hint.tag ≡ tag_of hash) × (hint.place ≡ place))
+  apart place step other here =
+      let it = both (row step) (λ hint. hint.tag ≢ tag_of hash) (λ hint. (hint.tag ≡ tag_of hash) × (hint.place ≡ place)) other here in
+      it.1 it.2.0
+
+  -- two places to which hints lead are the same
+  pub leads_once : (first second : ℕ) → LeadsTo rows hash first → LeadsTo rows hash second → first ≡ second
+  leads_once first second one two = elim (cases_eq one.step two.step) [
+    | inl same ↦
+        let it = both (row two.step) (λ hint. (hint.tag ≡ tag_of hash) × (hint.place ≡ first))
+        (λ hint. (hint.tag ≡ tag_of hash) × (hint.place ≡ second))
+        (subst (λ step. RowHas rows hash step (λ hint. (hint.tag ≡ tag_of hash) × (hint.place ≡ first))) same one.here) two.here in
+        sym it.1.1 ∙ it.2.1
+    | inr other ↦ elim (cases_lt one.step two.step) [
+      | inl less ↦ absurd (apart first one.step (two.before one.step less) one.here)
+      | inr most ↦ absurd (apart second two.step (one.before two.step (omega (arith, other, most))) two.here)
+    ]
+  ]
+
+  -- no hint leads on where a row is free after rows of other tags
+  pub ends_free : (step : ℕ) → (¬ RowHas rows hash step (λ hint. Unit {0}))
+      → ((earlier : ℕ) → earlier < step → RowHas rows hash earlier (λ hint. hint.tag ≢ tag_of hash))
+      → (place : ℕ) → ¬ LeadsTo rows hash place
+  ends_free step free before place leads = elim (cases_eq leads.step step) [
+    | inl same ↦ free (subst (λ each. RowHas rows hash each (λ hint. Unit {0})) same
+        (weaker (row leads.step) (λ hint. (hint.tag ≡ tag_of hash) × (hint.place ≡ place)) (λ hint. Unit {0}) (λ hint it. tt) leads.here))
+    | inr other ↦ elim (cases_lt leads.step step) [
+      | inl less ↦ apart place leads.step (before leads.step less) leads.here
+      | inr most ↦ free (weaker (row step) (λ hint. hint.tag ≢ tag_of hash) (λ hint. Unit {0}) (λ hint it. tt) (leads.before step (omega (arith, other, most))))
+    ]
+  ]
+
+  -- nor where all rows that are looked at have other tags
+  pub ends_full : ((earlier : ℕ) → earlier < 64 → RowHas rows hash earlier (λ hint. hint.tag ≢ tag_of hash))
+      → (place : ℕ) → ¬ LeadsTo rows hash place
+  ends_full before place leads = apart place leads.step (before leads.step leads.near) leads.here
+
+module _ {K V : Type 0} (eq : K → K → Bool) (cmp : K → K → Ordering) (writes : K → HashWrites)
+    (alike : (a b : K) → eq a b ≡ true → writes a ≡ writes b) (ties : (a b : K) → eq a b ≡ is_eq (cmp a b)) (hints : Hints)
+    (entries : List (K × V)) (hinted : AreHinted writes hints entries) (complete : IsTrue hints.complete) (key : K) where
+  -- where hints are complete, a key isn't there if it stands at no place to which a hint leads
+  pub not_there : ((place : ℕ) → LeadsTo hints.rows.items (hash_by hints.seed (writes key)) place
+      → ¬ StandsAt cmp entries key place)
+      → lookup (is_at (cmp key)) entries ≡ None
+  not_there nowhere = none_from_no_some (lookup (is_at (cmp key)) entries) (λ value found.
+      let it = place_from_lookup (is_at (cmp key)) entries value found in
+      let same : writes key ≡ writes it.1 = alike key it.1 (ties key it.1 ∙ it.3) in
+      let leads : LeadsTo hints.rows.items (hash_by hints.seed (writes key)) it.0 =
+      subst (λ input. LeadsTo hints.rows.items (hash_by hints.seed input) it.0) (sym same)
+      (subst (λ entry. IfSome entry (λ each. LeadsTo hints.rows.items (hash_by hints.seed (writes each.0)) it.0)) it.2
+      (hinted complete it.0)) in
+      nowhere it.0 leads (
+        slice_get_within entries it.0 (it.1, value) it.2,
+        λ d. ap (λ each. cmp key each.0) (get_or_from_slice_get entries it.0 (it.1, value) d it.2)
+            ∙ (Equal-is (cmp key it.1)).0 it.3,
+      ))

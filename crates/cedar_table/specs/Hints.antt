@@ -1,0 +1,43 @@
+-- Rows of hints: where in a list of entries a key may stand, by the hash of the key.
+use Rattle.std.specs.Prelude.{◌≡◌, ◌≢◌, ◌+◌, ◌-◌, ◌/◌, ◌%◌, ◌^◌, ◌<◌, ℕ, IfSome, IsSomeAnd, IsTrue, List, Option, bit_and, length, slice_get}
+use Rattle.std.specs.Hash.{HashWrites, u64}
+use Rattle.std.specs.Hash.FoldHasher as folding
+use Rattle.std.specs.List.{fold}
+use Rattle.cedar_table.specs.declared.hints.Hint.{Hint}
+use Rattle.cedar_table.specs.declared.hints.Hints.{Hints}
+
+-- the hash of what a key is made of, begun with a number
+abbrev pub hash_by : ℕ → HashWrites → ℕ
+hash_by seed writes = folding.finish (fold folding.write (fold folding.write folding.initial (u64 seed)) writes)
+
+-- the part of a hash that a hint keeps
+abbrev pub tag_of : ℕ → ℕ
+tag_of hash = hash / 2 ^ 32
+
+-- the row that is looked at for a hash in a step, of so many rows
+abbrev pub row_of : ℕ → ℕ → ℕ → ℕ
+row_of rows hash step = bit_and ((hash + step) % 2 ^ 64) (rows - 1)
+
+-- in the row of a step stands a hint that passes
+abbrev pub RowHas : List (Option Hint) → ℕ → ℕ → (Hint → Type 0) → Type 0
+RowHas rows hash step Passes =
+    IsSomeAnd (slice_get rows (row_of (length rows) hash step)) (λ row. IsSomeAnd row Passes)
+
+-- the first of the rows of a hash in which no hint of another tag stands has a hint to the place
+pub record LeadsTo (rows : List (Option Hint)) (hash place : ℕ) : Type 0 where
+  pub step : ℕ
+  pub near : step < 64
+  pub here : RowHas rows hash step (λ hint. (hint.tag ≡ tag_of hash) × (hint.place ≡ place))
+  pub before : (earlier : ℕ) → earlier < step
+      → RowHas rows hash earlier (λ hint. hint.tag ≢ tag_of hash)
+
+-- a hint leads to the entry at each place
+abbrev pub LeadToAll : {K V : Type 0} → (K → HashWrites) → ℕ → List (Option Hint) → List (K × V)
+    → Type 0
+LeadToAll writes seed rows entries = (place : ℕ)
+    → IfSome (slice_get entries place) (λ entry. LeadsTo rows (hash_by seed (writes entry.0)) place)
+
+-- where the hints are said to be complete, one leads to each entry
+abbrev pub AreHinted : {K V : Type 0} → (K → HashWrites) → Hints → List (K × V) → Type 0
+AreHinted writes hints entries =
+    IsTrue hints.complete → LeadToAll writes hints.seed hints.rows.items entries
