@@ -1,5 +1,5 @@
 -- Edges of a list that are added one after another, and what nodes that had none lead to once all are.
-use Rattle.std.proofs.Common.{◌≡◌, ◌⊎◌, ◌↔◌, ◌<◌, ℕ, zero, suc, Bool, IsTrue, List, ◌∷◌, length, slice_index_or, Option, None, Some, HashMap, refl, sym, subst, inl, inr, ⊎_elim, arith, Contains}
+use Rattle.std.proofs.Common.{◌≡◌, ◌⊎◌, ◌↔◌, ◌<◌, ℕ, zero, suc, Bool, IsTrue, List, ◌∷◌, length, slice_index_or, Option, None, Some, HashMap, refl, sym, subst, inl, inr, arith, Contains}
 use Rattle.std.specs.HashMap.{get, ContainsKey}
 use Rattle.cedar_below.proofs.Chains.{refined}
 use Rattle.cedar_below.specs.Chain.{Chain, one}
@@ -52,14 +52,11 @@ module _ {K V S : Type 0} (eq : K → K → Bool) (has_edge : V → K → Bool) 
         let P : List (K × K) → Type 0 = λ edges. IsEdgeIn eq edges key other in
         let there : ContainsKey eq old key =
         some_kept has_edge is_alike (IsEdgeIn eq all key) (get eq before key) (get eq old key) (grows key) stands in
-        ⊎_elim
-        (λ has. inl (edge_kept has_edge is_alike (λ each. IsTrue (eq from key) × IsTrue (eq to each)) (get eq old key)
-        (get eq new key) other (step key) has))
-        (λ later. ⊎_elim
-        (λ here. inl (added key other here.0 there here.1))
-        (λ after. inr after)
-        (edge_cases eq from to key other rest (subst P is later)))
-        (complete key other listed stands)
+        elim (complete key other listed stands) [
+          | inl has ↦ inl (edge_kept has_edge is_alike (λ each. IsTrue (eq from key) × IsTrue (eq to each)) (get eq old key)
+              (get eq new key) other (step key) has)
+          | inr later ↦ elim (edge_cases eq from to key other rest (subst P is later)) [ inl here ↦ inl (added key other here.0 there here.1) | inr after ↦ inr after ]
+        ]
 
 -- nodes that are alike in one way are so in each that says less
 pub alike_weaker : {V : Type 0} (P Q : V → V → Type 0) → ((a b : V) → P a b → Q a b) → (o p : Option V) → AreAlike P o p
@@ -86,6 +83,6 @@ module _ {K V S : Type 0} (eq : K → K → Bool) (has_edge : V → K → Bool) 
   -- where no node had an edge, and each edge of the list is from a node, chains are chains of edges of the list
   pub chains_in : (from to : K) → Chain (HasEdge eq has_edge added) from to ↔ Chain (IsEdgeIn eq edges) from to
   chains_in from to = (
-    λ chain. refined (λ k l step. one (⊎_elim (λ there. absurd (apart k l there)) (λ among. among) (sound k l step))) chain,
+    λ chain. refined (λ k l step. one (elim (sound k l step) [ inl there ↦ absurd (apart k l there) | inr among ↦ among ])) chain,
     λ chain. refined (λ k l step. one (complete k l step (stands k l step))) chain,
   )

@@ -1,5 +1,5 @@
 -- Nodes that gain edges: none, more, one gain after another, and the gain of one node of a map.
-use Rattle.std.proofs.Common.{◌≡◌, Bool, true, false, cond, ◌||◌, IsTrue, ◌⊎◌, inl, inr, ⊎_elim, Option, None, Some, IsSome, IsSomeAnd, HashMap, Result, Ok, Err, OnOk, OnErr, sym, ◌∙◌, subst, subst₂}
+use Rattle.std.proofs.Common.{◌≡◌, Bool, cond, ◌||◌, IsTrue, ◌⊎◌, inl, inr, Option, None, Some, IsSome, IsSomeAnd, HashMap, Result, Ok, Err, OnOk, OnErr, sym, ◌∙◌, subst, subst₂}
 use Rattle.std.specs.Cmp.{IsEquivalence}
 use Rattle.std.specs.HashMap.{get}
 use Rattle.std.proofs.lemmas.Bool.{cases_Bool, cond-true, cond-false, or_cases, or_right}
@@ -17,7 +17,7 @@ module _ {K V : Type 0} (has_edge : V → K → Bool) (is_alike : V → V → Ty
       → GrowsBy has_edge is_alike v w May → GrowsBy has_edge is_alike v w More
   grows_weaker May More weaker v w grows = record {
     old_stay = grows.old_stay;
-    sound = λ to edge. ⊎_elim (λ old. inl old) (λ may. inr (weaker to may)) (grows.sound to edge);
+    sound = λ to edge. elim (grows.sound to edge) [ inl old ↦ inl old | inr may ↦ inr (weaker to may) ];
     alike = grows.alike;
   }
 
@@ -26,7 +26,7 @@ module _ {K V : Type 0} (has_edge : V → K → Bool) (is_alike : V → V → Ty
       → GrowsBy has_edge is_alike u v May → GrowsBy has_edge is_alike v w May → GrowsBy has_edge is_alike u w May
   grows_onwards onwards May u v w first second = record {
     old_stay = λ to edge. second.old_stay to (first.old_stay to edge);
-    sound = λ to edge. ⊎_elim (λ before. first.sound to before) (λ may. inr may) (second.sound to edge);
+    sound = λ to edge. elim (second.sound to edge) [ inl before ↦ first.sound to before | inr may ↦ inr may ];
     alike = onwards u v w first.alike second.alike;
   }
 
@@ -38,7 +38,7 @@ module _ {K V A E : Type 0} (eq : K → K → Bool) (has_edge : V → K → Bool
       → GrowsBy has_edge is_alike v w (λ to. IsTrue (eq key to))
   grows_by_one key v w (Ok done) added err alike = record {
     old_stay = λ to edge. added to ∙ or_right (eq key to) (has_edge v to) edge;
-    sound = λ to edge. ⊎_elim (λ new. inr new) (λ old. inl old) (or_cases (eq key to) (has_edge v to) (sym (added to) ∙ edge));
+    sound = λ to edge. elim (or_cases (eq key to) (has_edge v to) (sym (added to) ∙ edge)) [ inl new ↦ inr new | inr old ↦ inl old ];
     alike = alike;
   }
   grows_by_one key v w (Err wanting) added err alike = record {
@@ -109,15 +109,13 @@ module _ {K V S : Type 0} {eq : K → K → Bool} (laws : IsEquivalence eq) (has
   -- where the node at one key grows, what stands at each key does
   pub updated_grows : (key : K)
       → GrowsAt has_edge is_alike (get eq before key) (get eq after key) (λ to. IsTrue (eq name key) × May to)
-  updated_grows key = ⊎_elim
-      (λ (same : eq name key ≡ true).
-      let was : Some old ≡ get eq before key = sym found ∙ get_alike laws before name key same in
-      let is : Some new ≡ get eq after key = sym (updated key ∙ cond-true (eq name key) (Some new) (get eq before key) same) in
-      subst₂ (λ o p. GrowsAt has_edge is_alike o p (λ to. IsTrue (eq name key) × May to)) was is
-      (grows_weaker has_edge is_alike May (λ to. IsTrue (eq name key) × May to) (λ to there. (same, there)) old new grows))
-      (λ (apart : eq name key ≡ false).
-      let kept : get eq before key ≡ get eq after key =
-      sym (updated key ∙ cond-false (eq name key) (Some new) (get eq before key) apart) in
-      subst (λ p. GrowsAt has_edge is_alike (get eq before key) p (λ to. IsTrue (eq name key) × May to)) kept
-      (grows_at_itself has_edge is_alike itself (λ to. IsTrue (eq name key) × May to) (get eq before key)))
-      (cases_Bool (eq name key))
+  updated_grows key = elim (cases_Bool (eq name key)) [
+    | inl same ↦ let was : Some old ≡ get eq before key = sym found ∙ get_alike laws before name key same in
+        let is : Some new ≡ get eq after key = sym (updated key ∙ cond-true (eq name key) (Some new) (get eq before key) same) in
+        subst₂ (λ o p. GrowsAt has_edge is_alike o p (λ to. IsTrue (eq name key) × May to)) was is
+        (grows_weaker has_edge is_alike May (λ to. IsTrue (eq name key) × May to) (λ to there. (same, there)) old new grows)
+    | inr apart ↦ let kept : get eq before key ≡ get eq after key =
+        sym (updated key ∙ cond-false (eq name key) (Some new) (get eq before key) apart) in
+        subst (λ p. GrowsAt has_edge is_alike (get eq before key) p (λ to. IsTrue (eq name key) × May to)) kept
+        (grows_at_itself has_edge is_alike itself (λ to. IsTrue (eq name key) × May to) (get eq before key))
+  ]

@@ -1,5 +1,5 @@
 -- Edges of the nodes of a map against the numbers of their targets.
-use Rattle.std.proofs.Common.{◌≡◌, ℕ, zero, suc, ◌≤◌, Bool, true, IsTrue, IfSome, IsSome, is_some, IsSomeAnd, List, [], Option, None, Some, Vec, HashMap, length, slice_get, Contains, option_map, refl, sym, ◌∙◌, ap, subst, ⊎_elim, arith}
+use Rattle.std.proofs.Common.{◌≡◌, ℕ, zero, suc, ◌≤◌, Bool, true, IsTrue, IfSome, IsSome, is_some, IsSomeAnd, List, [], Option, None, Some, Vec, HashMap, length, slice_get, Contains, option_map, refl, sym, ◌∙◌, ap, subst, arith, inl, inr}
 use Rattle.std.specs.Cmp.{IsEquivalence}
 use Rattle.std.specs.HashMap.{get, keys, values, IsUnique}
 use Rattle.std.proofs.lemmas.Map.Entries.{place_from_lookup, lookup_from_place}
@@ -48,12 +48,11 @@ module _ {K V S Z : Type 0} {eq : K → K → Bool} (laws : IsEquivalence eq) (h
 
   -- where there are targets there is an entry
   entry_at : (i j : ℕ) → IsTarget targets i j → (e : K × V) × (slice_get nodes.entries i ≡ Some e)
-  entry_at i j edge = ⊎_elim
-      (λ it. (it.0, it.2))
-      (λ past.
-      let over : length targets ≤ i = omega (arith, past.0, len) in
-      absurd (nothing_in_nil j (subst (λ xs. Contains xs j) (items_at-past targets i over) edge)))
-      ((slice_get_cases nodes.entries i).1)
+  entry_at i j edge = elim ((slice_get_cases nodes.entries i).1) [
+    | inl it ↦ (it.0, it.2)
+    | inr past ↦ let over : length targets ≤ i = omega (arith, past.0, len) in
+        absurd (nothing_in_nil j (subst (λ xs. Contains xs j) (items_at-past targets i over) edge))
+  ]
 
   -- a step of keys is a step of their numbers
   pub step_of_keys : (a b : K) → HasEdge eq has_edge nodes a b
@@ -93,11 +92,10 @@ pub names_for_all : {K : Type 0} (eq : K → K → Bool) (keys names : List K)
     → ((i : ℕ) → IfSome (slice_get keys i) (λ key. IsNumbered eq names key i))
     → (n : ℕ) → n ≤ length keys → n ≤ length names
 names_for_all eq keys names in_order zero few = omega arith
-names_for_all eq keys names in_order (suc m) few = ⊎_elim
-    (λ it.
-    let stands : IsNumbered eq names it.0 m = subst (λ o. IfSome o (λ key. IsNumbered eq names key m)) it.2
-    (in_order m) in
-    let below = number_below eq names it.0 m stands in
-    omega (arith, below))
-    (λ past. absurd (omega (arith, past.0)))
-    ((slice_get_cases keys m).1)
+names_for_all eq keys names in_order (suc m) few = elim ((slice_get_cases keys m).1) [
+  | inl it ↦ let stands : IsNumbered eq names it.0 m = subst (λ o. IfSome o (λ key. IsNumbered eq names key m)) it.2
+      (in_order m) in
+      let below = number_below eq names it.0 m stands in
+      omega (arith, below)
+  | inr past ↦ absurd (omega (arith, past.0))
+]

@@ -1,5 +1,5 @@
 -- Lemmas on the items of a list of lists at a place.
-use Rattle.std.proofs.Common.{◌≡◌, ◌≢◌, ℕ, zero, suc, ◌+◌, ◌<◌, ◌≤◌, List, [], ◌∷◌, ◌++◌, Vec, length, get_or, set, take, drop, slice_get, Some, refl, arith, ap, ◌∙◌, sym, subst, ⊎_elim}
+use Rattle.std.proofs.Common.{◌≡◌, ◌≢◌, ℕ, zero, suc, ◌+◌, ◌<◌, ◌≤◌, List, [], ◌∷◌, ◌++◌, Vec, length, get_or, set, take, drop, slice_get, Some, refl, arith, ap, ◌∙◌, sym, subst, inl, inr}
 use Rattle.std.specs.Vec.{with_items}
 use Rattle.std.proofs.Math.Seq.{take-append_seam}
 use Rattle.std.proofs.lemmas.Bool.{cases_eq}
@@ -55,11 +55,11 @@ module _ {X Z : Type 0} where
   pub each_after_set : (P : ℕ → List X → Type 0) (vs : List (Vec X Z)) (i : ℕ) (v : Vec X Z) → i < length vs → P i v.items
       → ((k : ℕ) → k ≢ i → P k (items_at vs k)) → (k : ℕ) → P k (items_at (set vs i v) k)
   each_after_set P vs i v within here others k =
-      ⊎_elim
-      (λ (same : k ≡ i). subst (λ m. P m (items_at (set vs i v) m)) (sym same)
-      (subst (P i) (sym (items_at-set_same vs i v within)) here))
-      (λ (apart : k ≢ i). subst (P k) (sym (items_at-set_other vs i v k apart)) (others k apart))
-      (cases_eq k i)
+      elim (cases_eq k i) [
+        | inl same ↦ subst (λ m. P m (items_at (set vs i v) m)) (sym same)
+            (subst (P i) (sym (items_at-set_same vs i v within)) here)
+        | inr apart ↦ subst (P k) (sym (items_at-set_other vs i v k apart)) (others k apart)
+      ]
 
   -- a list that is refilled with as many items has them
   pub items-refilled : (v : Vec X Z) (ws : List X) → length ws ≡ v.len → (with_items v ws).items ≡ ws
@@ -70,13 +70,12 @@ module _ {X Z : Type 0} where
   pub each_after_push : (P : ℕ → List X → Type 0) (vs : List (Vec X Z)) (v : Vec X Z) → P (length vs) v.items
       → ((k : ℕ) → k < length vs → P k (items_at vs k)) → (k : ℕ) → k < length vs + 1 → P k (items_at (vs ++ v ∷ []) k)
   each_after_push P vs v here others k below =
-      ⊎_elim
-      (λ (same : k ≡ length vs). subst (λ m. P m (items_at (vs ++ v ∷ []) m)) (sym same)
-      (subst (P (length vs)) (sym (items_at-push_same vs v)) here))
-      (λ (apart : k ≢ length vs).
-      let before : k < length vs = omega arith in
-      subst (P k) (sym (items_at-push_other vs v k before)) (others k before))
-      (cases_eq k (length vs))
+      elim (cases_eq k (length vs)) [
+        | inl same ↦ subst (λ m. P m (items_at (vs ++ v ∷ []) m)) (sym same)
+            (subst (P (length vs)) (sym (items_at-push_same vs v)) here)
+        | inr apart ↦ let before : k < length vs = omega arith in
+            subst (P k) (sym (items_at-push_other vs v k before)) (others k before)
+      ]
 
 -- what is left of a list from a place on begins with what stands there
 pub drop_next : {X : Type 0} (xs : List X) (i : ℕ) (x : X) (rest : List X) → drop i xs ≡ x ∷ rest

@@ -1,5 +1,5 @@
 -- Entries moved from one map to another, which is in the order of the keys.
-use Rattle.std.proofs.Common.{◌≡◌, ◌↔◌, Bool, true, IsTrue, List, [], ◌∷◌, Option, None, Some, IsSome, HashMap, ap, sym, subst, ◌∙◌, refl, Contains, length, arith, ⊎_elim}
+use Rattle.std.proofs.Common.{◌≡◌, ◌↔◌, Bool, true, IsTrue, List, [], ◌∷◌, Option, None, Some, IsSome, HashMap, ap, sym, subst, ◌∙◌, refl, Contains, length, arith, inl, inr}
 use Rattle.std.proofs.lemmas.Bool.{false≢true}
 use Rattle.std.proofs.lemmas.List.{get_or-map, map-id}
 use Rattle.std.proofs.lemmas.List.Elements.{Contains-append_right}
@@ -104,10 +104,7 @@ module _ {K V : Type 0} where
   keyed_entry : (entries : List (K × V)) (key : K) → Contains (keys_of entries) key → (node : V) × Contains entries (key, node)
   keyed_entry [] key among = absurd (omega (arith, among.1))
   keyed_entry (e ∷ es) key among =
-      ⊎_elim
-      (λ same. (e.1, (0, omega arith, λ i. (same i, e.1))))
-      (λ later. let found = keyed_entry es key later in (found.0, Contains-append_right (e ∷ []) es (key, found.0) found.1))
-      (Contains-cons_cases e.0 (keys_of es) key among)
+      elim (Contains-cons_cases e.0 (keys_of es) key among) [ inl same ↦ (e.1, (0, omega arith, λ i. (same i, e.1))) | inr later ↦ let found = keyed_entry es key later in (found.0, Contains-append_right (e ∷ []) es (key, found.0) found.1) ]
 
 module _ {K V S : Type 0} {eq : K → K → Bool} (laws : IsEquivalence eq) (is_alike : V → V → Type 0) (P : K → V → Type 0)
     (carry : (key : K) (before after : V) → is_alike before after → P key before → P key after) where

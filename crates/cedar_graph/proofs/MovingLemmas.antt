@@ -1,5 +1,5 @@
 -- Entries put one after another into another map.
-use Rattle.std.proofs.Common.{◌≡◌, ◌⊎◌, inl, inr, ⊎_elim, Bool, true, false, cond, List, [], ◌∷◌, ◌++◌, Option, None, Some, BTreeMap, HashMap, refl, ap, sym, subst, ◌∙◌, Contains, arith}
+use Rattle.std.proofs.Common.{◌≡◌, ◌⊎◌, inl, inr, Bool, true, false, cond, List, [], ◌∷◌, ◌++◌, Option, None, Some, BTreeMap, HashMap, refl, ap, sym, subst, ◌∙◌, Contains, arith}
 use Rattle.std.proofs.lemmas.List.{map-id}
 use Rattle.std.proofs.lemmas.List.Elements.{Contains-append_left, Contains-append_right, Contains-push}
 use Rattle.std.proofs.lemmas.List.Sorted.{Contains-permutation, IsPermutation-sym}
@@ -60,11 +60,7 @@ module _ {K X : Type 0} where
     by Equal is new among more = let no : Some e.1 ≡ None = rw is at new in cc
     by Greater is new among more =
         let rest : lookup (is_at (cmp key)) es ≡ None = rw is at new in
-        ⊎_elim
-        (λ same. inr (subst (Contains (e ∷ es)) same (0, omega arith, refl)))
-        (λ later. ⊎_elim (λ it. inl it) (λ there. inr (Contains-append_right (e ∷ []) es entry there))
-        (more rest later))
-        (Contains-cons_cases e (insert_entry cmp es key value) entry (rw is at among))
+        elim (Contains-cons_cases e (insert_entry cmp es key value) entry (rw is at among)) [ inl same ↦ inr (subst (Contains (e ∷ es)) same (0, omega arith, refl)) | inr later ↦ elim (more rest later) [ inl it ↦ inl it | inr there ↦ inr (Contains-append_right (e ∷ []) es entry there) ] ]
 
   -- an entry of those from which one was taken stood there before
   pub kept_entry : (test : K → Bool) (es : List (K × X)) (entry : K × X) → Contains (remove_entry test es) entry → Contains es entry
@@ -74,10 +70,7 @@ module _ {K X : Type 0} where
         → (Contains (remove_entry test es) entry → Contains es entry) → Contains (e ∷ es) entry
     by true is among more = Contains-append_right (e ∷ []) es entry (rw is at among)
     by false is among more =
-        ⊎_elim
-        (λ same. subst (Contains (e ∷ es)) same (0, omega arith, refl))
-        (λ later. Contains-append_right (e ∷ []) es entry (more later))
-        (Contains-cons_cases e (remove_entry test es) entry (rw is at among))
+        elim (Contains-cons_cases e (remove_entry test es) entry (rw is at among)) [ inl same ↦ subst (Contains (e ∷ es)) same (0, omega arith, refl) | inr later ↦ Contains-append_right (e ∷ []) es entry (more later) ]
 
   -- the entries that were taken so far stand in the map in turn, and no others if no two of their keys are equal
   abbrev pub OrderedSoFar : (K → K → Ordering) → BTreeMap K X → List (K × X) → Type 0
@@ -97,13 +90,13 @@ module _ {K X : Type 0} where
   ordered_more cmp moved new taken last before updates put = (
     λ key. updates key ∙ update_all_push (eq_by_cmp cmp) (λ _. None) (tree.get cmp moved) taken last key (before.0 key),
     λ distinct entry among.
-        ⊎_elim
-        (λ same. subst (Contains (taken ++ last ∷ [])) same (Contains-push taken last))
-        (λ there. Contains-append_left taken (last ∷ []) entry
-        (before.1 (distinct_before (eq_by_cmp cmp) taken last distinct) entry there))
-        (inserted cmp moved.entries last.0 last.1 entry
+        elim (inserted cmp moved.entries last.0 last.1 entry
         (before.0 last.0 ∙ new_at_last (eq_by_cmp cmp) taken last (λ _. None) distinct)
-        (subst (λ es. Contains es entry) put among)),
+        (subst (λ es. Contains es entry) put among)) [
+          | inl same ↦ subst (Contains (taken ++ last ∷ [])) same (Contains-push taken last)
+          | inr there ↦ Contains-append_left taken (last ∷ []) entry
+              (before.1 (distinct_before (eq_by_cmp cmp) taken last distinct) entry there)
+        ],
   )
 
   pub hashed_more : {S : Type 0} (eq : K → K → Bool) (moved new : HashMap K X S) (taken : List (K × X)) (last : K × X) (old : Option X)
@@ -115,12 +108,9 @@ module _ {K X : Type 0} where
     λ distinct entry among.
         let none : old ≡ None = is ∙ before.0 last.0 ∙ new_at_last eq taken last (λ _. None) distinct in
         let more : IsPermutation (last ∷ moved.entries) new.entries = rw none at put in
-        ⊎_elim
-        (λ same. subst (Contains (taken ++ last ∷ [])) same (Contains-push taken last))
-        (λ there. Contains-append_left taken (last ∷ []) entry (before.1 (distinct_before eq taken last distinct) entry there))
-        (Contains-cons_cases last moved.entries entry
+        elim (Contains-cons_cases last moved.entries entry
         (Contains-permutation new.entries (last ∷ moved.entries) entry (IsPermutation-sym (last ∷ moved.entries) new.entries more)
-        among)),
+        among)) [ inl same ↦ subst (Contains (taken ++ last ∷ [])) same (Contains-push taken last) | inr there ↦ Contains-append_left taken (last ∷ []) entry (before.1 (distinct_before eq taken last distinct) entry there) ],
   )
 
 -- an entry of a map, in which one was put where one of its key was taken out, is that one or stood there before
@@ -131,14 +121,14 @@ pub replaced : {K X S : Type 0} (eq : K → K → Bool) (test : K → Bool) (bef
 replaced eq test before without after key value old taken absent is put entry among =
     let none : old ≡ None = is ∙ absent in
     let more : IsPermutation ((key, value) ∷ without.entries) after.entries = rw none at put in
-    ⊎_elim
-    (λ same. inl same)
-    (λ there. inr (kept_entry test before.entries entry
-    (Contains-permutation without.entries (remove_entry test before.entries) entry
-    (IsPermutation-sym (remove_entry test before.entries) without.entries taken) there)))
-    (Contains-cons_cases (key, value) without.entries entry
+    elim (Contains-cons_cases (key, value) without.entries entry
     (Contains-permutation after.entries ((key, value) ∷ without.entries) entry
-    (IsPermutation-sym ((key, value) ∷ without.entries) after.entries more) among))
+    (IsPermutation-sym ((key, value) ∷ without.entries) after.entries more) among)) [
+      | inl same ↦ inl same
+      | inr there ↦ inr (kept_entry test before.entries entry
+          (Contains-permutation without.entries (remove_entry test before.entries) entry
+          (IsPermutation-sym (remove_entry test before.entries) without.entries taken) there))
+    ]
 
 -- the same of a map in the order of its keys
 pub replaced_in_order : {K X : Type 0} (cmp : K → K → Ordering) (test : K → Bool) (before without after : BTreeMap K X) (key : K) (value : X)
@@ -146,10 +136,7 @@ pub replaced_in_order : {K X : Type 0} (cmp : K → K → Ordering) (test : K �
     → after.entries ≡ insert_entry cmp without.entries key value
     → (entry : K × X) → Contains after.entries entry → ((key, value) ≡ entry) ⊎ Contains before.entries entry
 replaced_in_order cmp test before without after key value taken absent put entry among =
-    ⊎_elim
-    (λ same. inl same)
-    (λ there. inr (kept_entry test before.entries entry (subst (λ es. Contains es entry) taken there)))
-    (inserted cmp without.entries key value entry absent (subst (λ es. Contains es entry) put among))
+    elim (inserted cmp without.entries key value entry absent (subst (λ es. Contains es entry) put among)) [ inl same ↦ inl same | inr there ↦ inr (kept_entry test before.entries entry (subst (λ es. Contains es entry) taken there)) ]
 
 -- what is put at a key is found there, whatever was taken out before
 pub put_again : {X : Type 0} (b : Bool) (put : Option X) (before without : Option X) → without ≡ cond b None before

@@ -1,5 +1,5 @@
 -- Keys and their numbers: how one more name changes them, and chains of keys against chains of numbers.
-use Rattle.std.proofs.Common.{◌≡◌, ◌⊎◌, ℕ, zero, suc, ◌<◌, Bool, true, false, cond, IsTrue, List, [], ◌∷◌, ◌++◌, length, Option, Some, None, IsSomeAnd, IfSome, slice_get, get_or, HashMap, refl, sym, ◌∙◌, ap, subst, inl, inr, ⊎_elim, arith}
+use Rattle.std.proofs.Common.{◌≡◌, ◌⊎◌, ℕ, zero, suc, ◌<◌, Bool, true, false, cond, IsTrue, List, [], ◌∷◌, ◌++◌, length, Option, Some, None, IsSomeAnd, IfSome, slice_get, get_or, HashMap, refl, sym, ◌∙◌, ap, subst, inl, inr, arith}
 use Rattle.std.specs.Cmp.{IsEquivalence}
 use Rattle.std.specs.HashMap.{get}
 use Rattle.std.specs.Map.{lookup}
@@ -42,7 +42,7 @@ module _ {K : Type 0} (eq : K → K → Bool) where
   number_cases [] name key (suc n) stands = elim stands [ ]
   number_cases (x ∷ xs) name key zero stands = inl stands
   number_cases (x ∷ xs) name key (suc n) stands =
-      ⊎_elim (λ before. inl before) (λ last. inr (ap suc last.0, last.1)) (number_cases xs name key n stands)
+      elim (number_cases xs name key n stands) [ inl before ↦ inl before | inr last ↦ inr (ap suc last.0, last.1) ]
 
   -- a key that is equal to the name at a number has it
   pub numbered_from_name : (names : List K) (name key : K) (n : ℕ) → slice_get names n ≡ Some name → eq key name
@@ -100,30 +100,25 @@ module _ {K : Type 0} {eq : K → K → Bool} (laws : IsEquivalence eq) where
       → ((q : K) → get eq new q ≡ cond (eq copy q) (Some (length names)) (get eq old q))
       → AreNumbers eq (names ++ name ∷ []) new
   numbers_added names old new key copy name agree absent copied named updated q m = (
-    λ found. ⊎_elim
-        (λ (same : eq copy q ≡ true).
-        let last : length names ≡ m = same_Some (length names) m
-        (sym (cond-true (eq copy q) (Some (length names)) (get eq old q) same) ∙ sym (updated q) ∙ found) in
-        let alike : eq q name ≡ true = eq_trans q key name (eq_back key q (eq_trans key copy q copied same)) named in
-        subst (IsNumbered eq (names ++ name ∷ []) q) last (number_added eq names name q alike))
-        (λ (apart : eq copy q ≡ false).
-        let before : get eq old q ≡ Some m = sym (cond-false (eq copy q) (Some (length names)) (get eq old q) apart)
-        ∙ sym (updated q) ∙ found in
-        number_kept eq names name q m ((agree q m).0 before))
-        (cases_Bool (eq copy q)),
-    λ stands. ⊎_elim
-        (λ before. ⊎_elim
-        (λ (same : eq copy q ≡ true).
-        let here = (agree key m).1 (number_alike names key q m (eq_trans key copy q copied same) before) in
-        absurd (none-some m (sym absent ∙ here)))
-        (λ (apart : eq copy q ≡ false).
-        updated q ∙ cond-false (eq copy q) (Some (length names)) (get eq old q) apart ∙ (agree q m).1 before)
-        (cases_Bool (eq copy q)))
-        (λ last.
-        let same : eq copy q ≡ true = eq_trans copy key q (eq_back key copy copied)
-        (eq_trans key name q named (eq_back q name last.1)) in
-        updated q ∙ cond-true (eq copy q) (Some (length names)) (get eq old q) same ∙ ap Some (sym last.0))
-        (number_cases eq names name q m stands),
+    λ found. elim (cases_Bool (eq copy q)) [
+      | inl same ↦ let last : length names ≡ m = same_Some (length names) m
+          (sym (cond-true (eq copy q) (Some (length names)) (get eq old q) same) ∙ sym (updated q) ∙ found) in
+          let alike : eq q name ≡ true = eq_trans q key name (eq_back key q (eq_trans key copy q copied same)) named in
+          subst (IsNumbered eq (names ++ name ∷ []) q) last (number_added eq names name q alike)
+      | inr apart ↦ let before : get eq old q ≡ Some m = sym (cond-false (eq copy q) (Some (length names)) (get eq old q) apart)
+          ∙ sym (updated q) ∙ found in
+          number_kept eq names name q m ((agree q m).0 before)
+    ],
+    λ stands. elim (number_cases eq names name q m stands) [
+      | inl before ↦ elim (cases_Bool (eq copy q)) [
+        | inl same ↦ let here = (agree key m).1 (number_alike names key q m (eq_trans key copy q copied same) before) in
+            absurd (none-some m (sym absent ∙ here))
+        | inr apart ↦ updated q ∙ cond-false (eq copy q) (Some (length names)) (get eq old q) apart ∙ (agree q m).1 before
+      ]
+      | inr last ↦ let same : eq copy q ≡ true = eq_trans copy key q (eq_back key copy copied)
+          (eq_trans key name q named (eq_back q name last.1)) in
+          updated q ∙ cond-true (eq copy q) (Some (length names)) (get eq old q) same ∙ ap Some (sym last.0)
+    ],
   )
 
 -- numbers of keys stay so while keys keep their numbers

@@ -43,18 +43,18 @@ fresh_isnt_done same = cc
 mark_set : (P : ℕ → Mark → Type 0) (marks : List Mark) (n : ℕ) (mark : Mark) → n < length marks → P n mark
     → ((m : ℕ) → m ≢ n → P m (mark_at marks m)) → (m : ℕ) → P m (mark_at (set marks n mark) m)
 mark_set P marks n mark within here others m =
-    ⊎_elim
-    (λ (same : m ≡ n). let Q : ℕ → Type 0 = λ each. P each (mark_at (set marks n mark) each) in
-    subst Q (sym same) (subst (P n) (sym (get_or-set_same marks n mark Done within)) here))
-    (λ (apart : m ≢ n). subst (P m) (sym (get_or-set_other marks n m mark Done apart)) (others m apart))
-    (same_or_not m n)
+    elim (same_or_not m n) [
+      | inl same ↦ let Q : ℕ → Type 0 = λ each. P each (mark_at (set marks n mark) each) in
+          subst Q (sym same) (subst (P n) (sym (get_or-set_same marks n mark Done within)) here)
+      | inr apart ↦ subst (P m) (sym (get_or-set_other marks n m mark Done apart)) (others m apart)
+    ]
   where
     same_or_not : (a b : ℕ) → (a ≡ b) ⊎ (a ≢ b)
     same_or_not zero zero = inl refl
     same_or_not zero (suc b) = inr (λ same. omega (arith, same))
     same_or_not (suc a) zero = inr (λ same. omega (arith, same))
     same_or_not (suc a) (suc b) =
-        ⊎_elim (λ same. inl (ap suc same)) (λ apart. inr (λ same. apart (omega (arith, same)))) (same_or_not a b)
+        elim (same_or_not a b) [ inl same ↦ inl (ap suc same) | inr apart ↦ inr (λ same. apart (omega (arith, same))) ]
 
 -- a list with one more item that is taken apart at some item is so at an earlier one or at the last
 snoc_cases : (xs : List ℕ) (x : ℕ) (before : List ℕ) (y : ℕ) (after : List ℕ) → xs ++ x ∷ [] ≡ before ++ y ∷ after
@@ -76,10 +76,7 @@ snoc_cases (first ∷ xs) x [] y after same = inr (xs, λ i. head (same i) ∷ x
   head [] = first
   head (each ∷ others) = each
 snoc_cases (first ∷ xs) x (b ∷ before) y after same =
-    ⊎_elim
-    (λ whole. inl ((λ i. head (same i) ∷ whole.0 i), whole.1))
-    (λ part. inr (part.0, λ i. head (same i) ∷ part.1 i))
-    (snoc_cases xs x before y after (ap tail same))
+    elim (snoc_cases xs x before y after (ap tail same)) [ inl whole ↦ inl ((λ i. head (same i) ∷ whole.0 i), whole.1) | inr part ↦ inr (part.0, λ i. head (same i) ∷ part.1 i) ]
   where
     head : List ℕ → ℕ
     head [] = first
@@ -94,14 +91,12 @@ pub distinct_snoc : (xs : List ℕ) (x : ℕ) → AllPairs (λ a b. a ≢ b) xs 
 distinct_snoc xs x distinct other i j d below within same =
     let long : length (xs ++ x ∷ []) ≡ length xs + 1 = length-append xs (x ∷ []) in
     let first = get_or-append xs (x ∷ []) d i in
-    ⊎_elim
-    (λ (inside : j < length xs).
-    distinct i j d below inside (sym (first (omega (arith, below, inside))) ∙ (same ∙ get_or-append xs (x ∷ []) d j inside)))
-    (λ (last : j ≡ length xs).
-    let inside : i < length xs = omega (arith, below, last) in
-    let P : ℕ → Type 0 = λ k. get_or (xs ++ x ∷ []) i d ≡ get_or (xs ++ x ∷ []) k d in
-    other (i, inside, any_default xs i x d inside ∙ (sym (first inside) ∙ (subst P last same ∙ get_or-append_seam xs x [] d))))
-    (below_or_last j (length xs) (omega (arith, within, long)))
+    elim (below_or_last j (length xs) (omega (arith, within, long))) [
+      | inl inside ↦ distinct i j d below inside (sym (first (omega (arith, below, inside))) ∙ (same ∙ get_or-append xs (x ∷ []) d j inside))
+      | inr last ↦ let inside : i < length xs = omega (arith, below, last) in
+          let P : ℕ → Type 0 = λ k. get_or (xs ++ x ∷ []) i d ≡ get_or (xs ++ x ∷ []) k d in
+          other (i, inside, any_default xs i x d inside ∙ (sym (first inside) ∙ (subst P last same ∙ get_or-append_seam xs x [] d)))
+    ]
   where
     any_default : (list : List ℕ) (k a b : ℕ) → k < length list → get_or list k a ≡ get_or list k b
     any_default [] k a b inside = absurd (omega (arith, inside))
@@ -113,7 +108,7 @@ distinct_snoc xs x distinct other i j d below within same =
     below_or_last zero (suc n) within = inl (omega arith)
     below_or_last (suc k) zero within = absurd (omega (arith, within))
     below_or_last (suc k) (suc n) within =
-        ⊎_elim (λ less. inl (omega (arith, less))) (λ same. inr (ap suc same)) (below_or_last k n (omega (arith, within)))
+        elim (below_or_last k n (omega (arith, within))) [ inl less ↦ inl (omega (arith, less)) | inr same ↦ inr (ap suc same) ]
 
 module _ {Z : Type 0} (targets : List (Vec ℕ Z)) where
   -- how far the numbers are ordered: which are done and open, what is to be done, and the order so far
@@ -132,17 +127,13 @@ module _ {Z : Type 0} (targets : List (Vec ℕ Z)) where
       → Contains (map number_of rest) n ⊎ (number_of step ≡ n)
   number_cases rest step n among =
       let P : List ℕ → Type 0 = λ list. Contains list n in
-      ⊎_elim (λ here. inl here)
-      (λ last. inr (⊎_elim (λ same. same) (λ none. absurd (omega (arith, none.1))) (Contains-cons_cases (number_of step) [] n last)))
-      (Contains-append_cases (map number_of rest) (number_of step ∷ []) n (subst P (map-append number_of rest (step ∷ [])) among))
+      elim (Contains-append_cases (map number_of rest) (number_of step ∷ []) n (subst P (map-append number_of rest (step ∷ [])) among)) [ inl here ↦ inl here | inr last ↦ inr (elim (Contains-cons_cases (number_of step) [] n last) [ inl same ↦ same | inr none ↦ absurd (omega (arith, none.1)) ]) ]
 
   -- a step that leaves a number is the last or among the others
   leave_cases : (rest : List Step) (step : Step) (n : ℕ) → Contains (rest ++ step ∷ []) (Leave n)
       → Contains rest (Leave n) ⊎ (step ≡ Leave n)
   leave_cases rest step n among =
-      ⊎_elim (λ here. inl here)
-      (λ last. inr (⊎_elim (λ same. same) (λ none. absurd (omega (arith, none.1))) (Contains-cons_cases step [] (Leave n) last)))
-      (Contains-append_cases rest (step ∷ []) (Leave n) among)
+      elim (Contains-append_cases rest (step ∷ []) (Leave n) among) [ inl here ↦ inl here | inr last ↦ inr (elim (Contains-cons_cases step [] (Leave n) last) [ inl same ↦ same | inr none ↦ absurd (omega (arith, none.1)) ]) ]
 
   -- at first nothing is done
   pub at_first : (marks : List Mark) (steps : List Step) → length marks ≡ length targets
@@ -177,12 +168,16 @@ module _ {Z : Type 0} (targets : List (Vec ℕ Z)) where
     done = so_far.done;
     open_ = λ m within. (
       λ leaves. (so_far.open_ m within).0 (Contains-append_left rest (Enter n ∷ []) (Leave m) leaves),
-      λ is. ⊎_elim (λ here. here) (λ same. absurd (enter_or_leave n m same)) (leave_cases rest (Enter n) m ((so_far.open_ m within).1 is)),
+      λ is. elim (leave_cases rest (Enter n) m ((so_far.open_ m within).1 is)) [ inl here ↦ here | inr same ↦ absurd (enter_or_leave n m same) ],
     );
-    waits = λ m within. ⊎_elim (λ there. inl there)
-        (λ waiting. ⊎_elim (λ here. inr here) (λ same. let P : ℕ → Type 0 = Contains order in
-        inl (subst P same (done (omega (arith, same, within))))) (number_cases rest (Enter n) m waiting))
-        (so_far.waits m within);
+    waits = λ m within. elim (so_far.waits m within) [
+      | inl there ↦ inl there
+      | inr waiting ↦ elim (number_cases rest (Enter n) m waiting) [
+        | inl here ↦ inr here
+        | inr same ↦ let P : ℕ → Type 0 = Contains order in
+            inl (subst P same (done (omega (arith, same, within))))
+      ]
+    ];
     are_steps = steps_before targets (Contains order) (Contains order) (λ m there. there) None rest (Enter n) done so_far.are_steps;
     after = so_far.after;
     once = so_far.once;
@@ -207,8 +202,7 @@ module _ {Z : Type 0} (targets : List (Vec ℕ Z)) where
         done = mark_set (λ m mark. m < length targets → Contains (order ++ n ∷ []) m ↔ (mark ≡ Done)) marks n Done
             (omega (arith, within_n, so_far.len)) (λ within. (λ there. refl, λ same. here))
             (λ m apart within. (
-              λ there. ⊎_elim (λ before. (so_far.done m within).0 before) (λ same. absurd (apart (sym (single n m same))))
-                  (Contains-append_cases order (n ∷ []) m there),
+              λ there. elim (Contains-append_cases order (n ∷ []) m there) [ inl before ↦ (so_far.done m within).0 before | inr same ↦ absurd (apart (sym (single n m same))) ],
               λ is. Contains-append_left order (n ∷ []) m ((so_far.done m within).1 is),
             ));
         open_ = mark_set (λ m mark. m < length targets → Contains rest (Leave m) ↔ (mark ≡ Open)) marks n Done
@@ -216,20 +210,17 @@ module _ {Z : Type 0} (targets : List (Vec ℕ Z)) where
             (λ within. (λ there. absurd (not_again there), λ same. absurd (open_isnt_done (sym same))))
             (λ m apart within. (
               λ there. (so_far.open_ m within).0 (Contains-append_left rest (Leave n ∷ []) (Leave m) there),
-              λ is. ⊎_elim (λ before. before) (λ same. absurd (apart (sym (ap number_of same))))
-                  (leave_cases rest (Leave n) m ((so_far.open_ m within).1 is)),
+              λ is. elim (leave_cases rest (Leave n) m ((so_far.open_ m within).1 is)) [ inl before ↦ before | inr same ↦ absurd (apart (sym (ap number_of same))) ],
             ));
-        waits = λ m within. ⊎_elim (λ there. inl (Contains-append_left order (n ∷ []) m there))
-            (λ waiting. ⊎_elim (λ before. inr before) (λ same. inl (subst Q same here)) (number_cases rest (Leave n) m waiting))
-            (so_far.waits m within);
+        waits = λ m within. elim (so_far.waits m within) [ inl there ↦ inl (Contains-append_left order (n ∷ []) m there) | inr waiting ↦ elim (number_cases rest (Leave n) m waiting) [ inl before ↦ inr before | inr same ↦ inl (subst Q same here) ] ];
         are_steps = steps_before targets (Contains order) (Contains (order ++ n ∷ []))
             (λ m there. Contains-append_left order (n ∷ []) m there) None rest (Leave n) (λ within. here) so_far.are_steps;
-        after = λ before others m to same leads. ⊎_elim
-            (λ whole. let R : List ℕ → Type 0 = λ list. Contains list to in
-            let S : ℕ → Type 0 = λ each. LeadsTo targets each to in
-            subst R whole.0 (left_covered targets (Contains order) None rest n so_far.are_steps to (subst S (sym whole.1) leads)))
-            (λ part. so_far.after before part.0 m to part.1 leads)
-            (snoc_cases order n before m others same);
+        after = λ before others m to same leads. elim (snoc_cases order n before m others same) [
+          | inl whole ↦ let R : List ℕ → Type 0 = λ list. Contains list to in
+              let S : ℕ → Type 0 = λ each. LeadsTo targets each to in
+              subst R whole.0 (left_covered targets (Contains order) None rest n so_far.are_steps to (subst S (sym whole.1) leads))
+          | inr part ↦ so_far.after before part.0 m to part.1 leads
+        ];
         once = distinct_snoc order n so_far.once not_done;
       }
 
@@ -255,21 +246,17 @@ module _ {Z : Type 0} (targets : List (Vec ℕ Z)) where
         open_ = mark_set (λ m mark. m < length targets → Contains (rest ++ added) (Leave m) ↔ (mark ≡ Open)) marks n Open
             (omega (arith, within_n, so_far.len)) (λ within. (λ there. refl, λ is. here))
             (λ m apart within. (
-              λ there. ⊎_elim
-                  (λ before. (so_far.open_ m within).0 (Contains-append_left rest (Enter n ∷ []) (Leave m) before))
-                  (λ new. ⊎_elim (λ is. absurd (apart (sym (ap number_of is)))) (λ later. absurd (enters_leave_none numbers m later))
-                  (Contains-cons_cases (Leave n) (map Enter numbers) (Leave m) new))
-                  (Contains-append_cases rest added (Leave m) there),
-              λ is. ⊎_elim (λ before. Contains-append_left rest added (Leave m) before) (λ wrong. absurd (enter_or_leave n m wrong))
-                  (leave_cases rest (Enter n) m ((so_far.open_ m within).1 is)),
+              λ there. elim (Contains-append_cases rest added (Leave m) there) [ inl before ↦ (so_far.open_ m within).0 (Contains-append_left rest (Enter n ∷ []) (Leave m) before) | inr new ↦ elim (Contains-cons_cases (Leave n) (map Enter numbers) (Leave m) new) [ inl is ↦ absurd (apart (sym (ap number_of is))) | inr later ↦ absurd (enters_leave_none numbers m later) ] ],
+              λ is. elim (leave_cases rest (Enter n) m ((so_far.open_ m within).1 is)) [ inl before ↦ Contains-append_left rest added (Leave m) before | inr wrong ↦ absurd (enter_or_leave n m wrong) ],
             ));
-        waits = λ m within. ⊎_elim (λ there. inl there)
-            (λ waiting. ⊎_elim
-            (λ before. inr (subst (P m) (sym (map-append number_of rest added))
-            (Contains-append_left (map number_of rest) (map number_of added) m before)))
-            (λ is. inr (subst Q is (image number_of (rest ++ added) (Leave n) here)))
-            (number_cases rest (Enter n) m waiting))
-            (so_far.waits m within);
+        waits = λ m within. elim (so_far.waits m within) [
+          | inl there ↦ inl there
+          | inr waiting ↦ elim (number_cases rest (Enter n) m waiting) [
+            | inl before ↦ inr (subst (P m) (sym (map-append number_of rest added))
+                (Contains-append_left (map number_of rest) (map number_of added) m before))
+            | inr is ↦ inr (subst Q is (image number_of (rest ++ added) (Leave n) here))
+          ]
+        ];
         are_steps = steps_opened targets (Contains order) None rest n numbers within_n not_again
             (λ to leads. (same to).0 leads) (λ to there. (same to).1 there) so_far.are_steps;
         after = so_far.after;
@@ -280,15 +267,12 @@ module _ {Z : Type 0} (targets : List (Vec ℕ Z)) where
   pub cycle : (marks : List Mark) (rest : List Step) (n : ℕ) (order : List ℕ) → n < length targets → mark_at marks n ≡ Open
       → Progress marks (rest ++ Enter n ∷ []) order → Chain (LeadsTo targets) n n
   cycle marks rest n order within is so_far =
-      ⊎_elim
-      (λ here. leads_back targets (Contains order) rest n within so_far.are_steps here)
-      (λ wrong. absurd (enter_or_leave n n wrong))
-      (leave_cases rest (Enter n) n ((so_far.open_ n within).1 is))
+      elim (leave_cases rest (Enter n) n ((so_far.open_ n within).1 is)) [ inl here ↦ leads_back targets (Contains order) rest n within so_far.are_steps here | inr wrong ↦ absurd (enter_or_leave n n wrong) ]
 
   -- where no step is left the order is whole
   pub whole : (marks : List Mark) (order : List ℕ) → Progress marks [] order → IsOrder targets order
   whole marks order so_far = record {
-    each = λ n. (λ there. so_far.within n there, λ within. ⊎_elim (λ there. there) (λ none. absurd (omega (arith, none.1))) (so_far.waits n within));
+    each = λ n. (λ there. so_far.within n there, λ within. elim (so_far.waits n within) [ inl there ↦ there | inr none ↦ absurd (omega (arith, none.1)) ]);
     once = so_far.once;
     after = so_far.after;
   }
@@ -297,10 +281,7 @@ module _ {Z : Type 0} (targets : List (Vec ℕ Z)) where
 taken_apart : (xs : List ℕ) (x : ℕ) → Contains xs x → (before : List ℕ) × (rest : List ℕ) × (xs ≡ before ++ x ∷ rest)
 taken_apart [] x among = absurd (omega (arith, among.1))
 taken_apart (y ∷ ys) x among =
-    ⊎_elim
-    (λ here. ([], ys, ap (λ each. each ∷ ys) here))
-    (λ later. let found = taken_apart ys x later in (y ∷ found.0, found.1, ap (λ others. y ∷ others) found.2))
-    (Contains-cons_cases y ys x among)
+    elim (Contains-cons_cases y ys x among) [ inl here ↦ ([], ys, ap (λ each. each ∷ ys) here) | inr later ↦ let found = taken_apart ys x later in (y ∷ found.0, found.1, ap (λ others. y ∷ others) found.2) ]
 
 -- of distinct items none stands before itself
 stands_once : (before : List ℕ) (x : ℕ) (rest : List ℕ) → AllPairs (λ a b. a ≢ b) (before ++ x ∷ rest) → ¬ Contains before x

@@ -1,5 +1,5 @@
 -- Steps that enter and leave numbers, and the order that they give.
-use Rattle.std.proofs.Common.{◌≡◌, ◌⊎◌, ◌<◌, ℕ, List, [], ◌∷◌, ◌++◌, Option, None, Some, Vec, Contains, length, map, ap, sym, subst, refl, inl, inr, ⊎_elim, arith}
+use Rattle.std.proofs.Common.{◌≡◌, ◌⊎◌, ◌<◌, ℕ, List, [], ◌∷◌, ◌++◌, Option, None, Some, Vec, Contains, length, map, ap, sym, subst, refl, inl, inr, arith}
 use Rattle.std.proofs.lemmas.List.{map-append}
 use Rattle.std.proofs.lemmas.List.Elements.{Contains-append_left, Contains-append_right, Contains-append_cases}
 use Rattle.cedar_below.proofs.Lists.{Contains-cons, Contains-cons_cases}
@@ -16,14 +16,14 @@ number_of (Leave number) = number
 
 -- in a list of one item stands that item
 pub single : {A : Type 0} (x y : A) → Contains (x ∷ []) y → x ≡ y
-single x y among = ⊎_elim (λ same. same) (λ none. absurd (omega (arith, none.1))) (Contains-cons_cases x [] y among)
+single x y among = elim (Contains-cons_cases x [] y among) [ inl same ↦ same | inr none ↦ absurd (omega (arith, none.1)) ]
 
 -- the image of an item that stands in a list stands in the mapped list
 pub image : {X Y : Type 0} (f : X → Y) (xs : List X) (x : X) → Contains xs x → Contains (map f xs) (f x)
 image f [] x among = absurd (omega (arith, among.1))
 image f (first ∷ rest) x among =
     Contains-cons (f first) (map f rest) (f x)
-    (⊎_elim (λ here. inl (ap f here)) (λ later. inr (image f rest x later)) (Contains-cons_cases first rest x among))
+    (elim (Contains-cons_cases first rest x among) [ inl here ↦ inl (ap f here) | inr later ↦ inr (image f rest x later) ])
 
 -- a step that enters isn't one that leaves
 pub enter_or_leave : (a b : ℕ) → ¬ (Enter a ≡ Leave b)
@@ -33,8 +33,7 @@ enter_or_leave a b same = cc
 pub enters_leave_none : (numbers : List ℕ) (n : ℕ) → ¬ Contains (map Enter numbers) (Leave n)
 enters_leave_none [] n among = omega (arith, among.1)
 enters_leave_none (m ∷ rest) n among =
-    ⊎_elim (λ here. enter_or_leave m n here) (λ later. enters_leave_none rest n later)
-    (Contains-cons_cases (Enter m) (map Enter rest) (Leave n) among)
+    elim (Contains-cons_cases (Enter m) (map Enter rest) (Leave n) among) [ inl here ↦ enter_or_leave m n here | inr later ↦ enters_leave_none rest n later ]
 
 -- steps that enter numbers have those numbers
 pub enters_have : (numbers : List ℕ) → map number_of (map Enter numbers) ≡ numbers
@@ -81,7 +80,7 @@ module _ {Z : Type 0} (targets : List (Vec ℕ Z)) where
   steps_before IsDone NowDone stays from (Leave m ∷ rest) step done steps = (
     steps.0,
     steps.1,
-    λ to leads. ⊎_elim (λ before. inl (stays to before)) (λ above. covered to leads.1 above) (steps.2 to leads),
+    λ to leads. elim (steps.2 to leads) [ inl before ↦ inl (stays to before) | inr above ↦ covered to leads.1 above ],
     λ again. steps.3 (Contains-append_left rest (step ∷ []) (Leave m) again),
     steps_before IsDone NowDone stays (Some m) rest step done steps.4,
   )
@@ -90,12 +89,12 @@ module _ {Z : Type 0} (targets : List (Vec ℕ Z)) where
           → NowDone to ⊎ Contains (map number_of rest) to
       covered to within above =
           let P : List ℕ → Type 0 = λ numbers. Contains numbers to in
-          ⊎_elim
-          (λ here. inr here)
-          (λ last. let same = single (number_of step) to last in
-          let Q : ℕ → Type 0 = NowDone in
-          inl (subst Q same (done (omega (arith, same, within)))))
-          (Contains-append_cases (map number_of rest) (number_of step ∷ []) to (subst P (map-append number_of rest (step ∷ [])) above))
+          elim (Contains-append_cases (map number_of rest) (number_of step ∷ []) to (subst P (map-append number_of rest (step ∷ [])) above)) [
+            | inl here ↦ inr here
+            | inr last ↦ let same = single (number_of step) to last in
+                let Q : ℕ → Type 0 = NowDone in
+                inl (subst Q same (done (omega (arith, same, within))))
+          ]
 
   -- steps that enter what a number leads to are steps
   enters_are_steps : (IsDone : ℕ → Type 0) (n : ℕ) (numbers : List ℕ) → ((to : ℕ) → Contains numbers to → IsTarget targets n to)
@@ -126,7 +125,7 @@ module _ {Z : Type 0} (targets : List (Vec ℕ Z)) where
   steps_opened IsDone from (Leave m ∷ rest) n numbers within fresh all each steps = (
     steps.0,
     steps.1,
-    λ to leads. ⊎_elim (λ before. inl before) (λ above. inr (covered to above)) (steps.2 to leads),
+    λ to leads. elim (steps.2 to leads) [ inl before ↦ inl before | inr above ↦ inr (covered to above) ],
     λ again. not_again (Contains-append_cases rest (Leave n ∷ map Enter numbers) (Leave m) again),
     steps_opened IsDone (Some m) rest n numbers within (λ again. fresh (Contains-cons (Leave m) rest (Leave n) (inr again))) all each steps.4,
   )
@@ -138,37 +137,30 @@ module _ {Z : Type 0} (targets : List (Vec ℕ Z)) where
           let before = map number_of rest in
           let after = n ∷ map number_of (map Enter numbers) in
           subst P (sym (map-append number_of rest (Leave n ∷ map Enter numbers)))
-          (⊎_elim
-          (λ here. Contains-append_left before after to here)
-          (λ last. Contains-append_right before after to (Contains-cons n (map number_of (map Enter numbers)) to (inl (single n to last))))
-          (Contains-append_cases before (n ∷ []) to (subst P (map-append number_of rest (Enter n ∷ [])) above)))
+          (elim (Contains-append_cases before (n ∷ []) to (subst P (map-append number_of rest (Enter n ∷ [])) above)) [ inl here ↦ Contains-append_left before after to here | inr last ↦ Contains-append_right before after to (Contains-cons n (map number_of (map Enter numbers)) to (inl (single n to last))) ])
 
       not_again : ¬ (Contains rest (Leave m) ⊎ Contains (Leave n ∷ map Enter numbers) (Leave m))
       not_again (inl here) = steps.3 (Contains-append_left rest (Enter n ∷ []) (Leave m) here)
       not_again (inr there) =
-          ⊎_elim
-          (λ same. fresh (Contains-cons (Leave m) rest (Leave n) (inl (sym same))))
-          (λ later. enters_leave_none numbers m later)
-          (Contains-cons_cases (Leave n) (map Enter numbers) (Leave m) there)
+          elim (Contains-cons_cases (Leave n) (map Enter numbers) (Leave m) there) [ inl same ↦ fresh (Contains-cons (Leave m) rest (Leave n) (inl (sym same))) | inr later ↦ enters_leave_none numbers m later ]
 
   -- what the last step leaves no other does
   pub left_once : (IsDone : ℕ → Type 0) (from : Option ℕ) (rest : List Step) (n : ℕ) → AreSteps IsDone from (rest ++ Leave n ∷ [])
       → ¬ Contains rest (Leave n)
   left_once IsDone from [] n steps among = omega (arith, among.1)
   left_once IsDone from (Enter m ∷ rest) n steps among =
-      ⊎_elim (λ here. enter_or_leave m n here) (λ later. left_once IsDone from rest n steps.1 later)
-      (Contains-cons_cases (Enter m) rest (Leave n) among)
+      elim (Contains-cons_cases (Enter m) rest (Leave n) among) [ inl here ↦ enter_or_leave m n here | inr later ↦ left_once IsDone from rest n steps.1 later ]
   left_once IsDone from (Leave m ∷ rest) n steps among =
-      ⊎_elim
-      (λ here. let P : Step → Type 0 = Contains (rest ++ Leave n ∷ []) in
-      steps.3 (subst P (sym here) (Contains-append_right rest (Leave n ∷ []) (Leave n) (Contains-cons (Leave n) [] (Leave n) (inl refl)))))
-      (λ later. left_once IsDone (Some m) rest n steps.4 later)
-      (Contains-cons_cases (Leave m) rest (Leave n) among)
+      elim (Contains-cons_cases (Leave m) rest (Leave n) among) [
+        | inl here ↦ let P : Step → Type 0 = Contains (rest ++ Leave n ∷ []) in
+            steps.3 (subst P (sym here) (Contains-append_right rest (Leave n ∷ []) (Leave n) (Contains-cons (Leave n) [] (Leave n) (inl refl))))
+        | inr later ↦ left_once IsDone (Some m) rest n steps.4 later
+      ]
 
   -- what the number that the last step leaves leads to is done
   pub left_covered : (IsDone : ℕ → Type 0) (from : Option ℕ) (rest : List Step) (n : ℕ) → AreSteps IsDone from (rest ++ Leave n ∷ [])
       → (to : ℕ) → LeadsTo targets n to → IsDone to
-  left_covered IsDone from [] n steps to leads = ⊎_elim (λ before. before) (λ none. absurd (omega (arith, none.1))) (steps.2 to leads)
+  left_covered IsDone from [] n steps to leads = elim (steps.2 to leads) [ inl before ↦ before | inr none ↦ absurd (omega (arith, none.1)) ]
   left_covered IsDone from (Enter m ∷ rest) n steps to leads = left_covered IsDone from rest n steps.1 to leads
   left_covered IsDone from (Leave m ∷ rest) n steps to leads = left_covered IsDone (Some m) rest n steps.4 to leads
 
@@ -192,7 +184,7 @@ module _ {Z : Type 0} (targets : List (Vec ℕ Z)) where
       let P : ℕ → Type 0 = Chain (LeadsTo targets) q in (
         found.0,
         found.1,
-        inr (⊎_elim (λ same. subst P same (one (steps.0, steps.1))) (λ chain. more (steps.0, steps.1) chain) found.2),
+        inr (elim found.2 [ inl same ↦ subst P same (one (steps.0, steps.1)) | inr chain ↦ more (steps.0, steps.1) chain ]),
       )
 
   -- and of each that is to be left
@@ -200,14 +192,13 @@ module _ {Z : Type 0} (targets : List (Vec ℕ Z)) where
       → Contains rest (Leave n) → Reaches n (last_left from rest)
   reaches_left IsDone from [] n steps among = absurd (omega (arith, among.1))
   reaches_left IsDone from (Enter m ∷ rest) n steps among =
-      ⊎_elim (λ here. absurd (enter_or_leave m n here)) (λ later. reaches_left IsDone from rest n steps.1 later)
-      (Contains-cons_cases (Enter m) rest (Leave n) among)
+      elim (Contains-cons_cases (Enter m) rest (Leave n) among) [ inl here ↦ absurd (enter_or_leave m n here) | inr later ↦ reaches_left IsDone from rest n steps.1 later ]
   reaches_left IsDone from (Leave m ∷ rest) n steps among =
-      ⊎_elim
-      (λ here. let P : ℕ → Type 0 = λ each. Reaches each (last_left (Some m) rest) in
-      subst P (ap number_of here) (reaches_last IsDone m rest steps.4))
-      (λ later. reaches_left IsDone (Some m) rest n steps.4 later)
-      (Contains-cons_cases (Leave m) rest (Leave n) among)
+      elim (Contains-cons_cases (Leave m) rest (Leave n) among) [
+        | inl here ↦ let P : ℕ → Type 0 = λ each. Reaches each (last_left (Some m) rest) in
+            subst P (ap number_of here) (reaches_last IsDone m rest steps.4)
+        | inr later ↦ reaches_left IsDone (Some m) rest n steps.4 later
+      ]
 
   -- a number that is to be left and is to be entered above is on a cycle
   pub leads_back : (IsDone : ℕ → Type 0) (rest : List Step) (n : ℕ) → n < length targets
@@ -218,7 +209,7 @@ module _ {Z : Type 0} (targets : List (Vec ℕ Z)) where
       let P : Option ℕ → Type 0 = λ last. Leads last n in
       let last = subst P found.1 (last_leads IsDone None rest (Enter n) steps) in
       let Q : ℕ → Type 0 = λ each. Chain (LeadsTo targets) each n in
-      ⊎_elim (λ same. subst Q (sym same) (one (last, within))) (λ chain. after n found.0 chain (last, within)) found.2
+      elim found.2 [ inl same ↦ subst Q (sym same) (one (last, within)) | inr chain ↦ after n found.0 chain (last, within) ]
     where
       after : (a b : ℕ) → Chain (LeadsTo targets) a b → LeadsTo targets b n → Chain (LeadsTo targets) a n
       after a b (one step) last = more step (one last)

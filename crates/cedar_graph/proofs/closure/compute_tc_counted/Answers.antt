@@ -1,7 +1,7 @@
-use Rattle.std.proofs.Common.{subst}
+use Rattle.std.proofs.Common.{subst, inl, inr}
 use Rattle.cedar_graph.specs.Numbered.{IsTarget}
 use Rattle.std.proofs.lemmas.Bool.{both_ways}
-use Rattle.std.proofs.Common.{◌≡◌, ◌<◌, Some, length, slice_get, refl, arith, ⊎_elim}
+use Rattle.std.proofs.Common.{◌≡◌, ◌<◌, Some, length, slice_get, refl, arith}
 use Rattle.std.specs.HashMap.{get}
 use Rattle.std.proofs.lemmas.Option.{slice_get_read}
 use Rattle.cedar_below.specs.Chain.{one}
@@ -32,22 +32,16 @@ returns-in-Some-clause-fault g c =
     (c.if-enforce_dag.true, c.in_ok-names.ensures.sound key key (number, numbered, (number, itself, numbered)))
 
 pub returns-in_err-add_all_edges-clause-sound : goal.returns-in_err-add_all_edges-clause-sound
-returns-in_err-add_all_edges-clause-sound g c = λ from to edge. ⊎_elim
-    (λ before. one before)
-    (λ may. c.in_ok-names.ensures.sound from to may)
-    (edge_sound g.V.TCNode.has_edge g.V.TCNode.is_alike
+returns-in_err-add_all_edges-clause-sound g c = λ from to edge. elim (edge_sound g.V.TCNode.has_edge g.V.TCNode.is_alike
     (ListHas g.K.PartialEq.eq c.in_ok-names.field-0.names.items c.in_ok-names.field-0.lists.items from)
     (get g.K.PartialEq.eq c.args.nodes.now from) (get g.K.PartialEq.eq c.add_all_edges.new.nodes from) to
-    (c.in_err-add_all_edges.ensures.grows from) edge)
+    (c.in_err-add_all_edges.ensures.grows from) edge) [ inl before ↦ one before | inr may ↦ c.in_ok-names.ensures.sound from to may ]
 
 pub returns-clause-sound : goal.returns-clause-sound
-returns-clause-sound g c = λ from to edge. ⊎_elim
-    (λ before. one before)
-    (λ may. c.in_ok-names.ensures.sound from to may)
-    (edge_sound g.V.TCNode.has_edge g.V.TCNode.is_alike
+returns-clause-sound g c = λ from to edge. elim (edge_sound g.V.TCNode.has_edge g.V.TCNode.is_alike
     (ListHas g.K.PartialEq.eq c.in_ok-names.field-0.names.items c.in_ok-names.field-0.lists.items from)
     (get g.K.PartialEq.eq c.args.nodes.now from) (get g.K.PartialEq.eq c.add_all_edges.new.nodes from) to
-    (c.in_ok-add_all_edges.ensures.grows from) edge)
+    (c.in_ok-add_all_edges.ensures.grows from) edge) [ inl before ↦ one before | inr may ↦ c.in_ok-names.ensures.sound from to may ]
 
 pub swap_remove-requires : goal.swap_remove-requires
 swap_remove-requires g c = c.in_ok-names.ensures.within c.in-Some.number c.in-Some.number c.in-Some.ensures.found

@@ -1,4 +1,4 @@
-use Rattle.std.proofs.Common.{◌≡◌, ◌<◌, ◌≤◌, ℕ, Some, Contains, IsTrue, HashMap, BuildHasherDefault, FoldHasher, length, slice_get, sym, ◌∙◌, ap, refl, subst, arith, ⊎_elim}
+use Rattle.std.proofs.Common.{◌≡◌, ◌<◌, ℕ, Some, Contains, IsTrue, HashMap, BuildHasherDefault, FoldHasher, length, slice_get, sym, ◌∙◌, ap, refl, subst, arith, inl, inr}
 use Rattle.std.specs.HashMap.{get}
 use Rattle.std.proofs.lemmas.Bool.{cases_lt}
 use Rattle.std.proofs.lemmas.Option.{slice_get_read}
@@ -79,20 +79,18 @@ loop-i-preserved g c =
     record {
       keys = step.keys ∙ old.keys;
       grows = onwards g here c.add_edges_at.new.nodes step.grows;
-      complete = λ i key to below numbered has stands. ⊎_elim
-          (λ (before : i < c.loop-i.i).
-          edge_kept edge alike (λ q. IsTrue (eq c.index.result.now key) × StandsIn eq names c.deref.result.now q)
-          (get eq c.loop-i.nodes key) (get eq c.add_edges_at.new.nodes key) to (step.grows key)
-          (old.complete i key to before numbered has stands))
-          (λ (from : c.loop-i.i ≤ i).
-          let same : i ≡ c.loop-i.i = omega arith in
-          let alike_name = name_from_numbered eq names c.index.result.now key c.loop-i.i (found g here)
-          (subst (IsNumbered eq names key) same numbered) in
-          let has_now = some_kept edge alike (May g here key) (get eq c.args.nodes.now key)
-          (get eq c.loop-i.nodes key) (old.grows key) has in
-          step.complete key to (eq_back g.met.K.Eq.laws key c.index.result.now alike_name) has_now
-          (subst (λ numbers. StandsIn eq names numbers to) (ap (items_at c.args.lists.now.items) same ∙ sym (read g here)) stands))
-          (cases_lt i c.loop-i.i);
+      complete = λ i key to below numbered has stands. elim (cases_lt i c.loop-i.i) [
+        | inl before ↦ edge_kept edge alike (λ q. IsTrue (eq c.index.result.now key) × StandsIn eq names c.deref.result.now q)
+            (get eq c.loop-i.nodes key) (get eq c.add_edges_at.new.nodes key) to (step.grows key)
+            (old.complete i key to before numbered has stands)
+        | inr from ↦ let same : i ≡ c.loop-i.i = omega arith in
+            let alike_name = name_from_numbered eq names c.index.result.now key c.loop-i.i (found g here)
+            (subst (IsNumbered eq names key) same numbered) in
+            let has_now = some_kept edge alike (May g here key) (get eq c.args.nodes.now key)
+            (get eq c.loop-i.nodes key) (old.grows key) has in
+            step.complete key to (eq_back g.met.K.Eq.laws key c.index.result.now alike_name) has_now
+            (subst (λ numbers. StandsIn eq names numbers to) (ap (items_at c.args.lists.now.items) same ∙ sym (read g here)) stands)
+      ];
     }
 
 pub returns-clause-complete : goal.returns-clause-complete
@@ -100,10 +98,9 @@ returns-clause-complete g c = λ key to it has.
     let i = it.0 in
     let numbered = it.1 in
     let stands = it.2 in
-    ⊎_elim
-    (λ (below : i < c.loop-i.i). c.loop-i.invariant.complete i key to below numbered has stands)
-    (λ (above : c.loop-i.i ≤ i).
-    let none = items_at-past c.args.lists.now.items i (omega arith) in
-    let stands_nowhere = subst (λ xs. Contains xs stands.0) none stands.1 in
-    absurd (omega (arith, stands_nowhere.1)))
-    (cases_lt i c.loop-i.i)
+    elim (cases_lt i c.loop-i.i) [
+      | inl below ↦ c.loop-i.invariant.complete i key to below numbered has stands
+      | inr above ↦ let none = items_at-past c.args.lists.now.items i (omega arith) in
+          let stands_nowhere = subst (λ xs. Contains xs stands.0) none stands.1 in
+          absurd (omega (arith, stands_nowhere.1))
+    ]

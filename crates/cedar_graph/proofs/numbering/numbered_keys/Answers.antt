@@ -1,4 +1,4 @@
-use Rattle.std.proofs.Common.{◌≡◌, ◌<◌, ◌≤◌, ◌+◌, Some, length, vec_len, hash_map_len, drop, IfSome, slice_get, sym, ◌∙◌, ap, subst, arith, ⊎_elim}
+use Rattle.std.proofs.Common.{◌≡◌, ◌<◌, ◌≤◌, ◌+◌, Some, length, vec_len, hash_map_len, drop, IfSome, slice_get, sym, ◌∙◌, ap, subst, arith, inl, inr}
 use Rattle.std.specs.HashMap.{keys}
 use Rattle.std.specs.Map.Iter.{deref}
 use Rattle.std.proofs.lemmas.Bool.{cases_lt}
@@ -44,17 +44,16 @@ loop-key-preserved g c =
       numbers = c.in_ok-add_number.ensures.numbers;
       rest = here.2 ∙ ap (λ n. drop n all) (sym more);
       bound = omega (arith, within, more);
-      in_order = λ i below. ⊎_elim
-          (λ (earlier : i < vec_len before). IfSome_then (slice_get all i) (old.in_order i earlier)
-          (λ key stands. c.in_ok-add_number.ensures.kept key i stands))
-          (λ (last : vec_len before ≤ i).
-          let same : i ≡ vec_len before = omega (arith, below, more, last) in
-          let found : slice_get all i ≡ Some c.in-Some.key.now = ap (slice_get all) same ∙ here.1 in
-          let stands : IsNumbered eq after.items c.in-Some.key.now i =
-          subst (IsNumbered eq after.items c.in-Some.key.now) (c.in_ok-add_number.ensures.number
-          ∙ sym same) c.in_ok-add_number.ensures.numbered in
-          subst (λ o. IfSome o (λ key. IsNumbered eq after.items key i)) (sym found) stands)
-          (cases_lt i (vec_len before));
+      in_order = λ i below. elim (cases_lt i (vec_len before)) [
+        | inl earlier ↦ IfSome_then (slice_get all i) (old.in_order i earlier)
+            (λ key stands. c.in_ok-add_number.ensures.kept key i stands)
+        | inr last ↦ let same : i ≡ vec_len before = omega (arith, below, more, last) in
+            let found : slice_get all i ≡ Some c.in-Some.key.now = ap (slice_get all) same ∙ here.1 in
+            let stands : IsNumbered eq after.items c.in-Some.key.now i =
+            subst (IsNumbered eq after.items c.in-Some.key.now) (c.in_ok-add_number.ensures.number
+            ∙ sym same) c.in_ok-add_number.ensures.numbered in
+            subst (λ o. IfSome o (λ key. IsNumbered eq after.items key i)) (sym found) stands
+      ];
     }
 
 -- at the end each key has a name
@@ -73,11 +72,10 @@ returns-clause-len g c =
     omega (arith, least, most, len)
 
 pub returns-clause-in_order : goal.returns-clause-in_order
-returns-clause-in_order g c = λ i. ⊎_elim
-    (λ (below : i < vec_len c.loop-key.numbering.names). c.loop-key.invariant.in_order i below)
-    (λ (above : vec_len c.loop-key.numbering.names ≤ i).
-    let least = complete g c in
-    MatchOption-from_none (slice_get (keys c.args.nodes.now) i)
-    (λ key. IsNumbered g.K.PartialEq.eq c.loop-key.numbering.names.items key i)
-    (slice_get_past (keys c.args.nodes.now) i (omega (arith, least, above))))
-    (cases_lt i (vec_len c.loop-key.numbering.names))
+returns-clause-in_order g c = λ i. elim (cases_lt i (vec_len c.loop-key.numbering.names)) [
+  | inl below ↦ c.loop-key.invariant.in_order i below
+  | inr above ↦ let least = complete g c in
+      MatchOption-from_none (slice_get (keys c.args.nodes.now) i)
+      (λ key. IsNumbered g.K.PartialEq.eq c.loop-key.numbering.names.items key i)
+      (slice_get_past (keys c.args.nodes.now) i (omega (arith, least, above)))
+]

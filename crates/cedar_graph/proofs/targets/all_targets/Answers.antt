@@ -1,4 +1,4 @@
-use Rattle.std.proofs.Common.{◌≡◌, ◌<◌, ◌≤◌, length, vec_len, hash_map_len, drop, IfSome, slice_get, sym, ◌∙◌, ap, subst, arith, ⊎_elim}
+use Rattle.std.proofs.Common.{◌≡◌, ◌≤◌, length, vec_len, hash_map_len, drop, IfSome, slice_get, sym, ◌∙◌, ap, subst, arith, inl, inr}
 use Rattle.std.specs.HashMap.{values}
 use Rattle.std.specs.Map.Iter.{deref}
 use Rattle.std.proofs.lemmas.Bool.{cases_lt}
@@ -59,12 +59,11 @@ returns-clause-len g c =
     omega (arith, least, most, len)
 
 pub returns-clause-targets : goal.returns-clause-targets
-returns-clause-targets g c = λ i. ⊎_elim
-    (λ (below : i < vec_len c.loop-node.targets). c.loop-node.invariant.targets i below)
-    (λ (above : vec_len c.loop-node.targets ≤ i).
-    let least = complete g c in
-    MatchOption-from_none (slice_get (values c.args.nodes.now) i)
-    (λ node. AreNumbersOf g.K.PartialEq.eq c.loop-node.numbering.names.items (g.V.TCNode.has_edge node)
-    (items_at c.loop-node.targets.items i))
-    (slice_get_past (values c.args.nodes.now) i (omega (arith, least, above))))
-    (cases_lt i (vec_len c.loop-node.targets))
+returns-clause-targets g c = λ i. elim (cases_lt i (vec_len c.loop-node.targets)) [
+  | inl below ↦ c.loop-node.invariant.targets i below
+  | inr above ↦ let least = complete g c in
+      MatchOption-from_none (slice_get (values c.args.nodes.now) i)
+      (λ node. AreNumbersOf g.K.PartialEq.eq c.loop-node.numbering.names.items (g.V.TCNode.has_edge node)
+      (items_at c.loop-node.targets.items i))
+      (slice_get_past (values c.args.nodes.now) i (omega (arith, least, above)))
+]

@@ -1,4 +1,4 @@
-use Rattle.std.proofs.Common.{◌≡◌, ◌∷◌, [], true, Contains, sym, ◌∙◌, ap, subst, inl, inr, ⊎_elim}
+use Rattle.std.proofs.Common.{◌≡◌, ◌∷◌, [], Contains, sym, ◌∙◌, ap, subst, inl, inr}
 use Rattle.std.specs.List.{list_any}
 use Rattle.std.specs.Map.Iter.{deref}
 use Rattle.std.proofs.lemmas.Bool.{or_cases, or_left, or_right}
@@ -26,27 +26,23 @@ loop-target-preserved g c =
     record {
       numbers = c.in_ok-number_of.ensures.numbers;
       kept = λ key n stands. kept key n (old.kept key n stands);
-      sound = λ n inside. ⊎_elim
-          (λ (before : Contains targets n). let it = old.sound n before in (it.0, kept it.0 n it.1, it.2))
-          (λ (last : number ≡ n). (target, subst (IsNumbered eq names target) last numbered, here))
-          (Contains-push_cases targets number n (subst (λ xs. Contains xs n) pushed inside));
-      complete = λ key edge. ⊎_elim
-          (λ it. inl (
-            it.0,
-            kept key it.0 it.1,
-            subst (λ xs. Contains xs it.0) (sym pushed)
-                (Contains-append_left targets (number ∷ []) it.0 it.2),
-          ))
-          (λ (waits : list_any (eq key) c.loop-target.target-iterator ≡ true). ⊎_elim
-          (λ (same : eq key target ≡ true).
-          inl (
+      sound = λ n inside. elim (Contains-push_cases targets number n (subst (λ xs. Contains xs n) pushed inside)) [ inl before ↦ let it = old.sound n before in (it.0, kept it.0 n it.1, it.2) | inr last ↦ (target, subst (IsNumbered eq names target) last numbered, here) ];
+      complete = λ key edge. elim (old.complete key edge) [
+        | inl it ↦ inl (
+          it.0,
+          kept key it.0 it.1,
+          subst (λ xs. Contains xs it.0) (sym pushed)
+              (Contains-append_left targets (number ∷ []) it.0 it.2),
+        )
+        | inr waits ↦ elim (or_cases _ _ (sym (ap (list_any (eq key)) turn) ∙ waits)) [
+          | inl same ↦ inl (
             number,
             number_alike g.met.K.Eq.laws names key target number same numbered,
             subst
                 (λ xs. Contains xs number) (sym pushed) (Contains-push targets number),
-          ))
-          (λ later. inr later)
-          (or_cases _ _ (sym (ap (list_any (eq key)) turn) ∙ waits)))
-          (old.complete key edge);
+          )
+          | inr later ↦ inr later
+        ]
+      ];
       rest = λ key later. old.rest key (ap (list_any (eq key)) turn ∙ or_right _ _ later);
     }
