@@ -36,8 +36,8 @@ fn entries_of(schema: &ValidatorSchema) -> usize {
     count
 }
 
-/// How often two rows of a graph are joined to close it.
-fn rows_joined(alloc: Global, mut graph: Graph) -> Result<usize, Stop> {
+/// How many lists of targets are gone through to close a graph.
+fn lists_gone_through(alloc: Global, mut graph: Graph) -> Result<usize, Stop> {
     let joined = compute_tc_counted(alloc, &mut graph, false)?;
     Ok(joined.min(usize::MAX as u128) as usize)
 }
@@ -167,11 +167,11 @@ impl Borrowed {
 
 impl Given {
     /// Does the work, and answers how many attributes and descendants entity types have, or how
-    /// often two rows were joined.
+    /// many lists were gone through.
     pub(crate) fn work(self, alloc: Global) -> Result<usize, Stop> {
         match self {
             Given::Build(fragments) => Ok(entries_of(&built(alloc, fragments)?)),
-            Given::Close(graph) => rows_joined(alloc, graph),
+            Given::Close(graph) => lists_gone_through(alloc, graph),
             Given::Validate(schema) => {
                 let schema = schema.try_validate(alloc, &no_extensions(alloc))?;
                 Ok(entries_of(&schema))

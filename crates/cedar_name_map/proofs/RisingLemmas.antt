@@ -52,10 +52,7 @@ module _ {K : Type 0} (R : K → K → Ordering) (total : IsTotalOrder R) where
   Included-rests : (x : K) (xs : List K) (y : K) (ys : List K) → AllByRecursion (λ z. R x z ≡ Less) xs → y ≡ x
       → Included (x ∷ xs) (y ∷ ys) → Included xs ys
   Included-rests x xs y ys below same all z among =
-      ⊎_elim
-      (λ e. absurd (not_itself R total x z (sym same ∙ e) (first_below x xs z below among)))
-      (λ there. there)
-      (Contains-cons_cases y ys z (all z (Contains-cons x xs z (inr among))))
+      elim (Contains-cons_cases y ys z (all z (Contains-cons x xs z (inr among)))) [ inl e ↦ absurd (not_itself R total x z (sym same ∙ e) (first_below x xs z below among)) | inr there ↦ there ]
 
   -- a sorted list without duplicates and begins above another's first is included in that one's rest
   Included-past : (x : K) (xs : List K) (y : K) (ys : List K) → AllByRecursion (λ z. R x z ≡ Less) xs
@@ -63,11 +60,8 @@ module _ {K : Type 0} (R : K → K → Ordering) (total : IsTotalOrder R) where
   Included-past x xs y ys first second there all z among =
       let above = first_below y ys x second there in
       let below : R y z ≡ Less =
-      ⊎_elim
-      (λ e. subst (λ w. R y w ≡ Less) e above)
-      (λ more. total.trans y x z above (first_below x xs z first more))
-      (Contains-cons_cases x xs z among) in
-      ⊎_elim (λ e. absurd (not_itself R total y z e below)) (λ found. found) (Contains-cons_cases y ys z (all z among))
+      elim (Contains-cons_cases x xs z among) [ inl e ↦ subst (λ w. R y w ≡ Less) e above | inr more ↦ total.trans y x z above (first_below x xs z first more) ] in
+      elim (Contains-cons_cases y ys z (all z among)) [ inl e ↦ absurd (not_itself R total y z e below) | inr found ↦ found ]
 
   -- a sorted list without duplicates is no longer than one that includes it
   pub Included-length : (xs ys : List K) → IsStrictlySortedBy R xs → IsStrictlySortedBy R ys → Included xs ys → length xs ≤ length ys
@@ -75,11 +69,11 @@ module _ {K : Type 0} (R : K → K → Ordering) (total : IsTotalOrder R) where
   Included-length [] ys first second all = omega arith
   Included-length (x ∷ xs) [] first second all = absurd (Included-in_none x xs all)
   Included-length (x ∷ xs) (y ∷ ys) first second all =
-      ⊎_elim
-      (λ same. let rest = Included-length xs ys first.1 second.1 (Included-rests x xs y ys first.0 same all) in omega (arith, rest))
-      (λ there. let rest = Included-length (x ∷ xs) ys first second.1 (Included-past x xs y ys first.0 second.0 there all) in
-      omega (arith, rest))
-      (Contains-cons_cases y ys x (Included-head x xs (y ∷ ys) all))
+      elim (Contains-cons_cases y ys x (Included-head x xs (y ∷ ys) all)) [
+        | inl same ↦ let rest = Included-length xs ys first.1 second.1 (Included-rests x xs y ys first.0 same all) in omega (arith, rest)
+        | inr there ↦ let rest = Included-length (x ∷ xs) ys first second.1 (Included-past x xs y ys first.0 second.0 there all) in
+            omega (arith, rest)
+      ]
 
   -- where it is as long, it includes that one
   pub Included-back : (xs ys : List K) → IsStrictlySortedBy R xs → IsStrictlySortedBy R ys → Included xs ys
@@ -92,7 +86,7 @@ module _ {K : Type 0} (R : K → K → Ordering) (total : IsTotalOrder R) where
       ⊎_elim
       (λ same z among.
       let back = Included-back xs ys first.1 second.1 (Included-rests x xs y ys first.0 same all) (omega (arith, long)) in
-      Contains-cons x xs z (⊎_elim (λ e. inl (sym same ∙ e)) (λ there. inr (back z there)) (Contains-cons_cases y ys z among)))
+      Contains-cons x xs z (elim (Contains-cons_cases y ys z among) [ inl e ↦ inl (sym same ∙ e) | inr there ↦ inr (back z there) ]))
       (λ there. let short = Included-length (x ∷ xs) ys first second.1 (Included-past x xs y ys first.0 second.0 there all) in
       absurd (omega (arith, short, long)))
       (Contains-cons_cases y ys x (Included-head x xs (y ∷ ys) all))
@@ -121,19 +115,18 @@ module _ {E K : Type 0} (see : E → K) (R : K → K → Ordering) (total : IsTo
       → ¬ ((place < length own) × ((d : E) → seen_at see own place d ≡ k)) → (i : ℕ) (d : E) → i < length own
       → ¬ (seen_at see own i d ≡ k)
   missed_at below stays missed i d within same =
-      ⊎_elim
-      (λ before.
-      let less = below i d before in
-      let equal : R (seen_at see own i d) k ≡ Equal = subst (λ z. R (seen_at see own i d) z ≡ Equal) same
-      (tied_itself total (seen_at see own i d)) in
-      absurd cc)
-      (λ from. ⊎_elim
-      (λ before. stays d (omega (arith, before, within))
-      (subst (λ z. R (seen_at see own place d) z ≡ Less) same (seen_at-rises see R own up place i d before within)))
-      (λ to. let is : i ≡ place = omega (arith, from, to) in
-      missed (omega (arith, is, within), λ e. at_place i is d e within same))
-      (cases_lt place i))
-      (cases_lt i place)
+      elim (cases_lt i place) [
+        | inl before ↦ let less = below i d before in
+            let equal : R (seen_at see own i d) k ≡ Equal = subst (λ z. R (seen_at see own i d) z ≡ Equal) same
+            (tied_itself total (seen_at see own i d)) in
+            absurd cc
+        | inr from ↦ elim (cases_lt place i) [
+          | inl before ↦ stays d (omega (arith, before, within))
+              (subst (λ z. R (seen_at see own place d) z ≡ Less) same (seen_at-rises see R own up place i d before within))
+          | inr to ↦ let is : i ≡ place = omega (arith, from, to) in
+              missed (omega (arith, is, within), λ e. at_place i is d e within same)
+        ]
+      ]
     where
       at_place : (i : ℕ) → i ≡ place → (d e : E) → i < length own → seen_at see own i d ≡ k → seen_at see own place e ≡ k
       at_place i is d e within same = ap (λ n. seen_at see own n e) (sym is) ∙ (ap see (get_or_default own i e d within) ∙ same)
@@ -155,7 +148,7 @@ module _ {E F K : Type 0} (see : E → K) (other : F → K) (R : K → K → Ord
       → ((i : ℕ) (d : E) → at ≤ i → i < place → R (seen_at see own i d) (other item) ≡ Less)
       → AllBelow see R own place (other item)
   Ahead-sought at place item rest ahead passed i d low =
-      ⊎_elim (λ before. (ahead.below i d before).0) (λ from. passed i d from low) (cases_lt i at)
+      elim (cases_lt i at) [ inl before ↦ (ahead.below i d before).0 | inr from ↦ passed i d from low ]
 
   -- and then what is before the place is below all that is left
   pub Ahead-next : (at place : ℕ) (item : F) (rest : List F) → Ahead see other R own at (item ∷ rest)
@@ -203,12 +196,12 @@ module _ {E F K : Type 0} (see : E → K) (other : F → K) (R : K → K → Ord
   Ahead-past place item rest up ahead here = record {
     up = ahead.up;
     below = λ i d low.
-        ⊎_elim
-        (λ before. ahead.below i d before)
-        (λ to. let same : i ≡ place = omega (arith, low, to) in
-        let P : K → Type 0 = λ seen. AllByRecursion (λ k. R seen k ≡ Less) (map other rest) in
-        subst P (sym (here d) ∙ ap (λ n. seen_at see own n d) (sym same)) up.0)
-        (cases_lt i place);
+        elim (cases_lt i place) [
+          | inl before ↦ ahead.below i d before
+          | inr to ↦ let same : i ≡ place = omega (arith, low, to) in
+              let P : K → Type 0 = λ seen. AllByRecursion (λ k. R seen k ≡ Less) (map other rest) in
+              subst P (sym (here d) ∙ ap (λ n. seen_at see own n d) (sym same)) up.0
+        ];
   }
 
 -- from one place to another all that is seen is below
@@ -223,11 +216,11 @@ Passed-next {E = E} see R all k from at x passed within less = record {
   on = omega (arith, passed.on);
   below = λ i d start end.
       let P : ℕ → E → Type 0 = λ n e. R (seen_at see all n e) k ≡ Less in
-      ⊎_elim
-      (λ before. passed.below i d start before)
-      (λ to. let same : at ≡ i = omega (arith, end, to) in
-      subst (λ n. P n d) same (subst (λ e. R (see e) k ≡ Less) (get_or_default all at x d within) less))
-      (cases_lt i at);
+      elim (cases_lt i at) [
+        | inl before ↦ passed.below i d start before
+        | inr to ↦ let same : at ≡ i = omega (arith, end, to) in
+            subst (λ n. P n d) same (subst (λ e. R (see e) k ≡ Less) (get_or_default all at x d within) less)
+      ];
 }
 
 -- a list with a place in it has an item

@@ -1,5 +1,5 @@
 -- A search by halving among pairs whose names are sorted without duplicates, and what a place tells of a name.
-use Rattle.std.proofs.Common.{◌≡◌, ◌≢◌, ◌<◌, ◌≤◌, ◌+◌, ◌-◌, ◌*◌, ◌/◌, ◌^◌, ℕ, zero, suc, true, false, refl, sym, ap, subst, ◌∙◌, List, [], ◌∷◌, length, string_bytes, get_or, arith, None, Some, if◌then◌else◌, ⊎_elim}
+use Rattle.std.proofs.Common.{◌≡◌, ◌≢◌, ◌<◌, ◌≤◌, ◌+◌, ◌-◌, ◌*◌, ◌/◌, ◌^◌, ℕ, zero, suc, true, false, refl, sym, ap, subst, ◌∙◌, List, [], ◌∷◌, length, string_bytes, get_or, arith, None, Some, if◌then◌else◌, inl, inr}
 use Rattle.std.proofs.lemmas.Bool.{cases_lt, false_from_ne_true}
 use Rattle.std.proofs.lemmas.List.{get_or_default}
 use Rattle.std.specs.Cmp.Lexicographic.{bytes_decides, nat_list_eq_equiv}
@@ -103,10 +103,7 @@ module _ {V : Type 0} (all : List (String Global × V)) (name : Text) (up : AreS
         let here : middle < length all = omega (arith, some, is, known.within) in
         let P : Text → Type 0 = λ text. text_cmp text name ≡ Less in
         let at_middle : P (text_at all middle d) = subst P (sym (placed middle x d here)) below in
-        ⊎_elim
-        (λ low. text_cmp-total.trans (text_at all i d) (text_at all middle d) name (seen_at-rises text_of text_cmp all up i middle d low here) at_middle)
-        (λ high. let same : middle ≡ i = omega (arith, lower, high) in subst (λ n. P (text_at all n d)) same at_middle)
-        (cases_lt i middle);
+        elim (cases_lt i middle) [ inl low ↦ text_cmp-total.trans (text_at all i d) (text_at all middle d) name (seen_at-rises text_of text_cmp all up i middle d low here) at_middle | inr high ↦ let same : middle ≡ i = omega (arith, lower, high) in subst (λ n. P (text_at all n d)) same at_middle ];
     after = known.after;
     small = known.small;
     counted = counted_more (length all) low high (middle + 1) high compared some (omega (arith, some, is)) known.counted;
@@ -124,13 +121,13 @@ module _ {V : Type 0} (all : List (String Global × V)) (name : Text) (up : AreS
         let here : middle < length all = omega (arith, some, is, known.within) in
         let P : Text → Type 0 = λ text. text_cmp text name ≡ Greater in
         let at_middle : P (text_at all middle d) = subst P (sym (placed middle x d here)) above in
-        ⊎_elim
-        (λ low. let rises = seen_at-rises text_of text_cmp all up middle i d low within in
-        let below = text_cmp-total.trans name (text_at all middle d) (text_at all i d)
-        (turned text_cmp text_cmp-total (text_at all middle d) name at_middle) rises in
-        text_cmp-total.antisymm (text_at all i d) name ∙ ap ordering_reverse below)
-        (λ high. let same : middle ≡ i = omega (arith, higher, high) in subst (λ n. P (text_at all n d)) same at_middle)
-        (cases_lt middle i);
+        elim (cases_lt middle i) [
+          | inl low ↦ let rises = seen_at-rises text_of text_cmp all up middle i d low within in
+              let below = text_cmp-total.trans name (text_at all middle d) (text_at all i d)
+              (turned text_cmp text_cmp-total (text_at all middle d) name at_middle) rises in
+              text_cmp-total.antisymm (text_at all i d) name ∙ ap ordering_reverse below
+          | inr high ↦ let same : middle ≡ i = omega (arith, higher, high) in subst (λ n. P (text_at all n d)) same at_middle
+        ];
     small = known.small;
     counted = counted_more (length all) low high low middle compared some (omega (arith, some, is)) known.counted;
   }
@@ -147,10 +144,7 @@ module _ {V : Type 0} (all : List (String Global × V)) (name : Text) (up : AreS
       let differs : ¬ (bytes_eq name (text_at all i d) ≡ true) = λ same.
       let equal : text_cmp (text_at all i d) name ≡ Equal =
       (text_cmp-Equal (text_at all i d) name).1 (sym ((bytes_decides name (text_at all i d)).0 same)) in
-      ⊎_elim
-      (λ low'. let less = known.before i d low' in absurd cc)
-      (λ high'. let greater = known.after i d (omega (arith, empty, high')) within in absurd cc)
-      (cases_lt i low) in
+      elim (cases_lt i low) [ inl low' ↦ let less = known.before i d low' in absurd cc | inr high' ↦ let greater = known.after i d (omega (arith, empty, high')) within in absurd cc ] in
       false_from_ne_true (bytes_eq name (text_at all i d)) differs))
 
 -- a name that isn't at the place where the names before it are below, and that one isn't, has no value

@@ -1,5 +1,5 @@
 -- The bag of which these common types, entity types and actions are collected.
-use Rattle.std.proofs.Common.{◌≡◌, List, map, ap, sym, subst, ◌∙◌, ⊎_elim, Contains}
+use Rattle.std.proofs.Common.{◌≡◌, List, map, ap, sym, subst, ◌∙◌, ⊎_elim, Contains, inl, inr}
 use Rattle.std.proofs.lemmas.List.Elements.{Contains-append_cases}
 use Rattle.std.proofs.lemmas.Simd.{map-map}
 use Rattle.cedar_below.proofs.Lists.{Contains-preimage}
@@ -41,15 +41,13 @@ module _ (bag : Bag) (extensions : Extensions) (entity_types : List (EntityType 
   collected_unreserved name among =
       let P : List PlainName → Type 0 = λ names. Contains names name in
       let key : PlainUid × ActionBody → PlainUid = λ it. it.0 in
-      ⊎_elim
-      (λ declared.
-      let found = Contains-preimage (λ (it : EntityType × EntityTypeFragment InternalName). type_name it.0) entity_types name
-      (subst P (sym (names_collected bag entity_types is_entities)) declared) in
-      type_unreserved found.0.0 name found.2)
-      (λ of_action.
-      let uid = Contains-preimage (λ (each : PlainUid). each.ty) (action_uids bag) name of_action in
-      let Q : List PlainUid → Type 0 = λ uids. Contains uids uid.0 in
-      let found = Contains-preimage (λ (it : EntityUID × ActionFragment InternalName EntityType). uid_of it.0) actions uid.0
-      (subst Q (sym (sym (map-map key _ actions) ∙ ap (map key) is_actions)) uid.1) in
-      type_unreserved found.0.0.ty name (ap (λ (each : PlainUid). each.ty) found.2 ∙ uid.2))
-      (Contains-append_cases (map (λ it. it.0) (declared_entities bag)) (map (λ uid. uid.ty) (action_uids bag)) name among)
+      elim (Contains-append_cases (map (λ it. it.0) (declared_entities bag)) (map (λ uid. uid.ty) (action_uids bag)) name among) [
+        | inl declared ↦ let found = Contains-preimage (λ (it : EntityType × EntityTypeFragment InternalName). type_name it.0) entity_types name
+            (subst P (sym (names_collected bag entity_types is_entities)) declared) in
+            type_unreserved found.0.0 name found.2
+        | inr of_action ↦ let uid = Contains-preimage (λ (each : PlainUid). each.ty) (action_uids bag) name of_action in
+            let Q : List PlainUid → Type 0 = λ uids. Contains uids uid.0 in
+            let found = Contains-preimage (λ (it : EntityUID × ActionFragment InternalName EntityType). uid_of it.0) actions uid.0
+            (subst Q (sym (sym (map-map key _ actions) ∙ ap (map key) is_actions)) uid.1) in
+            type_unreserved found.0.0.ty name (ap (λ (each : PlainUid). each.ty) found.2 ∙ uid.2)
+      ]

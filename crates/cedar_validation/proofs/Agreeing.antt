@@ -73,33 +73,25 @@ module _ (extensions : Extensions) (schema other : PlainSchema) (types : Agrees 
   -- a type that stands in the one stands in the other
   type_in : (ty : Ty) → IsTypeIn schema ty → IsTypeIn other ty
   type_in ty either =
-      ⊎_elim
-      (λ of. inl (with_kind types.forth (λ kind. IsTypeOfKind kind ty) of.0 of.1 of.2))
-      (λ of. inr (with_kind actions.forth (λ kind. IsContextOf kind ty) of.0 of.1 of.2))
-      either
+      elim either [ inl of ↦ inl (with_kind types.forth (λ kind. IsTypeOfKind kind ty) of.0 of.1 of.2) | inr of ↦ inr (with_kind actions.forth (λ kind. IsContextOf kind ty) of.0 of.1 of.2) ]
 
   -- an entity type that isn't known in the one isn't in the other
   unknown_carried : (name : PlainName) → IsUnknownType schema name → IsUnknownType other name
   unknown_carried name unknown =
-      ⊎_elim
-      (λ of. inl (
-        of.0,
-        type_in of.0 of.1,
-        of.2,
-        λ known. of.3 (⊎_elim
-            (λ is. inl (has types.back name is))
-            (λ it. inr (it.0, has actions.back it.0 it.1, it.2))
-            known),
-      ))
-      (λ either. inr (⊎_elim
-      (λ of.
-      let begins = first_step (ListsDescendant other) name of.0 (types.chain name of.0 (one of.1)) in
-      inl (begins.0, begins.1, λ is. of.2 (has types.back name is)))
-      (λ of.
-      let it = with_kind actions.forth (λ kind. IsPrincipalOrResourceOf kind name) of.0 of.1 of.2 in
-      inr (it.0, it.1, it.2, λ is. of.3 (has types.back name is)))
-      either))
-      unknown
+      elim unknown [
+        | inl of ↦ inl (
+          of.0,
+          type_in of.0 of.1,
+          of.2,
+          λ known. of.3 (elim known [ inl is ↦ inl (has types.back name is) | inr it ↦ inr (it.0, has actions.back it.0 it.1, it.2) ]),
+        )
+        | inr either ↦ inr (elim either [
+          | inl of ↦ let begins = first_step (ListsDescendant other) name of.0 (types.chain name of.0 (one of.1)) in
+              inl (begins.0, begins.1, λ is. of.2 (has types.back name is))
+          | inr of ↦ let it = with_kind actions.forth (λ kind. IsPrincipalOrResourceOf kind name) of.0 of.1 of.2 in
+              inr (it.0, it.1, it.2, λ is. of.3 (has types.back name is))
+        ])
+      ]
 
   -- a fault of the one is one of the other
   fault_carried : (fault : Fault) → IsSchemaFault extensions schema fault → IsSchemaFault extensions other fault

@@ -26,10 +26,7 @@ module _ {A : Type 0} (P : A → Type 0) (all : List A) where
     checking_more here = record {
       checked = λ y there.
           let Q : List A → Type 0 = λ items. Contains items y in
-          ⊎_elim
-          (λ sound. inl sound)
-          (λ still. ⊎_elim (λ same. inl (subst P same here)) (λ later. inr later) (Contains-cons_cases x rest y (subst Q is still)))
-          (so_far.checked y there);
+          elim (so_far.checked y there) [ inl sound ↦ inl sound | inr still ↦ elim (Contains-cons_cases x rest y (subst Q is still)) [ inl same ↦ inl (subst P same here) | inr later ↦ inr later ] ];
       among = λ y there.
           let Q : List A → Type 0 = λ items. Contains items y in
           so_far.among y (subst Q (sym is) (Contains-cons x rest y (inr there)));
@@ -39,7 +36,4 @@ module _ {A : Type 0} (P : A → Type 0) (all : List A) where
   pub checking_all : (left : List A) → left ≡ [] → Checking P all left → (x : A) → Contains all x → P x
   checking_all left nothing so_far x there =
       let Q : List A → Type 0 = λ items. Contains items x in
-      ⊎_elim
-      (λ sound. sound)
-      (λ still. let none : Contains [] x = subst Q nothing still in absurd (omega (arith, none.1)))
-      (so_far.checked x there)
+      elim (so_far.checked x there) [ inl sound ↦ sound | inr still ↦ let none : Contains [] x = subst Q nothing still in absurd (omega (arith, none.1)) ]

@@ -107,40 +107,38 @@ module _ (parts : Parts) where
     -- why the descendants of an entry are refused is why the schema is
     pub below_fault : (fault ≡ out_of_memory) ⊎ IsBelowFault parts (type_name entry.0) entry.1 fault → IsRefusal (plain_parts parts) fault
     below_fault why =
-        ⊎_elim
-        (λ wanting. inl wanting)
-        (λ of. inr (λ extensions.
-        let schema = plain_parts parts in
-        let P : Fault → Type 0 = IsSchemaFault extensions schema in
-        let lower = type_name of.0 in
-        let found = type_found parts.entity_types.entries of.0 of.1 of.3 in
-        let chain = one (lists_its entry lower among (Contains-image type_name entry.1.descendants.keys of.0 of.2)) in
-        ⊎_elim
-        (λ kind.
-        let here : IsSchemaFault extensions schema (enumerated_below lower (type_name entry.0)) =
-        (kind_there IsEnumerated (found.0, of.1) lower found.1 found.2 kind.1, chain) in
-        subst P (sym kind.0) here)
-        (λ kind.
-        let here : IsSchemaFault extensions schema (external_below_enumerated lower (type_name entry.0)) = (
-          kind_there IsExternal (found.0, of.1) lower found.1 found.2 kind.1,
-          kind_there IsEnumerated entry (type_name entry.0) among (λ i. type_name entry.0) kind.2,
-          chain,
-        ) in
-        subst P (sym kind.0) here)
-        of.4))
-        why
+        elim why [
+          | inl wanting ↦ inl wanting
+          | inr of ↦ inr (λ extensions.
+              let schema = plain_parts parts in
+              let P : Fault → Type 0 = IsSchemaFault extensions schema in
+              let lower = type_name of.0 in
+              let found = type_found parts.entity_types.entries of.0 of.1 of.3 in
+              let chain = one (lists_its entry lower among (Contains-image type_name entry.1.descendants.keys of.0 of.2)) in
+              elim of.4 [
+                | inl kind ↦ let here : IsSchemaFault extensions schema (enumerated_below lower (type_name entry.0)) =
+                    (kind_there IsEnumerated (found.0, of.1) lower found.1 found.2 kind.1, chain) in
+                    subst P (sym kind.0) here
+                | inr kind ↦ let here : IsSchemaFault extensions schema (external_below_enumerated lower (type_name entry.0)) = (
+                  kind_there IsExternal (found.0, of.1) lower found.1 found.2 kind.1,
+                  kind_there IsEnumerated entry (type_name entry.0) among (λ i. type_name entry.0) kind.2,
+                  chain,
+                ) in
+                    subst P (sym kind.0) here
+              ])
+        ]
 
     -- a descendant that isn't declared is a fault
     pub undeclared_fault : (names : List PlainName) → names ≡ descendant_names entry.1
         → (fault ≡ out_of_memory) ⊎ ((name : PlainName) × (fault ≡ undeclared_entity_types (name ∷ [])) × Contains names name
         × ¬ HasEntityType (plain_parts parts) name) → IsRefusal (plain_parts parts) fault
     undeclared_fault names same why =
-        ⊎_elim
-        (λ wanting. inl wanting)
-        (λ of. inr (λ extensions.
-        let P : Fault → Type 0 = IsSchemaFault extensions (plain_parts parts) in
-        let Q : List PlainName → Type 0 = λ items. Contains items of.0 in
-        subst P (sym of.1)
-        (one_unknown extensions (plain_parts parts) of.0
-        (inr (inl (type_name entry.0, lists_its entry of.0 among (subst Q same of.2), of.3))))))
-        why
+        elim why [
+          | inl wanting ↦ inl wanting
+          | inr of ↦ inr (λ extensions.
+              let P : Fault → Type 0 = IsSchemaFault extensions (plain_parts parts) in
+              let Q : List PlainName → Type 0 = λ items. Contains items of.0 in
+              subst P (sym of.1)
+              (one_unknown extensions (plain_parts parts) of.0
+              (inr (inl (type_name entry.0, lists_its entry of.0 among (subst Q same of.2), of.3)))))
+        ]

@@ -20,10 +20,7 @@ module _ (extensions : Extensions) (schema : PlainSchema) (names : List PlainNam
       × ((name : PlainName) → MentionsExtensionType of name → Contains (extension_types extensions) name))
       → AreMentionsSound extensions schema
   mentions_sound each = record {
-    entities = λ ty name there mentions. ⊎_elim
-        (λ has. inl has)
-        (λ among. inr ((exact name).0 among))
-        ((each ty there).0 name mentions);
+    entities = λ ty name there mentions. elim ((each ty there).0 name mentions) [ inl has ↦ inl has | inr among ↦ inr ((exact name).0 among) ];
     extension_types = λ ty name there mentions. (each ty there).1 name mentions;
   }
 
@@ -36,17 +33,16 @@ module _ (extensions : Extensions) (schema : PlainSchema) (names : List PlainNam
       → (fault ≡ out_of_memory) ⊎ IsSchemaFault extensions schema fault
   mention_fault fault why =
       let P : Fault → Type 0 = IsSchemaFault extensions schema in
-      ⊎_elim
-      (λ wanting. inl wanting)
-      (λ of. ⊎_elim
-      (λ wanting. inl wanting)
-      (λ either. inr (⊎_elim
-      (λ it. subst P (sym it.1)
-      (one_unknown extensions schema it.0
-      (inl (of.0, of.1, it.2, λ known. it.3 (⊎_elim (λ has. inl has) (λ action. inr ((exact it.0).1 action)) known)))))
-      (λ it.
-      let here : IsSchemaFault extensions schema (unknown_extension_type it.0) = (of.0, of.1, it.2, it.3) in
-      subst P (sym it.1) here)
-      either))
-      of.2)
-      why
+      elim why [
+        | inl wanting ↦ inl wanting
+        | inr of ↦ elim of.2 [
+          | inl wanting ↦ inl wanting
+          | inr either ↦ inr (elim either [
+            | inl it ↦ subst P (sym it.1)
+                (one_unknown extensions schema it.0
+                (inl (of.0, of.1, it.2, λ known. it.3 (elim known [ inl has ↦ inl has | inr action ↦ inr ((exact it.0).1 action) ]))))
+            | inr it ↦ let here : IsSchemaFault extensions schema (unknown_extension_type it.0) = (of.0, of.1, it.2, it.3) in
+                subst P (sym it.1) here
+          ])
+        ]
+      ]

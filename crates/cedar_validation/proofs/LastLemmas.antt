@@ -1,5 +1,5 @@
 -- Nodes that are put under their names one after another, each in place of an earlier one of its name.
-use Rattle.std.proofs.Common.{◌≡◌, ◌++◌, Bool, true, false, cond, Contains, List, [], ◌∷◌, None, Some, refl, ap, sym, subst, ◌∙◌, ⊎_elim}
+use Rattle.std.proofs.Common.{◌≡◌, ◌++◌, Bool, true, false, cond, Contains, List, [], ◌∷◌, None, Some, refl, ap, sym, subst, ◌∙◌, ⊎_elim, inl, inr}
 use Rattle.std.specs.BTreeMap.{BTreeMap, get, insert_entry, is_at}
 use Rattle.std.specs.Cmp.{IsTotalOrder}
 use Rattle.std.specs.Map.{remove_entry}
@@ -50,8 +50,5 @@ named_more cmp order key_name node_name P total ties old without new nodes key n
       put_again (is_at (cmp key) name) (Some node) (get cmp old name) (get cmp without name) (takes name) (get cmp new name) (puts name)
       ∙ ((λ i. cond (test i) (Some node) (so_far.last name i))
       ∙ sym (last_more (λ it. is_eq (order (key_name name) (node_name it))) nodes node));
-  each = λ it among. ⊎_elim
-      (λ same. subst P same here)
-      (λ there. so_far.each it there)
-      (replaced_in_order cmp (is_at (cmp key)) old without new key node taken absent put it among);
+  each = λ it among. elim (replaced_in_order cmp (is_at (cmp key)) old without new key node taken absent put it among) [ inl same ↦ subst P same here | inr there ↦ so_far.each it there ];
 }

@@ -22,7 +22,7 @@ pub extension_fault : (known : Known) (ty : Ty) (name : PlainName) (fault : Faul
     → (fault ≡ out_of_memory) ⊎ ((fault ≡ unknown_extension_type name) × ¬ KnowsExtension known name) → IsUnknownIn known ty fault
 extension_fault known ty name fault is why =
     let P : Ty → Type 0 = λ it. IsUnknownIn known it fault in
-    subst P (sym is) (⊎_elim (λ wanting. inl wanting) (λ of. inr (inr (name, of.0, refl, of.1))) why)
+    subst P (sym is) (elim why [ inl wanting ↦ inl wanting | inr of ↦ inr (inr (name, of.0, refl, of.1)) ])
 
 -- where the attributes and the tags of a kind are known throughout, all its types are
 pub kind_known : (known : Known) (kind : EntityTypeKind) → IsKnownThroughout known (record_of (kind_fields kind) ClosedAttributes)
@@ -30,7 +30,7 @@ pub kind_known : (known : Known) (kind : EntityTypeKind) → IsKnownThroughout k
     → IsKnownThroughout known of
 kind_known known (standard_kind fields openness tags) attributes each of either =
     let P : Ty → Type 0 = IsKnownThroughout known in
-    ⊎_elim (λ is. subst P (sym is) attributes) (λ is. each of is) either
+    elim either [ inl is ↦ subst P (sym is) attributes | inr is ↦ each of is ]
 kind_known known _ attributes each of either = absurd either
 
 -- why the attributes of a kind are refused is why a type of it is
@@ -39,9 +39,9 @@ pub attributes_fault : (known : Known) (kind : EntityTypeKind) (fault : Fault)
     → (fault ≡ out_of_memory) ⊎ ((of : Ty) × IsTypeOfKind kind of × IsUnknownIn known of fault)
 attributes_fault known (standard_kind fields openness tags) fault why = inr (record_of fields openness, inl refl, why)
 attributes_fault known (enumerated_kind choices) fault why =
-    ⊎_elim (λ wanting. inl wanting) (λ one. ⊎_elim (λ of. absurd of.2) (λ of. absurd of.2) one) why
+    elim why [ inl wanting ↦ inl wanting | inr one ↦ elim one [ inl of ↦ absurd of.2 | inr of ↦ absurd of.2 ] ]
 attributes_fault known external_kind fault why =
-    ⊎_elim (λ wanting. inl wanting) (λ one. ⊎_elim (λ of. absurd of.2) (λ of. absurd of.2) one) why
+    elim why [ inl wanting ↦ inl wanting | inr one ↦ elim one [ inl of ↦ absurd of.2 | inr of ↦ absurd of.2 ] ]
 
 -- the type of the tags of a kind is one of its types
 pub tags_of_kind : (kind : EntityTypeKind) (tags : Ty) → kind_tags kind ≡ Some tags → IsTypeOfKind kind tags

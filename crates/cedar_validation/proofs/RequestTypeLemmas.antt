@@ -23,17 +23,16 @@ one_unknown extensions schema name unknown = (
 pub misplaced_fault : (schema : PlainSchema) (entry : PlainUid × SchemaAction) → Contains schema.actions entry → (fault : Fault)
     → IsMisplaced schema entry.1 fault → IsRefusal schema fault
 misplaced_fault schema entry among fault misplaced =
-    ⊎_elim
-    (λ wanting. inl wanting)
-    (λ one. inr (λ extensions.
-    let P : Fault → Type 0 = IsSchemaFault extensions schema in
-    ⊎_elim
-    (λ of. subst P (sym of.1) (one_unknown extensions schema of.0 (inr (inr (entry, among, of.2, of.3)))))
-    (λ of.
-    let descendant : IsSchemaFault extensions schema (undeclared_action_descendant of.0) = (entry.0, (entry.1, among, of.2), of.3) in
-    subst P (sym of.1) descendant)
-    one))
-    misplaced
+    elim misplaced [
+      | inl wanting ↦ inl wanting
+      | inr one ↦ inr (λ extensions.
+          let P : Fault → Type 0 = IsSchemaFault extensions schema in
+          elim one [
+            | inl of ↦ subst P (sym of.1) (one_unknown extensions schema of.0 (inr (inr (entry, among, of.2, of.3))))
+            | inr of ↦ let descendant : IsSchemaFault extensions schema (undeclared_action_descendant of.0) = (entry.0, (entry.1, among, of.2), of.3) in
+                subst P (sym of.1) descendant
+          ])
+    ]
 
 -- the principals of a kind, and its resources, are what it is for
 pub principal_of : (kind : ActionKind) (name : PlainName) → Contains (kind_principals kind) name → IsPrincipalOrResourceOf kind name

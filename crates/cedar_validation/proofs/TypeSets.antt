@@ -23,8 +23,7 @@ pub types_more : (Has : PlainUid → Type 0) (all left rest : List EntityUID) (o
 types_more Has all left rest old new key uid is named has updates so_far =
     let P : PlainName → Type 0 = Contains (map type_name new) in
     let kept : Checking (λ each. Contains (map type_name new) (uid_of each).ty) all left = record {
-      checked = λ x among. ⊎_elim (λ before. inl (inserted_kept old new key updates (uid_of x).ty before)) (λ later. inr later)
-          (so_far.collected.checked x among);
+      checked = λ x among. elim (so_far.collected.checked x among) [ inl before ↦ inl (inserted_kept old new key updates (uid_of x).ty before) | inr later ↦ inr later ];
       among = so_far.collected.among;
     } in
     record {

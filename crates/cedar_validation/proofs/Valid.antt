@@ -1,5 +1,5 @@
 -- A schema of which all is made sure has no fault.
-use Rattle.std.proofs.Common.{[], ◌∷◌, refl, inl, ⊎_elim, Contains}
+use Rattle.std.proofs.Common.{[], ◌∷◌, refl, inl, ⊎_elim, Contains, inr}
 use Rattle.cedar_below.proofs.Lists.{Contains-cons}
 use Rattle.cedar_below.specs.PlainName.{PlainName}
 use Rattle.cedar_below.specs.PlainUid.{PlainUid}
@@ -19,13 +19,7 @@ module _ (extensions : Extensions) (schema : PlainSchema) (names : AreNamesSound
   -- no entity type is unknown
   none_unknown : (name : PlainName) → ¬ IsUnknownType schema name
   none_unknown name unknown =
-      ⊎_elim
-      (λ of. of.3 (mentions.entities of.0 name of.1 of.2))
-      (λ either. ⊎_elim
-      (λ of. of.2 (pairs name of.0 of.1).declared)
-      (λ of. of.3 ((placed of.0 of.1).types name of.2))
-      either)
-      unknown
+      elim unknown [ inl of ↦ of.3 (mentions.entities of.0 name of.1 of.2) | inr either ↦ elim either [ inl of ↦ of.2 (pairs name of.0 of.1).declared | inr of ↦ of.3 ((placed of.0 of.1).types name of.2) ] ]
 
   -- no refusal names a fault
   pub no_fault : IsValidSchema extensions schema

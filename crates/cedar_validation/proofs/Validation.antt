@@ -36,10 +36,7 @@ module _ (types closed_types : Types) (actions closed_actions : Actions) (entiti
   fault_before extensions fault why =
       let schema = plain_schema types actions entities in
       let closed = plain_schema closed_types closed_actions [] in
-      ⊎_elim
-      (λ wanting. inl wanting)
-      (λ here. inr (fault_back extensions schema closed each_type each_action fault here))
-      why
+      elim why [ inl wanting ↦ inl wanting | inr here ↦ inr (fault_back extensions schema closed each_type each_action fault here) ]
 
   -- the closed schema is closed, and the schema is valid where it is
   pub valid_before : (extensions : Extensions)

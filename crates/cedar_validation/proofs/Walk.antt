@@ -43,15 +43,9 @@ module _ (Known KnownExtension : PlainName → Type 0) (all : Fields) where
     pub walked_more : ((name : PlainName) → MentionsEntity ty name → Known name)
         → ((name : PlainName) → MentionsExtensionType ty name → KnownExtension name) → Walked Known KnownExtension all rest
     walked_more entities extensions = record {
-      entities = λ name mentions. ⊎_elim
-          (λ known. inl known)
-          (λ still. ⊎_elim (λ here. inl (entities name here)) (λ later. inr later) still)
-          (next.entities name mentions);
+      entities = λ name mentions. elim (next.entities name mentions) [ inl known ↦ inl known | inr still ↦ elim still [ inl here ↦ inl (entities name here) | inr later ↦ inr later ] ];
       entities_among = λ name mentions. next.entities_among name (inr mentions);
-      extensions = λ name mentions. ⊎_elim
-          (λ known. inl known)
-          (λ still. ⊎_elim (λ here. inl (extensions name here)) (λ later. inr later) still)
-          (next.extensions name mentions);
+      extensions = λ name mentions. elim (next.extensions name mentions) [ inl known ↦ inl known | inr still ↦ elim still [ inl here ↦ inl (extensions name here) | inr later ↦ inr later ] ];
       extensions_among = λ name mentions. next.extensions_among name (inr mentions);
       smaller = let h = next.smaller in omega arith;
     }
@@ -64,6 +58,6 @@ module _ (Known KnownExtension : PlainName → Type 0) (all : Fields) where
     pub walked_all : ((name : PlainName) → FieldsMentionEntity all name → Known name)
         × ((name : PlainName) → FieldsMentionExtensionType all name → KnownExtension name)
     walked_all = (
-      λ name mentions. ⊎_elim (λ known. known) (λ none. absurd none) (done.entities name mentions),
-      λ name mentions. ⊎_elim (λ known. known) (λ none. absurd none) (done.extensions name mentions),
+      λ name mentions. elim (done.entities name mentions) [ inl known ↦ known | inr none ↦ absurd none ],
+      λ name mentions. elim (done.extensions name mentions) [ inl known ↦ known | inr none ↦ absurd none ],
     )

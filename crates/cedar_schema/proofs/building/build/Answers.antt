@@ -32,7 +32,7 @@ returns-clause-built c =
     let r = c.build_resolved.result in
     built_from bag given c.requires _
     (IfErr-mapped parts_schema fault_of r _
-    (IfErr-weaker r _ _ (λ error at. ⊎_elim (λ memory. inl memory) (λ fault. inr ((same.0 (fault_of error)).1 fault)) (at over))
+    (IfErr-weaker r _ _ (λ error at. elim (at over) [ inl memory ↦ inl memory | inr fault ↦ inr ((same.0 (fault_of error)).1 fault) ])
     c.build_resolved.ensures.fault))
     (OnOk-mapped parts_schema fault_of r _
     (on_ok_weaker r (λ well ill. well over (ill.0, (same.0 ill.0).0 ill.1)) c.build_resolved.ensures.well_formed))

@@ -22,7 +22,7 @@ pub returns-in_err-fragments-clause-built : goal.returns-in_err-fragments-clause
 returns-in_err-fragments-clause-built c =
     let given = c.args.extensions.now in
     let refused = built_from (raw_bag c.args.fragments.items) given c.requires (Err (fault_of c.in_err-fragments.field-0.0))
-    (⊎_elim (λ memory. inl memory) (λ at_fault. inr (at_fault.1 given)) c.in_err-fragments.ensures.fault) tt tt in
+    (elim c.in_err-fragments.ensures.fault [ inl memory ↦ inl memory | inr at_fault ↦ inr (at_fault.1 given) ]) tt tt in
     let p = err_from_is_err_and c.from_residual.result c.from_residual.ensures.1 in
     rw (p.1, p.2) refused
 

@@ -1,4 +1,4 @@
-use Rattle.std.proofs.Common.{⊎_elim}
+use Rattle.std.proofs.Common.{⊎_elim, inl, inr}
 use Rattle.cedar_declaration_laws.proofs.ComeBack.{declared_schemas_come_back}
 use Rattle.cedar_schema.proofs.SchemaEquality.{schemas-Same}
 use Rattle.cedar_schema.specs.ValidatorSchema.{schema_of}
@@ -14,4 +14,4 @@ pub returns-clause-refused : goal.returns-clause-refused
 returns-clause-refused c = λ bag again extensions schema fault fit type_locations built writable written rebuilt.
     let back = declared_schemas_come_back bag again extensions (schema_of schema) fit type_locations built.well_formed built.declared
     writable written in
-    ⊎_elim (λ memory. memory) (λ at_fault. absurd (back.0 (fault, at_fault))) rebuilt.fault
+    elim rebuilt.fault [ inl memory ↦ memory | inr at_fault ↦ absurd (back.0 (fault, at_fault)) ]

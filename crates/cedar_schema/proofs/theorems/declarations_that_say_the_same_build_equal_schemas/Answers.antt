@@ -1,4 +1,4 @@
-use Rattle.std.proofs.Common.{⊎_elim}
+use Rattle.std.proofs.Common.{⊎_elim, inl, inr}
 use Rattle.cedar_declaration_laws.proofs.SameBagLaws.{same_bags}
 use Rattle.cedar_schema.proofs.SchemaEquality.{schemas-Same}
 use Rattle.cedar_schema.proofs.theorems.declarations_that_say_the_same_build_equal_schemas.Goals as goal
@@ -11,6 +11,4 @@ returns-clause-equal c = λ bag other extensions a b same first second.
 
 pub returns-clause-refused : goal.returns-clause-refused
 returns-clause-refused c = λ bag other extensions schema fault same first second.
-    ⊎_elim (λ memory. memory)
-    (λ at_fault. absurd (first.well_formed ((same_bags bag other extensions same).0.1 (fault, at_fault))))
-    second.fault
+    elim second.fault [ inl memory ↦ memory | inr at_fault ↦ absurd (first.well_formed ((same_bags bag other extensions same).0.1 (fault, at_fault))) ]

@@ -58,9 +58,6 @@ returns-in_err-check_kinds-in-Some-get-clause-fault c =
     let among =
     checking_here (IsChecked parts above) above.descendants.keys _ _ lower c.in-Some.ensures.steps c.loop-lower.invariant in
     let at_fault : (fault ≡ out_of_memory) ⊎ IsBelowFault parts (type_name c.args.upper.now) above fault =
-    ⊎_elim
-    (λ wanting. inl wanting)
-    (λ why. inr (lower, c.in-Some-get.below.now, among, sym c.in-Some-get.ensures.value, why))
-    c.in_err-check_kinds-in-Some-get.ensures.fault in
+    elim c.in_err-check_kinds-in-Some-get.ensures.fault [ inl wanting ↦ inl wanting | inr why ↦ inr (lower, c.in-Some-get.below.now, among, sym c.in-Some-get.ensures.value, why) ] in
     let p = err_from_is_err_and c.from_residual.result c.from_residual.ensures.1 in
     rw (p.1, p.2) at_fault

@@ -36,25 +36,25 @@ check_attributes-returns-in_err-check_type-clause-fault t c =
     let steps = ap (λ entries. fields_from (plain_attributes entries)) c.in-Some.ensures.steps in
     let all = fields_of c.args.attrs.now in
     let at_fault : IsUnknownIn known (record_of all ClosedAttributes) fault =
-    ⊎_elim
-    (λ wanting. inl wanting)
-    (λ one. inr (⊎_elim
-    (λ of. inl (
-      of.0,
-      of.1,
-      walked_entity (Knows known) (KnowsExtension known) all _ _ (string_bytes c.in-Some._name.now)
-          (attribute_of attribute).0 (attribute_of attribute).1 steps c.loop-name.invariant of.0 of.2,
-      of.3,
-    ))
-    (λ of. inr (
-      of.0,
-      of.1,
-      walked_extension (Knows known) (KnowsExtension known) all _ _ (string_bytes c.in-Some._name.now)
-          (attribute_of attribute).0 (attribute_of attribute).1 steps c.loop-name.invariant of.0 of.2,
-      of.3,
-    ))
-    one))
-    (subst P same c.in_err-check_type.ensures.fault) in
+    elim (subst P same c.in_err-check_type.ensures.fault) [
+      | inl wanting ↦ inl wanting
+      | inr one ↦ inr (elim one [
+        | inl of ↦ inl (
+          of.0,
+          of.1,
+          walked_entity (Knows known) (KnowsExtension known) all _ _ (string_bytes c.in-Some._name.now)
+              (attribute_of attribute).0 (attribute_of attribute).1 steps c.loop-name.invariant of.0 of.2,
+          of.3,
+        )
+        | inr of ↦ inr (
+          of.0,
+          of.1,
+          walked_extension (Knows known) (KnowsExtension known) all _ _ (string_bytes c.in-Some._name.now)
+              (attribute_of attribute).0 (attribute_of attribute).1 steps c.loop-name.invariant of.0 of.2,
+          of.3,
+        )
+      ])
+    ] in
     let p = err_from_is_err_and c.from_residual.result c.from_residual.ensures.1 in
     rw (p.1, p.2) at_fault
 

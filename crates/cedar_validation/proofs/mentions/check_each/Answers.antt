@@ -27,6 +27,6 @@ returns-in_err-check_types-clause-fault g c =
     let among = checking_here _ entries _ _ entry c.in-Some.ensures.steps c.loop-name.invariant in
     let at_fault : (fault ≡ out_of_memory) ⊎ ((it : g.row.K.Denot × g.row.V.Denot) × Contains entries it
     × ((of : Ty) × g.V.Typed.HasType it.1 of × IsUnknownIn known of fault)) =
-    ⊎_elim (λ wanting. inl wanting) (λ at. inr (entry, among, at)) c.in_err-check_types.ensures.fault in
+    elim c.in_err-check_types.ensures.fault [ inl wanting ↦ inl wanting | inr at ↦ inr (entry, among, at) ] in
     let p = err_from_is_err_and c.from_residual.result c.from_residual.ensures.1 in
     rw (p.1, p.2) at_fault

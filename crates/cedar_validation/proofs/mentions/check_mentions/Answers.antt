@@ -43,9 +43,6 @@ returns-in_err-check_each-clause-fault c =
     let known = c.args.known.now in
     let fault = fault_of c.in_err-check_each.field-0.0 in
     let at_fault : (fault ≡ out_of_memory) ⊎ ((of : Ty) × IsTypeIn (plain_parts known.parts.now) of × IsUnknownIn known of fault) =
-    ⊎_elim
-    (λ wanting. inl wanting)
-    (λ at. inr (at.2.0, inl (plain_entry at.0, Contains-image plain_entry known.parts.now.entity_types.entries at.0 at.1, at.2.1), at.2.2))
-    c.in_err-check_each.ensures.fault in
+    elim c.in_err-check_each.ensures.fault [ inl wanting ↦ inl wanting | inr at ↦ inr (at.2.0, inl (plain_entry at.0, Contains-image plain_entry known.parts.now.entity_types.entries at.0 at.1, at.2.1), at.2.2) ] in
     let p = err_from_is_err_and c.from_residual.result c.from_residual.ensures.1 in
     rw (p.1, p.2) at_fault

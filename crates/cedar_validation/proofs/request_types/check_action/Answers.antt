@@ -14,11 +14,11 @@ returns-in_err-check_declared-clause-fault c =
     let it = action_of c.args.action.now in
     let fault = fault_of c.in_err-check_declared.field-0.0 in
     let at_fault : IsMisplaced (plain_parts c.args.parts.now) it fault =
-    ⊎_elim
-    (λ wanting. inl wanting)
-    (λ of. let P : List PlainName → Type 0 = λ names. Contains names of.0 in
-    inr (inl (of.0, of.1, principal_of it.kind of.0 (subst P c.principals.ensures.names of.2), of.3)))
-    c.in_err-check_declared.ensures.fault in
+    elim c.in_err-check_declared.ensures.fault [
+      | inl wanting ↦ inl wanting
+      | inr of ↦ let P : List PlainName → Type 0 = λ names. Contains names of.0 in
+          inr (inl (of.0, of.1, principal_of it.kind of.0 (subst P c.principals.ensures.names of.2), of.3))
+    ] in
     let p = err_from_is_err_and c.from_residual.result c.from_residual.ensures.1 in
     rw (p.1, p.2) at_fault
 
@@ -27,11 +27,11 @@ returns-in_err-check_declared-2-clause-fault c =
     let it = action_of c.args.action.now in
     let fault = fault_of c.in_err-check_declared-2.field-0.0 in
     let at_fault : IsMisplaced (plain_parts c.args.parts.now) it fault =
-    ⊎_elim
-    (λ wanting. inl wanting)
-    (λ of. let P : List PlainName → Type 0 = λ names. Contains names of.0 in
-    inr (inl (of.0, of.1, resource_of it.kind of.0 (subst P c.resources.ensures.names of.2), of.3)))
-    c.in_err-check_declared-2.ensures.fault in
+    elim c.in_err-check_declared-2.ensures.fault [
+      | inl wanting ↦ inl wanting
+      | inr of ↦ let P : List PlainName → Type 0 = λ names. Contains names of.0 in
+          inr (inl (of.0, of.1, resource_of it.kind of.0 (subst P c.resources.ensures.names of.2), of.3))
+    ] in
     let p = err_from_is_err_and c.from_residual-in_err-check_declared-2.result c.from_residual-in_err-check_declared-2.ensures.1 in
     rw (p.1, p.2) at_fault
 
@@ -42,9 +42,6 @@ returns-clause-sound c =
     (λ descendants. record {
       types = λ name of.
           let P : List PlainName → Type 0 = λ names. Contains names name in
-          ⊎_elim
-          (λ among. c.in_ok-check_declared.ensures.sound name (subst P (sym c.principals.ensures.names) among))
-          (λ among. c.in_ok-check_declared-2.ensures.sound name (subst P (sym c.resources.ensures.names) among))
-          (for_cases it.kind name of);
+          elim (for_cases it.kind name of) [ inl among ↦ c.in_ok-check_declared.ensures.sound name (subst P (sym c.principals.ensures.names) among) | inr among ↦ c.in_ok-check_declared-2.ensures.sound name (subst P (sym c.resources.ensures.names) among) ];
       descendants = descendants;
     })

@@ -18,7 +18,7 @@ pub returns-in_err-check_names-clause-fault : goal.returns-in_err-check_names-cl
 returns-in_err-check_names-clause-fault c =
     let fault = fault_of c.in_err-check_names.field-0.0 in
     let at_fault : (fault ≡ out_of_memory) ⊎ IsSchemaFault c.args.extensions.now (plain_parts c.args.parts.now) fault =
-    ⊎_elim (λ wanting. inl wanting) (λ any. inr (any c.args.extensions.now)) c.in_err-check_names.ensures.fault in
+    elim c.in_err-check_names.ensures.fault [ inl wanting ↦ inl wanting | inr any ↦ inr (any c.args.extensions.now) ] in
     let p = err_from_is_err_and c.from_residual.result c.from_residual.ensures.1 in
     rw (p.1, p.2) at_fault
 
@@ -26,11 +26,11 @@ pub returns-in_err-check_hierarchy-clause-fault : goal.returns-in_err-check_hier
 returns-in_err-check_hierarchy-clause-fault c =
     let fault = fault_of c.in_err-check_hierarchy.field-0.0 in
     let at_fault : (fault ≡ out_of_memory) ⊎ IsSchemaFault c.args.extensions.now (plain_parts c.args.parts.now) fault =
-    ⊎_elim (λ wanting. inl wanting) (λ any. inr (any c.args.extensions.now)) c.in_err-check_hierarchy.ensures.fault in
+    elim c.in_err-check_hierarchy.ensures.fault [ inl wanting ↦ inl wanting | inr any ↦ inr (any c.args.extensions.now) ] in
     let p = err_from_is_err_and c.from_residual-in_err-check_hierarchy.result c.from_residual-in_err-check_hierarchy.ensures.1 in
     rw (p.1, p.2) at_fault
 
 pub returns-clause-fault : goal.returns-clause-fault
 returns-clause-fault c =
     on_err c.check_actions.result c.check_actions.ensures.fault
-    (λ error why. ⊎_elim (λ wanting. inl wanting) (λ any. inr (any c.args.extensions.now)) why)
+    (λ error why. elim why [ inl wanting ↦ inl wanting | inr any ↦ inr (any c.args.extensions.now) ])

@@ -19,7 +19,7 @@ returns-in_err-closed_actions-clause-fault c =
     let at_fault : (entities : List Entity) → (fault ≡ out_of_memory)
     ⊎ IsSchemaFault extensions (plain_schema types actions entities) fault =
     λ entities. let P : Fault → Type 0 = IsSchemaFault extensions (plain_schema types actions entities) in
-    ⊎_elim (λ wanting. inl wanting) (λ of. inr (subst P (sym of.1) of.2)) (c.in_err-closed_actions.ensures.fault types entities) in
+    elim (c.in_err-closed_actions.ensures.fault types entities) [ inl wanting ↦ inl wanting | inr of ↦ inr (subst P (sym of.1) of.2) ] in
     let p = err_from_is_err_and c.from_residual-in_err-closed_actions.result c.from_residual-in_err-closed_actions.ensures.1 in
     rw (p.1, p.2) at_fault
 
