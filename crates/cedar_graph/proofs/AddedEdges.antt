@@ -49,13 +49,12 @@ module _ {K V S : Type 0} (eq : K → K → Bool) (has_edge : V → K → Bool) 
     pub complete_more : (key other : K) → IsEdgeIn eq all key other → ContainsKey eq before key
         → HasEdge eq has_edge new key other ⊎ IsEdgeIn eq rest key other
     complete_more key other listed stands =
-        let P : List (K × K) → Type 0 = λ edges. IsEdgeIn eq edges key other in
         let there : ContainsKey eq old key =
         some_kept has_edge is_alike (IsEdgeIn eq all key) (get eq before key) (get eq old key) (grows key) stands in
         elim (complete key other listed stands) [
           | inl has ↦ inl (edge_kept has_edge is_alike (λ each. IsTrue (eq from key) × IsTrue (eq to each)) (get eq old key)
               (get eq new key) other (step key) has)
-          | inr later ↦ elim (edge_cases eq from to key other rest (subst P is later)) [ inl here ↦ inl (added key other here.0 there here.1) | inr after ↦ inr after ]
+          | inr later ↦ elim (edge_cases eq from to key other rest (rw is at later)) [ inl here ↦ inl (added key other here.0 there here.1) | inr after ↦ inr after ]
         ]
 
 -- nodes that are alike in one way are so in each that says less

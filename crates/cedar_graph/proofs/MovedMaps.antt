@@ -1,5 +1,5 @@
 -- Entries moved from one map to another, which is in the order of the keys.
-use Rattle.std.proofs.Common.{◌≡◌, ◌↔◌, Bool, true, IsTrue, List, [], ◌∷◌, Option, None, Some, IsSome, HashMap, ap, sym, subst, ◌∙◌, refl, Contains, length, arith, inl, inr}
+use Rattle.std.proofs.Common.{◌≡◌, ◌↔◌, Bool, true, IsTrue, List, [], ◌∷◌, Option, None, Some, IsSome, HashMap, ap, sym, ◌∙◌, refl, Contains, length, arith, inl, inr}
 use Rattle.std.proofs.lemmas.Bool.{false≢true}
 use Rattle.std.proofs.lemmas.List.{get_or-map, map-id}
 use Rattle.std.proofs.lemmas.List.Elements.{Contains-append_right}
@@ -52,13 +52,10 @@ module _ {K V S : Type 0} {eq : K → K → Bool} (cmp : K → K → Ordering) (
   -- an entry of the new one is found in the old
   pub moved_found : (entry : K × V) → Contains moved.entries entry → hash.get eq nodes entry.0 ≡ Some entry.1
   moved_found entry among =
-      let T : (K → K → Bool) → Type 0 = λ test. lookup (test entry.0) moved.entries ≡ Some entry.1 in
-      let U : (K → K → Bool) → Type 0 = λ test. IsDistinct test (keys_of moved.entries) in
       let tests : eq_by_cmp cmp ≡ eq = λ i a b. tied a b i in
       sym (moved_held entry.0)
-      ∙ subst T (sym tests)
-      (lookup_from_place laws moved.entries among.0 entry.0 entry.1
-      (subst U tests (IsDistinct-from_sorted cmp (keys_of moved.entries) made.1))
+      ∙ rw (sym tests) at (lookup_from_place laws moved.entries among.0 entry.0 entry.1
+      (rw tests at (IsDistinct-from_sorted cmp (keys_of moved.entries) made.1))
       (slice_get-get_or moved.entries among.0 entry among.1 ∙ ap Some among.2))
 
   -- what is found in the old one is an entry of the new
@@ -114,14 +111,10 @@ module _ {K V S : Type 0} {eq : K → K → Bool} (laws : IsEquivalence eq) (is_
       → ((entry : K × V) → Contains old.entries entry → P entry.0 entry.1)
       → (entry : K × V) → Contains new.entries entry → P entry.0 entry.1
   each_alike old new unique keys alike each entry among =
-      let T : List K → Type 0 = λ ks. Contains ks entry.0 in
-      let held = keyed_entry old.entries entry.0 (subst T keys (key_held new.entries entry among)) in
+      let held = keyed_entry old.entries entry.0 (rw keys at (key_held new.entries entry among)) in
       let before = entry_found laws old.entries unique (entry.0, held.0) held.1 in
-      let U : List K → Type 0 = IsDistinct eq in
-      let after = entry_found laws new.entries (subst U (sym keys) unique) entry among in
-      let Old : Option V → Type 0 = λ o. AreAlike is_alike o (hash.get eq new entry.0) in
-      let New : Option V → Type 0 = λ o. AreAlike is_alike (Some held.0) o in
-      carry entry.0 held.0 entry.1 (subst New after (subst Old before (alike entry.0))) (each (entry.0, held.0) held.1)
+      let after = entry_found laws new.entries (rw (sym keys) at unique) entry among in
+      carry entry.0 held.0 entry.1 (rw after at (rw before at (alike entry.0))) (each (entry.0, held.0) held.1)
 
   -- the same after two changes
   pub each_alike_twice : (old between new : HashMap K V S) → hash.IsUnique eq old → hash.keys between ≡ hash.keys old
@@ -131,8 +124,7 @@ module _ {K V S : Type 0} {eq : K → K → Bool} (laws : IsEquivalence eq) (is_
       → ((entry : K × V) → Contains old.entries entry → P entry.0 entry.1)
       → (entry : K × V) → Contains new.entries entry → P entry.0 entry.1
   each_alike_twice old between new unique first second alike also each =
-      let U : List K → Type 0 = IsDistinct eq in
-      each_alike between new (subst U (sym first) unique) second also (each_alike old between unique first alike each)
+      each_alike between new (rw (sym first) at unique) second also (each_alike old between unique first alike each)
 
 -- what holds of the entries of a map holds of those moved to another, if the two kinds tell keys apart alike
 pub moved_each : {K V S : Type 0} {eq : K → K → Bool} (cmp : K → K → Ordering) (tied : (a b : K) → eq_by_cmp cmp a b ≡ eq a b)
@@ -141,9 +133,8 @@ pub moved_each : {K V S : Type 0} {eq : K → K → Bool} (cmp : K → K → Ord
     → (P : K × V → Type 0) → ((entry : K × V) → Contains nodes.entries entry → P entry)
     → (entry : K × V) → Contains moved.entries entry → P entry
 moved_each {K = K} {eq = eq} cmp tied nodes unique moved held P each entry among =
-    let U : (K → K → Bool) → Type 0 = λ test. IsDistinct test (keys_of nodes.entries) in
     let tests : eq_by_cmp cmp ≡ eq = λ i a b. tied a b i in
-    each entry (held (subst U (sym tests) unique) entry among)
+    each entry (held (rw (sym tests) at unique) entry among)
 
 -- the same of entries moved from a map in the order of its keys
 pub hashed_each : {K V S : Type 0} {eq : K → K → Bool} (cmp : K → K → Ordering) (tied : (a b : K) → eq_by_cmp cmp a b ≡ eq a b)
@@ -152,9 +143,8 @@ pub hashed_each : {K V S : Type 0} {eq : K → K → Bool} (cmp : K → K → Or
     → (P : K × V → Type 0) → ((entry : K × V) → Contains nodes.entries entry → P entry)
     → (entry : K × V) → Contains moved.entries entry → P entry
 hashed_each {K = K} {eq = eq} cmp tied nodes ordered moved held P each entry among =
-    let U : (K → K → Bool) → Type 0 = λ test. IsDistinct test (keys_of nodes.entries) in
     let tests : eq_by_cmp cmp ≡ eq = λ i a b. tied a b i in
-    each entry (held (subst U tests (IsDistinct-from_sorted cmp (keys_of nodes.entries) ordered)) entry among)
+    each entry (held (rw tests at (IsDistinct-from_sorted cmp (keys_of nodes.entries) ordered)) entry among)
 
 -- what has no entries has none
 pub empty_lacks : {A : Type 0} (P : A → Type 0) (entries : List A) → entries ≡ [] → (entry : A) → Contains entries entry → P entry

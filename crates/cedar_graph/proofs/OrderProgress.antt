@@ -94,8 +94,7 @@ distinct_snoc xs x distinct other i j d below within same =
     elim (below_or_last j (length xs) (omega (arith, within, long))) [
       | inl inside ↦ distinct i j d below inside (sym (first (omega (arith, below, inside))) ∙ (same ∙ get_or-append xs (x ∷ []) d j inside))
       | inr last ↦ let inside : i < length xs = omega (arith, below, last) in
-          let P : ℕ → Type 0 = λ k. get_or (xs ++ x ∷ []) i d ≡ get_or (xs ++ x ∷ []) k d in
-          other (i, inside, any_default xs i x d inside ∙ (sym (first inside) ∙ (subst P last same ∙ get_or-append_seam xs x [] d)))
+          other (i, inside, any_default xs i x d inside ∙ (sym (first inside) ∙ (rw last at same ∙ get_or-append_seam xs x [] d)))
     ]
   where
     any_default : (list : List ℕ) (k a b : ℕ) → k < length list → get_or list k a ≡ get_or list k b
@@ -126,8 +125,7 @@ module _ {Z : Type 0} (targets : List (Vec ℕ Z)) where
   number_cases : (rest : List Step) (step : Step) (n : ℕ) → Contains (map number_of (rest ++ step ∷ [])) n
       → Contains (map number_of rest) n ⊎ (number_of step ≡ n)
   number_cases rest step n among =
-      let P : List ℕ → Type 0 = λ list. Contains list n in
-      elim (Contains-append_cases (map number_of rest) (number_of step ∷ []) n (subst P (map-append number_of rest (step ∷ [])) among)) [ inl here ↦ inl here | inr last ↦ inr (elim (Contains-cons_cases (number_of step) [] n last) [ inl same ↦ same | inr none ↦ absurd (omega (arith, none.1)) ]) ]
+      elim (Contains-append_cases (map number_of rest) (number_of step ∷ []) n (rw (map-append number_of rest (step ∷ [])) at among)) [ inl here ↦ inl here | inr last ↦ inr (elim (Contains-cons_cases (number_of step) [] n last) [ inl same ↦ same | inr none ↦ absurd (omega (arith, none.1)) ]) ]
 
   -- a step that leaves a number is the last or among the others
   leave_cases : (rest : List Step) (step : Step) (n : ℕ) → Contains (rest ++ step ∷ []) (Leave n)
@@ -174,8 +172,7 @@ module _ {Z : Type 0} (targets : List (Vec ℕ Z)) where
       | inl there ↦ inl there
       | inr waiting ↦ elim (number_cases rest (Enter n) m waiting) [
         | inl here ↦ inr here
-        | inr same ↦ let P : ℕ → Type 0 = Contains order in
-            inl (subst P same (done (omega (arith, same, within))))
+        | inr same ↦ inl (rw same at (done (omega (arith, same, within))))
       ]
     ];
     are_steps = steps_before targets (Contains order) (Contains order) (λ m there. there) None rest (Enter n) done so_far.are_steps;
@@ -297,16 +294,14 @@ module _ {Z : Type 0} (targets : List (Vec ℕ Z)) (order : List ℕ) (ordered :
       let at = taken_apart before c (ordered.after before rest a c is leads) in
       let apart : order ≡ at.0 ++ c ∷ (at.1 ++ a ∷ rest) =
       is ∙ (ap (λ list. list ++ a ∷ rest) at.2 ∙ append_assoc at.0 (c ∷ at.1) (a ∷ rest)) in
-      let P : List ℕ → Type 0 = λ list. Contains list b in
-      subst P (sym at.2) (Contains-append_left at.0 (c ∷ at.1) b (chain_before c b chain at.0 (at.1 ++ a ∷ rest) apart))
+      rw (sym at.2) at (Contains-append_left at.0 (c ∷ at.1) b (chain_before c b chain at.0 (at.1 ++ a ∷ rest) apart))
 
   -- where there is an order no number is on a cycle
   pub no_cycle : (number : ℕ) → ¬ Chain (LeadsTo targets) number number
   no_cycle number chain =
       let last = (last_step (LeadsTo targets) number number chain).1 in
       let at = taken_apart order number ((ordered.each number).1 last.1) in
-      let P : List ℕ → Type 0 = AllPairs (λ a b. a ≢ b) in
-      stands_once at.0 number at.1 (subst P at.2 ordered.once) (chain_before number number chain at.0 at.1 at.2)
+      stands_once at.0 number at.1 (rw at.2 at ordered.once) (chain_before number number chain at.0 at.1 at.2)
 
 -- what is still to be paid for a mark of a number that leads to so many: a fresh one will take a step for itself and one
 -- for each

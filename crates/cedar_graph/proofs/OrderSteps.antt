@@ -88,12 +88,10 @@ module _ {Z : Type 0} (targets : List (Vec ℕ Z)) where
       covered : (to : ℕ) → to < length targets → Contains (map number_of (rest ++ step ∷ [])) to
           → NowDone to ⊎ Contains (map number_of rest) to
       covered to within above =
-          let P : List ℕ → Type 0 = λ numbers. Contains numbers to in
-          elim (Contains-append_cases (map number_of rest) (number_of step ∷ []) to (subst P (map-append number_of rest (step ∷ [])) above)) [
+          elim (Contains-append_cases (map number_of rest) (number_of step ∷ []) to (rw (map-append number_of rest (step ∷ [])) at above)) [
             | inl here ↦ inr here
             | inr last ↦ let same = single (number_of step) to last in
-                let Q : ℕ → Type 0 = NowDone in
-                inl (subst Q same (done (omega (arith, same, within))))
+                inl (rw same at (done (omega (arith, same, within))))
           ]
 
   -- steps that enter what a number leads to are steps

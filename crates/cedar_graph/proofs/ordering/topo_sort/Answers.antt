@@ -1,12 +1,11 @@
-use Rattle.std.proofs.Common.{◌≡◌, ◌++◌, ◌<◌, ℕ, zero, suc, replicate, Contains, ◌+◌, length, List, [], ◌∷◌, None, set, map, ap, sym, subst, ◌∙◌, refl, arith}
+use Rattle.std.proofs.Common.{◌≡◌, ◌++◌, ◌<◌, ℕ, zero, suc, replicate, Contains, ◌+◌, length, List, [], ◌∷◌, None, map, ap, sym, subst, ◌∙◌, refl, arith}
 use Rattle.std.proofs.lemmas.List.{append_assoc, length-append, length-map}
 use Rattle.cedar_graph.proofs.Lists.{items_at-read}
 use Rattle.cedar_graph.specs.Numbered.{items_at}
 use Rattle.cedar_graph.proofs.OrderProgress.{Progress, mark_at, mark_read, at_first, skipped, left, opened, cycle, whole, no_cycle, opening_pays, leaving_is_free}
 use Rattle.cedar_graph.proofs.OrderSteps.{left_within}
 use Rattle.cedar_graph.specs.declared.ordering.Mark.{Mark}
-use Rattle.cedar_graph.specs.declared.ordering.Mark.TheVariants.{Fresh, Open, Done}
-use Rattle.cedar_graph.specs.declared.ordering.Step.{Step}
+use Rattle.cedar_graph.specs.declared.ordering.Mark.TheVariants.{Fresh}
 use Rattle.cedar_graph.specs.declared.ordering.Step.TheVariants.{Enter, Leave}
 use Rattle.cedar_graph.proofs.ordering.topo_sort.Goals as goal
 
@@ -34,10 +33,7 @@ loop-step-init c =
 
 pub index_mut-requires : goal.index_mut-requires
 index_mut-requires c =
-    let P : List Step → Type 0 = λ steps. Progress c.args.targets.now.items c.loop-step.marks.items steps c.loop-step.order.items in
-    let Q : Step → Type 0 = λ step. Progress c.args.targets.now.items c.loop-step.marks.items (c.pop.new.self.items ++ step ∷ [])
-    c.loop-step.order.items in
-    let so_far = subst Q c.in-Leave.is (subst P c.in-Some.ensures.items c.loop-step.invariant) in
+    let so_far = rw c.in-Leave.is at (rw c.in-Some.ensures.items at c.loop-step.invariant) in
     omega (
       arith,
       so_far.len,
@@ -54,20 +50,12 @@ loop-step-smaller-in-Leave c =
 
 pub loop-step-preserved-in-Leave : goal.loop-step-preserved-in-Leave
 loop-step-preserved-in-Leave c =
-    let P : List Step → Type 0 = λ steps. Progress c.args.targets.now.items c.loop-step.marks.items steps c.loop-step.order.items in
-    let Q : Step → Type 0 = λ step. Progress c.args.targets.now.items c.loop-step.marks.items (c.pop.new.self.items ++ step ∷ [])
-    c.loop-step.order.items in
-    let R : List ℕ → Type 0 = Progress c.args.targets.now.items (set c.loop-step.marks.items c.in-Leave.number Done) c.pop.new.self.items in
-    subst R (sym c.in_ok-push-in-Leave.ensures.items)
-    (left c.args.targets.now.items c.loop-step.marks.items c.pop.new.self.items c.in-Leave.number c.loop-step.order.items
-    (subst Q c.in-Leave.is (subst P c.in-Some.ensures.items c.loop-step.invariant)))
+    rw (sym c.in_ok-push-in-Leave.ensures.items) at (left c.args.targets.now.items c.loop-step.marks.items c.pop.new.self.items c.in-Leave.number c.loop-step.order.items
+    (rw c.in-Leave.is at (rw c.in-Some.ensures.items at c.loop-step.invariant)))
 
 pub returns-in-Open : goal.returns-in-Open
 returns-in-Open c =
-    let P : List Step → Type 0 = λ steps. Progress c.args.targets.now.items c.loop-step.marks.items steps c.loop-step.order.items in
-    let Q : Step → Type 0 = λ step. Progress c.args.targets.now.items c.loop-step.marks.items (c.pop.new.self.items ++ step ∷ [])
-    c.loop-step.order.items in
-    let so_far = subst Q c.in-Enter.is (subst P c.in-Some.ensures.items c.loop-step.invariant) in
+    let so_far = rw c.in-Enter.is at (rw c.in-Some.ensures.items at c.loop-step.invariant) in
     let within : c.in-Enter.number < length c.loop-step.marks.items = omega (arith, c.if-number-len.true, c.len-in-Some.ensures) in
     cycle c.args.targets.now.items c.loop-step.marks.items c.pop.new.self.items c.in-Enter.number c.loop-step.order.items
     (omega (arith, within, so_far.len))
@@ -75,10 +63,7 @@ returns-in-Open c =
 
 pub loop-step-smaller-in_ok-enter_all-in-Fresh : goal.loop-step-smaller-in_ok-enter_all-in-Fresh
 loop-step-smaller-in_ok-enter_all-in-Fresh c =
-    let P : List Step → Type 0 = λ steps. Progress c.args.targets.now.items c.loop-step.marks.items steps c.loop-step.order.items in
-    let Q : Step → Type 0 = λ step. Progress c.args.targets.now.items c.loop-step.marks.items (c.pop.new.self.items ++ step ∷ [])
-    c.loop-step.order.items in
-    let so_far = subst Q c.in-Enter.is (subst P c.in-Some.ensures.items c.loop-step.invariant) in
+    let so_far = rw c.in-Enter.is at (rw c.in-Some.ensures.items at c.loop-step.invariant) in
     let marks = c.loop-step.marks.items in
     let targets = c.args.targets.now.items in
     let n = c.in-Enter.number in
@@ -104,10 +89,7 @@ loop-step-smaller-in_ok-enter_all-in-Fresh c =
 
 pub loop-step-preserved-in_ok-enter_all-in-Fresh : goal.loop-step-preserved-in_ok-enter_all-in-Fresh
 loop-step-preserved-in_ok-enter_all-in-Fresh c =
-    let P : List Step → Type 0 = λ steps. Progress c.args.targets.now.items c.loop-step.marks.items steps c.loop-step.order.items in
-    let Q : Step → Type 0 = λ step. Progress c.args.targets.now.items c.loop-step.marks.items (c.pop.new.self.items ++ step ∷ [])
-    c.loop-step.order.items in
-    let so_far = subst Q c.in-Enter.is (subst P c.in-Some.ensures.items c.loop-step.invariant) in
+    let so_far = rw c.in-Enter.is at (rw c.in-Some.ensures.items at c.loop-step.invariant) in
     let marks = c.loop-step.marks.items in
     let targets = c.args.targets.now.items in
     let n = c.in-Enter.number in
@@ -121,18 +103,13 @@ loop-step-preserved-in_ok-enter_all-in-Fresh c =
     c.in_ok-enter_all-in-Fresh.ensures
     ∙ (ap (λ steps. steps ++ map Enter numbers) c.in_ok-push-in-Fresh.ensures.items
     ∙ append_assoc c.pop.new.self.items (Leave n ∷ []) (map Enter numbers)) in
-    let R : List Step → Type 0 = λ steps. Progress targets (set marks n Open) steps c.loop-step.order.items in
     let S : ℕ → List ℕ → Type 0 = λ to list. Contains list to in
-    subst R (sym added)
-    (opened targets marks c.pop.new.self.items n c.loop-step.order.items numbers has_list fresh
+    rw (sym added) at (opened targets marks c.pop.new.self.items n c.loop-step.order.items numbers has_list fresh
     (λ to. (λ target. subst (S to) listed target, λ there. subst (S to) (sym listed) there)) so_far)
 
 pub loop-step-preserved-in-Done : goal.loop-step-preserved-in-Done
 loop-step-preserved-in-Done c =
-    let P : List Step → Type 0 = λ steps. Progress c.args.targets.now.items c.loop-step.marks.items steps c.loop-step.order.items in
-    let Q : Step → Type 0 = λ step. Progress c.args.targets.now.items c.loop-step.marks.items (c.pop.new.self.items ++ step ∷ [])
-    c.loop-step.order.items in
-    let so_far = subst Q c.in-Enter.is (subst P c.in-Some.ensures.items c.loop-step.invariant) in
+    let so_far = rw c.in-Enter.is at (rw c.in-Some.ensures.items at c.loop-step.invariant) in
     skipped c.args.targets.now.items c.loop-step.marks.items c.pop.new.self.items c.in-Enter.number c.loop-step.order.items
     (λ within. (so_far.done c.in-Enter.number within).1
     (mark_read c.loop-step.marks.items c.in-Enter.number c.index.result.now
@@ -140,16 +117,12 @@ loop-step-preserved-in-Done c =
 
 pub loop-step-preserved : goal.loop-step-preserved
 loop-step-preserved c =
-    let P : List Step → Type 0 = λ steps. Progress c.args.targets.now.items c.loop-step.marks.items steps c.loop-step.order.items in
-    let Q : Step → Type 0 = λ step. Progress c.args.targets.now.items c.loop-step.marks.items (c.pop.new.self.items ++ step ∷ [])
-    c.loop-step.order.items in
-    let so_far = subst Q c.in-Enter.is (subst P c.in-Some.ensures.items c.loop-step.invariant) in
+    let so_far = rw c.in-Enter.is at (rw c.in-Some.ensures.items at c.loop-step.invariant) in
     skipped c.args.targets.now.items c.loop-step.marks.items c.pop.new.self.items c.in-Enter.number c.loop-step.order.items
     (λ within. absurd (omega (arith, within, c.if-number-len.false, c.len-in-Some.ensures, so_far.len))) so_far
 
 pub returns : goal.returns
 returns c =
-    let P : List Step → Type 0 = λ steps. Progress c.args.targets.now.items c.loop-step.marks.items steps c.loop-step.order.items in
     let ordered = whole c.args.targets.now.items c.loop-step.marks.items c.loop-step.order.items
-    (subst P (empty_list c.loop-step.steps.items (omega (arith, c.in_default.ensures.cases.0))) c.loop-step.invariant) in
+    (rw (empty_list c.loop-step.steps.items (omega (arith, c.in_default.ensures.cases.0))) at c.loop-step.invariant) in
     (ordered, no_cycle c.args.targets.now.items c.loop-step.order.items ordered)
