@@ -1,6 +1,6 @@
 //! What chains of targets reach from each number that has a list of them.
 
-ghost use Rattle.std.specs.Prelude.{◌≡◌, ◌≢◌, ◌++◌, ℕ, ◌*◌, ◌<◌, ◌≤◌, ◌↔◌, All, Contains, IfNone, IfOk, IfSome, IsTrue, List, OnOk, length, vec_len};
+ghost use Rattle.std.specs.Prelude.{◌≡◌, ◌≢◌, ◌++◌, ℕ, ◌*◌, ◌<◌, ◌≤◌, ◌↔◌, All, Contains, IfNone, IfOk, IfSome, IsTrue, List, OnOk, false, length, vec_len};
 ghost use Rattle.cedar_below.specs.Chain.{Chain};
 ghost use Rattle.cedar_graph.specs.Gathered.{AreClosed, AreGathered, AreReached, GathersMore, mark_of};
 ghost use Rattle.cedar_graph.specs.Numbered.{IsTarget};
@@ -79,16 +79,21 @@ fn following<'a>(
     }
 }
 
-/// Whether the number has a list and isn't done.
+/// Whether the number leads to others and isn't done.
 fn leads_on(targets: &Vec<Vec<usize>>, marks: &Vec<Mark>, number: usize) -> bool
     requires { number < vec_len marks.now }
-    ensures { IsTrue result ↔ (number < vec_len targets.now)
+    ensures yes { IsTrue result → (number < vec_len targets.now)
         × (mark_of marks.now.items number ≢ Done) }
+    ensures no { (result ≡ false) → (to : ℕ) → IsTarget targets.now.items number to
+        → mark_of marks.now.items number ≡ Done }
 {
-    number < targets.len() && !matches!(marks[number], Mark::Done)
+    if number >= targets.len() || targets[number].is_empty() {
+        return false;
+    }
+    !matches!(marks[number], Mark::Done)
 }
 
-/// Gathers what a number leads to that is gathered and has a list.
+/// Gathers what a number leads to that is gathered itself.
 fn follow(
     closed: &Vec<Vec<usize>>,
     targets: &Vec<Vec<usize>>,

@@ -1,19 +1,14 @@
-use Rattle.cedar_graph.specs.Gathered.{mark_of}
-use Rattle.cedar_graph.proofs.Gathering.{done_or_not}
-use Rattle.cedar_graph.proofs.Lists.{items_at-past}
-use Rattle.std.proofs.lemmas.Bool.{cases_lt}
-use Rattle.cedar_graph.proofs.KeyedEdges.{nothing_in_nil}
 use Rattle.std.proofs.Common.{◌≡◌, ◌<◌, ◌+◌, ℕ, [], Contains, get_or, length, vec_len, refl, sym, ◌∙◌, ap, subst, inl, inr, arith}
-use Rattle.std.proofs.lemmas.Bool.{both_ways, cases_eq, cases_lt}
+use Rattle.std.proofs.lemmas.Bool.{both_ways, cases_eq}
 use Rattle.std.proofs.lemmas.List.Elements.{Contains-append_left, Contains-get_or}
 use Rattle.std.proofs.Math.ListN.{get_or-append}
 use Rattle.std.proofs.lemmas.List.{length-append}
-use Rattle.cedar_graph.specs.Gathered.{AreGathered, GathersMore, mark_of}
+use Rattle.cedar_graph.specs.Gathered.{AreGathered, GathersMore}
 use Rattle.cedar_graph.specs.Numbered.{IsTarget, items_at}
 use Rattle.cedar_graph.specs.declared.closing.Mark.TheVariants.{Met}
 use Rattle.cedar_graph.proofs.Counting.{count_below-fewer, count_below-le}
-use Rattle.cedar_graph.proofs.Gathering.{done_or_not, found_few, gathers_same, is_undone, marked_within, nothing_gathered, reached_all, reached_first, read_at, told_done, told_undone}
-use Rattle.cedar_graph.proofs.Lists.{items_at-past, items_at-read}
+use Rattle.cedar_graph.proofs.Gathering.{found_few, gathers_same, is_undone, marked_within, nothing_gathered, reached_all, reached_first, read_at, told_done, told_undone}
+use Rattle.cedar_graph.proofs.Lists.{items_at-read}
 use Rattle.cedar_graph.proofs.closing.reached.Goals as goal
 use Rattle.cedar_graph.proofs.closing.reached.Goals.{After-deref, After-index-number}
 
@@ -87,7 +82,7 @@ loop-place-preserved-then-leads_on c =
     let before = c.loop-place.found.items in
     let found = c.follow.new.found.items in
     let number = c.index-number.result.now in
-    let leads = c.if-leads_on.ensures.0 refl in
+    let leads = c.if-leads_on.ensures.yes refl in
     let inside : place < length before = omega (arith, c.loop-place-test.true, c.len.ensures) in
     let longer : length found ≡ length before + length step.grown.0 = ap length step.grown.1
     ∙ length-append before step.grown.0 in
@@ -138,14 +133,7 @@ loop-place-preserved c =
         | inl this ↦
             let from_here : IsTarget targets number to = subst (λ n. IsTarget targets n to)
             (ap (λ n. get_or found n 0) this ∙ here) edge in
-            elim (cases_lt number (length targets)) [
-              | inl within ↦ elim (done_or_not (mark_of c.loop-place.marks.items number)) [
-                | inl done ↦ old.are.done number to done from_here
-                | inr undone ↦ absurd (both_ways c.leads_on.result c.if-leads_on.false
-                    (c.leads_on.ensures.1 (omega (arith, within, c.args.targets.now.ok.0), undone)))
-              ]
-              | inr past ↦ absurd (nothing_in_nil to (subst (λ xs. Contains xs to) (items_at-past targets number past) from_here))
-            ]
+            old.are.done number to (c.leads_on.ensures.no c.if-leads_on.false to from_here) from_here
         | inr apart ↦ old.passed k to (omega (arith, below, apart)) edge
       ];
       count = old.count;
