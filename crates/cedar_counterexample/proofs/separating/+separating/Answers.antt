@@ -42,8 +42,7 @@ separating_field-returns-in_default t c =
     let name = string_bytes c.args.name.now in
     let attribute = attribute_of c.args.attribute.now in
     let found = found-Decides attribute_of c.get_attr.result c.deref.result.now lower c.get_attr.ensures.attribute in
-    let R : Text → Type 0 = λ text. ¬ Contains (field_names lower) text in
-    let absent = subst R c.deref.ensures (λ among. false≢true (sym (ap is_some c.in_default.is) ∙ found.1 among)) in
+    let absent = subst (λ text. ¬ Contains (field_names lower) text) c.deref.ensures (λ among. false≢true (sym (ap is_some c.in_default.is) ∙ found.1 among)) in
     IfOk-weaker c.start_without.result _
     (λ start. IsFieldStart extensions lower c.args.openness name attribute.0 attribute.1 (option_map start_of start))
     (λ start each. each extensions lower absent) c.start_without.ensures
@@ -55,8 +54,7 @@ separating_field-separating_expr-requires t c =
     let lower = fields_of c.args.lower.now in
     let own = attribute_of c.in-Some.own.now in
     let has = HasField-found c.deref.result.now lower own (sym c.in-Some.ensures.attribute) in
-    let P : Ty → Type 0 = λ ty. ty_size ty < ty_size (attribute_of c.args.attribute.now).1 + 1 in
-    let less = subst P (sym (type_same c.args.attribute.now c.deref-3.result.now c.deref-3.ensures)) (omega arith) in (
+    let less = subst (λ ty. ty_size ty < ty_size (attribute_of c.args.attribute.now).1 + 1) (sym (type_same c.args.attribute.now c.deref-3.result.now c.deref-3.ensures)) (omega arith) in (
       omega (arith, less, c.decreases),
       subst (IsInhabitedWith c.args.search.now.extensions.now samples) (sym (type_same c.in-Some.own.now c.deref-2.result.now c.deref-2.ensures))
           (AreInhabitedWith-of c.args.search.now.extensions.now samples lower c.deref.result.now own.0 own.1 c.requires has),
@@ -69,12 +67,9 @@ separating_field-returns-then-not-own t c = λ upper upper_openness also.
     let name = string_bytes c.args.name.now in
     let attribute = attribute_of c.args.attribute.now in
     let own = attribute_of c.in-Some.own.now in
-    let H : Text → Type 0 = λ text. HasField lower text own.0 own.1 in
-    let has = subst H c.deref.ensures (HasField-found c.deref.result.now lower own (sym c.in-Some.ensures.attribute)) in
+    let has = rw c.deref.ensures at (HasField-found c.deref.result.now lower own (sym c.in-Some.ensures.attribute)) in
     let optional = flag_same c.in-Some.own.now ∙ c.if-not-own.true in
-    let Q : PlainStart → Type 0 = IsStart extensions lower c.args.openness upper upper_openness in
-    subst Q (sym c.in_ok-start_of_none.ensures)
-    (missing_start extensions lower upper c.args.openness upper_openness name attribute.0 attribute.1
+    rw c.in_ok-start_of_none.ensures (missing_start extensions lower upper c.args.openness upper_openness name attribute.0 attribute.1
     (λ ty there. (let same = (HasField-once lower name own.0 true own.1 ty (IsSortedByName-fields c.args.lower.now) has there).0 in
     let wrong : true ≡ false = sym same ∙ optional in absurd cc))
     (flag_same c.args.attribute.now ∙ c.if-attribute.true) also)
@@ -86,19 +81,11 @@ separating_field-returns-in_ok-start_with-in-Some-found t c = λ upper upper_ope
     let name = string_bytes c.args.name.now in
     let attribute = attribute_of c.args.attribute.now in
     let own = attribute_of c.in-Some.own.now in
-    let H : Text → Type 0 = λ text. HasField lower text own.0 own.1 in
-    let has = subst H c.deref.ensures (HasField-found c.deref.result.now lower own (sym c.in-Some.ensures.attribute)) in
+    let has = rw c.deref.ensures at (HasField-found c.deref.result.now lower own (sym c.in-Some.ensures.attribute)) in
     let it = found_of c.in-Some-found.found in
-    let F : Option Found → Type 0 = λ found. IsOutsideAnswer extensions (ty_of c.deref-2.result.now)
-    (ty_of c.deref-3.result.now) (option_map found_of found) in
-    let found : F (Some c.in-Some-found.found) = subst F c.in-Some-found.is c.in_ok-found.ensures in
-    let A : Ty → Type 0 = λ ty. IsOutsideAnswer extensions ty (ty_of c.deref-3.result.now) (Some it) in
-    let B : Ty → Type 0 = λ ty. IsOutsideAnswer extensions own.1 ty (Some it) in
-    let answer = subst B (type_same c.args.attribute.now c.deref-3.result.now c.deref-3.ensures)
-    (subst A (type_same c.in-Some.own.now c.deref-2.result.now c.deref-2.ensures) found) in
-    let Q : PlainStart → Type 0 = IsStart extensions lower c.args.openness upper upper_openness in
-    subst Q (sym c.in_ok-start_with-in-Some-found.ensures)
-    (attribute_start extensions lower upper c.args.openness upper_openness name own.0 attribute.0 own.1 attribute.1 it
+    let found = rw c.in-Some-found.is at c.in_ok-found.ensures in
+    let answer = rw (type_same c.in-Some.own.now c.deref-2.result.now c.deref-2.ensures, type_same c.args.attribute.now c.deref-3.result.now c.deref-3.ensures) at found in
+    rw c.in_ok-start_with-in-Some-found.ensures (attribute_start extensions lower upper c.args.openness upper_openness name own.0 attribute.0 own.1 attribute.1 it
     (IsSortedByName-fields c.args.lower.now) (IsUtf8-string_bytes c.args.name.now) has also answer.0 answer.1)
 
 pub separating_field-returns-in-None : goal.separating_field-returns-in-None
@@ -107,15 +94,9 @@ separating_field-returns-in-None t c =
     let lower = fields_of c.args.lower.now in
     let attribute = attribute_of c.args.attribute.now in
     let own = attribute_of c.in-Some.own.now in
-    let H : Text → Type 0 = λ text. HasField lower text own.0 own.1 in
-    let has = subst H c.deref.ensures (HasField-found c.deref.result.now lower own (sym c.in-Some.ensures.attribute)) in
-    let F : Option Found → Type 0 = λ found. IsOutsideAnswer extensions (ty_of c.deref-2.result.now)
-    (ty_of c.deref-3.result.now) (option_map found_of found) in
-    let found : F None = subst F c.in-None.is c.in_ok-found.ensures in
-    let A : Ty → Type 0 = λ ty. IncludedByParts ty (ty_of c.deref-3.result.now) in
-    let B : Ty → Type 0 = λ ty. IncludedByParts own.1 ty in
-    let parts = subst B (type_same c.args.attribute.now c.deref-3.result.now c.deref-3.ensures)
-    (subst A (type_same c.in-Some.own.now c.deref-2.result.now c.deref-2.ensures) found) in
+    let has = rw c.deref.ensures at (HasField-found c.deref.result.now lower own (sym c.in-Some.ensures.attribute)) in
+    let found = rw c.in-None.is at c.in_ok-found.ensures in
+    let parts = rw (type_same c.in-Some.own.now c.deref-2.result.now c.deref-2.ensures, type_same c.args.attribute.now c.deref-3.result.now c.deref-3.ensures) at found in
     let flags : attribute.0 ≡ true → own.0 ≡ true = elim c.else-attribute.branch [
       | separating_field-else-attribute-via-then-attribute+else-not-own w ↦ λ _. flag_same c.in-Some.own.now ∙ w.if-not-own.false
       | separating_field-else-attribute-via-else-attribute w ↦
@@ -131,8 +112,7 @@ separating_attribute-separating_field-requires t c =
     let upper = fields_of c.args.upper.now in
     let name = string_bytes c.in-Some.name.now in
     let attribute = attribute_of c.in-Some.attribute.now in
-    let P : Items → Type 0 = λ items. CounterexampleSoFar lower c.args.openness upper (fields_from (plain_attributes items)) in
-    let so_far = subst P c.in-Some.ensures.steps c.loop-name.invariant in
+    let so_far = rw c.in-Some.ensures.steps at c.loop-name.invariant in
     let less = attribute_smaller upper name attribute.0 attribute.1
     (so_far.within name attribute.0 attribute.1 (inl (refl, refl, refl))) in
     (omega (arith, less, c.decreases), c.requires)
@@ -144,10 +124,8 @@ separating_attribute-returns-in-Some-found t c = λ upper_openness.
     let upper = fields_of c.args.upper.now in
     let name = string_bytes c.in-Some.name.now in
     let attribute = attribute_of c.in-Some.attribute.now in
-    let P : Items → Type 0 = λ items. CounterexampleSoFar lower c.args.openness upper (fields_from (plain_attributes items)) in
-    let so_far = subst P c.in-Some.ensures.steps c.loop-name.invariant in
-    let F : Option _ → Type 0 = λ found. IsFieldStart extensions lower c.args.openness name attribute.0 attribute.1 (option_map start_of found) in
-    let found : F (Some c.in-Some-found.start) = subst F c.in-Some-found.is c.in_ok-found.ensures in
+    let so_far = rw c.in-Some.ensures.steps at c.loop-name.invariant in
+    let found = rw c.in-Some-found.is at c.in_ok-found.ensures in
     found upper upper_openness (so_far.within name attribute.0 attribute.1 (inl (refl, refl, refl)))
 
 pub separating_attribute-loop-name-preserved : goal.separating_attribute-loop-name-preserved
@@ -157,17 +135,14 @@ separating_attribute-loop-name-preserved t c =
     let upper = fields_of c.args.upper.now in
     let name = string_bytes c.in-Some.name.now in
     let attribute = attribute_of c.in-Some.attribute.now in
-    let P : Items → Type 0 = λ items. CounterexampleSoFar lower c.args.openness upper (fields_from (plain_attributes items)) in
-    let F : Option _ → Type 0 = λ found. IsFieldStart extensions lower c.args.openness name attribute.0 attribute.1 (option_map start_of found) in
-    let found : F None = subst F c.in_default.is c.in_ok-found.ensures in
-    separating_next lower c.args.openness upper name attribute.0 attribute.1 _ (subst P c.in-Some.ensures.steps c.loop-name.invariant) found
+    let found = rw c.in_default.is at c.in_ok-found.ensures in
+    separating_next lower c.args.openness upper name attribute.0 attribute.1 _ (rw c.in-Some.ensures.steps at c.loop-name.invariant) found
 
 pub separating_start-returns-in-Some : goal.separating_start-returns-in-Some
 separating_start-returns-in-Some t c =
     let lower = fields_of c.args.lower.now in
     let upper = fields_of c.args.upper.now in
-    let F : Option _ → Type 0 = λ found. IsAttributeStart c.args.search.now.extensions.now lower c.args.openness upper (option_map start_of found) in
-    let found : F (Some c.in-Some.start) = subst F c.in-Some.is c.in_ok-found.ensures in
+    let found = rw c.in-Some.is at c.in_ok-found.ensures in
     found c.args.upper_openness
 
 pub separating_start-returns-in-ClosedAttributes : goal.separating_start-returns-in-ClosedAttributes
@@ -177,17 +152,14 @@ separating_start-returns-in-ClosedAttributes t c =
     let upper = fields_of c.args.upper.now in
     IfOk-weaker c.separating_names.result _
     (λ found. IsRecordStart extensions lower c.args.openness upper c.args.upper_openness (option_map start_of found))
-    (λ found it. let P : OpenTag → Type 0 = λ tag. IsRecordStart extensions lower c.args.openness upper tag (option_map start_of found) in
-    subst P (sym c.in-ClosedAttributes.is) it) c.separating_names.ensures
+    (λ found it. rw c.in-ClosedAttributes.is it) c.separating_names.ensures
 
 pub separating_values-returns-in_ok-values-in-Some : goal.separating_values-returns-in_ok-values-in-Some
 separating_values-returns-in_ok-values-in-Some t c =
     let extensions = c.args.search.now.extensions.now in
     let lower = fields_of c.args.lower.now in
     let upper = fields_of c.args.upper.now in
-    let F : Option Start → Type 0 = λ found. IsRecordStart extensions lower c.args.openness upper c.args.upper_openness
-    (option_map start_of found) in
-    let begun : F (Some c.in-Some.start) = subst F c.in-Some.is c.in_ok-start.ensures in
+    let begun = rw c.in-Some.is at c.in_ok-start.ensures in
     start_separates extensions lower upper c.args.openness c.args.upper_openness (start_of c.in-Some.start)
     (entries_of c.in_ok-values-in-Some.values) (IsSortedByName-fields c.args.lower.now) begun c.in_ok-values-in-Some.ensures
 
@@ -196,10 +168,8 @@ separating_record-returns-in-Some t c =
     let extensions = c.args.search.now.extensions.now in
     let a = record_of (fields_of c.args.lower.now) c.args.openness in
     let b = record_of (fields_of c.args.upper.now) c.args.upper_openness in
-    let F : Option Start → Type 0 = λ found. IsOutsideAnswer extensions a b (option_map record_found found) in
-    let found : F (Some c.in-Some.start) = subst F c.in-Some.is c.in_ok-start.ensures in
-    let V : Tree → Type 0 = IsCounterexample extensions a b in
-    (subst V (sym (tree_of-record c.in-Some.start.values)) found.0, found.1)
+    let found = rw c.in-Some.is at c.in_ok-start.ensures in
+    (rw (tree_of-record c.in-Some.start.values) found.0, found.1)
 
 pub separating_expr-returns-in_ok-found-in_default : goal.separating_expr-returns-in_ok-found-in_default
 separating_expr-returns-in_ok-found-in_default t c =
