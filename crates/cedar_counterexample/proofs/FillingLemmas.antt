@@ -85,16 +85,6 @@ pub record FillingSoFar (extensions : Extensions) (all : Fields) (start : Entrie
   pub within : FieldsWithin left all
 
 module _ (extensions : Extensions) (all : Fields) (start : Entries) where
-  -- at first all are left
-  pub filling_first : FillingSoFar extensions all start all start
-  filling_first = record {
-    kept = λ name value found. found;
-    filled = λ name ty has. inl has;
-    listed = λ name value found. inl found;
-    real = λ real. real;
-    within = λ name required ty has. has;
-  }
-
   module _ (name : Text) (required : Bool) (ty : Ty) (rest : Fields) (now : Entries)
       (so_far : FillingSoFar extensions all start (field name required ty rest) now) where
     -- past an attribute that is there, if it is required, all else is left
@@ -136,18 +126,6 @@ module _ (extensions : Extensions) (all : Fields) (start : Entries) where
           real = λ real. put.real (so_far.real real) sample.0;
           within = λ n r t has. so_far.within n r t (inr has);
         }
-
-  -- where none is left, all is filled up
-  pub filling_all : (left : Fields) (now : Entries) → left ≡ end → FillingSoFar extensions all start left now
-      → IsFilled extensions all start now
-  filling_all left now nothing so_far =
-      let done = rw nothing at so_far in
-      record {
-        kept = done.kept;
-        filled = λ n t has. elim (done.filled n t has) [ inl still ↦ absurd still | inr found ↦ found ];
-        listed = done.listed;
-        real = done.real;
-      }
 
 -- what is filled up has listed names where what it began with had
 filled_listed : (extensions : Extensions) (fields : Fields) (openness : OpenTag) (start whole : Entries) → IsFilled extensions fields start whole

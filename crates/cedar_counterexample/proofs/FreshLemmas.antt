@@ -30,14 +30,3 @@ longest_next f all rest first longest next more long so_far x among =
           ]
       | inr less ↦ inr (omega (arith, less, more))
     ]
-
--- where none is left, none is longer
-pub longest_all : {A : Type 0} (f : A → Text) (all left : List A) (longest : ℕ) → left ≡ [] → LongestSoFar f all left longest
-    → (x : A) → Contains all x → length (f x) ≤ longest
-longest_all f all left longest nothing so_far x among =
-    elim (so_far x among) [ inl still ↦ absurd (let there = rw nothing at still in omega (arith, there.1)) | inr less ↦ less ]
-
--- one that is longer than all isn't one of them
-pub longer_apart : {A : Type 0} (f : A → Text) (all : List A) (longest : ℕ) (x : A) → ((y : A) → Contains all y → length (f y) ≤ longest)
-    → length (f x) ≡ longest + 1 → ¬ Contains all x
-longer_apart f all longest x none longer among = (let less = none x among in omega (arith, less, longer))

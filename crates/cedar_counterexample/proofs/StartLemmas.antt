@@ -196,10 +196,6 @@ pub record CounterexampleSoFar (lower : Fields) (openness : OpenTag) (upper left
   pub within : FieldsWithin left upper
 
 module _ (lower : Fields) (openness : OpenTag) (upper : Fields) where
-  -- at first all are left
-  pub separating_first : CounterexampleSoFar lower openness upper upper
-  separating_first = record { before = λ parts. parts; within = λ n r t has. has }
-
   -- past an attribute whose values are included the rest decides
   pub separating_next : (name : Text) (required : Bool) (ty : Ty) (rest : Fields)
       → CounterexampleSoFar lower openness upper (field name required ty rest) → FieldsIncluded openness lower (field name required ty end)
@@ -209,20 +205,12 @@ module _ (lower : Fields) (openness : OpenTag) (upper : Fields) where
     within = λ n r t there. so_far.within n r t (inr there);
   }
 
-  -- where none is left, all are included
-  pub separating_all : (left : Fields) → left ≡ end → CounterexampleSoFar lower openness upper left → FieldsIncluded openness lower upper
-  separating_all left nothing so_far = let done = rw nothing at so_far in done.before tt
-
 -- a walk over the attributes of the one record: the names that are left decide about all
 pub record NamesSoFar (lower upper left : Fields) : Type 0 where
   pub before : Included (field_names left) (field_names upper) → Included (field_names lower) (field_names upper)
   pub within : FieldsWithin left lower
 
 module _ (lower upper : Fields) where
-  -- at first all are left
-  pub names_first : NamesSoFar lower upper lower
-  names_first = record { before = λ all. all; within = λ n r t has. has }
-
   -- past a name of the other the rest decides
   pub names_next : (name : Text) (required : Bool) (ty : Ty) (rest : Fields) → NamesSoFar lower upper (field name required ty rest)
       → Contains (field_names upper) name → NamesSoFar lower upper rest

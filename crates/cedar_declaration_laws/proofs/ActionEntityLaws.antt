@@ -24,10 +24,7 @@ use Rattle.cedar_declarations.specs.ValidSchema.{ListsDescendantAction}
 -- of the first item of which a fact holds it holds
 first_holds : {A : Type 0} (P : A → Type 0) (xs : List A) (x : A) → IsFirst P xs x → P x
 first_holds P [] x first = absurd first
-first_holds P (y ∷ rest) x first = elim first [
-  | inl here ↦ subst P here.0 here.1
-  | inr later ↦ first_holds P rest x later.1
-]
+first_holds P (y ∷ rest) x first = elim first [ inl here ↦ subst P here.0 here.1 | inr later ↦ first_holds P rest x later.1 ]
 
 -- an action that a reference names is one of those that it may name
 named_action : (actions : List PlainUid) (reference : ActionReference) (uid : PlainUid) → NamesAction actions reference uid

@@ -59,10 +59,7 @@ module _ {A : Type 0} (test : A → A → Bool) (decides : (y x : A) → Decides
               | inr later ↦ omega (arith, hit.1, hits_of_twice ys x later)
             ]
         | inr miss ↦
-            elim twice [
-              | inl here ↦ absurd (miss.0 here.0)
-              | inr later ↦ omega (arith, miss.1, hits_of_twice ys x later)
-            ]
+            elim twice [ inl here ↦ absurd (miss.0 here.0) | inr later ↦ omega (arith, miss.1, hits_of_twice ys x later) ]
       ]
 
   -- what is counted twice stands twice

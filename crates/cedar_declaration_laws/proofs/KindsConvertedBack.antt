@@ -75,10 +75,7 @@ module _ (schema : PlainSchema) (extensions : Extensions) (valid : IsValidSchema
 pub written_in_schema : (schema : PlainSchema) (namespace : Option PlainName) (ty : Ty) → IsTypeWrittenIn schema namespace ty
     → IsTypeIn schema ty
 written_in_schema schema namespace ty place =
-    elim place [
-      | inl of_type ↦ inl (of_type.0, of_type.1, of_type.3)
-      | inr of_action ↦ inr (of_action.0, of_action.1, of_action.3)
-    ]
+    elim place [ inl of_type ↦ inl (of_type.0, of_type.1, of_type.3) | inr of_action ↦ inr (of_action.0, of_action.1, of_action.3) ]
 
 module _ (defined : Defined) (namespace : Option PlainName) where
   -- the type of tags is the one that is declared, where it is elaborated

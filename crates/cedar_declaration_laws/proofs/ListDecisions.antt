@@ -68,10 +68,7 @@ decide_first P decide same (y ∷ ys) x =
       | inl here ↦
           decide_like (λ is. inl (is, here)) (λ first. elim first [ inl it ↦ it.0 | inr later ↦ absurd (later.0 here) ]) (same y x)
       | inr not_here ↦
-          decide_like (λ later. inr (not_here, later)) (λ first. elim first [
-            | inl it ↦ absurd (not_here it.1)
-            | inr later ↦ later.1
-          ])
+          decide_like (λ later. inr (not_here, later)) (λ first. elim first [ inl it ↦ absurd (not_here it.1) | inr later ↦ later.1 ])
           (decide_first P decide same ys x)
     ]
 

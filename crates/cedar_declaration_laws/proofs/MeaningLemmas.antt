@@ -110,10 +110,7 @@ module _ (names others : Names) where
     -- an open record stands in what is alike
     pub open_alike : {expr other : Expr} → AreAlike names others expr other → HasOpenRecord expr → HasOpenRecord other
     open_alike (alike_set element) has = open_alike element has
-    open_alike (alike_record additional members) has = elim has [
-      | inl is ↦ inl is
-      | inr later ↦ inr (members_open_alike members later)
-    ]
+    open_alike (alike_record additional members) has = elim has [ inl is ↦ inl is | inr later ↦ inr (members_open_alike members later) ]
     open_alike _ has = absurd has
 
     -- the same of the attributes of a record
@@ -137,10 +134,7 @@ module _ (names others : Names) where
         → MembersMentionExtension members word → MembersMentionExtension more word
     members_extension_alike alike_no_member word has = absurd has
     members_extension_alike (alike_member name required first rest) word has =
-        elim has [
-          | inl here ↦ inl (extension_alike first word here)
-          | inr later ↦ inr (members_extension_alike rest word later)
-        ]
+        elim has [ inl here ↦ inl (extension_alike first word here) | inr later ↦ inr (members_extension_alike rest word later) ]
 
   mutual
     -- for each reference one that means the same stands in what is alike

@@ -47,10 +47,7 @@ mutual
       → MembersElaborateTo defined members fields → (name : PlainName) → FieldsMentionEntity fields name → Contains defined.entities name
   members_mention_entity defined as_no_member name mentions = absurd mentions
   members_mention_entity defined (as_member first rest) name mentions =
-      elim mentions [
-        | inl here ↦ mentions_entity defined first name here
-        | inr later ↦ members_mention_entity defined rest name later
-      ]
+      elim mentions [ inl here ↦ mentions_entity defined first name here | inr later ↦ members_mention_entity defined rest name later ]
 
 -- each extension type that the expression mentions is known
 abbrev pub HasKnownExtensions : Extensions → Expr → Type 0

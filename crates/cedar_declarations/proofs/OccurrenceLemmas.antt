@@ -43,10 +43,7 @@ Twice-append (first ∷ rest) ys x twice =
           elim (Twice-append rest ys x later) [
             | inl one ↦ inl (inr one)
             | inr others ↦
-                elim others [
-                  | inl one ↦ inr (inl one)
-                  | inr both ↦ inr (inr (Contains-cons first rest x (inr both.0), both.1))
-                ]
+                elim others [ inl one ↦ inr (inl one) | inr both ↦ inr (inr (Contains-cons first rest x (inr both.0), both.1)) ]
           ]
     ]
 
@@ -55,10 +52,7 @@ pub Contains-image : {X Y : Type 0} (f : X → Y) (xs : List X) (x : X) → Cont
 Contains-image f [] x among = absurd (omega (arith, among.1))
 Contains-image f (first ∷ rest) x among =
     Contains-cons (f first) (map f rest) (f x)
-    (elim (Contains-cons_cases first rest x among) [
-      | inl here ↦ inl (ap f here)
-      | inr later ↦ inr (Contains-image f rest x later)
-    ])
+    (elim (Contains-cons_cases first rest x among) [ inl here ↦ inl (ap f here) | inr later ↦ inr (Contains-image f rest x later) ])
 
 -- what stands in the lists that some items give stands in one of them
 pub Contains-flat_map : {A B : Type 0} (f : A → List B) (xs : List A) (y : B) → Contains (flat_map f xs) y → (x : A)
@@ -83,10 +77,7 @@ Contains-given {A = A} f (first ∷ rest) x y among given =
 
 -- in a list of one item stands that item
 pub Contains-single : {A : Type 0} (x y : A) → Contains (x ∷ []) y → x ≡ y
-Contains-single x y among = elim (Contains-cons_cases x [] y among) [
-  | inl same ↦ same
-  | inr none ↦ absurd (omega (arith, none.1))
-]
+Contains-single x y among = elim (Contains-cons_cases x [] y among) [ inl same ↦ same | inr none ↦ absurd (omega (arith, none.1)) ]
 
 -- an item passes a test where some does
 pub any_of : {A : Type 0} (p : A → Bool) (xs : List A) (x : A) → Contains xs x → p x ≡ true → list_any p xs ≡ true
@@ -132,10 +123,7 @@ uid_test a b = Decides-like _ (uid_cmp-Equal a b).0 (uid_cmp-Equal a b).1 (ties 
 pub Twice-left : {A : Type 0} (xs ys : List A) (x : A) → Twice xs x → Twice (xs ++ ys) x
 Twice-left [] ys x twice = absurd twice
 Twice-left (first ∷ rest) ys x twice =
-    elim twice [
-      | inl here ↦ inl (here.0, Contains-append_left rest ys x here.1)
-      | inr later ↦ inr (Twice-left rest ys x later)
-    ]
+    elim twice [ inl here ↦ inl (here.0, Contains-append_left rest ys x here.1) | inr later ↦ inr (Twice-left rest ys x later) ]
 
 -- and in the second
 pub Twice-right : {A : Type 0} (xs ys : List A) (x : A) → Twice ys x → Twice (xs ++ ys) x

@@ -49,10 +49,7 @@ entity_only name (external parents) entry here = absurd (omega (arith, here.1))
 -- and gives it once
 pub entity_single : (name : PlainName) (body : EntityBody) (other : PlainName)
     → ¬ Twice (map (λ it. it.0) (entity_definition_in name body)) other
-entity_single name (standard parents shape tags) other twice = elim twice [
-  | inl here ↦ omega (arith, here.1.1)
-  | inr later ↦ later
-]
+entity_single name (standard parents shape tags) other twice = elim twice [ inl here ↦ omega (arith, here.1.1) | inr later ↦ later ]
 entity_single name (enumerated choices) other twice = elim twice [ inl here ↦ omega (arith, here.1.1) | inr later ↦ later ]
 entity_single name (external parents) other twice = twice
 
@@ -273,12 +270,6 @@ twice_declared (first ∷ rest) name twice = by first.1 (λ later. twice_declare
   by : (body : EntityBody) → (Twice (map (λ it. it.0) (flat_map f rest)) name → Twice (map (λ it. it.0) rest) name)
       → Twice (map (λ it. it.0) (entity_definition_in first.0 body ++ flat_map f rest)) name
       → Twice (map (λ it. it.0) (first ∷ rest)) name
-  by (standard ps shape tags) after both = elim both [
-    | inl here ↦ inl (here.0, later_name here.1)
-    | inr later ↦ inr (after later)
-  ]
-  by (enumerated choices) after both = elim both [
-    | inl here ↦ inl (here.0, later_name here.1)
-    | inr later ↦ inr (after later)
-  ]
+  by (standard ps shape tags) after both = elim both [ inl here ↦ inl (here.0, later_name here.1) | inr later ↦ inr (after later) ]
+  by (enumerated choices) after both = elim both [ inl here ↦ inl (here.0, later_name here.1) | inr later ↦ inr (after later) ]
   by (external ps) after both = inr (after both)

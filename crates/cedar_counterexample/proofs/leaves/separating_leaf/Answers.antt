@@ -13,6 +13,7 @@ use Rattle.cedar_types.specs.Meaning.{ty_of}
 use Rattle.cedar_types.specs.declared.types.Type.TheVariants as type
 use Rattle.cedar_counterexample.proofs.leaves.separating_leaf.Goals as goal
 
+-- of two entity types the uids decide
 pub returns-in-Entity-Entity : goal.returns-in-Entity-Entity
 returns-in-Entity-Entity c =
     let extensions = c.args.search.now.extensions.now in
@@ -22,6 +23,7 @@ returns-in-Entity-Entity c =
     (λ found. IsCounterexampleAnswer extensions (ty_of c.args.a.now) (ty_of c.args.b.now) (option_map tree_of found))
     (λ found each. rw (ap ty_of c.in-Entity-Entity.is-1 ∙ ty_of-entity upper, ap ty_of c.in-Entity-Entity.is-0 ∙ ty_of-entity lower) (each extensions)) c.separating_entity.ensures
 
+-- the set of one value that the element type lacks is no set of it
 pub returns-in_ok-set_of_one-in-None-Some : goal.returns-in_ok-set_of_one-in-None-Some
 returns-in_ok-set_of_one-in-None-Some c =
     let extensions = c.args.search.now.extensions.now in

@@ -23,9 +23,7 @@ use Rattle.cedar_types.specs.declared.attributes.AttributeType.{AttributeType}
 use Rattle.cedar_counterexample.proofs.samples.+samples.Goals as goal
 use Rattle.cedar_counterexample.proofs.samples.+samples.Goals.{fill-else-attribute-via-then-attribute+else-not-contains_key, fill-else-attribute-via-else-attribute}
 
-abbrev Items : Type 0
-Items = List (String Global × AttributeType)
-
+-- the type of an attribute is smaller than the record's, and inhabited
 pub fill-sample_of-requires : goal.fill-sample_of-requires
 fill-sample_of-requires t c =
     let extensions = c.args.search.now.extensions.now in
@@ -41,6 +39,7 @@ fill-sample_of-requires t c =
       subst (IsInhabitedWith extensions samples) (sym same) (AreInhabitedWith-of extensions samples all name attribute.0 attribute.1 c.requires has),
     )
 
+-- a sample stands under the name of a required attribute that was missing
 pub fill-loop-name-preserved-then-not-contains_key :
     goal.fill-loop-name-preserved-then-not-contains_key
 fill-loop-name-preserved-then-not-contains_key t c =
@@ -59,6 +58,7 @@ fill-loop-name-preserved-then-not-contains_key t c =
     filling_put extensions all start name attribute.0 attribute.1 _ now so_far value new needed none
     (rw c.in_ok-clone.ensures.cases at c.in_ok-put.ensures.put) (rw same at c.in_ok-sample.ensures)
 
+-- an attribute that is there, or may be missing, stays as it is
 pub fill-loop-name-preserved : goal.fill-loop-name-preserved
 fill-loop-name-preserved t c =
     let extensions = c.args.search.now.extensions.now in
@@ -77,12 +77,14 @@ fill-loop-name-preserved t c =
     ] in
     filling_there extensions all start name attribute.0 attribute.1 _ now so_far there
 
+-- the uid of an entity is a sample of its type
 pub sample_of-returns-in-Entity : goal.sample_of-returns-in-Entity
 sample_of-returns-in-Entity t c =
     let extensions = c.args.search.now.extensions.now in
     IfOk-weaker c.sample_entity.result _ (λ sample. IsValueOf extensions (ty_of c.args.ty.now) (tree_of sample))
     (λ sample each. rw (ap ty_of c.in-Entity.is ∙ ty_of-entity c.in-Entity.kind) (each extensions)) c.sample_entity.ensures
 
+-- what is filled up from no entries is a sample of the record
 pub sample_of-returns-in_ok-values-in-Record : goal.sample_of-returns-in_ok-values-in-Record
 sample_of-returns-in_ok-values-in-Record t c =
     let extensions = c.args.search.now.extensions.now in

@@ -32,9 +32,7 @@ use Rattle.cedar_types.specs.declared.attributes.AttributeType.{AttributeType}
 use Rattle.cedar_counterexample.proofs.separating.+separating.Goals as goal
 use Rattle.cedar_counterexample.proofs.separating.+separating.Goals.{separating_field-else-attribute-via-then-attribute+else-not-own, separating_field-else-attribute-via-else-attribute}
 
-abbrev Items : Type 0
-Items = List (String Global × AttributeType)
-
+-- an attribute that the one record lacks is left out or put in
 pub separating_field-returns-in_default : goal.separating_field-returns-in_default
 separating_field-returns-in_default t c =
     let extensions = c.args.search.now.extensions.now in
@@ -47,6 +45,7 @@ separating_field-returns-in_default t c =
     (λ start. IsFieldStart extensions lower c.args.openness name attribute.0 attribute.1 (option_map start_of start))
     (λ start each. each extensions lower absent) c.start_without.ensures
 
+-- the type of the attribute is smaller than the record's, and the one record's is inhabited
 pub separating_field-separating_expr-requires :
     goal.separating_field-separating_expr-requires
 separating_field-separating_expr-requires t c =
@@ -60,6 +59,7 @@ separating_field-separating_expr-requires t c =
           (AreInhabitedWith-of c.args.search.now.extensions.now samples lower c.deref.result.now own.0 own.1 c.requires has),
     )
 
+-- an attribute that only the other requires is left out
 pub separating_field-returns-then-not-own : goal.separating_field-returns-then-not-own
 separating_field-returns-then-not-own t c = λ upper upper_openness also.
     let extensions = c.args.search.now.extensions.now in
@@ -74,6 +74,7 @@ separating_field-returns-then-not-own t c = λ upper upper_openness also.
     let wrong : true ≡ false = sym same ∙ optional in absurd cc))
     (flag_same c.args.attribute.now ∙ c.if-attribute.true) also)
 
+-- a value that is outside the attribute's type stands under its name
 pub separating_field-returns-in_ok-start_with-in-Some-found : goal.separating_field-returns-in_ok-start_with-in-Some-found
 separating_field-returns-in_ok-start_with-in-Some-found t c = λ upper upper_openness also.
     let extensions = c.args.search.now.extensions.now in
@@ -88,6 +89,7 @@ separating_field-returns-in_ok-start_with-in-Some-found t c = λ upper upper_ope
     rw c.in_ok-start_with-in-Some-found.ensures (attribute_start extensions lower upper c.args.openness upper_openness name own.0 attribute.0 own.1 attribute.1 it
     (IsSortedByName-fields c.args.lower.now) (IsUtf8-string_bytes c.args.name.now) has also answer.0 answer.1)
 
+-- where no value is outside, the attribute's values are included
 pub separating_field-returns-in-None : goal.separating_field-returns-in-None
 separating_field-returns-in-None t c =
     let extensions = c.args.search.now.extensions.now in
@@ -105,6 +107,7 @@ separating_field-returns-in-None t c =
     ] in
     (inl (own.0, own.1, has, flags, parts), tt)
 
+-- each attribute is smaller than its record
 pub separating_attribute-separating_field-requires :
     goal.separating_attribute-separating_field-requires
 separating_attribute-separating_field-requires t c =
@@ -117,6 +120,7 @@ separating_attribute-separating_field-requires t c =
     (so_far.within name attribute.0 attribute.1 (inl (refl, refl, refl))) in
     (omega (arith, less, c.decreases), c.requires)
 
+-- the start that one attribute gives is the record's
 pub separating_attribute-returns-in-Some-found : goal.separating_attribute-returns-in-Some-found
 separating_attribute-returns-in-Some-found t c = λ upper_openness.
     let extensions = c.args.search.now.extensions.now in
@@ -128,6 +132,7 @@ separating_attribute-returns-in-Some-found t c = λ upper_openness.
     let found = rw c.in-Some-found.is at c.in_ok-found.ensures in
     found upper upper_openness (so_far.within name attribute.0 attribute.1 (inl (refl, refl, refl)))
 
+-- past an attribute whose values are included the rest decides
 pub separating_attribute-loop-name-preserved : goal.separating_attribute-loop-name-preserved
 separating_attribute-loop-name-preserved t c =
     let extensions = c.args.search.now.extensions.now in
@@ -138,6 +143,7 @@ separating_attribute-loop-name-preserved t c =
     let found = rw c.in_default.is at c.in_ok-found.ensures in
     separating_next lower c.args.openness upper name attribute.0 attribute.1 _ (rw c.in-Some.ensures.steps at c.loop-name.invariant) found
 
+-- the start that an attribute gives serves whether the record is open or closed
 pub separating_start-returns-in-Some : goal.separating_start-returns-in-Some
 separating_start-returns-in-Some t c =
     let lower = fields_of c.args.lower.now in
@@ -145,6 +151,7 @@ separating_start-returns-in-Some t c =
     let found = rw c.in-Some.is at c.in_ok-found.ensures in
     found c.args.upper_openness
 
+-- else the names decide, where the other record is closed
 pub separating_start-returns-in-ClosedAttributes : goal.separating_start-returns-in-ClosedAttributes
 separating_start-returns-in-ClosedAttributes t c =
     let extensions = c.args.search.now.extensions.now in
@@ -154,6 +161,7 @@ separating_start-returns-in-ClosedAttributes t c =
     (λ found. IsRecordStart extensions lower c.args.openness upper c.args.upper_openness (option_map start_of found))
     (λ found it. rw c.in-ClosedAttributes.is it) c.separating_names.ensures
 
+-- a start that is filled up separates the two records
 pub separating_values-returns-in_ok-values-in-Some : goal.separating_values-returns-in_ok-values-in-Some
 separating_values-returns-in_ok-values-in-Some t c =
     let extensions = c.args.search.now.extensions.now in
@@ -163,6 +171,7 @@ separating_values-returns-in_ok-values-in-Some t c =
     start_separates extensions lower upper c.args.openness c.args.upper_openness (start_of c.in-Some.start)
     (entries_of c.in_ok-values-in-Some.values) (IsSortedByName-fields c.args.lower.now) begun c.in_ok-values-in-Some.ensures
 
+-- the entries that were found make the record
 pub separating_record-returns-in-Some : goal.separating_record-returns-in-Some
 separating_record-returns-in-Some t c =
     let extensions = c.args.search.now.extensions.now in
@@ -171,6 +180,7 @@ separating_record-returns-in-Some t c =
     let found = rw c.in-Some.is at c.in_ok-start.ensures in
     (rw (tree_of-record c.in-Some.start.values) found.0, found.1)
 
+-- where the kinds differ, the leaves were compared
 pub separating_expr-returns-in_ok-found-in_default : goal.separating_expr-returns-in_ok-found-in_default
 separating_expr-returns-in_ok-found-in_default t c =
     c.found_here.ensures c.args.search.now.extensions.now (ty_of c.args.a.now) (ty_of c.args.b.now) c.in_ok-found-in_default.ensures

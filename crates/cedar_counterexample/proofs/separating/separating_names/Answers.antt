@@ -24,9 +24,7 @@ use Rattle.cedar_types.specs.Samples.{value_trees}
 use Rattle.cedar_types.specs.declared.attributes.AttributeType.{AttributeType}
 use Rattle.cedar_counterexample.proofs.separating.separating_names.Goals as goal
 
-abbrev Items : Type 0
-Items = List (String Global × AttributeType)
-
+-- the type of an attribute of an inhabited record is inhabited
 pub sample_of-requires : goal.sample_of-requires
 sample_of-requires c =
     let samples = value_trees c.args.search.now.samples.now in
@@ -39,6 +37,7 @@ sample_of-requires c =
     (AreInhabitedWith-of c.args.search.now.extensions.now samples lower name attribute.0 attribute.1 c.requires.inhabited
     (so_far.within name attribute.0 attribute.1 (inl (refl, refl, refl))))
 
+-- an attribute that the other record lacks starts a value that it doesn't have
 pub returns-then-is_none : goal.returns-then-is_none
 returns-then-is_none c =
     let extensions = c.args.search.now.extensions.now in
@@ -57,6 +56,7 @@ returns-then-is_none c =
     (IsSortedByName-fields c.args.lower.now) (IsUtf8-string_bytes c.in-Some.name.now)
     (so_far.within name attribute.0 attribute.1 (inl (refl, refl, refl))) absent sample)
 
+-- a name that the other record has too leaves the rest to decide
 pub loop-name-preserved : goal.loop-name-preserved
 loop-name-preserved c =
     let lower = fields_of c.args.lower.now in
@@ -67,6 +67,7 @@ loop-name-preserved c =
     names_next lower upper name attribute.0 attribute.1 _ (rw c.in-Some.ensures.steps at c.loop-name.invariant)
     (subst (Contains (field_names upper)) c.deref.ensures (found.0 c.if-is_none.ensures))
 
+-- an open record has a name that the closed one lacks
 pub returns-in_ok-values-in-OpenAttributes : goal.returns-in_ok-values-in-OpenAttributes
 returns-in_ok-values-in-OpenAttributes c =
     let extensions = c.args.search.now.extensions.now in
@@ -82,11 +83,12 @@ returns-in_ok-values-in-OpenAttributes c =
     let parts = subst (λ openness. FieldsIncluded openness lower upper) c.in-OpenAttributes.is c.requires.included in
     rw (c.in-OpenAttributes.is, whole) (open_start extensions lower upper (string_bytes name) (IsUtf8-string_bytes name) c.in_ok-name-in-OpenAttributes.ensures parts)
 
+-- where no name is left, all names of the one are names of the other
 pub returns-in-ClosedAttributes : goal.returns-in-ClosedAttributes
 returns-in-ClosedAttributes c =
     let extensions = c.args.search.now.extensions.now in
     let lower = fields_of c.args.lower.now in
     let upper = fields_of c.args.upper.now in
-    let none = ap (λ (items : Items). fields_from (plain_attributes items)) c.in-None.ensures.steps.0 in
+    let none = ap (λ (items : List (String Global × AttributeType)). fields_from (plain_attributes items)) c.in-None.ensures.steps.0 in
     let names = names_all lower upper _ none c.loop-name.invariant in
     rw c.in-ClosedAttributes.is (tt, names, subst (λ openness. FieldsIncluded openness lower upper) c.in-ClosedAttributes.is c.requires.included)
