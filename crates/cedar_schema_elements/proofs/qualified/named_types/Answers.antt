@@ -43,11 +43,9 @@ loop-reference-preserved c =
     let names = held_names c.args.all_defs.now in
     let reference = c.in-Some.reference in
     let named = sym c.in-Ok.ensures.name in
-    let P : PlainName → Type 0 = ResolvesTo names (conditional_reference reference) in
-    let Q : PlainName → Type 0 = λ name. ¬ IsReserved name in
     named_more names c.args.references.keys _ _ reference c.in-Some.ensures.steps c.loop-reference.types.keys c.insert.new.self.keys
-    c.in-Ok.ty c.in_ok-insert.ensures.updates.0 (subst P named c.in_ok-name.ensures.resolved)
-    (subst Q named c.in-Ok.ensures.unreserved) c.loop-reference.invariant
+    c.in-Ok.ty c.in_ok-insert.ensures.updates.0 (rw named at c.in_ok-name.ensures.resolved)
+    (subst (λ name. ¬ IsReserved name) named c.in-Ok.ensures.unreserved) c.loop-reference.invariant
 
 pub returns-clause-types : goal.returns-clause-types
 returns-clause-types c =
