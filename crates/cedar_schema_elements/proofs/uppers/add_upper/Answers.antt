@@ -4,6 +4,7 @@ use Rattle.cedar_schema_elements.proofs.UpperLemmas.{none_above, one_more_above,
 use Rattle.cedar_schema_elements.specs.Uppers.{IsUpper, upper_set}
 use Rattle.cedar_schema_elements.proofs.uppers.add_upper.Goals as goal
 
+-- what had a set of uppers has one more in it
 pub returns-in_ok-insert-in-Some : goal.returns-in_ok-insert-in-Some
 returns-in_ok-insert-in-Some g c =
     let cmp = g.K.Ord.cmp in
@@ -20,6 +21,7 @@ returns-in_ok-insert-in-Some g c =
     (some_above name (upper_set cmp before lower) old found)
     c.in_ok-upper.ensures.name c.in_ok-insert-in-Some.ensures.updates.0)
 
+-- what had none has a new set, of this one upper
 pub returns-in_ok-insert-in-None-2 : goal.returns-in_ok-insert-in-None-2
 returns-in_ok-insert-in-None-2 g c =
     let cmp = g.K.Ord.cmp in
