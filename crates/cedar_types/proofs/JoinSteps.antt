@@ -151,10 +151,7 @@ pub permissive-first : (a b : Attributes) → PermissiveSoFar a b 0 (pairs_of a)
 permissive-first a b = record {
   unplaced = tt;
   ahead = Ahead-first text_of text_of text_cmp text_cmp-total (pairs_of b) (pairs_of a) (out-Attributes a).attrs.value.sorted_by_name;
-  whole = λ tail.
-      let P : Fields → Type 0 = λ fields. (it : PermissiveJoin fields (fields_of b)) → it.fields ≡ fields_from tail
-      → (all : PermissiveJoin (fields_of a) (fields_of b)) × (all.fields ≡ fields_from tail) in
-      subst P (fields_of-pairs a) (λ it is. (it, is));
+  whole = λ tail. rw (← (fields_of-pairs a)) (λ it is. (it, is));
 }
 
 -- at last the pairs are the join
@@ -270,14 +267,10 @@ module _ (a b : Attributes) (ta tb : OpenTag) (joined : Pairs) (all : Permissive
   pub permissive-least : (openness : OpenTag) → (openness ≡ ClosedAttributes) ↔ IsWhole
       → IsLeastOwnBound Permissive (record_of (fields_of a) ta) (record_of (fields_of b) tb) (record_of (fields_at joined) openness)
   permissive-least OpenAttributes closed =
-      let P : Fields → Type 0 = λ fields. IsLeastOwnBound Permissive (record_of (fields_of a) ta) (record_of (fields_of b) tb)
-      (record_of fields OpenAttributes) in
-      subst P is (permissive_open (fields_of a) (fields_of b) ta tb all (IsSortedByName-fields a) (IsSortedByName-fields b)
+      rw is at (permissive_open (fields_of a) (fields_of b) ta tb all (IsSortedByName-fields a) (IsSortedByName-fields b)
       (λ none. let wrong : OpenAttributes ≡ ClosedAttributes = closed.1 (all_counted none) in absurd cc))
   permissive-least ClosedAttributes closed =
-      let P : Fields → Type 0 = λ fields. IsLeastOwnBound Permissive (record_of (fields_of a) ta) (record_of (fields_of b) tb)
-      (record_of fields ClosedAttributes) in
-      subst P is (permissive_closed (fields_of a) (fields_of b) ta tb all (IsSortedByName-fields a) (IsSortedByName-fields b)
+      rw is at (permissive_closed (fields_of a) (fields_of b) ta tb all (IsSortedByName-fields a) (IsSortedByName-fields b)
       (nothing_dropped (closed.0 refl)))
 
 -- a walk of a strict join: with the join of what is left behind them, the pairs so far are the join of the whole, and a
@@ -294,10 +287,7 @@ pub strict-first : (a b : Attributes) → StrictSoFar a b 0 (pairs_of a) []
 strict-first a b = record {
   unplaced = tt;
   ahead = Ahead-first text_of text_of text_cmp text_cmp-total (pairs_of b) (pairs_of a) (out-Attributes a).attrs.value.sorted_by_name;
-  whole = λ tail.
-      let P : Fields → Type 0 = λ fields. (it : StrictJoin fields (fields_of b)) → it.fields ≡ fields_from tail
-      → (all : StrictJoin (fields_of a) (fields_of b)) × (all.fields ≡ fields_from tail) in
-      subst P (fields_of-pairs a) (λ it is. (it, is));
+  whole = λ tail. rw (← (fields_of-pairs a)) (λ it is. (it, is));
   helped = λ given found. subst (λ fields. IsHelpAtName fields (fields_of b) given) (sym (fields_of-pairs a)) found;
 }
 
@@ -363,9 +353,7 @@ module _ (a b : Attributes) (ta tb : OpenTag) (same : length (pairs_of a) ≡ le
   pub strict-least : (joined : Pairs) (all : StrictJoin (fields_of a) (fields_of b)) → all.fields ≡ fields_at joined
       → IsLeastOwnBound Strict (record_of (fields_of a) ta) (record_of (fields_of b) tb) (record_of (fields_at joined) (either_open ta tb))
   strict-least joined all is =
-      let P : Fields → Type 0 = λ fields. IsLeastOwnBound Strict (record_of (fields_of a) ta) (record_of (fields_of b) tb)
-      (record_of fields (either_open ta tb)) in
-      subst P is (strict_least (fields_of a) (fields_of b) ta tb all (IsSortedByName-fields a) (IsSortedByName-fields b)
+      rw is at (strict_least (fields_of a) (fields_of b) ta tb all (IsSortedByName-fields a) (IsSortedByName-fields b)
       ((all_among text_cmp text_cmp-total text_cmp-Equal (field_names (fields_of a)) (field_names (fields_of b))
       (IsSortedByName-fields a) (IsSortedByName-fields b)
       (λ n among. (let found = HasField-named (fields_of a) n among in

@@ -5,7 +5,7 @@ use Rattle.cedar_below.specs.Lists.{Included}
 use Rattle.cedar_type_rules.proofs.ReduceLemmas.{reduce_any_order}
 use Rattle.cedar_type_rules.specs.Clean.{IsClean}
 use Rattle.cedar_types.specs.WellFormedTypes.{IsWellFormed-type}
-use Rattle.std.proofs.Common.{◌≡◌, refl, ap, sym, subst, ◌∙◌, Bool, List, map, Ok, Err}
+use Rattle.std.proofs.Common.{◌≡◌, refl, ap, sym, ◌∙◌, Bool, List, map, Ok, Err}
 use Rattle.std.specs.Result.{result_map_both}
 use Rattle.cedar_below.specs.declared.validation_mode.ValidationMode.{ValidationMode}
 use Rattle.cedar_type_rules.proofs.JoinsOf.{answers_by, joined_reduced}
@@ -34,8 +34,7 @@ pub types-reduced : (mode : ValidationMode) (start : «Type») (all : List «Typ
 types-reduced mode start all result is =
     answers_by ty_of (IsFoldOfJoins (AnswersJoinOf ty_of mode) start all) (IsReduceAnswer mode never (map ty_of all)) result
     (λ answer right.
-    let P : Ty → Type 0 = λ from. IsReduceAnswer mode from (map ty_of all) (result_map_both ty_of (λ given. given) answer) in
-    subst P (ap ty_of is ∙ ty_of-never) (joined_reduced ty_of IsWellFormed-type mode start all answer right))
+    rw (ap ty_of is ∙ ty_of-never) at (joined_reduced ty_of IsWellFormed-type mode start all answer right))
 
 -- what clean types are reduced to is what they are in another order, memory aside
 pub reduced_in_any_order : (mode : ValidationMode) (types others : List «Type») (join : «Type») (answer : Result «Type» JoinError)

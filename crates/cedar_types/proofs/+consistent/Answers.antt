@@ -51,10 +51,9 @@ step t c =
     let O = c.args.openness ≡ OpenAttributes in
     let C = c.args.core_is_open ≡ true in
     let W = AreFit c.args.attrs.now c.args.core.now c.args.openness c.args.core_is_open in
-    let P : List (String Global × CoreAttributeType) → Type 0 = ConsistentSoFar own O C W c.loop-name.at in
     step_of c.args.attrs.now own O C W c.loop-name.at c.seek-place.result (c.in-Some.name.now, c.in-Some.other.now) c.next.new.self
     c.may_lack_all.result (c.as_slice-own.ensures ∙ ap (λ all. all.entries.items) c.deref.ensures)
-    (subst P c.in-Some.ensures.steps c.loop-name.invariant) c.seek-place.ensures.from
+    (rw c.in-Some.ensures.steps at c.loop-name.invariant) c.seek-place.ensures.from
     (Sought-held c.args.attrs.now c.loop-name.at c.seek-place.result c.deref-in-loop-name.result.now _ (string_bytes c.in-Some.name.now)
     c.deref-in-loop-name.ensures c.deref-in-loop-name-2.ensures c.seek-place.ensures.passed c.seek-place.ensures.stays)
     c.may_lack_all.ensures
@@ -121,6 +120,5 @@ consistent::records_fit-returns t c =
     let O = c.args.openness ≡ OpenAttributes in
     let C = c.args.core_is_open ≡ true in
     let W = AreFit c.args.attrs.now c.args.core.now c.args.openness c.args.core_is_open in
-    let P : List (String Global × CoreAttributeType) → Type 0 = ConsistentSoFar own O C W c.loop-name.at in
-    let last = consistent-last own O C W c.loop-name.at (subst P c.in-None.ensures.steps.0 c.loop-name.invariant) in
+    let last = consistent-last own O C W c.loop-name.at (rw c.in-None.ensures.steps.0 at c.loop-name.invariant) in
     (λ e. last.0 (c.may_lack_all-2.ensures.0 e), λ whole. c.may_lack_all-2.ensures.1 (last.1 whole))

@@ -16,8 +16,7 @@ pub subtype::fields_fit-returns-then-not-is_at : goal.subtype::fields_fit-return
 subtype::fields_fit-returns-then-not-is_at t c =
     let lower = c.args.lower.now in
     let item = c.loop-name-item.result in
-    let P : List (String Global × AttributeType) → Type 0 = WalkedBelow c.args.mode lower c.args.upper.now c.loop-name.at in
-    let walked = subst P (drop-at _ c.loop-name.name-index item c.loop-name-test.true c.loop-name-item.is) c.loop-name.invariant in
+    let walked = rw (drop-at _ c.loop-name.name-index item c.loop-name-test.true c.loop-name-item.is) at c.loop-name.invariant in
     let sought = Sought-held lower c.loop-name.at c.seek-at.result c.deref-in-loop-name.result.now _ (string_bytes item.0)
     c.deref-in-loop-name.ensures c.deref-in-loop-name-2.ensures c.seek-at.ensures.passed c.seek-at.ensures.stays in
     let here = IsAt-held lower c.seek-at.result c.deref-in-loop-name-3.result.now _ (string_bytes item.0) c.is_at.result
@@ -30,8 +29,7 @@ pub subtype::fields_fit-returns-then-not-attribute_fits :
 subtype::fields_fit-returns-then-not-attribute_fits t c =
     let lower = c.args.lower.now in
     let item = c.loop-name-item.result in
-    let P : List (String Global × AttributeType) → Type 0 = WalkedBelow c.args.mode lower c.args.upper.now c.loop-name.at in
-    let walked = subst P (drop-at _ c.loop-name.name-index item c.loop-name-test.true c.loop-name-item.is) c.loop-name.invariant in
+    let walked = rw (drop-at _ c.loop-name.name-index item c.loop-name-test.true c.loop-name-item.is) at c.loop-name.invariant in
     let sought = Sought-held lower c.loop-name.at c.seek-at.result c.deref-in-loop-name.result.now _ (string_bytes item.0)
     c.deref-in-loop-name.ensures c.deref-in-loop-name-2.ensures c.seek-at.ensures.passed c.seek-at.ensures.stays in
     let here = IsAt-held lower c.seek-at.result c.deref-in-loop-name-3.result.now _ (string_bytes item.0) c.is_at.result
@@ -45,8 +43,7 @@ pub subtype::fields_fit-loop-name-preserved : goal.subtype::fields_fit-loop-name
 subtype::fields_fit-loop-name-preserved t c =
     let lower = c.args.lower.now in
     let item = c.loop-name-item.result in
-    let P : List (String Global × AttributeType) → Type 0 = WalkedBelow c.args.mode lower c.args.upper.now c.loop-name.at in
-    let walked = subst P (drop-at _ c.loop-name.name-index item c.loop-name-test.true c.loop-name-item.is) c.loop-name.invariant in
+    let walked = rw (drop-at _ c.loop-name.name-index item c.loop-name-test.true c.loop-name-item.is) at c.loop-name.invariant in
     let sought = Sought-held lower c.loop-name.at c.seek-at.result c.deref-in-loop-name.result.now _ (string_bytes item.0)
     c.deref-in-loop-name.ensures c.deref-in-loop-name-2.ensures c.seek-at.ensures.passed c.seek-at.ensures.stays in
     let here = IsAt-held lower c.seek-at.result c.deref-in-loop-name-3.result.now _ (string_bytes item.0) c.is_at.result

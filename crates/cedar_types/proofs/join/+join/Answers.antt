@@ -113,9 +113,8 @@ permissive_step : (t : _) (c : permissive_record-After-is_at t)
 permissive_step t c =
     let b = c.args.b.now in
     let item = c.loop-name-item.result in
-    let P : Pairs → Type 0 = λ left. PermissiveSoFar c.args.a.now b c.loop-name.at left c.loop-name.joined.items in
     record {
-      so_far = subst P (drop-at _ c.loop-name.name-index item c.loop-name-test.true c.loop-name-item.is) c.loop-name.invariant;
+      so_far = rw (drop-at _ c.loop-name.name-index item c.loop-name-test.true c.loop-name-item.is) at c.loop-name.invariant;
       sought = Sought-held b c.loop-name.at c.seek-at.result c.deref-in-loop-name.result.now _ (string_bytes item.0)
           c.deref-in-loop-name.ensures c.deref-in-loop-name-2.ensures c.seek-at.ensures.passed c.seek-at.ensures.stays;
       here = IsAt-held b c.seek-at.result c.deref-in-loop-name-3.result.now _ (string_bytes item.0) c.is_at.result
@@ -126,9 +125,8 @@ permissive_step t c =
 permissive_joined : (t : _) (c : permissive_record-After-loop-name t)
     → (all : PermissiveJoin (fields_of c.args.a.now) (fields_of c.args.b.now)) × (all.fields ≡ fields_at c.loop-name.joined.items)
 permissive_joined t c =
-    let P : Pairs → Type 0 = λ left. PermissiveSoFar c.args.a.now c.args.b.now c.loop-name.at left c.loop-name.joined.items in
     permissive-last c.args.a.now c.args.b.now c.loop-name.at c.loop-name.joined.items
-    (subst P (drop_of_length-le c.as_slice-own.result.now c.loop-name-test.false) c.loop-name.invariant)
+    (rw (drop_of_length-le c.as_slice-own.result.now c.loop-name-test.false) at c.loop-name.invariant)
 
 pub permissive_record-loop-name-init : goal.permissive_record-loop-name-init
 permissive_record-loop-name-init t c =
@@ -147,7 +145,6 @@ permissive_record-loop-name-preserved t c =
     let place = c.seek-at.result in
     let step = permissive_step t past.After-is_at in
     let others = (permissive_pairs t past.After-as_slice-others).1 in
-    let R : Pairs → Type 0 = PermissiveSoFar c.args.a.now b place (drop (c.loop-name.name-index + 1) c.as_slice-own.result.now) in
     elim c.if-is_at.branch [
       | permissive_record-then-is_at+in_ok-join+in-Some+in_ok-push_named w ↦ (
           let more = w.in_ok-push_named.ensures in
@@ -156,20 +153,15 @@ permissive_record-loop-name-preserved t c =
           IsPermissiveAttribute (attribute_of item.1) (attribute_of (get_or all place one).1) found in
           let right : Q (pairs_of b) (Some w.in-Some.join) =
           subst (Q (pairs_of b)) w.in-Some.is (subst (λ (all : Pairs). Q all w.in_ok-join.field-0) others w.in_ok-join.ensures.join) in
-          subst R (sym (ap (λ v. v.items) w.joined-is ∙ more.2))
-          (permissive-kept step one (more.0, w.in-Some.join) w.if-is_at.true more.1 right.0 right.1
-          (let S : Option AttributeType → Type 0 = λ found. IfSome found (λ join. attribute_loc join ≡ None) in
-          subst S w.in-Some.is w.in_ok-join.ensures.loc))
+          rw (ap (λ v. v.items) w.joined-is ∙ more.2) (permissive-kept step one (more.0, w.in-Some.join) w.if-is_at.true more.1 right.0 right.1
+          (rw w.in-Some.is at w.in_ok-join.ensures.loc))
           )
       | permissive_record-then-is_at+in_ok-join+in_default w ↦ (
           let one = w.index-others-at.result in
-          let Q : Pairs → Type 0 = λ all. IsPermissiveAttribute (attribute_of item.1) (attribute_of (get_or all place one).1) w.in_ok-join.field-0 in
-          let none = dropped_have_none (attribute_of item.1) (attribute_of (get_or (pairs_of b) place one).1) w.in_ok-join.field-0 (subst Q others w.in_ok-join.ensures.join) w.in_default.not-Some in
-          subst R (sym (ap (λ v. v.items) w.joined-is))
-          (permissive-refused step one w.if-is_at.true none)
+          let none = dropped_have_none (attribute_of item.1) (attribute_of (get_or (pairs_of b) place one).1) w.in_ok-join.field-0 (rw others at w.in_ok-join.ensures.join) w.in_default.not-Some in
+          rw (ap (λ v. v.items) w.joined-is) (permissive-refused step one w.if-is_at.true none)
           )
-      | permissive_record-else-is_at w ↦ subst R (sym (ap (λ v. v.items) w.joined-is))
-          (permissive-missed step w.if-is_at.false)
+      | permissive_record-else-is_at w ↦ rw (ap (λ v. v.items) w.joined-is) (permissive-missed step w.if-is_at.false)
     ]
 
 pub permissive_record-from_sorted_by_name-requires : goal.permissive_record-from_sorted_by_name-requires
@@ -235,9 +227,8 @@ strict_step : (t : _) (c : strict_record-After-is_at t)
 strict_step t c =
     let b = c.args.b.now in
     let item = c.loop-name-item.result in
-    let P : Pairs → Type 0 = λ left. StrictSoFar c.args.a.now b c.loop-name.at left c.loop-name.joined.items in
     record {
-      so_far = subst P (drop-at _ c.loop-name.name-index item c.loop-name-test.true c.loop-name-item.is) c.loop-name.invariant;
+      so_far = rw (drop-at _ c.loop-name.name-index item c.loop-name-test.true c.loop-name-item.is) at c.loop-name.invariant;
       sought = Sought-held b c.loop-name.at c.seek-at.result c.deref-in-loop-name.result.now _ (string_bytes item.0)
           c.deref-in-loop-name.ensures c.deref-in-loop-name-2.ensures c.seek-at.ensures.passed c.seek-at.ensures.stays;
       here = IsAt-held b c.seek-at.result c.deref-in-loop-name-3.result.now _ (string_bytes item.0) c.is_at.result
@@ -248,9 +239,8 @@ strict_step t c =
 strict_joined : (t : _) (c : strict_record-After-loop-name t)
     → (all : StrictJoin (fields_of c.args.a.now) (fields_of c.args.b.now)) × (all.fields ≡ fields_at c.loop-name.joined.items)
 strict_joined t c =
-    let P : Pairs → Type 0 = λ left. StrictSoFar c.args.a.now c.args.b.now c.loop-name.at left c.loop-name.joined.items in
     strict-last c.args.a.now c.args.b.now c.loop-name.at c.loop-name.joined.items
-    (subst P (drop_of_length-le c.as_slice-own.result.now c.loop-name-test.false) c.loop-name.invariant)
+    (rw (drop_of_length-le c.as_slice-own.result.now c.loop-name-test.false) at c.loop-name.invariant)
 
 pub strict_record-returns-then-own-others-clause-join : goal.strict_record-returns-then-own-others-clause-join
 strict_record-returns-then-own-others-clause-join t c =
@@ -296,11 +286,7 @@ strict_record-loop-name-preserved t c =
     let step = strict_step t past.After-is_at in
     let others = (strict_pairs t past.After-as_slice-others).1 in
     let one = c.index-others-at.result in
-    let Q : Pairs → Type 0 = λ all.
-    IsLeastOwnBound Strict (attribute_ty item.1) (attribute_ty (get_or all place one).1) (attribute_ty c.in_ok-join.join)
-    × ((attribute_of item.1).0 ≡ (attribute_of c.in_ok-join.join).0)
-    × ((attribute_of (get_or all place one).1).0 ≡ (attribute_of c.in_ok-join.join).0) in
-    let right = subst Q others c.in_ok-join.ensures.join in
+    let right = rw others at c.in_ok-join.ensures.join in
     let more = c.in_ok-push_named.ensures in
     let R : Pairs → Type 0 = StrictSoFar c.args.a.now c.args.b.now place (drop (c.loop-name.name-index + 1) c.as_slice-own.result.now) in
     subst R (sym {A = Pairs} more.2)
