@@ -28,9 +28,11 @@ use Rattle.cedar_types.proofs.MemberParts.{IsMembershipFor, IsMembershipForEach,
 use Rattle.cedar_types.proofs.+member.Goals as goal
 use Rattle.cedar_types.proofs.+member.Goals.{member::fields_have-in-Some, member::fields_have-in-None}
 
+-- at first no element was tried
 pub member::elements_have-loop-value-init : goal.member::elements_have-loop-value-init
 member::elements_have-loop-value-init t c = IsMembershipSoFar-none _ _ _
 
+-- the answer for the next element joins those before
 pub member::elements_have-loop-value-preserved : goal.member::elements_have-loop-value-preserved
 member::elements_have-loop-value-preserved t c =
     let right : IsMembershipFor c.args.extensions.now (tree_of c.value-item.result)
@@ -48,11 +50,13 @@ member::elements_have-loop-value-preserved t c =
       fault = c.both-so_far.ensures.fault;
     }) right c.loop-value.invariant
 
+-- where none is left, the answers are those for all
 pub member::elements_have-returns : goal.member::elements_have-returns
 member::elements_have-returns t c =
     IsMembershipSoFar-all c.loop-value.so_far _ _ _ _
     (rw (drop_of_length-le c.args.values.now c.loop-value-test.false) at c.loop-value.invariant)
 
+-- at first no attribute was tried, and all entries are left
 pub member::fields_have-loop-name-init : goal.member::fields_have-loop-name-init
 member::fields_have-loop-name-init t c =
     let attrs = c.args.attrs.now in
@@ -62,6 +66,7 @@ member::fields_have-loop-name-init t c =
           c.new-left.ensures.ascend (subst AreSortedByName items (out-Attributes attrs).attrs.value.sorted_by_name),
     )
 
+-- the answer for the next attribute joins those before, and its entry is passed
 pub member::fields_have-loop-name-preserved : goal.member::fields_have-loop-name-preserved
 member::fields_have-loop-name-preserved t c =
     let extensions = c.args.extensions.now in
@@ -100,6 +105,7 @@ member::fields_have-loop-name-preserved t c =
       Serves-next values.entries left after item _ before.1 c.value_at.ensures.ascend keeps,
     )
 
+-- an attribute that doesn't fit decides at once
 pub member::fields_have-returns-in-Ok-false : goal.member::fields_have-returns-in-Ok-false
 member::fields_have-returns-in-Ok-false t c =
     let extensions = c.args.extensions.now in
@@ -135,11 +141,13 @@ member::fields_have-returns-in-Ok-false t c =
     (record { yes = c.both-so_far.ensures.yes; no = c.both-so_far.ensures.no; fault = c.both-so_far.ensures.fault }) right before.0 in
     IsMembershipSoFar-stops c.both-so_far.result _ _ _ _ _ _ (c.in-Ok-false.is ∙ ap Ok (sym c.in-Ok-false.field-0-is ∙ c.in-Ok-false.field-0-test)) more
 
+-- where none is left, the answers are those for all
 pub member::fields_have-returns : goal.member::fields_have-returns
 member::fields_have-returns t c =
     IsMembershipSoFar-all c.loop-name.so_far _ _ _ _
     (rw (drop_of_length-le c.as_slice-name-items.result.now c.loop-name-test.false) at c.loop-name.invariant.0)
 
+-- a uid is of the entity type
 pub types::Type::typecheck_restricted_expr-returns-in-Entity-EntityUid : goal.types::Type::typecheck_restricted_expr-returns-in-Entity-EntityUid
 types::Type::typecheck_restricted_expr-returns-in-Entity-EntityUid t c =
     let uid = c.in-Entity-EntityUid.uid in
@@ -150,6 +158,7 @@ types::Type::typecheck_restricted_expr-returns-in-Entity-EntityUid t c =
     (IsMembershipFor-uid c.args.extensions.now (uid_of uid) kind c.has_uid.result c.has_uid.ensures) in
     record { has = right.yes; lacks = right.no; fault = right.fault }
 
+-- the elements of a set are of the element type
 pub types::Type::typecheck_restricted_expr-returns-in-Some : goal.types::Type::typecheck_restricted_expr-returns-in-Some
 types::Type::typecheck_restricted_expr-returns-in-Some t c =
     let values = c.in-Set-Set.values in
@@ -163,6 +172,7 @@ types::Type::typecheck_restricted_expr-returns-in-Some t c =
     (subst (λ items. P items (ty_of c.deref-in-Some.result.now)) c.deref.ensures.value c.elements_have.ensures)) in
     record { has = right.yes; lacks = right.no; fault = right.fault }
 
+-- the entries of a record are of its attributes, where only those are listed
 pub types::Type::typecheck_restricted_expr-returns-then-only_listed : goal.types::Type::typecheck_restricted_expr-returns-then-only_listed
 types::Type::typecheck_restricted_expr-returns-then-only_listed t c =
     let attrs = c.in-Record-Record.attrs in
@@ -176,6 +186,7 @@ types::Type::typecheck_restricted_expr-returns-then-only_listed t c =
     (c.only_listed.ensures.0 c.if-only_listed.true) c.fields_have.ensures) in
     record { has = right.yes; lacks = right.no; fault = right.fault }
 
+-- a record with an entry that isn't listed isn't of the type
 pub types::Type::typecheck_restricted_expr-returns-else-only_listed : goal.types::Type::typecheck_restricted_expr-returns-else-only_listed
 types::Type::typecheck_restricted_expr-returns-else-only_listed t c =
     let attrs = c.in-Record-Record.attrs in
@@ -188,6 +199,7 @@ types::Type::typecheck_restricted_expr-returns-else-only_listed t c =
     (λ listed. let e = c.only_listed.ensures.1 listed in cc)) in
     record { has = right.yes; lacks = right.no; fault = tt }
 
+-- a call gives a value of the extension type
 pub types::Type::typecheck_restricted_expr-returns-in-ExtensionType-ExtensionCall : goal.types::Type::typecheck_restricted_expr-returns-in-ExtensionType-ExtensionCall
 types::Type::typecheck_restricted_expr-returns-in-ExtensionType-ExtensionCall t c =
     let name = c.in-ExtensionType-ExtensionCall.name in

@@ -7,11 +7,13 @@ use Rattle.cedar_types.proofs.StatedSteps.{TellsLeft, flag_same, left-fails, lef
 use Rattle.cedar_types.specs.declared.attributes.AttributeType.{AttributeType}
 use Rattle.cedar_types.proofs.+required.Goals as goal
 
+-- at first all attributes are left
 pub stated::require_all-loop-attribute-init : goal.stated::require_all-loop-attribute-init
 stated::require_all-loop-attribute-init t c =
     left-first FieldsRequireAll c.args.attrs.now
     c.as_slice-attribute-items.result.now (c.as_slice-attribute-items.ensures ∙ ap (λ all. all.entries.items) c.deref.ensures)
 
+-- an attribute that may be missing fails
 pub stated::require_all-returns-then-not-attribute :
     goal.stated::require_all-returns-then-not-attribute
 stated::require_all-returns-then-not-attribute t c =
@@ -20,6 +22,7 @@ stated::require_all-returns-then-not-attribute t c =
     left-fails left
     (λ needed. let same = flag_same c.loop-attribute-item.result.1 in let none = c.if-not-attribute.true in absurd cc)
 
+-- so does one whose type has such an attribute
 pub stated::require_all-returns-then-not-requires_all :
     goal.stated::require_all-returns-then-not-requires_all
 stated::require_all-returns-then-not-requires_all t c =
@@ -30,6 +33,7 @@ stated::require_all-returns-then-not-requires_all t c =
     c.deref-in-loop-attribute.result.now c.deref-in-loop-attribute.ensures)) all) in
     let none = c.if-not-requires_all.true in absurd cc)
 
+-- past one that requires all the rest decides
 pub stated::require_all-loop-attribute-preserved : goal.stated::require_all-loop-attribute-preserved
 stated::require_all-loop-attribute-preserved t c =
     let left = required_left c.args.attrs.now c.loop-attribute-item.result _ (rw (drop-at _ c.loop-attribute.attribute-index
@@ -38,6 +42,7 @@ stated::require_all-loop-attribute-preserved t c =
     (subst RequiresAll (type_same c.loop-attribute-item.result.1 c.deref-in-loop-attribute.result.now c.deref-in-loop-attribute.ensures)
     (c.requires_all.ensures.0 c.if-not-requires_all.false))
 
+-- where none is left, all are required
 pub stated::require_all-returns : goal.stated::require_all-returns
 stated::require_all-returns t c =
     let left = rw (drop_of_length-le c.as_slice-attribute-items.result.now c.loop-attribute-test.false) at c.loop-attribute.invariant in

@@ -14,11 +14,13 @@ use Rattle.cedar_types.specs.Samples.{value_trees}
 use Rattle.cedar_types.specs.declared.attributes.AttributeType.{AttributeType}
 use Rattle.cedar_types.proofs.+sampled.Goals as goal
 
+-- at first all attributes are left
 pub stated::are_sampled-loop-attribute-init : goal.stated::are_sampled-loop-attribute-init
 stated::are_sampled-loop-attribute-init t c =
     left-first (AreInhabitedWith c.args.extensions.now (value_trees c.args.samples.now)) c.args.attrs.now
     c.as_slice-attribute-items.result.now (c.as_slice-attribute-items.ensures ∙ ap (λ all. all.entries.items) c.deref.ensures)
 
+-- an attribute whose type has no sample fails
 pub stated::are_sampled-returns-then-not-is_inhabited_with :
     goal.stated::are_sampled-returns-then-not-is_inhabited_with
 stated::are_sampled-returns-then-not-is_inhabited_with t c =
@@ -30,6 +32,7 @@ stated::are_sampled-returns-then-not-is_inhabited_with t c =
     c.deref-in-loop-attribute.result.now c.deref-in-loop-attribute.ensures)) lives) in
     let none = c.if-not-is_inhabited_with.true in absurd cc)
 
+-- past one that has a sample the rest decides
 pub stated::are_sampled-loop-attribute-preserved : goal.stated::are_sampled-loop-attribute-preserved
 stated::are_sampled-loop-attribute-preserved t c =
     let Lives = IsInhabitedWith c.args.extensions.now (value_trees c.args.samples.now) in
@@ -39,6 +42,7 @@ stated::are_sampled-loop-attribute-preserved t c =
     (subst Lives (type_same c.loop-attribute-item.result.1 c.deref-in-loop-attribute.result.now c.deref-in-loop-attribute.ensures)
     (c.is_inhabited_with.ensures.0 c.if-not-is_inhabited_with.false))
 
+-- an extension type has a sample exactly if one of the samples is of it
 pub types::Type::is_inhabited_with-returns-in-ExtensionType :
     goal.types::Type::is_inhabited_with-returns-in-ExtensionType
 types::Type::is_inhabited_with-returns-in-ExtensionType t c =
@@ -51,6 +55,7 @@ types::Type::is_inhabited_with-returns-in-ExtensionType t c =
     let there : Decides (is_some c.sample_among.result) (IsInhabitedWith extensions (value_trees samples) ty) = rw is at found in
     rw (c.is_some.ensures, is) there
 
+-- where none is left, all have samples
 pub stated::are_sampled-returns : goal.stated::are_sampled-returns
 stated::are_sampled-returns t c =
     let left = rw (drop_of_length-le c.as_slice-attribute-items.result.now c.loop-attribute-test.false) at c.loop-attribute.invariant in

@@ -20,6 +20,7 @@ use Rattle.cedar_types.specs.declared.attributes.AttributeType.{AttributeType}
 use Rattle.cedar_types.specs.declared.types.Type.{«Type»}
 use Rattle.cedar_types.proofs.core_type.+core.Goals as goal
 
+-- an attribute whose type has no core type is the fault
 pub core_attributes-returns-in_err-attr_type-clause-fault : goal.core_attributes-returns-in_err-attr_type-clause-fault
 core_attributes-returns-in_err-attr_type-clause-fault t c =
     let all = c.as_slice-name-items.result.now in
@@ -30,6 +31,7 @@ core_attributes-returns-in_err-attr_type-clause-fault t c =
     (cored-fault all item _ c.loop-name.core.entries so_far c.in_err-attr_type.field-0.0
     (rw c.deref-in-loop-name.ensures at c.in_err-attr_type.ensures.fault))
 
+-- the core type of the next attribute is put in
 pub core_attributes-loop-name-preserved : goal.core_attributes-loop-name-preserved
 core_attributes-loop-name-preserved t c =
     let all = c.as_slice-name-items.result.now in
@@ -40,6 +42,7 @@ core_attributes-loop-name-preserved t c =
     rw put (cored-next all item _ c.loop-name.core.entries so_far up key _ same refl
     (rw c.deref-in-loop-name.ensures at c.in_ok-attr_type.ensures.core))
 
+-- where none is left, all have core types
 pub core_attributes-returns-clause-core : goal.core_attributes-returns-clause-core
 core_attributes-returns-clause-core t c =
     let all = c.as_slice-name-items.result.now in
@@ -47,6 +50,7 @@ core_attributes-returns-clause-core t c =
     rw (fields_of-pairs c.args.attrs.now, sym (c.as_slice-name-items.ensures ∙ ap (λ held. held.entries.items) c.deref.ensures))
     (cored-last all c.loop-name.core.entries so_far)
 
+-- and they make the core type of the record
 pub core_type-returns-in_ok-core_attributes-in-Record-clause-core : goal.core_type-returns-in_ok-core_attributes-in-Record-clause-core
 core_type-returns-in_ok-core_attributes-in-Record-clause-core t c =
     let attrs = c.in-Record.attrs in

@@ -20,6 +20,7 @@ use Rattle.cedar_name_map.proofs.SearchLemmas.{text_of}
 use Rattle.cedar_types.proofs.SubtypeSteps.{IsAt-held, Sought-held, sought-name, sought-on}
 use Rattle.cedar_types.proofs.member.all_listed.Goals as goal
 
+-- at first the names are those of the entries
 pub loop-name-init : goal.loop-name-init
 loop-name-init c =
     let listed = field_names (fields_of c.args.attrs.now) in
@@ -30,6 +31,7 @@ loop-name-init c =
           (rw keys (IsStrictlySortedBy-map string_cmp text_cmp string_bytes (λ a b. refl) _ c.keys-name-items.ensures.ordered)),
     )
 
+-- a name that isn't listed fails
 pub returns-then-not-is_at : goal.returns-then-not-is_at
 returns-then-not-is_at c =
     let attrs = c.args.attrs.now in
@@ -45,6 +47,7 @@ returns-then-not-is_at c =
       λ all. absurd (let found = there.1 (Included-head _ _ _ (so_far.0.1 all)) in let none = c.if-not-is_at.true in cc),
     )
 
+-- past a name that is listed the rest decides
 pub loop-name-preserved : goal.loop-name-preserved
 loop-name-preserved c =
     let attrs = c.args.attrs.now in

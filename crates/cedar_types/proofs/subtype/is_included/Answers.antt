@@ -11,6 +11,7 @@ use Rattle.cedar_name_map.proofs.RisingLemmas.{Ahead, sought-Decides, sought-nex
 use Rattle.cedar_types.proofs.UnionSteps.{Included-empty}
 use Rattle.cedar_types.proofs.subtype.is_included.Goals as goal
 
+-- a type that the upper union lacks is against it
 pub returns-then-not-is_at : goal.returns-then-not-is_at
 returns-then-not-is_at c =
     let upper = c.args.upper.now in
@@ -19,6 +20,7 @@ returns-then-not-is_at c =
     c.seek-at.ensures.passed c.seek-at.ensures.stays c.is_at.result c.is_at.ensures in
     (λ wrong. absurd cc, λ all. absurd (let found = there.1 (Included-head _ _ _ (so_far.0.1 all)) in let none = c.if-not-is_at.true in cc))
 
+-- past a type of both the rest decides
 pub loop-ty-preserved : goal.loop-ty-preserved
 loop-ty-preserved c =
     let upper = c.args.upper.now in
@@ -30,6 +32,7 @@ loop-ty-preserved c =
           c.seek-at.ensures.passed c.seek-at.ensures.stays,
     )
 
+-- where none is left, all are included
 pub returns : goal.returns
 returns c =
     let upper = lub_names c.args.upper.now in

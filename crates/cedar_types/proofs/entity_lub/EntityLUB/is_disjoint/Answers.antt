@@ -12,6 +12,7 @@ use Rattle.cedar_name_map.proofs.RisingLemmas.{Ahead, sought-Decides, sought-nex
 use Rattle.cedar_types.proofs.UnionLemmas.{AreDisjoint-more, Contains-names}
 use Rattle.cedar_types.proofs.entity_lub.EntityLUB.is_disjoint.Goals as goal
 
+-- a type of both is against it
 pub returns-then-is_at : goal.returns-then-is_at
 returns-then-is_at c =
     let other = c.args.other.now in
@@ -24,6 +25,7 @@ returns-then-is_at c =
           c.ty-item.is) (there.0 c.if-is_at.true)),
     )
 
+-- past a type that the other lacks the rest decides
 pub loop-ty-preserved : goal.loop-ty-preserved
 loop-ty-preserved c =
     let other = c.args.other.now in
@@ -37,6 +39,7 @@ loop-ty-preserved c =
           c.seek-at.ensures.passed c.seek-at.ensures.stays,
     )
 
+-- where none is left, no type is of both
 pub returns : goal.returns
 returns c = (
   λ _. rw (take_all c.loop-ty.ty-index c.as_slice-ty-items.result.now c.loop-ty-test.false

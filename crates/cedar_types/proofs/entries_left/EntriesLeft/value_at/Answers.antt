@@ -9,6 +9,7 @@ use Rattle.cedar_types.proofs.EntriesLeftSteps.{IsPast, IsPast-next, IsPast-foun
 use Rattle.cedar_types.specs.EntriesLeft.{entries_left}
 use Rattle.cedar_types.proofs.entries_left.EntriesLeft.value_at.Goals as goal
 
+-- an entry of a name before is passed
 pub loop-self-preserved : goal.loop-self-preserved
 loop-self-preserved c =
     let name = c.args.name.now in
@@ -18,6 +19,7 @@ loop-self-preserved c =
     rw (entries_left-next c.loop-self.self.rest c.next-self.result c.next-self.new.self c.next-self.ensures.steps) (IsPast-next name all (c.in-Some.key.now, c.in-Some.value.now) c.loop-self.self.rest
     (rw (entries_left-first c.loop-self.self (c.in-Some.key, c.in-Some.value) c.in-Some.is) at c.loop-self.invariant) less)
 
+-- an entry of the name has the value
 pub returns-in-Equal-clause-value : goal.returns-in-Equal-clause-value
 returns-in-Equal-clause-value c =
     let name = c.args.name.now in
@@ -27,6 +29,7 @@ returns-in-Equal-clause-value c =
     IsPast-found name all (c.in-Some.key.now, c.in-Some.value.now) c.loop-self.self.rest
     (rw (entries_left-first c.loop-self.self (c.in-Some.key, c.in-Some.value) c.in-Some.is) at c.loop-self.invariant) equal
 
+-- past the place of the name it isn't there
 pub returns-in-Greater-clause-value : goal.returns-in-Greater-clause-value
 returns-in-Greater-clause-value c =
     let name = c.args.name.now in
@@ -36,12 +39,14 @@ returns-in-Greater-clause-value c =
     IsPast-missed name all (c.in-Some.key.now, c.in-Some.value.now) c.loop-self.self.rest
     (rw (entries_left-first c.loop-self.self (c.in-Some.key, c.in-Some.value) c.in-Some.is) at c.loop-self.invariant) greater
 
+-- where no entry is left, it isn't there
 pub returns-clause-value : goal.returns-clause-value
 returns-clause-value c =
     let name = c.args.name.now in
     let all = entries_left c.args.self.now in
     IsPast-none name all (rw (entries_left-none c.loop-self.self c.in_default.is) at c.loop-self.invariant)
 
+-- what was passed changes nothing for the names after, where the name is there
 pub returns-in-Equal-clause-passes : goal.returns-in-Equal-clause-passes
 returns-in-Equal-clause-passes c =
     let name = c.args.name.now in
@@ -53,6 +58,7 @@ returns-in-Equal-clause-passes c =
     (rw is at c.loop-self.invariant) (λ less. absurd cc) in
     λ other below. ap (value_at other) is ∙ passed other below
 
+-- nor where it isn't
 pub returns-in-Greater-clause-passes : goal.returns-in-Greater-clause-passes
 returns-in-Greater-clause-passes c =
     let name = c.args.name.now in
