@@ -59,11 +59,9 @@ reduce_least_clean mode tys answer all reduced =
 -- what types are reduced to from a well-formed start is well formed
 formed_from : (mode : ValidationMode) (start : Ty) (tys : List Ty) (answer : JoinAnswer) → IsWellFormed start
     → IsReduceAnswer mode start tys answer → IfOk answer IsWellFormed
-formed_from mode start [] answer formed is =
-    let P : JoinAnswer → Type 0 = λ each. IfOk each IsWellFormed in subst P (sym is) formed
+formed_from mode start [] answer formed is = rw is formed
 formed_from mode start (ty ∷ rest) answer formed (inl (join, right, joined, more)) = formed_from mode join rest answer joined more
-formed_from mode start (ty ∷ rest) answer formed (inr (given, right, is)) =
-    let P : JoinAnswer → Type 0 = λ each. IfOk each IsWellFormed in subst P (sym is) tt
+formed_from mode start (ty ∷ rest) answer formed (inr (given, right, is)) = rw is tt
 
 -- what types are reduced to is well formed
 pub reduced_formed : ReductionsAreWellFormed
@@ -75,8 +73,7 @@ unique_from : (mode : ValidationMode) (start : Ty) (tys : List Ty) (join : Ty) (
 unique_from mode start [] join answer first second = second ∙ sym first
 unique_from mode start (ty ∷ rest) join answer (inl (one, right, formed, more)) (inl (other, also, joined, others)) =
     let same = join_unique mode start ty other one joined formed also right in
-    let P : Ty → Type 0 = λ from. IsReduceAnswer mode from rest answer in
-    unique_from mode one rest join answer more (subst P same others)
+    unique_from mode one rest join answer more (rw same at others)
 unique_from mode start (ty ∷ rest) join answer (inl (one, right, formed, more)) (inr (given, none, is)) =
     absurd (none.0 (one, right.0))
 unique_from mode start (ty ∷ rest) join answer (inr (given, none, is)) second = absurd cc
@@ -92,16 +89,13 @@ refused_from : (mode : ValidationMode) (start : Ty) (before after : List Ty) (jo
     → (given : LubHelp) × IsHelp mode join ty given × (answer ≡ Err given)
 refused_from mode start [] after join ty answer is none (inl (other, right, formed, more)) =
     let same : start ≡ join = cc in
-    let P : Ty → Type 0 = λ from. HaveOwnBound mode from ty in
-    absurd (none (subst P same (other, right.0)))
+    absurd (none (rw (← same) (other, right.0)))
 refused_from mode start [] after join ty answer is none (inr (given, right, refused)) =
     let same : start ≡ join = cc in
-    let P : Ty → Type 0 = λ from. IsHelp mode from ty given in
-    (given, subst P same right.1, refused)
+    (given, rw same at right.1, refused)
 refused_from mode start (first ∷ before) after join ty answer (inl (one, right, formed, more)) none (inl (other, also, joined, others)) =
     let same = join_unique mode start first other one joined formed also right in
-    let P : Ty → Type 0 = λ from. IsReduceAnswer mode from (before ++ ty ∷ after) answer in
-    refused_from mode one before after join ty answer more none (subst P same others)
+    refused_from mode one before after join ty answer more none (rw same at others)
 refused_from mode start (first ∷ before) after join ty answer (inl (one, right, formed, more)) none (inr (given, apart, is)) =
     absurd (apart.0 (one, right.0))
 refused_from mode start (first ∷ before) after join ty answer (inr (given, right, is)) none second = absurd cc
