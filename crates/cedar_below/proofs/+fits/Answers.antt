@@ -16,6 +16,7 @@ use Rattle.cedar_below.proofs.TreeLemmas.{EntryFits-Some, EntryFits-None, not-De
 use Rattle.cedar_below.proofs.+fits.Goals as goal
 use Rattle.cedar_below.proofs.+fits.Goals.{fits::fields_fit-in-Some-get, fits::fields_fit-in-None-get}
 
+-- an element that doesn't fit decides that not all do
 pub fits::all_fit-returns-then-not-fits : goal.fits::all_fit-returns-then-not-fits
 fits::all_fit-returns-then-not-fits t c =
     let P : Tree → Type 0 = λ value. Fits c.args.extensions.now value (core_ty_of c.args.ty.now) in
@@ -24,6 +25,7 @@ fits::all_fit-returns-then-not-fits t c =
     c.value-item.is) c.loop-value.invariant in
     part_fails so_far (λ fits. absurd (let there = c.fits.ensures.1 fits in cc))
 
+-- past one that fits the rest decides
 pub fits::all_fit-loop-value-preserved : goal.fits::all_fit-loop-value-preserved
 fits::all_fit-loop-value-preserved t c =
     let P : Tree → Type 0 = λ value. Fits c.args.extensions.now value (core_ty_of c.args.ty.now) in
@@ -32,6 +34,7 @@ fits::all_fit-loop-value-preserved t c =
     c.value-item.is) c.loop-value.invariant in
     rest_alone so_far (c.fits.ensures.0 c.if-not-fits.false)
 
+-- an attribute whose entry doesn't fit decides that not all do
 pub fits::fields_fit-returns-then-not-fits : goal.fits::fields_fit-returns-then-not-fits
 fits::fields_fit-returns-then-not-fits t c =
     let values = entries_of c.args.values.now in
@@ -56,6 +59,7 @@ fits::fields_fit-returns-then-not-fits t c =
     ] in
     part_fails so_far (λ fits. absurd (let there = decides.1 fits in cc))
 
+-- past one whose entry fits the rest decides
 pub fits::fields_fit-loop-name-preserved : goal.fits::fields_fit-loop-name-preserved
 fits::fields_fit-loop-name-preserved t c =
     let values = entries_of c.args.values.now in
@@ -80,6 +84,7 @@ fits::fields_fit-loop-name-preserved t c =
     ] in
     rest_alone so_far (decides.0 c.if-not-fits.false)
 
+-- a set fits the empty one exactly if it has no elements
 pub value::RestrictedExpr::fits-returns-in-Set-EmptySet : goal.value::RestrictedExpr::fits-returns-in-Set-EmptySet
 value::RestrictedExpr::fits-returns-in-Set-EmptySet t c =
     let values = c.in-Set-EmptySet.values in
@@ -89,6 +94,7 @@ value::RestrictedExpr::fits-returns-in-Set-EmptySet t c =
     (subst (P (set_value (trees_of values.items))) (sym (ap core_ty_of c.in-Set-EmptySet.is-1 ∙ core_ty_of-empty_set))
     (subst Q (sym (c.is_empty.ensures ∙ ap (λ n. n == 0) values.ok.0)) (no_tree-Decides values.items)))
 
+-- a set fits another exactly if each of its elements fits
 pub value::RestrictedExpr::fits-returns-in-Set-Set : goal.value::RestrictedExpr::fits-returns-in-Set-Set
 value::RestrictedExpr::fits-returns-in-Set-Set t c =
     let values = c.in-Set-Set.values in
@@ -101,6 +107,7 @@ value::RestrictedExpr::fits-returns-in-Set-Set t c =
     (subst (λ items. Q items element.value) c.deref.ensures.value
     (subst (Q c.deref.result.now) c.deref-in-Set-Set.ensures c.all_fit.ensures)))
 
+-- where all names are listed, a record fits exactly if its entries do
 pub value::RestrictedExpr::fits-returns-then-names_listed : goal.value::RestrictedExpr::fits-returns-then-names_listed
 value::RestrictedExpr::fits-returns-then-names_listed t c =
     let values = c.in-Record-Record.values in
@@ -111,6 +118,7 @@ value::RestrictedExpr::fits-returns-then-names_listed t c =
     ∙ core_ty_of-record attrs c.in-Record-Record.open_attrs))
     (λ e. (c.names_listed.ensures.0 c.if-names_listed.true, c.fields_fit.ensures.0 e), λ both. c.fields_fit.ensures.1 both.1))
 
+-- where one isn't, it doesn't fit
 pub value::RestrictedExpr::fits-returns-else-names_listed : goal.value::RestrictedExpr::fits-returns-else-names_listed
 value::RestrictedExpr::fits-returns-else-names_listed t c =
     let values = c.in-Record-Record.values in
@@ -121,6 +129,7 @@ value::RestrictedExpr::fits-returns-else-names_listed t c =
     ∙ core_ty_of-record attrs c.in-Record-Record.open_attrs))
     (λ e. absurd cc, λ both. c.names_listed.ensures.1 both.0))
 
+-- a call fits an extension type exactly if it returns it
 pub value::RestrictedExpr::fits-returns-in-ExtensionCall-Extension : goal.value::RestrictedExpr::fits-returns-in-ExtensionCall-Extension
 value::RestrictedExpr::fits-returns-in-ExtensionCall-Extension t c =
     let function = c.in-ExtensionCall-Extension.function in

@@ -11,6 +11,7 @@ use Rattle.cedar_below.proofs.Inclusion.{Included-step, Included-head}
 use Rattle.cedar_below.proofs.TreeLemmas.{entry_names-entries, listed-Decides}
 use Rattle.cedar_below.proofs.fits.names_listed.Goals as goal
 
+-- at first the names are those of the entries
 pub loop-name-init : goal.loop-name-init
 loop-name-init c =
     let listed = core_names (core_fields_of c.args.attrs.now) in
@@ -21,6 +22,7 @@ loop-name-init c =
     ∙ ap (map string_bytes) (sym (c.into_iter-name-iterator.ensures.into_iter_gives ∙ c.keys-name-items.ensures.rest))))
     (λ h. h, λ h. h)
 
+-- a name that isn't listed fails, where the record is closed
 pub returns-then-not-contains_key : goal.returns-then-not-contains_key
 returns-then-not-contains_key c =
     let listed = core_names (core_fields_of c.args.attrs.now) in
@@ -33,6 +35,7 @@ returns-then-not-contains_key c =
       λ all. absurd (subst Q (sym c.if-open_attrs.false) (λ within. let there = found.1 (Included-head _ _ _ (so_far.1 within)) in cc) all),
     )
 
+-- past a name that is listed the rest decides
 pub loop-name-preserved : goal.loop-name-preserved
 loop-name-preserved c =
     let listed = core_names (core_fields_of c.args.attrs.now) in

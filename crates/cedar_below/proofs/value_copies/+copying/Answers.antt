@@ -11,6 +11,7 @@ use Rattle.cedar_below.specs.Copies.{AreCopies}
 use Rattle.std.proofs.lemmas.Str.{IsUtf8-string_bytes}
 use Rattle.cedar_below.proofs.value_copies.+copying.Goals as goal
 
+-- the copy of the next element is put after those before
 pub copy_each-loop-value-preserved : goal.copy_each-loop-value-preserved
 copy_each-loop-value-preserved t c =
     let all = c.args.values.now in
@@ -22,6 +23,7 @@ copy_each-loop-value-preserved t c =
     subst Q (sym c.in_ok-push.ensures.items)
     (copied_more all made rest c.value-item.result c.in_ok-copy_of.field-0 so_far c.in_ok-copy_of.ensures)
 
+-- the copy of the next entry is put in
 pub copy_entries-loop-name-preserved : goal.copy_entries-loop-name-preserved
 copy_entries-loop-name-preserved t c =
     let all = c.args.values.now.entries in
@@ -32,12 +34,14 @@ copy_entries-loop-name-preserved t c =
     (texts_sorted all c.into_iter-name-iterator.ensures.into_iter_gives.5) c.in-Some.ensures.steps c.in_ok-clone.ensures.cases
     c.in_ok-copy.ensures c.loop-name.invariant)
 
+-- where no entry is left, all are copied
 pub copy_entries-returns : goal.copy_entries-returns
 copy_entries-returns t c =
     let all = c.args.values.now.entries in
     entries_all all c.loop-name.copies.entries c.loop-name.name-iterator c.in-None.ensures.steps.0
     (texts_sorted all c.into_iter-name-iterator.ensures.into_iter_gives.5) c.loop-name.invariant
 
+-- the copy of each kind of value is of that kind: a text
 pub copy_of-returns-in_ok-clone-in-String : goal.copy_of-returns-in_ok-clone-in-String
 copy_of-returns-in_ok-clone-in-String t c =
     let text = c.in-String.text in
@@ -45,6 +49,7 @@ copy_of-returns-in_ok-clone-in-String t c =
     copied_at (text_value (string_bytes text)) (text_value (string_bytes copy)) _ _ (ap tree_of c.in-String.is ∙ tree_of-text text) (tree_of-text copy)
     (ap text_value c.in_ok-clone-in-String.ensures.cases, IsUtf8-string_bytes copy)
 
+-- a uid
 pub copy_of-returns-in_ok-clone-in-EntityUid : goal.copy_of-returns-in_ok-clone-in-EntityUid
 copy_of-returns-in_ok-clone-in-EntityUid t c =
     let uid = c.in-EntityUid.uid in
@@ -52,6 +57,7 @@ copy_of-returns-in_ok-clone-in-EntityUid t c =
     copied_at (uid_value (uid_of uid)) (uid_value (uid_of copy)) _ _ (ap tree_of c.in-EntityUid.is ∙ tree_of-uid uid) (tree_of-uid copy)
     (ap uid_value c.in_ok-clone-in-EntityUid.ensures.uid, uid_real copy)
 
+-- a record
 pub copy_of-returns-in_ok-copy_entries-in-Record :
     goal.copy_of-returns-in_ok-copy_entries-in-Record
 copy_of-returns-in_ok-copy_entries-in-Record t c =
@@ -61,6 +67,7 @@ copy_of-returns-in_ok-copy_entries-in-Record t c =
     copied_at (map_value (entries_of values)) (map_value (entries_of copies)) _ _ (ap tree_of c.in-Record.is ∙ tree_of-record values)
     (tree_of-record copies) (ap map_value copied.0, copied.1)
 
+-- a call
 pub copy_of-returns-in_ok-function-in-ExtensionCall :
     goal.copy_of-returns-in_ok-function-in-ExtensionCall
 copy_of-returns-in_ok-function-in-ExtensionCall t c =
