@@ -1,5 +1,5 @@
 -- How a uid is read: what stands before its first quote, and its id.
-use Rattle.std.proofs.Common.{◌≡◌, ◌≢◌, ◌<◌, ◌≤◌, ◌+◌, ◌-◌, ℕ, suc, zero, Bool, true, false, List, [], ◌∷◌, ◌++◌, ◌&&◌, ◌==◌, codes, length, take, drop, refl, sym, ap, ◌∙◌, subst, arith, append-nil, not, All, ⊎_elim, get_or}
+use Rattle.std.proofs.Common.{◌≡◌, ◌≢◌, ◌<◌, ◌≤◌, ◌+◌, ◌-◌, ℕ, suc, zero, Bool, true, false, List, [], ◌∷◌, ◌++◌, ◌&&◌, ◌==◌, codes, length, take, drop, refl, sym, ap, ◌∙◌, subst, arith, append-nil, not, All, get_or, inl, inr}
 use Rattle.std.proofs.Math.ListN.{length-append, length-take}
 use Rattle.std.proofs.Math.Utf8.{encode}
 use Rattle.std.proofs.Math.Seq.{take-append_seam, take-append-add}
@@ -158,13 +158,13 @@ stops_before_quote before after at free none most =
         within = (let inside = most.within in let long = length-append before (34 ∷ after) in omega (arith, inside, long));
         whole = subst IsUtf8 (sym front) most.whole;
         begins = subst (Begins IsUidText) (sym front) (begins_uid (take at before) most.begins);
-        longest = λ longer more inside utf8 begun. ⊎_elim
-            (λ beyond. behind_quote longer beyond begun)
-            (λ short.
-            let same : take longer (before ++ 34 ∷ after) ≡ take longer before = take-append-le longer before (34 ∷ after) short in
-            most.longest longer more short (subst IsUtf8 same utf8)
-            (begins_name (take longer before) (front-no_quote longer before free) (subst (Begins IsUidText) same begun)))
-            (below_or_not (length before) longer);
+        longest = λ longer more inside utf8 begun. elim (below_or_not (length before) longer) [
+          | inl beyond ↦ behind_quote longer beyond begun
+          | inr short ↦
+              let same : take longer (before ++ 34 ∷ after) ≡ take longer before = take-append-le longer before (34 ∷ after) short in
+              most.longest longer more short (subst IsUtf8 same utf8)
+              (begins_name (take longer before) (front-no_quote longer before free) (subst (Begins IsUidText) same begun))
+        ];
       };
     }
   where
@@ -243,18 +243,16 @@ no_quote_by_bytes (c ∷ text) others =
 pub fault_without_quote : (text : Text) (fault : NameFault) → HasNoQuote text → IsTypeFault text fault
     → IsNameFault IsUidText IsReservedUidText (λ _. ⊥) text fault
 fault_without_quote text (NotAName at) free is = stops_without_quote text at free is
-fault_without_quote text Reserved free is = absurd is
-fault_without_quote text NoCommonType free is = absurd is
 fault_without_quote text (Memory refused) free is = tt
+fault_without_quote _ _ _ is = absurd is
 
 -- and one in which no name and `::` stand before the first quote
 pub fault_before_quote : (before after : Text) (fault : NameFault) → HasNoQuote before
     → ((name : PlainName) → IsOfIdentifiers name → before ≢ name_text name ++ codes "::") → IsTypeFault before fault
     → IsNameFault IsUidText IsReservedUidText (λ _. ⊥) (before ++ 34 ∷ after) fault
 fault_before_quote before after (NotAName at) free none is = stops_before_quote before after at free none is
-fault_before_quote before after Reserved free none is = absurd is
-fault_before_quote before after NoCommonType free none is = absurd is
 fault_before_quote before after (Memory refused) free none is = tt
+fault_before_quote _ _ _ _ _ is = absurd is
 
 -- a uid's text by its parts
 pub uid_by_parts : (uid : PlainUid) (before after : Text) → before ≡ name_text uid.ty ++ codes "::" → escaped_text uid.eid ++ codes "\"" ≡ after
@@ -264,6 +262,5 @@ uid_by_parts uid before after front rest = uid_text-split uid ∙ (λ i. sym fro
 -- why a text doesn't go on to a uid, from why it is no name
 pub type_fault_by_name : (text : Text) (fault : NameFault) → IsNameFault IsNameText (λ _. ⊥) (λ _. ⊥) text fault → IsTypeFault text fault
 type_fault_by_name text (NotAName at) stop = stop.beginning
-type_fault_by_name text Reserved is = absurd is
-type_fault_by_name text NoCommonType is = absurd is
 type_fault_by_name text (Memory refused) is = tt
+type_fault_by_name _ _ is = absurd is

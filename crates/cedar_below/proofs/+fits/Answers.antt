@@ -20,36 +20,29 @@ use Rattle.cedar_below.proofs.+fits.Goals.{fits::fields_fit-in-Some-get, fits::f
 pub fits::all_fit-returns-then-not-fits : goal.fits::all_fit-returns-then-not-fits
 fits::all_fit-returns-then-not-fits t c =
     let P : Tree → Type 0 = λ value. Fits c.args.extensions.now value (core_ty_of c.args.ty.now) in
-    let Q : List RestrictedExpr → Type 0 = λ values. EachTree P (trees_of values) ↔ EachTree P (trees_of c.args.values.now) in
-    let so_far = subst Q (drop-at c.args.values.now c.loop-value.value-index c.value-item.result c.loop-value-test.true
-    c.value-item.is) c.loop-value.invariant in
+    let so_far = rw (drop-at c.args.values.now c.loop-value.value-index c.value-item.result c.loop-value-test.true
+    c.value-item.is) at c.loop-value.invariant in
     part_fails so_far (λ fits. absurd (let there = c.fits.ensures.1 fits in cc))
 
 -- past one that fits the rest decides
 pub fits::all_fit-loop-value-preserved : goal.fits::all_fit-loop-value-preserved
 fits::all_fit-loop-value-preserved t c =
     let P : Tree → Type 0 = λ value. Fits c.args.extensions.now value (core_ty_of c.args.ty.now) in
-    let Q : List RestrictedExpr → Type 0 = λ values. EachTree P (trees_of values) ↔ EachTree P (trees_of c.args.values.now) in
-    let so_far = subst Q (drop-at c.args.values.now c.loop-value.value-index c.value-item.result c.loop-value-test.true
-    c.value-item.is) c.loop-value.invariant in
+    let so_far = rw (drop-at c.args.values.now c.loop-value.value-index c.value-item.result c.loop-value-test.true
+    c.value-item.is) at c.loop-value.invariant in
     rest_alone so_far (c.fits.ensures.0 c.if-not-fits.false)
 
 -- an attribute whose entry doesn't fit decides that not all do
 pub fits::fields_fit-returns-then-not-fits : goal.fits::fields_fit-returns-then-not-fits
 fits::fields_fit-returns-then-not-fits t c =
     let values = entries_of c.args.values.now in
-    let Q : List (String Global × CoreAttributeType) → Type 0 =
-    λ entries. FieldsFit c.args.extensions.now values (core_fields_from
-    (map (λ entry. (string_bytes entry.0, core_attribute_of entry.1)) entries))
-    ↔ FieldsFit c.args.extensions.now values (core_fields_of c.args.attrs.now) in
-    let so_far = subst Q c.in-Some.ensures.steps c.loop-name.invariant in
+    let so_far = rw c.in-Some.ensures.steps at c.loop-name.invariant in
     let attribute = core_attribute_of c.in-Some.attribute.now in
     let parts = core_attribute_of-parts c.in-Some.attribute.now in
     let P : Tree → Type 0 = λ value. Fits c.args.extensions.now value attribute.1 in
     let R : Bool → Type 0 = λ fits. Decides fits (EntryFits P attribute.0 (entry_at (string_bytes c.in-Some.name.now) values)) in
     let decides : R c.match-get.fits = elim c.match-get.branch [
-      | fits::fields_fit-in-Some-get w ↦ subst R (sym w.fits-is)
-          (EntryFits-Some P attribute.0 _ c.args.values.now c.get.result w.in-Some-get.value _ c.get.ensures.value
+      | fits::fields_fit-in-Some-get w ↦ rw w.fits-is (EntryFits-Some P attribute.0 _ c.args.values.now c.get.result w.in-Some-get.value _ c.get.ensures.value
           w.in-Some-get.is (subst (λ ty. Decides w.fits-fits.result
           (Fits c.args.extensions.now (tree_of w.in-Some-get.value.now) ty))
           (ap (λ (p : Bool × CoreTy). p.1) (sym parts)) w.fits-fits.ensures))
@@ -63,18 +56,13 @@ fits::fields_fit-returns-then-not-fits t c =
 pub fits::fields_fit-loop-name-preserved : goal.fits::fields_fit-loop-name-preserved
 fits::fields_fit-loop-name-preserved t c =
     let values = entries_of c.args.values.now in
-    let Q : List (String Global × CoreAttributeType) → Type 0 =
-    λ entries. FieldsFit c.args.extensions.now values (core_fields_from
-    (map (λ entry. (string_bytes entry.0, core_attribute_of entry.1)) entries))
-    ↔ FieldsFit c.args.extensions.now values (core_fields_of c.args.attrs.now) in
-    let so_far = subst Q c.in-Some.ensures.steps c.loop-name.invariant in
+    let so_far = rw c.in-Some.ensures.steps at c.loop-name.invariant in
     let attribute = core_attribute_of c.in-Some.attribute.now in
     let parts = core_attribute_of-parts c.in-Some.attribute.now in
     let P : Tree → Type 0 = λ value. Fits c.args.extensions.now value attribute.1 in
     let R : Bool → Type 0 = λ fits. Decides fits (EntryFits P attribute.0 (entry_at (string_bytes c.in-Some.name.now) values)) in
     let decides : R c.match-get.fits = elim c.match-get.branch [
-      | fits::fields_fit-in-Some-get w ↦ subst R (sym w.fits-is)
-          (EntryFits-Some P attribute.0 _ c.args.values.now c.get.result w.in-Some-get.value _ c.get.ensures.value
+      | fits::fields_fit-in-Some-get w ↦ rw w.fits-is (EntryFits-Some P attribute.0 _ c.args.values.now c.get.result w.in-Some-get.value _ c.get.ensures.value
           w.in-Some-get.is (subst (λ ty. Decides w.fits-fits.result
           (Fits c.args.extensions.now (tree_of w.in-Some-get.value.now) ty))
           (ap (λ (p : Bool × CoreTy). p.1) (sym parts)) w.fits-fits.ensures))
@@ -89,10 +77,9 @@ pub value::RestrictedExpr::fits-returns-in-Set-EmptySet : goal.value::Restricted
 value::RestrictedExpr::fits-returns-in-Set-EmptySet t c =
     let values = c.in-Set-EmptySet.values in
     let P : Tree → CoreTy → Type 0 = λ value ty. Decides c.is_empty.result (Fits c.args.extensions.now value ty) in
-    let Q : Bool → Type 0 = λ empty. Decides empty (trees_of values.items ≡ no_tree) in
     subst (λ value. P value (core_ty_of c.args.ty.now)) (sym (ap tree_of c.in-Set-EmptySet.is-0 ∙ tree_of-set values))
     (subst (P (set_value (trees_of values.items))) (sym (ap core_ty_of c.in-Set-EmptySet.is-1 ∙ core_ty_of-empty_set))
-    (subst Q (sym (c.is_empty.ensures ∙ ap (λ n. n == 0) values.ok.0)) (no_tree-Decides values.items)))
+    (rw (c.is_empty.ensures ∙ ap (λ n. n == 0) values.ok.0) (no_tree-Decides values.items)))
 
 -- a set fits another exactly if each of its elements fits
 pub value::RestrictedExpr::fits-returns-in-Set-Set : goal.value::RestrictedExpr::fits-returns-in-Set-Set

@@ -1,4 +1,4 @@
-use Rattle.std.proofs.Common.{◌≡◌, Result, refl, subst}
+use Rattle.std.proofs.Common.{◌≡◌, Result, refl}
 use Rattle.std.proofs.lemmas.Fn.{says_at}
 use Rattle.std.proofs.lemmas.Result.{IfOk-at_ok}
 use Rattle.std.specs.Fn.{FnReturnsAt}
@@ -27,7 +27,7 @@ loop-key-preserved-in_ok-insert g c =
     copied_more g.K.Ord.cmp g.met.K.Ord.total (FnReturnsAt g.F.Fn c.args.copy_key) (FnReturnsAt g.G.Fn c.args.copy_value)
     c.args.entries.now.entries c.loop-key.copies.entries c.insert.new.self.entries c.loop-key.key-iterator c.next.new.self
     key c.in_ok-copy_key.field-0 value c.in_ok-copy_value.field-0 c.in-Some.ensures.steps ties
-    (subst Keys c.in_ok-copy_key.was of_key) (subst Values c.in_ok-copy_value.was of_value) c.in_ok-insert.ensures.entries
+    (rw c.in_ok-copy_key.was at of_key) (rw c.in_ok-copy_value.was at of_value) c.in_ok-insert.ensures.entries
     c.loop-key.invariant
 
 -- so it is with one whose key was there
@@ -43,7 +43,7 @@ loop-key-preserved g c =
     copied_more g.K.Ord.cmp g.met.K.Ord.total (FnReturnsAt g.F.Fn c.args.copy_key) (FnReturnsAt g.G.Fn c.args.copy_value)
     c.args.entries.now.entries c.loop-key.copies.entries c.insert.new.self.entries c.loop-key.key-iterator c.next.new.self
     key c.in_ok-copy_key.field-0 value c.in_ok-copy_value.field-0 c.in-Some.ensures.steps ties
-    (subst Keys c.in_ok-copy_key.was of_key) (subst Values c.in_ok-copy_value.was of_value) c.in_ok-insert.ensures.entries
+    (rw c.in_ok-copy_key.was at of_key) (rw c.in_ok-copy_value.was at of_value) c.in_ok-insert.ensures.entries
     c.loop-key.invariant
 
 -- where no entry is left, all are copied

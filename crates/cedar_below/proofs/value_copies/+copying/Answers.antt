@@ -1,4 +1,4 @@
-use Rattle.std.proofs.Common.{◌≡◌, ◌+◌, List, drop, ap, sym, subst, ◌∙◌, string_bytes}
+use Rattle.std.proofs.Common.{◌≡◌, ◌+◌, List, drop, ap, ◌∙◌, string_bytes}
 use Rattle.cedar_below.proofs.TreeLemmas.{drop-at, tree_of-call, tree_of-record, tree_of-uid}
 use Rattle.cedar_below.proofs.ValueLemmas.{IsName-plain_name}
 use Rattle.cedar_below.specs.EntityUID.{uid_of}
@@ -16,21 +16,16 @@ pub copy_each-loop-value-preserved : goal.copy_each-loop-value-preserved
 copy_each-loop-value-preserved t c =
     let all = c.args.values.now in
     let made = c.loop-value.copies.items in
-    let P : List RestrictedExpr → Type 0 = CopiedSoFar all made in
     let rest = drop (c.loop-value.value-index + 1) all in
-    let Q : List RestrictedExpr → Type 0 = λ copies. CopiedSoFar all copies rest in
-    let so_far = subst P (drop-at _ c.loop-value.value-index c.value-item.result c.loop-value-test.true c.value-item.is) c.loop-value.invariant in
-    subst Q (sym c.in_ok-push.ensures.items)
-    (copied_more all made rest c.value-item.result c.in_ok-copy_of.field-0 so_far c.in_ok-copy_of.ensures)
+    let so_far = rw (drop-at _ c.loop-value.value-index c.value-item.result c.loop-value-test.true c.value-item.is) at c.loop-value.invariant in
+    rw c.in_ok-push.ensures.items (copied_more all made rest c.value-item.result c.in_ok-copy_of.field-0 so_far c.in_ok-copy_of.ensures)
 
 -- the copy of the next entry is put in
 pub copy_entries-loop-name-preserved : goal.copy_entries-loop-name-preserved
 copy_entries-loop-name-preserved t c =
     let all = c.args.values.now.entries in
     let made = c.loop-name.copies.entries in
-    let P : Pairs → Type 0 = λ copies. EntriesSoFar all copies c.next.new.self in
-    subst P (sym c.in_ok-put.ensures)
-    (entries_more all made c.loop-name.name-iterator c.next.new.self c.in-Some.name.now c.in_ok-clone.field-0 c.in-Some.value.now c.in_ok-copy.copy
+    rw c.in_ok-put.ensures (entries_more all made c.loop-name.name-iterator c.next.new.self c.in-Some.name.now c.in_ok-clone.field-0 c.in-Some.value.now c.in_ok-copy.copy
     (texts_sorted all c.into_iter-name-iterator.ensures.into_iter_gives.5) c.in-Some.ensures.steps c.in_ok-clone.ensures.cases
     c.in_ok-copy.ensures c.loop-name.invariant)
 
@@ -75,8 +70,7 @@ copy_of-returns-in_ok-function-in-ExtensionCall t c =
     let args = c.in-ExtensionCall.args in
     let named = c.in_ok-function-in-ExtensionCall.function in
     let copies = c.in_ok-args-in-ExtensionCall.args in
-    let P : List RestrictedExpr → Type 0 = λ items. AreCopies (trees_of items) (trees_of copies.items) in
-    let copied = subst P c.deref-in-ExtensionCall.ensures.value c.in_ok-args-in-ExtensionCall.ensures in
+    let copied = rw c.deref-in-ExtensionCall.ensures.value at c.in_ok-args-in-ExtensionCall.ensures in
     let call : call_value (plain_name named) (trees_of copies.items) ≡ call_value (plain_name function) (trees_of args.items) =
     λ i. call_value (c.in_ok-function-in-ExtensionCall.ensures.name i) (copied.0 i) in
     copied_at (call_value (plain_name function) (trees_of args.items)) (call_value (plain_name named) (trees_of copies.items)) _ _
