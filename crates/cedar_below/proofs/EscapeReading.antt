@@ -1,5 +1,5 @@
 -- How an id is read as it stands in quotes, character by character.
-use Rattle.std.proofs.Common.{◌≡◌, ◌≢◌, ◌<◌, ◌≤◌, ◌+◌, ◌-◌, ◌*◌, ℕ, suc, zero, Bool, true, false, List, [], ◌∷◌, ◌++◌, ◌&&◌, ◌||◌, ◌==◌, IsTrue, Option, Some, None, codes, length, take, drop, get_or, refl, sym, ap, ◌∙◌, subst, arith, cond, nat_le, nat_eq, ◌⊎◌, inl, inr, append-nil, not, nat_lt, map, map-id}
+use Rattle.std.proofs.Common.{◌≡◌, ◌≢◌, ◌<◌, ◌≤◌, ◌+◌, ◌-◌, ◌*◌, ℕ, suc, zero, Bool, true, false, List, [], ◌∷◌, ◌++◌, ◌&&◌, ◌||◌, ◌==◌, Option, Some, None, codes, length, take, drop, get_or, refl, sym, ap, ◌∙◌, subst, arith, cond, nat_le, nat_eq, ◌⊎◌, inl, inr, append-nil, not, nat_lt, map, map-id}
 use Rattle.std.proofs.lemmas.Bool.{false≢true, cases_order, eqb-true, leb-true, lt-leb, ltb-true, ne_eqb}
 use Rattle.std.proofs.lemmas.List.{append_assoc, flat_map_more, take_all, take_more, take-append-drop}
 use Rattle.std.proofs.lemmas.Option.{option_and_then_some}

@@ -101,10 +101,6 @@ run-HasRead Colon path part text all (identifier, is) =
     ∙ ap (λ reading. run reading (part ++ 58 ∷ [])) (run-path_text path all)
     ∙ run-append (Some Start) part (58 ∷ []) ∙ ap (λ reading. run reading (58 ∷ [])) (run-identifier part identifier)
 
--- at first nothing is read
-pub HasRead-nothing : HasRead Start [] [] []
-HasRead-nothing = (refl, refl)
-
 -- an identifier with one more byte of identifiers is one
 longer_identifier : (part : Text) (byte : ℕ) → IsIdentifier part → is_identifier_byte byte ≡ true → IsIdentifier (part ++ byte ∷ [])
 longer_identifier [] byte is more = absurd (false≢true is)
@@ -175,12 +171,6 @@ HasRead-colon Inside byte path part text colon (identifier, is) = (
   ap (λ all. all ++ byte ∷ []) is ∙ append_assoc (path_text path) part (byte ∷ []) ∙ ap (λ last. path_text path ++ (part ++ last ∷ [])) colon,
 )
 HasRead-colon _ _ _ _ _ never _ = absurd never
-
--- a part that is followed by `::` is one
-pub HasRead-identifier : (reading : Reading) (byte : ℕ) (path : List Text) (part text : Text) → Leads reading byte Start
-    → HasRead reading path part text → IsIdentifier part
-HasRead-identifier Colon byte path part text colon read = read.0
-HasRead-identifier _ _ _ _ _ never _ = absurd never
 
 -- and is the last of the path
 pub HasRead-part : (reading : Reading) (byte : ℕ) (path : List Text) (part text : Text) → Leads reading byte Start

@@ -1,5 +1,5 @@
 -- A uid is known by its text.
-use Rattle.std.proofs.Common.{◌≡◌, ◌≤◌, ◌==◌, ℕ, Bool, true, false, List, [], ◌∷◌, ◌++◌, Option, Some, None, codes, refl, sym, ap, ◌∙◌, arith, inl, inr}
+use Rattle.std.proofs.Common.{◌≡◌, ◌==◌, ℕ, Bool, true, List, [], ◌∷◌, ◌++◌, Option, Some, None, codes, refl, sym, ap, ◌∙◌, arith, inl, inr}
 use Rattle.std.proofs.lemmas.List.{append_assoc, append_cancel_right}
 use Rattle.std.proofs.Math.Utf8.{encodes}
 use Rattle.std.proofs.lemmas.Str.{encodes_same, encodes-chars, scalars-chars}
@@ -8,7 +8,7 @@ use Rattle.std.specs.Fmt.{digits}
 use Rattle.std.specs.List.{cons_option}
 use Rattle.std.specs.Str.{IsUtf8, chars}
 use Rattle.cedar_below.specs.declared.escape.Escape.{Escape}
-use Rattle.cedar_below.specs.declared.escape.Escape.TheVariants.{Whole, Backslash, Unicode, Open, Code, Closed}
+use Rattle.cedar_below.specs.declared.escape.Escape.TheVariants.{Whole}
 use Rattle.cedar_below.specs.Escapes.{escape_then, last_whole}
 use Rattle.cedar_below.specs.NameText.{IsOfIdentifiers}
 use Rattle.cedar_below.specs.PlainName.{name_text}

@@ -1,18 +1,17 @@
 -- How a uid is read: what stands before its first quote, and its id.
-use Rattle.std.proofs.Common.{◌≡◌, ◌≢◌, ◌<◌, ◌≤◌, ◌+◌, ◌-◌, ℕ, suc, zero, Bool, true, false, List, [], ◌∷◌, ◌++◌, ◌&&◌, ◌==◌, codes, length, take, drop, refl, sym, ap, ◌∙◌, subst, arith, append-nil, not, All, get_or, inl, inr}
-use Rattle.std.proofs.Math.ListN.{length-append, length-take}
+use Rattle.std.proofs.Common.{◌≡◌, ◌≢◌, ◌<◌, ◌+◌, ◌-◌, ℕ, suc, zero, Bool, true, false, [], ◌∷◌, ◌++◌, ◌&&◌, ◌==◌, codes, length, take, refl, sym, ap, ◌∙◌, subst, arith, append-nil, not, get_or, inl, inr}
+use Rattle.std.proofs.Math.ListN.{length-append}
 use Rattle.std.proofs.Math.Utf8.{encode}
-use Rattle.std.proofs.Math.Seq.{take-append_seam, take-append-add}
+use Rattle.std.proofs.Math.Seq.{take-append-add}
 use Rattle.std.proofs.lemmas.Bool.{false≢true, eqb-true, ne_eqb}
-use Rattle.std.proofs.lemmas.List.{append_assoc, flat_map_more, take_all, take-append-le, take-append-drop}
+use Rattle.std.proofs.lemmas.List.{append_assoc, flat_map_more, take_all, take-append-le}
 use Rattle.std.proofs.lemmas.List.Elements.{All-push}
-use Rattle.std.proofs.lemmas.List.Folds.{list_all-append}
 use Rattle.std.proofs.lemmas.Str.{IsUtf8-append, IsUtf8-nil, chars-nil}
 use Rattle.std.specs.List.{flat_map, list_all}
 use Rattle.std.specs.Str.{IsUtf8}
 use Rattle.cedar_below.specs.Identifier.{IsIdentifier}
 use Rattle.cedar_below.specs.declared.name_fault.NameFault.{NameFault}
-use Rattle.cedar_below.specs.declared.name_fault.NameFault.TheVariants.{NotAName, Reserved, NoCommonType, Memory}
+use Rattle.cedar_below.specs.declared.name_fault.NameFault.TheVariants.{NotAName, Memory}
 use Rattle.cedar_below.specs.NameFault.{IsNameFault}
 use Rattle.cedar_below.specs.NameText.{IsNameText, IsOfIdentifiers}
 use Rattle.cedar_below.specs.PlainName.{PlainName, name_text}

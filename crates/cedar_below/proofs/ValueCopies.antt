@@ -145,15 +145,6 @@ pub record EntriesSoFar (all made left : Pairs) : Type 0 where
   pub same : plain_pairs made ≡ plain_pairs done
   pub real : AreReal made
 
--- at first none is copied
-pub entries_first : (all left made : Pairs) → all ≡ left → made ≡ [] → EntriesSoFar all made left
-entries_first all left made is nothing = record {
-  done = [];
-  split = is;
-  same = ap plain_pairs nothing;
-  real = subst AreReal (sym nothing) tt;
-}
-
 -- a key above the names of all others is above their keys
 keys_below : (key : String Global) (name : Text) (pairs : Pairs) → string_bytes key ≡ name
     → AllByRecursion (λ other. text_cmp name other ≡ Greater) (texts pairs)

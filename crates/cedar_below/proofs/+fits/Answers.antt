@@ -1,15 +1,12 @@
-use Rattle.std.proofs.Common.{Bool, not, ◌==◌, ◌∙◌, ◌≡◌, ◌↔◌, List, map, ap, sym, subst, string_bytes}
+use Rattle.std.proofs.Common.{Bool, not, ◌==◌, ◌∙◌, List, ap, sym, subst, string_bytes}
 use Rattle.std.specs.Bool.{Decides}
-use Rattle.std.specs.declared.alloc.Global.{Global}
-use Rattle.std.specs.declared.string.String.{String}
-use Rattle.cedar_below.specs.CoreSchemaType.{core_ty_of, core_attribute_of, core_fields_of}
-use Rattle.cedar_below.specs.CoreTy.{CoreTy, core_fields_from}
-use Rattle.cedar_below.specs.Fits.{Fits, FieldsFit, EntryFits}
+use Rattle.cedar_below.specs.CoreSchemaType.{core_ty_of, core_attribute_of}
+use Rattle.cedar_below.specs.CoreTy.{CoreTy}
+use Rattle.cedar_below.specs.Fits.{Fits, EntryFits}
 use Rattle.cedar_below.specs.RestrictedExpr.{tree_of, trees_of, entries_of}
 use Rattle.cedar_below.specs.Name.{plain_name}
-use Rattle.cedar_below.specs.Tree.{Tree, set_value, map_value, call_value, no_tree, EachTree, entry_at}
+use Rattle.cedar_below.specs.Tree.{Tree, set_value, map_value, call_value, EachTree, entry_at}
 use Rattle.cedar_below.specs.declared.core_schema_type.CoreSchemaType.{CoreSchemaType}
-use Rattle.cedar_below.specs.declared.core_schema_type.CoreAttributeType.{CoreAttributeType}
 use Rattle.cedar_below.specs.declared.value.RestrictedExpr.{RestrictedExpr}
 use Rattle.cedar_below.proofs.Inclusion.{rest_alone, part_fails}
 use Rattle.cedar_below.proofs.TreeLemmas.{EntryFits-Some, EntryFits-None, not-Decides, tree_of-set, tree_of-record, tree_of-call, core_ty_of-set, core_ty_of-empty_set, core_ty_of-extension, core_ty_of-record, core_attribute_of-parts, no_tree-Decides, drop-at}
@@ -19,7 +16,6 @@ use Rattle.cedar_below.proofs.+fits.Goals.{fits::fields_fit-in-Some-get, fits::f
 -- an element that doesn't fit decides that not all do
 pub fits::all_fit-returns-then-not-fits : goal.fits::all_fit-returns-then-not-fits
 fits::all_fit-returns-then-not-fits t c =
-    let P : Tree → Type 0 = λ value. Fits c.args.extensions.now value (core_ty_of c.args.ty.now) in
     let so_far = rw (drop-at c.args.values.now c.loop-value.value-index c.value-item.result c.loop-value-test.true
     c.value-item.is) at c.loop-value.invariant in
     part_fails so_far (λ fits. absurd (let there = c.fits.ensures.1 fits in cc))
@@ -27,7 +23,6 @@ fits::all_fit-returns-then-not-fits t c =
 -- past one that fits the rest decides
 pub fits::all_fit-loop-value-preserved : goal.fits::all_fit-loop-value-preserved
 fits::all_fit-loop-value-preserved t c =
-    let P : Tree → Type 0 = λ value. Fits c.args.extensions.now value (core_ty_of c.args.ty.now) in
     let so_far = rw (drop-at c.args.values.now c.loop-value.value-index c.value-item.result c.loop-value-test.true
     c.value-item.is) at c.loop-value.invariant in
     rest_alone so_far (c.fits.ensures.0 c.if-not-fits.false)

@@ -1,9 +1,7 @@
-use Rattle.std.proofs.Common.{◌++◌, ◌∷◌, [], List, Ok, Result, ap, refl, sym, take, ◌∙◌}
+use Rattle.std.proofs.Common.{◌++◌, ◌∷◌, [], Ok, ap, refl, sym, take, ◌∙◌}
 use Rattle.std.proofs.lemmas.Fn.{says_at}
 use Rattle.std.proofs.lemmas.List.{take_more}
 use Rattle.std.specs.Fn.{FnReturnsAt}
-use Rattle.cedar_below.specs.Lists.{HoldsPairwise}
-use Rattle.cedar_below.specs.declared.memory.Memory.{Memory}
 use Rattle.cedar_below.proofs.TurnLemmas.{turn_more}
 use Rattle.cedar_below.proofs.copying.copied_items.Goals as goal
 

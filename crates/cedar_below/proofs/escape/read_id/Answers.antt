@@ -1,9 +1,9 @@
-use Rattle.std.proofs.Common.{rules, ◌≡◌, ◌≢◌, ◌+◌, ◌∷◌, ◌++◌, ◌<◌, [], List, ℕ, Some, None, arith, chars, map, map-id, length, take, get_or, string_bytes, refl, sym, ap, ◌∙◌, subst}
+use Rattle.std.proofs.Common.{rules, ◌≡◌, ◌+◌, Some, chars, map-id, string_bytes, sym, ap, ◌∙◌, subst}
 use Rattle.std.proofs.lemmas.Iterator.{YieldsList-from_chars}
 use Rattle.std.proofs.lemmas.Iterator.Consumers.{YieldsList-end, YieldsList-so_far, YieldsList-turn}
 use Rattle.std.proofs.lemmas.Str.{IsUtf8-string_bytes}
 use Rattle.std.specs.Char.{len_utf8}
-use Rattle.cedar_below.specs.Escapes.{escape_then, last_whole}
+use Rattle.cedar_below.specs.Escapes.{escape_then}
 use Rattle.cedar_below.specs.declared.escape.Escape.TheVariants.{Closed}
 use Rattle.cedar_below.proofs.EscapeReading.{HasReadId, HasReadId-like, HasReadId-more, HasReadId-whole, characters_by, closed_id, counted_within, stops_at_char, stops_at_id_end}
 use Rattle.cedar_below.proofs.escape.read_id.Goals as goal

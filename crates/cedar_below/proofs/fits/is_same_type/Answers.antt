@@ -1,7 +1,4 @@
-use Rattle.std.proofs.Common.{Bool, ◌≡◌}
-use Rattle.std.specs.Bool.{Decides}
 use Rattle.cedar_below.proofs.Names.{entity_type_eq-same}
-use Rattle.cedar_below.specs.EntityType.{type_name}
 use Rattle.cedar_below.proofs.fits.is_same_type.Goals as goal
 
 pub returns : goal.returns

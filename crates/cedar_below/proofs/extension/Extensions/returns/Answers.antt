@@ -1,8 +1,4 @@
-use Rattle.std.proofs.Common.{◌≡◌, Some}
-use Rattle.cedar_below.specs.CoreSchemaType.{result_type}
-use Rattle.cedar_below.specs.CoreTy.{core_extension}
-use Rattle.cedar_below.specs.Name.{plain_name}
-use Rattle.cedar_below.specs.declared.extension.ExtensionFunction.{ExtensionFunction}
+use Rattle.std.proofs.Common.{◌≡◌}
 use Rattle.cedar_below.proofs.extension.Extensions.returns.Goals as goal
 
 pub returns-in-Ok : goal.returns-in-Ok

@@ -1,7 +1,4 @@
-use Rattle.std.proofs.Common.{Bool, ◌≡◌}
-use Rattle.std.specs.Bool.{Decides}
 use Rattle.cedar_below.proofs.Names.{name_eq-same}
-use Rattle.cedar_below.specs.Name.{plain_name}
 use Rattle.cedar_below.proofs.name.Name.is_same.Goals as goal
 
 pub returns : goal.returns
