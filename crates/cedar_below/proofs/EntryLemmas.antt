@@ -22,8 +22,7 @@ module _ {K : Type 0} (R : K → K → Ordering) (total : IsTotalOrder R) where
   -- what ties with a key is above what ties with what the key is above
   above_tied : (key copy other tied : K) → R key copy ≡ Equal → R other tied ≡ Equal → R key other ≡ Greater → R copy tied ≡ Greater
   above_tied key copy other tied ties also above =
-      sym (total.congr key copy tied ties)
-      ∙ (total.antisymm key tied
+      sym (total.congr key copy tied ties) ∙ (total.antisymm key tied
       ∙ (ap ordering_reverse (sym (total.congr other tied key also)) ∙ (sym (total.antisymm key other) ∙ above)))
 
   -- what ties with a key that is above others is above those that tie with these

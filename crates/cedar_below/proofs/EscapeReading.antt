@@ -41,12 +41,8 @@ run-append (Some escape) (c ∷ chars) more = run-append (escape_then escape c) 
 -- the characters with which a character of an id is printed
 abbrev pub spelled : ℕ → List ℕ
 spelled c =
-    cond (c == 0) (92 ∷ 48 ∷ [])
-    (cond (c == 9) (92 ∷ 116 ∷ [])
-    (cond (c == 10) (92 ∷ 110 ∷ [])
-    (cond (c == 13) (92 ∷ 114 ∷ [])
-    (cond (c == 34) (92 ∷ 34 ∷ [])
-    (cond (c == 92) (92 ∷ 92 ∷ [])
+    cond (c == 0) (92 ∷ 48 ∷ []) (cond (c == 9) (92 ∷ 116 ∷ []) (cond (c == 10) (92 ∷ 110 ∷ [])
+    (cond (c == 13) (92 ∷ 114 ∷ []) (cond (c == 34) (92 ∷ 34 ∷ []) (cond (c == 92) (92 ∷ 92 ∷ [])
     (cond (is_control c) (92 ∷ 117 ∷ 123 ∷ (digits 16 false c ++ 125 ∷ [])) (c ∷ [])))))))
 
 -- a test that each number below one passes
@@ -232,8 +228,7 @@ spelled-plain c plain = elim (below_or_not c 160) [
 -- a character is read from how it is printed
 pub run-spelled : (last : Option ℕ) (c : ℕ) → run (Some (Whole last)) (spelled c) ≡ Some (Whole (Some c))
 run-spelled last c = elim (below_or_not c 160) [
-  | inl small ↦
-      whole-read c (run (Some (Whole last)) (spelled c)) (every-at 160 (reads_back last) (table_read last) c small)
+  | inl small ↦ whole-read c (run (Some (Whole last)) (spelled c)) (every-at 160 (reads_back last) (table_read last) c small)
   | inr large ↦
       ap (run (Some (Whole last))) (spelled-wide c large)
       ∙ ap (λ escape. run escape []) (cond_false (c == 92) _ _ (other c 92 large (omega arith))
@@ -246,8 +241,7 @@ run-all_spelled last [] = refl
 run-all_spelled last (c ∷ es) =
     ap (run (Some (Whole last))) (append_assoc (spelled c) (all_spelled es) (34 ∷ []))
     ∙ run-append (Some (Whole last)) (spelled c) (all_spelled es ++ 34 ∷ [])
-    ∙ ap (λ escape. run escape (all_spelled es ++ 34 ∷ [])) (run-spelled last c)
-    ∙ run-all_spelled (Some c) es
+    ∙ ap (λ escape. run escape (all_spelled es ++ 34 ∷ [])) (run-spelled last c) ∙ run-all_spelled (Some c) es
 
 -- a test that chooses gives what it chose
 chosen : {A : Type 0} (test : Bool) (first other : Option A) (a : A) → cond test first other ≡ Some a
@@ -578,8 +572,7 @@ characters text ys c utf8 front below here =
       drop (n + 1) all,
       sym (take-append-drop (n + 1) all)
           ∙ ap (λ first. first ++ drop (n + 1) all) (take_more all n c below ∙ ap (λ last. take n all ++ last ∷ []) (sym here)
-          ∙ ap (λ first. first ++ c ∷ []) (sym front))
-          ∙ append_assoc ys (c ∷ []) (drop (n + 1) all),
+          ∙ ap (λ first. first ++ c ∷ []) (sym front)) ∙ append_assoc ys (c ∷ []) (drop (n + 1) all),
     )
 
 -- the characters that came so far, and the next

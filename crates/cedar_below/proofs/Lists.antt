@@ -39,9 +39,7 @@ pub list_any-Contains : {X B : Type 0} (f : X → B) (x : B) (test : X → Bool)
 list_any-Contains f x test same [] = (λ e. absurd cc, λ there. absurd (omega (arith, there.1)))
 list_any-Contains f x test same (y ∷ ys) =
     Decides-like
-    _
-    (Contains-cons (f y) (map f ys) x)
-    (Contains-cons_cases (f y) (map f ys) x)
+    _ (Contains-cons (f y) (map f ys) x) (Contains-cons_cases (f y) (map f ys) x)
     (Decides-or _ _ (same y) (list_any-Contains f x test same ys))
 
 -- what holds of all that the elements give holds of each of those

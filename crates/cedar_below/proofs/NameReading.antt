@@ -76,8 +76,7 @@ run-path_text (part ∷ path) all =
 pub run-name_text : (name : PlainName) → IsOfIdentifiers name → run (Some Start) (name_text name) ≡ Some Inside
 run-name_text name (base, path) =
     run-append (Some Start) (path_text name.path) name.base
-    ∙ ap (λ reading. run reading name.base) (run-path_text name.path path)
-    ∙ run-identifier name.base base
+    ∙ ap (λ reading. run reading name.base) (run-path_text name.path path) ∙ run-identifier name.base base
 
 -- what is read of a name: the parts that are finished, and the one that has begun
 abbrev pub HasRead : Reading → List Text → Text → Text → Type 0
@@ -108,8 +107,7 @@ longer_identifier (first ∷ part) byte is more =
     let halves = both_true (is_identifier_start first) (list_all is_identifier_byte (first ∷ part)) is in
     let all : list_all is_identifier_byte (first ∷ part ++ byte ∷ []) ≡ true =
     list_all-append is_identifier_byte (first ∷ part) (byte ∷ [])
-    ∙ ap (λ test. test && (is_identifier_byte byte && true)) halves.1
-    ∙ ap (λ test. test && true) more in
+    ∙ ap (λ test. test && (is_identifier_byte byte && true)) halves.1 ∙ ap (λ test. test && true) more in
     ap (λ test. test && list_all is_identifier_byte (first ∷ part ++ byte ∷ [])) halves.0 ∙ all
 
 -- which byte leads from what is read to what is read then
@@ -197,8 +195,7 @@ HasRead-begins Colon path part text all (identifier, is) =
     ap (λ front. front ++ 97 ∷ []) (sym (flat_map_more (λ part. part ++ codes "::") [] path part))
     ∙ append_assoc (path_text path) (part ++ codes "::") (97 ∷ [])
     ∙ ap (λ rest. path_text path ++ rest) (append_assoc part (codes "::") (97 ∷ []) ∙ sym (append_assoc part (58 ∷ []) (58 ∷ 97 ∷ [])))
-    ∙ sym (append_assoc (path_text path) (part ++ 58 ∷ []) (58 ∷ 97 ∷ []))
-    ∙ ap (λ front. front ++ 58 ∷ 97 ∷ []) (sym is) in
+    ∙ sym (append_assoc (path_text path) (part ++ 58 ∷ []) (58 ∷ 97 ∷ [])) ∙ ap (λ front. front ++ 58 ∷ 97 ∷ []) (sym is) in
     (58 ∷ 97 ∷ [], (name, (refl, All-push IsIdentifier path part all identifier), prints))
 
 -- the same is read under other names

@@ -128,8 +128,7 @@ take_behind : (before after : Text) (k : ℕ) → take (length before + 1 + k) (
 take_behind before after k =
     let front : Text = before ++ 34 ∷ [] in
     let long : length before + 1 + k ≡ length front + k = (let sum = length-append before (34 ∷ []) in omega (arith, sum)) in
-    ap (λ n. take n (before ++ 34 ∷ after)) long
-    ∙ ap (take (length front + k)) (sym (append_assoc before (34 ∷ []) after))
+    ap (λ n. take n (before ++ 34 ∷ after)) long ∙ ap (take (length front + k)) (sym (append_assoc before (34 ∷ []) after))
     ∙ take-append-add front after k ∙ append_assoc before (34 ∷ []) (take k after)
 
 -- a text without quotes stops being a uid's where it stops beginning a name

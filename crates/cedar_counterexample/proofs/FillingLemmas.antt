@@ -155,18 +155,17 @@ pub filled_has : (extensions : Extensions) (fields : Fields) (openness : OpenTag
     → NamesListed (is_open openness) (entry_names start) (field_names fields) → Has extensions (map_value whole) (record_of fields openness)
 filled_has extensions fields openness start whole sorted_by_name filled fits listed = (
   filled_listed extensions fields openness start whole filled listed,
-  HasFields-from (Gives extensions) whole fields
-      (λ n r t has. elim (nothing_or (entry_at n whole)) [
-        | inl none ↦
-            subst (EntryFits (λ v. Has extensions v t) r) (sym none) (missing_optional extensions fields start whole filled n r t has none)
-        | inr there ↦
-            fits_some (λ v. Has extensions v t) r (entry_at n whole) there.0 there.1
-            (elim (filled.listed n there.0 there.1) [
-              | inl begun ↦ fits n there.0 r t begun has
-              | inr own ↦
-                  subst (Has extensions there.0) (HasField-once fields n true r own.0 t sorted_by_name own.1 has).1 own.2
-            ])
-      ]),
+  HasFields-from (Gives extensions) whole fields (λ n r t has. elim (nothing_or (entry_at n whole)) [
+    | inl none ↦
+        subst (EntryFits (λ v. Has extensions v t) r) (sym none) (missing_optional extensions fields start whole filled n r t has none)
+    | inr there ↦
+        fits_some (λ v. Has extensions v t) r (entry_at n whole) there.0 there.1
+        (elim (filled.listed n there.0 there.1) [
+          | inl begun ↦ fits n there.0 r t begun has
+          | inr own ↦
+              subst (Has extensions there.0) (HasField-once fields n true r own.0 t sorted_by_name own.1 has).1 own.2
+        ])
+  ]),
 )
 
 -- what is filled up from nothing is a value of the record

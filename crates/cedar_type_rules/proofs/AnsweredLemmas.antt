@@ -154,8 +154,7 @@ pub unions_answered : (a b : List PlainName) → IsWellFormed (union_of a) → I
     → IsAnswered Permissive (union_of a) (union_of b)
 unions_answered a b first second =
     let both = merge name_cmp name_cmp-total name_cmp-Equal a b second.1 in
-    given Permissive (union_of a) (union_of b) (union_of both.all)
-    (((both.first, (both.second, tt)), tt), below both) (
+    given Permissive (union_of a) (union_of b) (union_of both.all) (((both.first, (both.second, tt)), tt), below both) (
       includes_some a both.all first.0 both.first,
       both.sorted_by_name,
       (λ name among. elim (both.only name among) [ inl left ↦ first.2 name left | inr right ↦ second.2 name right ]),

@@ -44,9 +44,7 @@ Included-same {B = B} R total (x ∷ xs) (y ∷ ys) first second forth back =
       | inr there ↦
           elim (Contains-cons_cases x xs y (back y (Contains-cons y ys y (inl refl)))) [
             | inl e ↦ e
-            | inr also ↦
-                absurd
-                (apart R total x y (above_first y also) (above_second x there))
+            | inr also ↦ absurd (apart R total x y (above_first y also) (above_second x there))
           ]
     ] in
     let rest : xs ≡ ys =
@@ -54,8 +52,7 @@ Included-same {B = B} R total (x ∷ xs) (y ∷ ys) first second forth back =
     (λ z among. elim (Contains-cons_cases y ys z (forth z (Contains-cons x xs z (inr among)))) [
       | inl e ↦ absurd (not_itself R total x z (same ∙ e) (above_first z among))
       | inr there ↦ there
-    ])
-    (λ z among. elim (Contains-cons_cases x xs z (back z (Contains-cons y ys z (inr among)))) [
+    ]) (λ z among. elim (Contains-cons_cases x xs z (back z (Contains-cons y ys z (inr among)))) [
       | inl e ↦ absurd (not_itself R total y z (sym same ∙ e) (above_second z among))
       | inr there ↦ there
     ]) in
@@ -82,15 +79,11 @@ Fields-same (field n r t front) (field k s u bs) first second forth back =
           ]
     ] in
     let rest : front ≡ bs =
-    Fields-same front bs first.1 second.1
-    (λ m q v has. elim (forth m q v (inr has)) [
+    Fields-same front bs first.1 second.1 (λ m q v has. elim (forth m q v (inr has)) [
       | inl e ↦ absurd (not_itself text_cmp text_cmp-total n m (heads.0 ∙ e.0) (above_first m q v has))
       | inr there ↦ there
-    ])
-    (λ m q v has. elim (back m q v (inr has)) [
-      | inl e ↦
-          absurd (not_itself text_cmp text_cmp-total k m (sym heads.0 ∙ e.0)
-          (above_second m q v has))
+    ]) (λ m q v has. elim (back m q v (inr has)) [
+      | inl e ↦ absurd (not_itself text_cmp text_cmp-total k m (sym heads.0 ∙ e.0) (above_second m q v has))
       | inr there ↦ there
     ]) in
     λ i. field (heads.0 i) (heads.1 i) (heads.2 i) (rest i)

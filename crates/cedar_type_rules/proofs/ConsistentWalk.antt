@@ -80,8 +80,7 @@ module _ (IsOpen IsCoreOpen : Type 0) where
 
   -- an attribute of the other record whose name the one lacks may be missing there
   pub consistent-other : (fields : Fields) (name : Text) (required : Bool) (of : CoreTy) (rest : CoreFields)
-      → ¬ Contains (field_names fields) name
-      → (((required ≡ false) ⊎ IsOpen) × AreConsistent fields rest IsOpen IsCoreOpen)
+      → ¬ Contains (field_names fields) name → (((required ≡ false) ⊎ IsOpen) × AreConsistent fields rest IsOpen IsCoreOpen)
       ↔ AreConsistent fields (core_field name required of rest) IsOpen IsCoreOpen
   consistent-other fields name required of rest fresh = (
     λ parts. (

@@ -68,8 +68,7 @@ mutual
   lacking_fields : (fields : Fields) → StandsInFields LacksCore fields → core_fields fields ≡ None
   lacking_fields end stands = elim stands [ ]
   lacking_fields (field name required ty rest) stands =
-      ap (option_map (λ both. core_field name required both.0 both.1))
-      (elim stands [
+      ap (option_map (λ both. core_field name required both.0 both.1)) (elim stands [
         | inl here ↦ zip-first (core_of ty) (core_fields rest) (lacking ty here)
         | inr there ↦ zip-second (core_of ty) (core_fields rest) (lacking_fields rest there)
       ])

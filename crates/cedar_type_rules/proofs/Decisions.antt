@@ -117,15 +117,14 @@ insert_one {B = B} R total ties x (y ∷ ys) sorted_by_name = from_order (R x y)
         record {
           all = y ∷ rest.all;
           sorted_by_name = (
-            each_of (λ z. R y z ≡ Less) rest.all
-                (λ z among. elim (rest.only z among) [
-                  | inl new ↦
-                      elim (Contains-cons_cases x [] z new) [
-                        | inl same ↦ subst (λ w. R y w ≡ Less) same below
-                        | inr none ↦ absurd (omega (arith, none.1))
-                      ]
-                  | inr old ↦ of_each (λ z. R y z ≡ Less) ys sorted_by_name.0 z old
-                ]),
+            each_of (λ z. R y z ≡ Less) rest.all (λ z among. elim (rest.only z among) [
+              | inl new ↦
+                  elim (Contains-cons_cases x [] z new) [
+                    | inl same ↦ subst (λ w. R y w ≡ Less) same below
+                    | inr none ↦ absurd (omega (arith, none.1))
+                  ]
+              | inr old ↦ of_each (λ z. R y z ≡ Less) ys sorted_by_name.0 z old
+            ]),
             rest.sorted_by_name,
           );
           first = λ z among. Contains-cons y rest.all z (inr (rest.first z among));
@@ -133,8 +132,7 @@ insert_one {B = B} R total ties x (y ∷ ys) sorted_by_name = from_order (R x y)
               (λ z among. Contains-cons y rest.all z (inr (rest.second z among)));
           only = λ z among. elim (Contains-cons_cases y rest.all z among) [
             | inl same ↦ inr (Contains-cons y ys z (inl same))
-            | inr there ↦
-                elim (rest.only z there) [ inl new ↦ inl new | inr old ↦ inr (Contains-cons y ys z (inr old)) ]
+            | inr there ↦ elim (rest.only z there) [ inl new ↦ inl new | inr old ↦ inr (Contains-cons y ys z (inr old)) ]
           ];
         }
 
@@ -157,8 +155,7 @@ merge R total ties (x ∷ xs) ys sorted_by_name =
               | inl same ↦ inl (Contains-cons x xs z (inl same))
               | inr none ↦ absurd (omega (arith, none.1))
             ]
-        | inr old ↦
-            elim (rest.only z old) [ inl there ↦ inl (Contains-cons x xs z (inr there)) | inr there ↦ inr there ]
+        | inr old ↦ elim (rest.only z old) [ inl there ↦ inl (Contains-cons x xs z (inr there)) | inr there ↦ inr there ]
       ];
     }
 

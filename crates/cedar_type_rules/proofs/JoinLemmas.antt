@@ -46,8 +46,7 @@ join_below_clean mode a b (Err given) right = (tt, λ bound clean. absurd (right
 pub join_least_clean : JoinsOfCleanAreLeastClean
 join_least_clean mode a b (Ok join) first second right =
     ((right.0.0, own_is_clean mode a b join first second right.0), λ bound clean. right.1 bound (clean_is_own mode a b bound clean))
-join_least_clean mode a b (Err given) first second right =
-    λ bound clean. right.0 (bound, clean_is_own mode a b bound clean)
+join_least_clean mode a b (Err given) first second right = λ bound clean. right.0 (bound, clean_is_own mode a b bound clean)
 
 -- an own bound of two types is one of the same types swapped
 own_swapped : (mode : ValidationMode) (a b bound : Ty) → IsOwnBound mode a b bound → IsOwnBound mode b a bound

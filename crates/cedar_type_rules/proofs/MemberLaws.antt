@@ -100,7 +100,6 @@ mutual
       let own = k.0 in (
         EntryFits-weaker (λ value. HasBy calls value own.1) (λ value. HasBy calls value ty) own.0 required
             (entry_at name values) (λ value has. HasBy-above calls value mode own.1 ty has own.4)
-            (FlagsBelow-missing mode own.0 required own.3)
-            (HasFieldsBy-of calls values a name own.0 own.1 h own.2),
+            (FlagsBelow-missing mode own.0 required own.3) (HasFieldsBy-of calls values a name own.0 own.1 h own.2),
         HasFieldsBy-above calls values mode a rest h k.1,
       )

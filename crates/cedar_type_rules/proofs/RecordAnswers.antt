@@ -74,8 +74,7 @@ pub joined_sorted_by_name : (mode : ValidationMode) (flags : Bool → Bool → B
     → IsSortedByName (field name flag of fj)
 unfolding IsStrictlySortedBy
 joined_sorted_by_name mode flags name required flag ty of rest fb fj sorted_by_name own each = (
-  all_names (λ n. text_cmp name n ≡ Less) fj
-      (λ n r t has. (let it = each n r t has in
+  all_names (λ n. text_cmp name n ≡ Less) fj (λ n r t has. (let it = each n r t has in
       of_each (λ n. text_cmp name n ≡ Less) (field_names rest) sorted_by_name.0 n (HasField-name rest n it.first_flag it.first it.in_first))),
   own,
 )
@@ -144,8 +143,7 @@ keep_one name required flag ty of join rest fb sorted_by_name before has least f
     | inl same ↦
         subst (λ m. IsJoined Permissive BothRequire (field name required ty rest) fb m r t) same.0
         (subst (λ q. IsJoined Permissive BothRequire (field name required ty rest) fb name q t) same.1
-        (subst (IsJoined Permissive BothRequire (field name required ty rest) fb name (required && flag)) same.2
-        (record {
+        (subst (IsJoined Permissive BothRequire (field name required ty rest) fb name (required && flag)) same.2 (record {
           first_flag = required;
           second_flag = flag;
           first = ty;
@@ -207,16 +205,14 @@ permissive_own fa fb ta tb openness it h k names also = (
     (
       h,
       names,
-      FieldsBelow-from Permissive fa it.fields
-          (λ n r t has. (let part = it.sound n r t has in
+      FieldsBelow-from Permissive fa it.fields (λ n r t has. (let part = it.sound n r t has in
           (part.first_flag, part.first, part.in_first, (λ needed. (part.flag.0 needed).0), part.least.0.0.0))),
     ),
     (
       (
         k,
         also,
-        FieldsBelow-from Permissive fb it.fields
-            (λ n r t has. (let part = it.sound n r t has in
+        FieldsBelow-from Permissive fb it.fields (λ n r t has. (let part = it.sound n r t has in
             (part.second_flag, part.second, part.in_second, (λ needed. (part.flag.0 needed).1), part.least.0.0.1.0))),
       ),
       tt,
@@ -231,8 +227,7 @@ permissive_own fa fb ta tb openness it h k names also = (
 permissive_fields : (fa fb fc : Fields) (ta tb tc : OpenTag) (it : PermissiveJoin fa fb) → IsSortedByName fa
     → IsSortedByName fb → IsOwnBound Permissive (record_of fa ta) (record_of fb tb) (record_of fc tc) → FieldsBelow Permissive it.fields fc
 permissive_fields fa fb fc ta tb tc it first second own =
-    FieldsBelow-from Permissive it.fields fc
-    (λ n r t has.
+    FieldsBelow-from Permissive it.fields fc (λ n r t has.
     (let one = HasBelow-of Permissive fa fc n r t own.0.0.2 has in
     let other = HasBelow-of Permissive fb fc n r t own.0.1.0.2 has in
     let bound : IsOwnBound Permissive one.1 other.1 t = (

@@ -14,8 +14,7 @@ use Rattle.cedar_type_rules.specs.Clean.{IsClean}
 use Rattle.cedar_type_rules.specs.Help.{IsHelp}
 use Rattle.cedar_type_rules.specs.JoinAnswer.{JoinAnswer, IsLeastAnswer, IsReduceAnswer}
 use Rattle.cedar_type_rules.specs.OwnBound.{HaveOwnBound}
-use Rattle.cedar_type_rules.specs.ReduceLaws.{EmptyIsReducedToNever, CleanAreReducedToLeastClean, CleanAreReducedInAnyOrder}
-use Rattle.cedar_type_rules.specs.ReduceLaws.{ReductionsAreUnique, ReductionsAreWellFormed, RefusalsAreOfTheFirst}
+use Rattle.cedar_type_rules.specs.ReduceLaws.{EmptyIsReducedToNever, CleanAreReducedToLeastClean, CleanAreReducedInAnyOrder, ReductionsAreUnique, ReductionsAreWellFormed, RefusalsAreOfTheFirst}
 use Rattle.cedar_type_rules.specs.Ty.{Ty, never}
 use Rattle.cedar_type_rules.specs.WellFormed.{IsWellFormed}
 use Rattle.cedar_type_rules.specs.declared.join_error.LubHelp.{LubHelp}
@@ -36,8 +35,7 @@ reduce_from mode start [] answer clean all is =
     (((Below-itself mode start, tt), clean), λ bound own. own.0.0)
 reduce_from mode start (ty ∷ rest) answer clean all (inl (join, right, formed, more)) =
     let join_clean = own_is_clean mode start ty join clean all.0 right.0 in
-    IsLeastAnswer-same mode (IsCleanBound mode (join ∷ rest)) (IsCleanBound mode (start ∷ ty ∷ rest)) answer
-    (λ bound own. (
+    IsLeastAnswer-same mode (IsCleanBound mode (join ∷ rest)) (IsCleanBound mode (start ∷ ty ∷ rest)) answer (λ bound own. (
       (
         Below-trans mode start join bound right.0.0.0 own.0.0,
         (Below-trans mode ty join bound right.0.0.1.0 own.0.0, own.0.1),
@@ -132,7 +130,6 @@ same_answer mode tys others join (Err given) forth back first second formed also
 -- what clean types are reduced to doesn't depend on their order
 pub reduce_any_order : CleanAreReducedInAnyOrder
 reduce_any_order mode tys others join answer all forth back reduced also =
-    same_answer mode tys others join answer forth back
-    (reduce_least_clean mode tys (Ok join) all reduced)
+    same_answer mode tys others join answer forth back (reduce_least_clean mode tys (Ok join) all reduced)
     (reduce_least_clean mode others answer (AllByRecursion-included IsClean tys others back all) also)
     (reduced_formed mode tys (Ok join) reduced) (reduced_formed mode others answer also)

@@ -221,8 +221,7 @@ mutual
         it.valid,
         (
           only_listed openness it.values fields it.listed,
-          HasFields-from (Gives extensions) it.values fields
-              (λ n r t has. (let found =
+          HasFields-from (Gives extensions) it.values fields (λ n r t has. (let found =
               it.has n r t has (λ same. fresh.1 (subst (Contains (field_names fields)) same (HasField-name fields n r t has))) in
               fits_some (λ value. Has extensions value t) r (entry_at n it.values) found.0 found.1 found.2)),
         ),

@@ -104,8 +104,7 @@ tag_below openness ClosedAttributes closed = closed refl
 tags_below : (fa fb fj : Fields) (ta tb tj upper : OpenTag) → IsLeastOwnBound Strict (record_of fa ta) (record_of fb tb)
     (record_of fj tj) → OpennessBelow ta upper → OpennessBelow tb upper → OpennessBelow tj upper
 tags_below fa fb fj ta tb tj upper least h k =
-    tag_below tj upper
-    (λ e. (least.1 (record_of fj ClosedAttributes) (
+    tag_below tj upper (λ e. (least.1 (record_of fj ClosedAttributes) (
       (
         (subst (OpennessBelow ta) e h, least.0.0.0.1, least.0.0.0.2),
         ((subst (OpennessBelow tb) e k, least.0.0.1.0.1, least.0.0.1.0.2), tt),

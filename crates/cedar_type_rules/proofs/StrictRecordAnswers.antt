@@ -65,8 +65,7 @@ keep_strict name required ty of join rest fb sorted_by_name before has least for
     | inl same ↦
         subst (λ m. IsJoined Strict SameFlags (field name required ty rest) fb m r t) same.0
         (subst (λ q. IsJoined Strict SameFlags (field name required ty rest) fb name q t) same.1
-        (subst (IsJoined Strict SameFlags (field name required ty rest) fb name required) same.2
-        (record {
+        (subst (IsJoined Strict SameFlags (field name required ty rest) fb name required) same.2 (record {
           first_flag = required;
           second_flag = required;
           first = ty;
@@ -170,8 +169,7 @@ strict_least fa fb ta tb it first second names = (
         (
           second_below ta tb,
           (λ n among. kept n (names n among)),
-          FieldsBelow-from Strict fb it.fields
-              (λ n r t has. (let part = it.sound n r t has in
+          FieldsBelow-from Strict fb it.fields (λ n r t has. (let part = it.sound n r t has in
               (part.second_flag, part.second, part.in_second, part.flag.1, part.least.0.0.1.0))),
         ),
         tt,
@@ -194,8 +192,7 @@ strict_least fa fb ta tb it first second names = (
       (λ n among. (let found = HasField-named it.fields n among in
           let part = it.sound n found.0 found.1 found.2 in
           own.0.0.1 n (HasField-name fa n part.first_flag part.first part.in_first))),
-      FieldsBelow-from Strict it.fields fc
-          (λ n r t has.
+      FieldsBelow-from Strict it.fields fc (λ n r t has.
           (let one = HasBelow-of Strict fa fc n r t own.0.0.2 has in
           let other = HasBelow-of Strict fb fc n r t own.0.1.0.2 has in
           let found = HasField-named it.fields n (it.complete n one.0 one.1 one.2) in
@@ -257,11 +254,9 @@ strict_records_answered fa fb ta tb first second texts answers =
                 )
             | inr found ↦
                 refused Strict (record_of fa ta) (record_of fb tb) found.0
-                (help_refuses fa fa fb ta tb found.0 first second (λ n r t has. has) found.1)
-                (inr (like, found.1))
+                (help_refuses fa fa fb ta tb found.0 first second (λ n r t has. has) found.1) (inr (like, found.1))
           ]
       | inr unlike ↦
           refused Strict (record_of fa ta) (record_of fb tb) help.RecordWidth
-          (λ own. unlike (λ i. length (same_names fa fb ta tb first second own i)))
-          (inl (unlike, refl))
+          (λ own. unlike (λ i. length (same_names fa fb ta tb first second own i))) (inl (unlike, refl))
     ]

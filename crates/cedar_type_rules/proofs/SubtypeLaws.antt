@@ -60,8 +60,7 @@ mutual
   Below-itself mode (record_of fields openness) = (
     OpennessBelow-itself openness,
     NamesBelow-itself mode openness fields,
-    FieldsBelow-within mode fields fields
-        (λ name required ty has. has),
+    FieldsBelow-within mode fields fields (λ name required ty has. has),
   )
   Below-itself mode (extension_of name) = refl
 

@@ -51,10 +51,6 @@ other_value extensions ty = (truth_value true, tt, λ has. elim has [ ])
 elements_included : (extensions : Extensions) (a b : Ty) → ValuesIncluded extensions (set_of a) (set_of b) → ValuesIncluded extensions a b
 elements_included extensions a b within value real has = (within (set_value (tree value no_tree)) (real, tt) (has, tt)).0
 
--- a name of a record isn't one that the record doesn't have
-name_differs : (fields : Fields) (n m : Text) (r : Bool) (t : Ty) → ¬ Contains (field_names fields) m → HasField fields n r t → n ≢ m
-name_differs fields n m r t absent has same = absent (subst (Contains (field_names fields)) same (HasField-name fields n r t has))
-
 -- what is known of two records, of which the first has no more values
 record Inclusion (extensions : Extensions) (fa fb : Fields) (ta tb : OpenTag) : Type 0 where
   first : IsSortedByName fa
@@ -76,16 +72,15 @@ with_value : (extensions : Extensions) (fa : Fields) (ta : OpenTag) (n : Text) (
     → Has extensions (map_value (entry n value it.values)) (record_of fa ta)
 with_value extensions fa ta n value it sorted_by_name fits listed = (
   listed,
-  HasFields-from (Gives extensions) (entry n value it.values) fa
-      (λ m r t has. elim (decide_texts m n) [
-        | inl same ↦
-            fits_some (λ v. Has extensions v t) r (entry_at m (entry n value it.values)) value (entry_here m n value it.values same)
-            (fits r t (subst (λ k. HasField fa k r t) same has))
-        | inr differ ↦
-            let found = it.has m r t has differ in
-            fits_some (λ v. Has extensions v t) r (entry_at m (entry n value it.values)) found.0
-            (entry_there m n value it.values differ ∙ found.1) found.2
-      ]),
+  HasFields-from (Gives extensions) (entry n value it.values) fa (λ m r t has. elim (decide_texts m n) [
+    | inl same ↦
+        fits_some (λ v. Has extensions v t) r (entry_at m (entry n value it.values)) value (entry_here m n value it.values same)
+        (fits r t (subst (λ k. HasField fa k r t) same has))
+    | inr differ ↦
+        let found = it.has m r t has differ in
+        fits_some (λ v. Has extensions v t) r (entry_at m (entry n value it.values)) found.0
+        (entry_there m n value it.values differ ∙ found.1) found.2
+  ]),
 )
 
 -- the names of a sample with a further value are listed if that one is
@@ -113,16 +108,15 @@ lacking_value : (extensions : Extensions) (fa : Fields) (ta : OpenTag) (n : Text
     → ((r : Bool) (t : Ty) → HasField fa n r t → r ≡ false) → Has extensions (map_value it.values) (record_of fa ta)
 lacking_value extensions fa ta n it optional = (
   only_listed ta it.values fa it.listed,
-  HasFields-from (Gives extensions) it.values fa
-      (λ m r t has. elim (decide_texts m n) [
-        | inl same ↦
-            subst (EntryFits (λ v. Has extensions v t) r)
-            (sym (subst (λ k. entry_at k it.values ≡ None) (sym same) (absent_entry n it.values it.absent)))
-            (optional r t (subst (λ k. HasField fa k r t) same has))
-        | inr differ ↦
-            let found = it.has m r t has differ in fits_some (λ v. Has extensions v t) r
-            (entry_at m it.values) found.0 found.1 found.2
-      ]),
+  HasFields-from (Gives extensions) it.values fa (λ m r t has. elim (decide_texts m n) [
+    | inl same ↦
+        subst (EntryFits (λ v. Has extensions v t) r)
+        (sym (subst (λ k. entry_at k it.values ≡ None) (sym same) (absent_entry n it.values it.absent)))
+        (optional r t (subst (λ k. HasField fa k r t) same has))
+    | inr differ ↦
+        let found = it.has m r t has differ in fits_some (λ v. Has extensions v t) r
+        (entry_at m it.values) found.0 found.1 found.2
+  ]),
 )
 
 -- an inhabited record has a value
@@ -232,8 +226,7 @@ never_there extensions fa fb OpenAttributes tb n rb b known also absent =
     let whole = with_value extensions fa OpenAttributes n other.0 it known.first
     (λ r t there. absurd (absent (HasField-name fa n r t there))) tt in
     absurd (other.2 (some_fits (λ v. Has extensions v b) rb (entry_at n (entry n other.0 it.values)) other.0
-    (entry_here n n other.0 it.values refl)
-    (HasFieldsBy-of (Gives extensions) (entry n other.0 it.values) fb n rb b
+    (entry_here n n other.0 it.values refl) (HasFieldsBy-of (Gives extensions) (entry n other.0 it.values) fb n rb b
     (known.within (map_value (entry n other.0 it.values))
     (sample_is_value extensions fa n other.0 it (known.others n rb b also) other.1) whole).1 also)))
 
@@ -413,8 +406,7 @@ mutual
       | inl own ↦
           EntryFits-weaker (λ value. HasBy calls value own.1) (λ value. HasBy calls value ty) own.0 required
           (entry_at name values) (λ value has. HasBy-included calls value own.1 ty has own.4)
-          (FlagsBelow-missing Permissive own.0 required own.3)
-          (HasFieldsBy-of calls values a name own.0 own.1 h own.2)
+          (FlagsBelow-missing Permissive own.0 required own.3) (HasFieldsBy-of calls values a name own.0 own.1 h own.2)
       | inr missing ↦ fits_missing (λ value. HasBy calls value ty) openness a name required values listed missing
     ],
     HasFieldsBy-included calls values openness a rest listed h k.1,

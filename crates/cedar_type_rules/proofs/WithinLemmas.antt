@@ -116,8 +116,7 @@ has_replaced name ty (field other flag of rest) r own (inr there) = inr (has_rep
 replaced_above : (fa fj : Fields) (name : Text) (ra : Bool) (a ty : Ty) → IsSortedByName fa → HasField fa name ra a
     → Below Strict a ty → FieldsBelow Strict fa fj → FieldsBelow Strict fa (replaced name ty fj)
 replaced_above fa fj name ra a ty sorted_by_name has below h =
-    FieldsBelow-from Strict fa (replaced name ty fj)
-    (λ n r t there. elim (replaced_has name ty fj n r t there) [
+    FieldsBelow-from Strict fa (replaced name ty fj) (λ n r t there. elim (replaced_has name ty fj n r t there) [
       | inl new ↦
           let own = HasBelow-of Strict fa fj n r new.2.0 h new.2.1 in
           let same : own.1 ≡ a = (HasField-once fa n own.0 ra own.1 a sorted_by_name own.2 (subst (λ m. HasField fa m ra a) new.0 has)).1 in

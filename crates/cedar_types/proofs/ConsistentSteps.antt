@@ -141,8 +141,7 @@ module _ {own : List (String Global × AttributeType)} {IsOpen IsCoreOpen Whole 
         below_all text_cmp text_cmp-total (string_bytes pair.0) (core_text item) less (map core_text rest)
             (others-above (core_text item) (map core_text rest) step.so_far.ahead.up),
       )))
-      front
-      (taken-all (λ pair. text_cmp (string_bytes pair.0) (core_text item) ≡ Less) own at (place - at)
+      front (taken-all (λ pair. text_cmp (string_bytes pair.0) (core_text item) ≡ Less) own at (place - at)
       (λ i d low high. step.passed i d low (omega (arith, step.on, high))))
 
   -- what is passed may be missing, and what is left is consistent, exactly where the whole is
@@ -216,8 +215,7 @@ module _ {own : List (String Global × AttributeType)} {IsOpen IsCoreOpen Whole 
           let fresh : ¬ Contains (field_names (fields_from (plain_attributes (drop place own)))) (core_text item) =
           subst (λ names. ¬ Contains names (core_text item)) (sym (field_names-entries (drop place own)))
           (λ among. missed text_of text_cmp text_cmp-total own step.up (core_text item) place before step.stays
-          (λ at_place. absurd (let there = tells.1 at_place in cc))
-          (seen-from text_of own place (core_text item) among)) in
+          (λ at_place. absurd (let there = tells.1 at_place in cc)) (seen-from text_of own place (core_text item) among)) in
           let both = consistent-other IsOpen IsCoreOpen (fields_from (plain_attributes (drop place own))) (core_text item)
           (core_attribute_of item.1).0 (core_attribute_of item.1).1 (core_fields_from (map core_entry rest)) fresh in
           rw (← (flag_of item.1)) (λ parts. left.0 (both.0 parts), λ all. both.1 (left.1 all))

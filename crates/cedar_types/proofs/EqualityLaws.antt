@@ -174,8 +174,7 @@ entries-Decides [] [] = (λ _. refl, λ _. refl)
 entries-Decides [] (y ∷ ys) = none (λ e. cc)
 entries-Decides (x ∷ xs) [] = none (λ e. cc)
 entries-Decides (x ∷ xs) (y ∷ ys) =
-    Decides-like _
-    (λ all i. field (all.0.0 i) (all.0.1 i).0 (all.0.1 i).1 (all.1 i))
+    Decides-like _ (λ all i. field (all.0.0 i) (all.0.1 i).0 (all.0.1 i).1 (all.1 i))
     (λ e. ((ap first_name e, ap first_attribute e), ap rest_fields e))
     (Decides-and _ _ (Decides-and _ _ (text_eq-Decides (string_bytes x.0) (string_bytes y.0)) (x.1.1 y.1)) (entries-Decides xs ys))
 

@@ -129,8 +129,7 @@ ty_of-record attrs openness =
 -- an entity type stands for what its kind does
 pub ty_of-entity : (of : EntityKind) → ty_of (type.Entity of) ≡ kind_ty of
 ty_of-entity of =
-    ap ty_of (sym (type.rolls-Entity of))
-    ∙ (let e : ty_of (roll-Type (layer.Entity of)) ≡ kind_ty of =
+    ap ty_of (sym (type.rolls-Entity of)) ∙ (let e : ty_of (roll-Type (layer.Entity of)) ≡ kind_ty of =
     fold-roll-Type Ty (Bool × Ty) Fields type_step attribute_step attributes_step (layer.Entity of) in
     e)
 

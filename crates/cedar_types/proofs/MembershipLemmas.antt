@@ -113,8 +113,7 @@ IsMembershipSoFar-stops so_far H U M Whole MayWhole Meeting is before = record {
 -- a known call: its test decides whether it gives the value, and it has a function
 pub IsMembership-known : (extensions : Extensions) (name : PlainName) (args : Trees) (ty : PlainName)
     (function : ExtensionFunction) (b : Bool) → function_named extensions name ≡ Some function
-    → Decides b ((result_type function ≡ Some (core_extension ty))
-    × ArgumentsFit extensions args (argument_types function))
+    → Decides b ((result_type function ≡ Some (core_extension ty)) × ArgumentsFit extensions args (argument_types function))
     → IsMembership (Ok b) (Gives extensions name args ty) (MayGive extensions name args ty)
     (λ unknown. (name ≡ unknown) × IsUnknown extensions unknown)
 IsMembership-known extensions name args ty function b known decides =

@@ -64,8 +64,7 @@ IsUnionOf-distinct types others sorted permutation name =
           let right = λ (ty : EntityType) (inside : Contains others ty). moved ty (Contains-append_right types others ty inside) in
           Contains-distinct
           sorted
-          name
-          (elim there [
+          name (elim there [
             | inl first ↦ Contains-names_among types sorted left name first
             | inr second ↦ Contains-names_among others sorted right name second
           ]),
@@ -110,8 +109,7 @@ names_of_distinct : (sorted all : List (Bor EntityType)) (names : List PlainName
     → IsFiltered (DiffersFromLast same_type) [] sorted all → names ≡ map (λ ty. type_name ty.now) all
     → names ≡ map type_name (distinct (referred sorted))
 names_of_distinct sorted all names filtered are =
-    are
-    ∙ (sym (map-map type_name (λ ty. ty.now) all)
+    are ∙ (sym (map-map type_name (λ ty. ty.now) all)
     ∙ (ap (λ refs. map type_name (referred refs)) (dedup_is _ _ _ filtered) ∙ ap (map type_name) (referred-distinct sorted)))
 
 -- entity types that are referred to in order without repeats have names that are sorted without duplicates

@@ -154,8 +154,7 @@ attributes_placed x y is b =
     let z = out-Attributes b in
     let a = roll-Attributes (attributes_parts y) in
     let whole : (attributes_ord.ghosts).cmp a (roll-Attributes z) ≡ fields_cmp (fields_of a) (fields_of (roll-Attributes z)) =
-    attributes_ord.Laws.is a (roll-Attributes z)
-    ∙ (compares_entries (attributes_parts y) z
+    attributes_ord.Laws.is a (roll-Attributes z) ∙ (compares_entries (attributes_parts y) z
     ∙ (entries-placed y.attrs.value.entries.items z.attrs.value.entries.items
     ∙ (λ i. fields_cmp (sym (fields_of-rolled (attributes_parts y)) i) (sym (fields_of-rolled z) i)))) in
     rw (roll-out-Attributes b, is) at whole

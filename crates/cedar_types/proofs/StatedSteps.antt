@@ -61,22 +61,6 @@ abbrev pub IsSampledLeft : Extensions → List Value → Ty → List Value → T
 IsSampledLeft extensions samples ty rest =
     (sample : Tree) → Contains (value_trees samples) sample → Has extensions sample ty → Contains (value_trees rest) sample
 
--- past one that hasn't the type it is among those after it
-pub sampled-next : (extensions : Extensions) (samples rest : List Value) (ty : Ty) (first : Value)
-    → IsSampledLeft extensions samples ty (first ∷ rest) → ¬ Has extensions (value_tree first) ty
-    → IsSampledLeft extensions samples ty rest
-sampled-next extensions samples rest ty first left lacks sample among has =
-    elim (Contains-cons_cases (value_tree first) (value_trees rest) sample (left sample among has)) [
-      | inl same ↦ absurd (lacks (rw same has))
-      | inr there ↦ there
-    ]
-
--- where none is left, there is none
-pub sampled-none : (extensions : Extensions) (samples rest : List Value) (ty : Ty) → rest ≡ []
-    → IsSampledLeft extensions samples ty rest → ¬ IsSampled extensions (value_trees samples) ty
-sampled-none extensions samples rest ty none left (sample, among, has) =
-    let there = rw none at (left sample among has) in omega (arith, there.1)
-
 -- what a member gives is among what the members give
 image_among : (samples : List Value) (sample : Value) → Contains samples sample → Contains (value_trees samples) (value_tree sample)
 image_among [] sample among = absurd (omega (arith, among.1))

@@ -103,8 +103,7 @@ module _ (mode : ValidationMode) (lower upper : Attributes) (at place : ℕ) (it
   found_at : (d : String Global × AttributeType) → place < length (pairs_of lower) → text_at (pairs_of lower) place d ≡ string_bytes item.0
       → field_at (string_bytes item.0) (fields_of lower) ≡ Some (attribute_of (get_or (pairs_of lower) place d).1)
   found_at d within is =
-      field_at-pairs (string_bytes item.0) lower
-      ∙ ap (option_map attribute_of)
+      field_at-pairs (string_bytes item.0) lower ∙ ap (option_map attribute_of)
       (value_at-place (pairs_of lower) (out-Attributes lower).attrs.value.sorted_by_name (string_bytes item.0) place d within is)
 
   -- whether the attribute at the place is below decides whether the lower has one below
@@ -120,8 +119,7 @@ module _ (mode : ValidationMode) (lower upper : Attributes) (at place : ℕ) (it
   pub WalkedBelow-missed : ¬ IsAt (pairs_of lower) place (string_bytes item.0) → Decides false (FieldsBelow mode (fields_of lower) (fields_of upper))
   WalkedBelow-missed missed =
       let none : field_at (string_bytes item.0) (fields_of lower) ≡ None =
-      field_at-pairs (string_bytes item.0) lower
-      ∙ ap (option_map attribute_of)
+      field_at-pairs (string_bytes item.0) lower ∙ ap (option_map attribute_of)
       (value_at-missed (pairs_of lower) (out-Attributes lower).attrs.value.sorted_by_name (string_bytes item.0) place
       all_below sought.stays missed) in
       part_fails walked.0

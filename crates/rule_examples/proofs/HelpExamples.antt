@@ -68,14 +68,12 @@ helps-types = (
   records_join-strict,
   inr (
     refl,
-    inr (inr (inr
-        (inl (
-          true,
-          text,
-          inr (inl (refl, refl, refl)),
-          inr
-              ((λ own. AreApart-truth_text Strict False own.0 own.1.0.0 own.1.0.1.0), refl),
-        )))),
+    inr (inr (inr (inl (
+      true,
+      text,
+      inr (inl (refl, refl, refl)),
+      inr ((λ own. AreApart-truth_text Strict False own.0 own.1.0.0 own.1.0.1.0), refl),
+    )))),
   ),
 )
 

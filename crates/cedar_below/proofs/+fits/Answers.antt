@@ -108,8 +108,7 @@ value::RestrictedExpr::fits-returns-else-names_listed t c =
     let P : Tree → CoreTy → Type 0 = λ value ty. Decides c.names_listed.result (Fits c.args.extensions.now value ty) in
     subst (λ value. P value (core_ty_of c.args.ty.now)) (sym (ap tree_of c.in-Record-Record.is-0 ∙ tree_of-record values))
     (subst (P (map_value (entries_of values))) (sym (ap core_ty_of c.in-Record-Record.is-1
-    ∙ core_ty_of-record attrs c.in-Record-Record.open_attrs))
-    (λ e. absurd cc, λ both. c.names_listed.ensures.1 both.0))
+    ∙ core_ty_of-record attrs c.in-Record-Record.open_attrs)) (λ e. absurd cc, λ both. c.names_listed.ensures.1 both.0))
 
 -- a call fits an extension type exactly if it returns it
 pub value::RestrictedExpr::fits-returns-in-ExtensionCall-Extension : goal.value::RestrictedExpr::fits-returns-in-ExtensionCall-Extension

@@ -8,16 +8,14 @@ use Rattle.cedar_type_rules.specs.Consistent.{IsConsistent}
 use Rattle.cedar_type_rules.specs.Ty.{Ty, record_of}
 use Rattle.cedar_type_rules.specs.declared.open_tag.OpenTag.TheVariants.{OpenAttributes}
 use Rattle.cedar_below.specs.declared.core_schema_type.CoreAttributeType.{CoreAttributeType}
-use Rattle.cedar_types.proofs.ConsistentSteps.{ConsistentSoFar, ConsistentStep, consistent-first, step_of, passed-fails}
-use Rattle.cedar_types.proofs.ConsistentSteps.{met-fails, met-next, alone-fails, alone-next, consistent-last, attribute_type, met_test}
+use Rattle.cedar_types.proofs.ConsistentSteps.{ConsistentSoFar, ConsistentStep, consistent-first, step_of, passed-fails, met-fails, met-next, alone-fails, alone-next, consistent-last, attribute_type, met_test}
 use Rattle.cedar_types.proofs.SubtypeSteps.{Sought-held, IsAt, IsAt-held}
 use Rattle.cedar_types.proofs.MemberParts.{ty_of-record}
 use Rattle.cedar_type_rules.specs.declared.open_tag.OpenTag.{OpenTag}
 use Rattle.cedar_types.specs.declared.attributes.Attributes.{Attributes}
 use Rattle.cedar_types.specs.Meaning.{ty_of, fields_of, attribute_of}
 use Rattle.cedar_types.proofs.+consistent.Goals as goal
-use Rattle.cedar_types.proofs.+consistent.Goals.{consistent::records_fit-After-may_lack_all, consistent::records_fit-After-is_at}
-use Rattle.cedar_types.proofs.+consistent.Goals.{consistent::records_fit-After-is_consistent_with}
+use Rattle.cedar_types.proofs.+consistent.Goals.{consistent::records_fit-After-may_lack_all, consistent::records_fit-After-is_at, consistent::records_fit-After-is_consistent_with}
 
 pub types::Type::is_consistent_with-returns-in-Record-Record :
     goal.types::Type::is_consistent_with-returns-in-Record-Record

@@ -92,7 +92,6 @@ sample_of-returns-in_ok-values-in-Record t c =
     let fields = fields_of c.in-Record.attrs in
     let openness = c.in-Record.open_attributes in
     let sample = record_sample extensions fields openness (entries_of c.new-in-Record.result) (entries_of values)
-    (IsSortedByName-fields c.in-Record.attrs)
-    (no_entries c.new-in-Record.result c.new-in-Record.ensures.empty)
+    (IsSortedByName-fields c.in-Record.attrs) (no_entries c.new-in-Record.result c.new-in-Record.ensures.empty)
     c.in_ok-values-in-Record.ensures in
     rw (tree_of-record values, ap ty_of c.in-Record.is ∙ ty_of-record c.in-Record.attrs openness) sample

@@ -56,7 +56,6 @@ core_type-returns-in_ok-core_attributes-in-Record-clause-core t c =
     let attrs = c.in-Record.attrs in
     let core = c.in_ok-core_attributes-in-Record.field-0 in
     let opened : is_open c.in-Record.open_attributes ≡ c.eq.result = is_open-eq c.in-Record.open_attributes ∙ sym c.eq.ensures in
-    ap (λ ty. core_of (ty_of ty)) c.in-Record.is
-    ∙ (ap core_of (ty_of-record attrs c.in-Record.open_attributes)
+    ap (λ ty. core_of (ty_of ty)) c.in-Record.is ∙ (ap core_of (ty_of-record attrs c.in-Record.open_attributes)
     ∙ ((λ i. option_map (λ fields. core_record fields (opened i)) (c.in_ok-core_attributes-in-Record.ensures.core i))
     ∙ ap Some (sym (core_ty_of-record core c.eq.result))))

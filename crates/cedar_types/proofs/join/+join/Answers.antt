@@ -11,17 +11,11 @@ use Rattle.cedar_type_rules.specs.OpenTag.{either_open}
 use Rattle.cedar_type_rules.specs.OwnBound.{IsLeastOwnBound}
 use Rattle.cedar_type_rules.specs.Ty.{record_of, set_of}
 use Rattle.cedar_types.specs.Layers.{pairs_of}
-use Rattle.cedar_types.proofs.JoinSteps.{JoinStep, unplaced-at}
-use Rattle.cedar_types.proofs.JoinSteps.{Pairs, fields_at, names_sorted, PermissiveSoFar, permissive-first, permissive-last}
-use Rattle.cedar_types.proofs.JoinSteps.{permissive-missed, permissive-refused, permissive-kept, permissive-least, StrictSoFar}
-use Rattle.cedar_types.proofs.JoinSteps.{strict-first, strict-last, strict-missed, strict-kept, strict-least, strict-refusal, strict-errs}
-use Rattle.cedar_types.proofs.JoinSteps.{strict-unlike, dropped_have_none}
+use Rattle.cedar_types.proofs.JoinSteps.{JoinStep, unplaced-at, Pairs, fields_at, names_sorted, PermissiveSoFar, permissive-first, permissive-last, permissive-missed, permissive-refused, permissive-kept, permissive-least, StrictSoFar, strict-first, strict-last, strict-missed, strict-kept, strict-least, strict-refusal, strict-errs, strict-unlike, dropped_have_none}
 use Rattle.cedar_types.proofs.KindJoins.{held_below, upper_joins, sets_join, sets_refused_at, flags_refused}
 use Rattle.cedar_types.proofs.MemberParts.{ty_of-set}
 use Rattle.cedar_types.proofs.SubtypeSteps.{Sought-held, IsAt-held}
-use Rattle.cedar_types.proofs.TypeKinds.{place_of, unlike_refused, unlike-Bool, unlike-Entity, unlike-Set, unlike-Record, unlike-other}
-use Rattle.cedar_types.proofs.TypeKinds.{place-Bool, place-Entity, place-Set, place-Record, place-not-Bool, place-not-Entity}
-use Rattle.cedar_types.proofs.TypeKinds.{place-not-Set, place-not-Record}
+use Rattle.cedar_types.proofs.TypeKinds.{place_of, unlike_refused, unlike-Bool, unlike-Entity, unlike-Set, unlike-Record, unlike-other, place-Bool, place-Entity, place-Set, place-Record, place-not-Bool, place-not-Entity, place-not-Set, place-not-Record}
 use Rattle.cedar_types.specs.AttributeJoin.{attribute_ty, IsPermissiveAttribute, IsStrictAttribute}
 use Rattle.cedar_types.specs.Located.{Located}
 use Rattle.cedar_types.specs.Meaning.{ty_of, fields_of, attribute_of, attribute_loc}
@@ -29,16 +23,7 @@ use Rattle.cedar_types.specs.declared.attributes.AttributeType.{AttributeType}
 use Rattle.cedar_types.specs.declared.types.Type.{«Type»}
 use Rattle.cedar_types.specs.declared.types.Type.TheVariants as type
 use Rattle.cedar_types.proofs.join.+join.Goals as goal
-use Rattle.cedar_types.proofs.join.+join.Goals.{join_apart-In-Some-Some, permissive_record-After-as_slice-others}
-use Rattle.cedar_types.proofs.join.+join.Goals.{permissive_record-After-is_at, permissive_record-After-loop-name}
-use Rattle.cedar_types.proofs.join.+join.Goals.{strict_record-After-as_slice-others, strict_record-Else-own-others}
-use Rattle.cedar_types.proofs.join.+join.Goals.{strict_record-After-is_at, strict_record-After-loop-name}
-use Rattle.cedar_types.proofs.join.+join.Goals.{join_apart-in_default-via-in-Bool+in_default}
-use Rattle.cedar_types.proofs.join.+join.Goals.{join_apart-in_default-via-in-Entity+in_default}
-use Rattle.cedar_types.proofs.join.+join.Goals.{join_apart-in_default-via-in-Set+in_default}
-use Rattle.cedar_types.proofs.join.+join.Goals.{join_apart-in_default-via-in-Record+in_default, join_apart-in_default-via-in_default}
-use Rattle.cedar_types.proofs.join.+join.Goals.{permissive_record-then-is_at+in_ok-join+in-Some+in_ok-push_named}
-use Rattle.cedar_types.proofs.join.+join.Goals.{permissive_record-then-is_at+in_ok-join+in_default, permissive_record-else-is_at}
+use Rattle.cedar_types.proofs.join.+join.Goals.{join_apart-In-Some-Some, permissive_record-After-as_slice-others, permissive_record-After-is_at, permissive_record-After-loop-name, strict_record-After-as_slice-others, strict_record-Else-own-others, strict_record-After-is_at, strict_record-After-loop-name, join_apart-in_default-via-in-Bool+in_default, join_apart-in_default-via-in-Entity+in_default, join_apart-in_default-via-in-Set+in_default, join_apart-in_default-via-in-Record+in_default, join_apart-in_default-via-in_default, permissive_record-then-is_at+in_ok-join+in-Some+in_ok-push_named, permissive_record-then-is_at+in_ok-join+in_default, permissive_record-else-is_at}
 
 -- what two sets with elements stand for
 both_sets : (t : _) (c : join_apart-In-Some-Some t)
@@ -67,8 +52,7 @@ pub join_apart-returns-in_default-clause-join : goal.join_apart-returns-in_defau
 join_apart-returns-in_default-clause-join t c =
     let a = c.args.a.now in
     let b = c.args.b.now in
-    unlike_refused c.args.mode (ty_of a) (ty_of b) c.requires.first c.requires.second
-    (elim c.in_default.branch [
+    unlike_refused c.args.mode (ty_of a) (ty_of b) c.requires.first c.requires.second (elim c.in_default.branch [
       | join_apart-in_default-via-in-Bool+in_default w ↦ unlike-Bool (place_of a) (place_of b)
           (place-Bool a w.in_default.field-0-0 w.in_default.is-0) (place-not-Bool b w.in_default.not-Bool-1)
       | join_apart-in_default-via-in-Entity+in_default w ↦ unlike-Entity (place_of a) (place_of b)
