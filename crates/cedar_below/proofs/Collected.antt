@@ -133,11 +133,8 @@ module _ (key : EntityUID) (entity : Entity) (own : uid_of key ≡ entity_uid en
       find_step
       uid
       e
-      es
-      (insert_entry by_uid es key entity)
-      (All-head IsAtItself e es keyed)
-      (find-insert_entry uid es (All-tail IsAtItself e es keyed))
-      (by_uid key e.0)
+      es (insert_entry by_uid es key entity) (All-head IsAtItself e es keyed)
+      (find-insert_entry uid es (All-tail IsAtItself e es keyed)) (by_uid key e.0)
       refl
 
   module _ (old new : Entries) (keyed : All IsAtItself old) where

@@ -22,8 +22,7 @@ module _ {K : Type 0} (R : K → K → Ordering) (total : IsTotalOrder R) where
   -- what ties with a key is above what ties with what the key is above
   above_tied : (key copy other tied : K) → R key copy ≡ Equal → R other tied ≡ Equal → R key other ≡ Greater → R copy tied ≡ Greater
   above_tied key copy other tied ties also above =
-      sym (total.congr key copy tied ties)
-      ∙ (total.antisymm key tied
+      sym (total.congr key copy tied ties) ∙ (total.antisymm key tied
       ∙ (ap ordering_reverse (sym (total.congr other tied key also)) ∙ (sym (total.antisymm key other) ∙ above)))
 
   -- what ties with a key that is above others is above those that tie with these
@@ -31,12 +30,11 @@ module _ {K : Type 0} (R : K → K → Ordering) (total : IsTotalOrder R) where
       → HoldsPairwise (Ties R) done copies
       → AllByRecursion (λ other. R key other ≡ Greater) (keys_of done) → AllByRecursion (λ other. R copy other ≡ Greater) (keys_of copies)
   above_copies [] [] key copy ties turn above = tt
-  above_copies [] (other ∷ copies) key copy ties turn above = absurd turn
-  above_copies (entry ∷ done) [] key copy ties turn above = absurd turn
   above_copies (entry ∷ done) (other ∷ copies) key copy ties turn above = (
     above_tied key copy entry.0 other.0 ties turn.0 above.0,
     above_copies done copies key copy ties turn.1 above.1,
   )
+  above_copies _ _ _ _ _ turn _ = absurd turn
 
 -- an entry is what calls give of another
 abbrev IsCopied : {K V : Type 0} → (K → Result K Memory → Type 0) → (V → Result V Memory → Type 0) → K × V → K × V → Type 0
@@ -89,5 +87,4 @@ module _ {K V : Type 0} (R : K → K → Ordering) (total : IsTotalOrder R) (IsK
   pub copied_all : (copies left : List (K × V)) → left ≡ [] → CopiedSoFar R IsKey IsValue all copies left
       → HoldsPairwise (IsCopied IsKey IsValue) all copies
   copied_all copies left nothing so_far =
-      let P : List (K × V) → Type 0 = λ entries. HoldsPairwise (IsCopied IsKey IsValue) entries copies in
-      subst P (sym (so_far.split ∙ (ap (λ others. so_far.done ++ others) nothing ∙ append-nil so_far.done))) so_far.copied
+      rw (so_far.split ∙ (ap (λ others. so_far.done ++ others) nothing ∙ append-nil so_far.done)) so_far.copied

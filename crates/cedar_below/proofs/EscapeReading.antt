@@ -1,5 +1,5 @@
 -- How an id is read as it stands in quotes, character by character.
-use Rattle.std.proofs.Common.{◌≡◌, ◌≢◌, ◌<◌, ◌≤◌, ◌+◌, ◌-◌, ◌*◌, ℕ, suc, zero, Bool, true, false, List, [], ◌∷◌, ◌++◌, ◌&&◌, ◌||◌, ◌==◌, IsTrue, Option, Some, None, codes, length, take, drop, get_or, refl, sym, ap, ◌∙◌, subst, arith, cond, nat_le, nat_eq, ◌⊎◌, inl, inr, ⊎_elim, append-nil, not, nat_lt, map, map-id}
+use Rattle.std.proofs.Common.{◌≡◌, ◌≢◌, ◌<◌, ◌≤◌, ◌+◌, ◌-◌, ◌*◌, ℕ, suc, zero, Bool, true, false, List, [], ◌∷◌, ◌++◌, ◌&&◌, ◌||◌, ◌==◌, Option, Some, None, codes, length, take, drop, get_or, refl, sym, ap, ◌∙◌, subst, arith, cond, nat_le, nat_eq, ◌⊎◌, inl, inr, append-nil, not, nat_lt, map, map-id}
 use Rattle.std.proofs.lemmas.Bool.{false≢true, cases_order, eqb-true, leb-true, lt-leb, ltb-true, ne_eqb}
 use Rattle.std.proofs.lemmas.List.{append_assoc, flat_map_more, take_all, take_more, take-append-drop}
 use Rattle.std.proofs.lemmas.Option.{option_and_then_some}
@@ -41,12 +41,8 @@ run-append (Some escape) (c ∷ chars) more = run-append (escape_then escape c) 
 -- the characters with which a character of an id is printed
 abbrev pub spelled : ℕ → List ℕ
 spelled c =
-    cond (c == 0) (92 ∷ 48 ∷ [])
-    (cond (c == 9) (92 ∷ 116 ∷ [])
-    (cond (c == 10) (92 ∷ 110 ∷ [])
-    (cond (c == 13) (92 ∷ 114 ∷ [])
-    (cond (c == 34) (92 ∷ 34 ∷ [])
-    (cond (c == 92) (92 ∷ 92 ∷ [])
+    cond (c == 0) (92 ∷ 48 ∷ []) (cond (c == 9) (92 ∷ 116 ∷ []) (cond (c == 10) (92 ∷ 110 ∷ [])
+    (cond (c == 13) (92 ∷ 114 ∷ []) (cond (c == 34) (92 ∷ 34 ∷ []) (cond (c == 92) (92 ∷ 92 ∷ [])
     (cond (is_control c) (92 ∷ 117 ∷ 123 ∷ (digits 16 false c ++ 125 ∷ [])) (c ∷ [])))))))
 
 -- a test that each number below one passes
@@ -56,15 +52,15 @@ every (suc n) test = every n test && test n
 
 -- what is less than the next is less or the same
 less_or_last : (c n : ℕ) → c < suc n → (c < n) ⊎ (c ≡ n)
-less_or_last c n below = ⊎_elim (λ same. inr same) (λ less. inl less) (eq-or-lt_of_le (omega (arith, below)))
+less_or_last c n below = elim (eq-or-lt_of_le (omega (arith, below))) [ inl same ↦ inr same | inr less ↦ inl less ]
 
 -- each number below it passes
 pub every-at : (n : ℕ) (test : ℕ → Bool) → every n test ≡ true → (c : ℕ) → c < n → test c ≡ true
 every-at zero test all c below = absurd (omega (arith, below))
-every-at (suc n) test all c below = ⊎_elim
-    (λ less. every-at n test (both_true (every n test) (test n) all).0 c less)
-    (λ last. subst (λ k. test k ≡ true) (sym last) (both_true (every n test) (test n) all).1)
-    (less_or_last c n below)
+every-at (suc n) test all c below = elim (less_or_last c n below) [
+  | inl less ↦ every-at n test (both_true (every n test) (test n) all).0 c less
+  | inr last ↦ subst (λ k. test k ≡ true) (sym last) (both_true (every n test) (test n) all).1
+]
 
 -- texts of characters are the same, as a test
 abbrev pub alike : List ℕ → List ℕ → Bool
@@ -87,13 +83,7 @@ is_whole c _ = false
 -- and then it is that state
 whole-read : (c : ℕ) (escape : Option Escape) → is_whole c escape ≡ true → escape ≡ Some (Whole (Some c))
 whole-read c (Some (Whole (Some last))) e = ap (λ k. Some (Whole (Some k))) (eqb-true last c e)
-whole-read c (Some (Whole None)) e = absurd (false≢true e)
-whole-read c (Some Backslash) e = absurd (false≢true e)
-whole-read c (Some Unicode) e = absurd (false≢true e)
-whole-read c (Some Open) e = absurd (false≢true e)
-whole-read c (Some (Code code)) e = absurd (false≢true e)
-whole-read c (Some Closed) e = absurd (false≢true e)
-whole-read c None e = absurd (false≢true e)
+whole-read _ _ e = absurd (false≢true e)
 
 -- each character below 160 is read from how it is printed
 abbrev reads_back : Option ℕ → ℕ → Bool
@@ -180,7 +170,10 @@ cond_false test first other e = ap (λ it. cond it first other) e
 -- a number is below another or not
 pub below_or_not : (c n : ℕ) → (c < n) ⊎ (n ≤ c)
 below_or_not c n =
-    ⊎_elim (λ same. inr (omega (arith, same))) (λ rest. ⊎_elim (λ less. inl less) (λ more. inr (omega (arith, more))) rest) (cases_order c n)
+    elim (cases_order c n) [
+      | inl same ↦ inr (omega (arith, same))
+      | inr rest ↦ elim rest [ inl less ↦ inl less | inr more ↦ inr (omega (arith, more)) ]
+    ]
 
 -- a character from 160 on is no other one
 pub other : (c k : ℕ) → 160 ≤ c → k < 160 → (c == k) ≡ false
@@ -211,10 +204,10 @@ escaped-wide c large =
 
 -- the bytes of what a character is printed with
 encodes-spelled : (c : ℕ) → encodes (spelled c) ≡ escaped c
-encodes-spelled c = ⊎_elim
-    (λ small. (text_eq-Decides (encodes (spelled c)) (escaped c)).0 (every-at 160 has_same_bytes table_bytes c small))
-    (λ large. ap encodes (spelled-wide c large) ∙ append-nil (encode c) ∙ sym (escaped-wide c large))
-    (below_or_not c 160)
+encodes-spelled c = elim (below_or_not c 160) [
+  | inl small ↦ (text_eq-Decides (encodes (spelled c)) (escaped c)).0 (every-at 160 has_same_bytes table_bytes c small)
+  | inr large ↦ ap encodes (spelled-wide c large) ∙ append-nil (encode c) ∙ sym (escaped-wide c large)
+]
 
 -- and of what an id is printed with
 pub encodes-all_spelled : (es : List ℕ) → encodes (all_spelled es) ≡ flat_map escaped es
@@ -225,20 +218,22 @@ encodes-all_spelled (c ∷ es) =
 
 -- a character that needs no escape is printed as it is
 spelled-plain : (c : ℕ) → is_plain c ≡ true → spelled c ≡ c ∷ []
-spelled-plain c plain = ⊎_elim
-    (λ small. (text_eq-Decides (spelled c) (c ∷ [])).0
-    (implied (is_plain c) (alike (spelled c) (c ∷ [])) (every-at 160 is_plain_spelled table_plain c small) plain))
-    (λ large. spelled-wide c large)
-    (below_or_not c 160)
+spelled-plain c plain = elim (below_or_not c 160) [
+  | inl small ↦
+      (text_eq-Decides (spelled c) (c ∷ [])).0
+      (implied (is_plain c) (alike (spelled c) (c ∷ [])) (every-at 160 is_plain_spelled table_plain c small) plain)
+  | inr large ↦ spelled-wide c large
+]
 
 -- a character is read from how it is printed
 pub run-spelled : (last : Option ℕ) (c : ℕ) → run (Some (Whole last)) (spelled c) ≡ Some (Whole (Some c))
-run-spelled last c = ⊎_elim
-    (λ small. whole-read c (run (Some (Whole last)) (spelled c)) (every-at 160 (reads_back last) (table_read last) c small))
-    (λ large. ap (run (Some (Whole last))) (spelled-wide c large)
-    ∙ ap (λ escape. run escape []) (cond_false (c == 92) _ _ (other c 92 large (omega arith))
-    ∙ cond_false (c == 34) _ _ (other c 34 large (omega arith)) ∙ cond_false (is_control c) _ _ (no_control c large)))
-    (below_or_not c 160)
+run-spelled last c = elim (below_or_not c 160) [
+  | inl small ↦ whole-read c (run (Some (Whole last)) (spelled c)) (every-at 160 (reads_back last) (table_read last) c small)
+  | inr large ↦
+      ap (run (Some (Whole last))) (spelled-wide c large)
+      ∙ ap (λ escape. run escape []) (cond_false (c == 92) _ _ (other c 92 large (omega arith))
+      ∙ cond_false (c == 34) _ _ (other c 34 large (omega arith)) ∙ cond_false (is_control c) _ _ (no_control c large))
+]
 
 -- and so is an id, with the quote that ends it
 pub run-all_spelled : (last : Option ℕ) (es : List ℕ) → run (Some (Whole last)) (all_spelled es ++ 34 ∷ []) ≡ Some Closed
@@ -246,8 +241,7 @@ run-all_spelled last [] = refl
 run-all_spelled last (c ∷ es) =
     ap (run (Some (Whole last))) (append_assoc (spelled c) (all_spelled es) (34 ∷ []))
     ∙ run-append (Some (Whole last)) (spelled c) (all_spelled es ++ 34 ∷ [])
-    ∙ ap (λ escape. run escape (all_spelled es ++ 34 ∷ [])) (run-spelled last c)
-    ∙ run-all_spelled (Some c) es
+    ∙ ap (λ escape. run escape (all_spelled es ++ 34 ∷ [])) (run-spelled last c) ∙ run-all_spelled (Some c) es
 
 -- a test that chooses gives what it chose
 chosen : {A : Type 0} (test : Bool) (first other : Option A) (a : A) → cond test first other ≡ Some a
@@ -279,28 +273,55 @@ Then es chars c next = HasEscape next (es ++ cons_option (last_whole next) []) (
 
 -- the digits are of ASCII
 digit-ascii : (c digit : ℕ) → code_digit c ≡ Some digit → c < 128
-digit-ascii c digit e = ⊎_elim
-    (λ is. let most = leb-true c 57 (both_true (nat_le 48 c) (nat_le c 57) is.0).1 in omega (arith, most))
-    (λ rest. ⊎_elim
-    (λ is. let most = leb-true c 102 (both_true (nat_le 97 c) (nat_le c 102) is.0).1 in omega (arith, most))
-    (λ none. absurd cc)
-    (chosen (is_in_range 97 102 c) (Some (c - 87)) None digit rest.1))
-    (chosen (is_in_range 48 57 c) (Some (c - 48)) (cond (is_in_range 97 102 c) (Some (c - 87)) None) digit e)
+digit-ascii c digit e = elim (chosen (is_in_range 48 57 c) (Some (c - 48)) (cond (is_in_range 97 102 c) (Some (c - 87)) None) digit e) [
+  | inl is ↦ let most = leb-true c 57 (both_true (nat_le 48 c) (nat_le c 57) is.0).1 in omega (arith, most)
+  | inr rest ↦
+      elim (chosen (is_in_range 97 102 c) (Some (c - 87)) None digit rest.1) [
+        | inl is ↦ let most = leb-true c 102 (both_true (nat_le 97 c) (nat_le c 102) is.0).1 in omega (arith, most)
+        | inr none ↦ absurd cc
+      ]
+]
 
 -- a whole character, or what begins one, after a backslash
 step-backslash : (es chars : List ℕ) (c : ℕ) (next : Escape) → chars ≡ all_spelled es ++ 92 ∷ [] → after_backslash c ≡ Some next
     → Then es chars c next
 step-backslash es chars c next is e =
-    ⊎_elim (λ got. letter 48 0 got refl) (λ rest. let e = rest.1 in
-    ⊎_elim (λ got. letter 116 9 got refl) (λ rest. let e = rest.1 in
-    ⊎_elim (λ got. letter 110 10 got refl) (λ rest. let e = rest.1 in
-    ⊎_elim (λ got. letter 114 13 got refl) (λ rest. let e = rest.1 in
-    ⊎_elim (λ got. letter 34 34 got refl) (λ rest. let e = rest.1 in
-    ⊎_elim (λ got. letter 92 92 got refl) (λ rest. let e = rest.1 in
-    ⊎_elim (λ got. subst (Then es chars c) (same_escape Unicode next got.1)
-    (more-step es chars (92 ∷ []) (92 ∷ 117 ∷ []) c is (ap (λ k. 92 ∷ k ∷ []) (eqb-true c 117 got.0)))) (λ none. absurd cc)
-    (chosen (c == 117) _ _ next e)) (chosen (c == 92) _ _ next e)) (chosen (c == 34) _ _ next e)) (chosen (c == 114) _ _ next e))
-    (chosen (c == 110) _ _ next e)) (chosen (c == 116) _ _ next e)) (chosen (c == 48) _ _ next e)
+    elim (chosen (c == 48) _ _ next e) [
+      | inl got ↦ letter 48 0 got refl
+      | inr rest ↦
+          let e = rest.1 in
+          elim (chosen (c == 116) _ _ next e) [
+            | inl got ↦ letter 116 9 got refl
+            | inr rest ↦
+                let e = rest.1 in
+                elim (chosen (c == 110) _ _ next e) [
+                  | inl got ↦ letter 110 10 got refl
+                  | inr rest ↦
+                      let e = rest.1 in
+                      elim (chosen (c == 114) _ _ next e) [
+                        | inl got ↦ letter 114 13 got refl
+                        | inr rest ↦
+                            let e = rest.1 in
+                            elim (chosen (c == 34) _ _ next e) [
+                              | inl got ↦ letter 34 34 got refl
+                              | inr rest ↦
+                                  let e = rest.1 in
+                                  elim (chosen (c == 92) _ _ next e) [
+                                    | inl got ↦ letter 92 92 got refl
+                                    | inr rest ↦
+                                        let e = rest.1 in
+                                        elim (chosen (c == 117) _ _ next e) [
+                                          | inl got ↦
+                                              subst (Then es chars c) (same_escape Unicode next got.1)
+                                              (more-step es chars (92 ∷ []) (92 ∷ 117 ∷ []) c is (ap (λ k. 92 ∷ k ∷ []) (eqb-true c 117 got.0)))
+                                          | inr none ↦ absurd cc
+                                        ]
+                                  ]
+                            ]
+                      ]
+                ]
+          ]
+    ]
   where
     letter : (sign d : ℕ) → ((c == sign) ≡ true) × (Some (Whole (Some d)) ≡ Some next) → 92 ∷ sign ∷ [] ≡ spelled d → Then es chars c next
     letter sign d got spells =
@@ -313,47 +334,64 @@ step-first : (es chars : List ℕ) (c : ℕ) (next : Escape) → chars ≡ all_s
 step-first es chars c next is e = option_and_then_some first_digit (code_digit c) next e (λ digit found goes.
     let test : first_digit_fits c digit ≡ true =
     subst (λ it. digit_fits (first_digit_fits c) it ≡ true) found (every-at 128 first_fits table_first c (digit-ascii c digit found)) in
-    ⊎_elim (λ got.
-    let fits = both_true _ _ (implied (begins_code digit) _ test got.0) in
-    let range = both_true _ _ fits.0 in
-    subst (Then es chars c) (same_escape (Code digit) next got.1) (
-      range.0,
-      ltb-true digit 160 range.1,
-      more-step es chars (92 ∷ 117 ∷ 123 ∷ []) (92 ∷ 117 ∷ 123 ∷ digits 16 false digit) c is
-          (ap (λ rest. 92 ∷ 117 ∷ 123 ∷ rest) (sym ((text_eq-Decides (digits 16 false digit) (c ∷ [])).0 fits.1))),
-    )) (λ none. absurd cc) (chosen (begins_code digit) _ _ next goes))
+    elim (chosen (begins_code digit) _ _ next goes) [
+      | inl got ↦
+          let fits = both_true _ _ (implied (begins_code digit) _ test got.0) in
+          let range = both_true _ _ fits.0 in
+          subst (Then es chars c) (same_escape (Code digit) next got.1) (
+            range.0,
+            ltb-true digit 160 range.1,
+            more-step es chars (92 ∷ 117 ∷ 123 ∷ []) (92 ∷ 117 ∷ 123 ∷ digits 16 false digit) c is
+                (ap (λ rest. 92 ∷ 117 ∷ 123 ∷ rest) (sym ((text_eq-Decides (digits 16 false digit) (c ∷ [])).0 fits.1))),
+          )
+      | inr none ↦ absurd cc
+    ])
 
 -- a second digit after a first
 step-second : (es chars : List ℕ) (c code : ℕ) (next : Escape) → ((is_coded code || (code == 9)) ≡ true)
     → chars ≡ all_spelled es ++ 92 ∷ 117 ∷ 123 ∷ digits 16 false code
     → option_and_then (second_digit code) (code_digit c) ≡ Some next → Then es chars c next
 step-second es chars c code next valid is e = option_and_then_some (second_digit code) (code_digit c) next e (λ digit found goes.
-    ⊎_elim (λ got.
-    let halves = both_true (nat_lt code 16) (is_control (code * 16 + digit)) got.0 in
-    let test : second_digit_fits c code digit ≡ true =
-    subst (λ it. digit_fits (second_digit_fits c code) it ≡ true) found
-    (every-at 16 (second_fits c) (every-at 128 (λ c. every 16 (second_fits c)) table_second c (digit-ascii c digit found)) code (ltb-true code 16 halves.0)) in
-    let fits = both_true _ _ (implied _ _ test (ap (λ it. it && is_control (code * 16 + digit)) valid ∙ halves.1)) in
-    let range = both_true _ _ fits.0 in
-    subst (Then es chars c) (same_escape (Code (code * 16 + digit)) next got.1) (
-      ap (λ it. it || (code * 16 + digit == 9)) range.0,
-      ltb-true (code * 16 + digit) 160 range.1,
-      more-step es chars (92 ∷ 117 ∷ 123 ∷ digits 16 false code) (92 ∷ 117 ∷ 123 ∷ digits 16 false (code * 16 + digit)) c is
-          (ap (λ rest. 92 ∷ 117 ∷ 123 ∷ rest)
-          (sym ((text_eq-Decides (digits 16 false (code * 16 + digit)) (digits 16 false code ++ c ∷ [])).0 fits.1))),
-    )) (λ none. absurd cc) (chosen (nat_lt code 16 && is_control (code * 16 + digit)) _ _ next goes))
+    elim (chosen (nat_lt code 16 && is_control (code * 16 + digit)) _ _ next goes) [
+      | inl got ↦
+          let halves = both_true (nat_lt code 16) (is_control (code * 16 + digit)) got.0 in
+          let test : second_digit_fits c code digit ≡ true =
+          subst (λ it. digit_fits (second_digit_fits c code) it ≡ true) found
+          (every-at 16 (second_fits c) (every-at 128 (λ c. every 16 (second_fits c)) table_second c (digit-ascii c digit found)) code (ltb-true code 16 halves.0)) in
+          let fits = both_true _ _ (implied _ _ test (ap (λ it. it && is_control (code * 16 + digit)) valid ∙ halves.1)) in
+          let range = both_true _ _ fits.0 in
+          subst (Then es chars c) (same_escape (Code (code * 16 + digit)) next got.1) (
+            ap (λ it. it || (code * 16 + digit == 9)) range.0,
+            ltb-true (code * 16 + digit) 160 range.1,
+            more-step es chars (92 ∷ 117 ∷ 123 ∷ digits 16 false code) (92 ∷ 117 ∷ 123 ∷ digits 16 false (code * 16 + digit)) c is
+                (ap (λ rest. 92 ∷ 117 ∷ 123 ∷ rest)
+                (sym ((text_eq-Decides (digits 16 false (code * 16 + digit)) (digits 16 false code ++ c ∷ [])).0 fits.1))),
+          )
+      | inr none ↦ absurd cc
+    ])
 
 -- what is read goes on with a character that may stand there
 pub step : (escape : Escape) (es chars : List ℕ) (c : ℕ) (next : Escape) → HasEscape escape es chars → escape_then escape c ≡ Some next
     → Then es chars c next
 step (Whole last) es chars c next is e =
-    ⊎_elim (λ got. subst (Then es chars c) (same_escape Backslash next got.1)
-    (more-step es chars [] (92 ∷ []) c flat (ap (λ k. k ∷ []) (eqb-true c 92 got.0)))) (λ rest.
-    ⊎_elim (λ got. subst (Then es chars c) (same_escape Closed next got.1)
-    (more-step es chars [] (34 ∷ []) c flat (ap (λ k. k ∷ []) (eqb-true c 34 got.0)))) (λ last.
-    ⊎_elim (λ none. absurd cc) (λ got. subst (Then es chars c) (same_escape (Whole (Some c)) next got.1)
-    (whole-step es chars [] c c flat (sym (spelled-plain c (plain rest.0 last.0 got.0)))))
-    (chosen (is_control c) _ _ next last.1)) (chosen (c == 34) _ _ next rest.1)) (chosen (c == 92) _ _ next e)
+    elim (chosen (c == 92) _ _ next e) [
+      | inl got ↦
+          subst (Then es chars c) (same_escape Backslash next got.1)
+          (more-step es chars [] (92 ∷ []) c flat (ap (λ k. k ∷ []) (eqb-true c 92 got.0)))
+      | inr rest ↦
+          elim (chosen (c == 34) _ _ next rest.1) [
+            | inl got ↦
+                subst (Then es chars c) (same_escape Closed next got.1)
+                (more-step es chars [] (34 ∷ []) c flat (ap (λ k. k ∷ []) (eqb-true c 34 got.0)))
+            | inr last ↦
+                elim (chosen (is_control c) _ _ next last.1) [
+                  | inl none ↦ absurd cc
+                  | inr got ↦
+                      subst (Then es chars c) (same_escape (Whole (Some c)) next got.1)
+                      (whole-step es chars [] c c flat (sym (spelled-plain c (plain rest.0 last.0 got.0))))
+                ]
+          ]
+    ]
   where
     flat : chars ≡ all_spelled es ++ []
     flat = is ∙ sym (append-nil (all_spelled es))
@@ -362,18 +400,27 @@ step (Whole last) es chars c next is e =
     plain a b d = ap (λ it. not it && (not (c == 34) && not (is_control c))) a ∙ ap (λ it. not it && not (is_control c)) b ∙ ap not d
 step Backslash es chars c next is e = step-backslash es chars c next is e
 step Unicode es chars c next is e =
-    ⊎_elim (λ got. subst (Then es chars c) (same_escape Open next got.1)
-    (more-step es chars (92 ∷ 117 ∷ []) (92 ∷ 117 ∷ 123 ∷ []) c is (ap (λ k. 92 ∷ 117 ∷ k ∷ []) (eqb-true c 123 got.0))))
-    (λ none. absurd cc) (chosen (c == 123) _ _ next e)
+    elim (chosen (c == 123) _ _ next e) [
+      | inl got ↦
+          subst (Then es chars c) (same_escape Open next got.1)
+          (more-step es chars (92 ∷ 117 ∷ []) (92 ∷ 117 ∷ 123 ∷ []) c is (ap (λ k. 92 ∷ 117 ∷ k ∷ []) (eqb-true c 123 got.0)))
+      | inr none ↦ absurd cc
+    ]
 step Open es chars c next is e = step-first es chars c next is e
 step (Code code) es chars c next (valid, small, is) e =
-    ⊎_elim (λ ends. ⊎_elim (λ got. subst (Then es chars c) (same_escape (Whole (Some code)) next got.1)
-    (whole-step es chars (92 ∷ 117 ∷ 123 ∷ digits 16 false code) c code is
-    (ap (λ k. 92 ∷ 117 ∷ 123 ∷ (digits 16 false code ++ k ∷ [])) (eqb-true c 125 ends.0)
-    ∙ (text_eq-Decides (92 ∷ 117 ∷ 123 ∷ (digits 16 false code ++ 125 ∷ [])) (spelled code)).0
-    (implied (is_coded code) _ (every-at 160 is_code_spelled table_coded code small) got.0))))
-    (λ none. absurd cc) (chosen (is_coded code) _ _ next ends.1))
-    (λ rest. step-second es chars c code next valid is rest.1) (chosen (c == 125) _ _ next e)
+    elim (chosen (c == 125) _ _ next e) [
+      | inl ends ↦
+          elim (chosen (is_coded code) _ _ next ends.1) [
+            | inl got ↦
+                subst (Then es chars c) (same_escape (Whole (Some code)) next got.1)
+                (whole-step es chars (92 ∷ 117 ∷ 123 ∷ digits 16 false code) c code is
+                (ap (λ k. 92 ∷ 117 ∷ 123 ∷ (digits 16 false code ++ k ∷ [])) (eqb-true c 125 ends.0)
+                ∙ (text_eq-Decides (92 ∷ 117 ∷ 123 ∷ (digits 16 false code ++ 125 ∷ [])) (spelled code)).0
+                (implied (is_coded code) _ (every-at 160 is_code_spelled table_coded code small) got.0)))
+            | inr none ↦ absurd cc
+          ]
+      | inr rest ↦ step-second es chars c code next valid is rest.1
+    ]
 step Closed es chars c next is e = absurd cc
 
 -- U+0001 as it is printed
@@ -422,13 +469,15 @@ goes_on (Whole last) es chars all is = (34 ∷ [], es, all, ap (λ whole. whole 
 goes_on Backslash es chars all is = finish es chars (92 ∷ []) (48 ∷ []) 0 all refl is refl
 goes_on Unicode es chars all is = finish es chars (92 ∷ 117 ∷ []) (123 ∷ 49 ∷ 125 ∷ []) 1 all refl is (one_spelled)
 goes_on Open es chars all is = finish es chars (92 ∷ 117 ∷ 123 ∷ []) (49 ∷ 125 ∷ []) 1 all refl is (one_spelled)
-goes_on (Code code) es chars all (valid, small, is) = ⊎_elim
-    (λ coded. finish es chars (92 ∷ 117 ∷ 123 ∷ digits 16 false code) (125 ∷ []) code all (small_scalar code small) is
-    ((text_eq-Decides (92 ∷ 117 ∷ 123 ∷ (digits 16 false code ++ 125 ∷ [])) (spelled code)).0
-    (implied (is_coded code) _ (every-at 160 is_code_spelled table_coded code small) coded)))
-    (λ nine. finish es chars (92 ∷ 117 ∷ 123 ∷ digits 16 false code) (48 ∷ 125 ∷ []) 144 all refl is
-    (ap (λ k. 92 ∷ 117 ∷ 123 ∷ (digits 16 false k ++ 48 ∷ 125 ∷ [])) (eqb-true code 9 nine) ∙ nine_spelled))
-    (either (is_coded code) (code == 9) valid)
+goes_on (Code code) es chars all (valid, small, is) = elim (either (is_coded code) (code == 9) valid) [
+  | inl coded ↦
+      finish es chars (92 ∷ 117 ∷ 123 ∷ digits 16 false code) (125 ∷ []) code all (small_scalar code small) is
+      ((text_eq-Decides (92 ∷ 117 ∷ 123 ∷ (digits 16 false code ++ 125 ∷ [])) (spelled code)).0
+      (implied (is_coded code) _ (every-at 160 is_code_spelled table_coded code small) coded))
+  | inr nine ↦
+      finish es chars (92 ∷ 117 ∷ 123 ∷ digits 16 false code) (48 ∷ 125 ∷ []) 144 all refl is
+      (ap (λ k. 92 ∷ 117 ∷ 123 ∷ (digits 16 false k ++ 48 ∷ 125 ∷ [])) (eqb-true code 9 nine) ∙ nine_spelled)
+]
 goes_on Closed es chars all is = ([], es, all, append-nil chars ∙ is)
 
 -- the bytes of an id's characters in quotes are a quoted id
@@ -523,8 +572,7 @@ characters text ys c utf8 front below here =
       drop (n + 1) all,
       sym (take-append-drop (n + 1) all)
           ∙ ap (λ first. first ++ drop (n + 1) all) (take_more all n c below ∙ ap (λ last. take n all ++ last ∷ []) (sym here)
-          ∙ ap (λ first. first ++ c ∷ []) (sym front))
-          ∙ append_assoc ys (c ∷ []) (drop (n + 1) all),
+          ∙ ap (λ first. first ++ c ∷ []) (sym front)) ∙ append_assoc ys (c ∷ []) (drop (n + 1) all),
     )
 
 -- the characters that came so far, and the next
@@ -578,9 +626,7 @@ begins_id escape id at ys utf8 has =
 -- what begins with as many characters and has more bytes begins with the next one too
 further : (ys ds : List ℕ) (c : ℕ) (zs ts : List ℕ) → ys ++ c ∷ zs ≡ ds ++ ts → length (encodes ys) < length (encodes ds)
     → (more : List ℕ) × (ds ≡ ys ++ c ∷ more)
-further [] [] c zs ts same less = absurd (omega (arith, less))
 further [] (d ∷ ds) c zs ts same less = (ds, ap (λ first. first ∷ ds) (sym (cons_head same)))
-further (y ∷ ys) [] c zs ts same less = absurd (omega (arith, less))
 further (y ∷ ys) (d ∷ ds) c zs ts same less =
     let first : y ≡ d = cons_head same in
     let one = length-append (encode y) (encodes ys) in
@@ -588,6 +634,7 @@ further (y ∷ ys) (d ∷ ds) c zs ts same less =
     let bytes = ap (λ it. length (encode it)) first in
     let later = further ys ds c zs ts (cons_rest same) (omega (arith, less, one, other, bytes)) in
     (later.0, ap (λ it. it ∷ ds) (sym first) ∙ ap (λ rest. y ∷ rest) later.1)
+further _ _ c zs ts same less = absurd (omega (arith, less))
 
 -- where no id goes on with a character, the text stops there
 pub stops_at_char : (text : Text) (escape : Escape) (id : Text) (at : ℕ) (ys zs : List ℕ) (c : ℕ) → IsUtf8 text → IsUtf8 id

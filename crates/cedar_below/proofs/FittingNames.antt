@@ -20,8 +20,7 @@ TypeNamesFit-parts names = (
   λ whole. (
     λ k d lt. (
       All-from_map IsUnqualified plain_name names whole.unqualified k d lt,
-      All-from_map
-          (λ (name : PlainName). ¬ Contains primitive_words name.base) plain_name names whole.free k d lt,
+      All-from_map (λ (name : PlainName). ¬ Contains primitive_words name.base) plain_name names whole.free k d lt,
     ),
     whole.distinct,
   ),

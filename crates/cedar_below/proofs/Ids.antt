@@ -27,10 +27,6 @@ id_eq-same a b = text_eq-Decides (id_text a) (id_text b)
 pub id_ord-text_cmp : (a b : Id) → (id_ord.ghosts).cmp a b ≡ text_cmp (id_text a) (id_text b)
 id_ord-text_cmp a b = refl
 
--- identifiers tie exactly where their texts are equal
-pub id_ord-Equal : (a b : Id) → ((id_ord.ghosts).cmp a b ≡ Equal) ↔ (id_text a ≡ id_text b)
-id_ord-Equal a b = text_cmp-Equal (id_text a) (id_text b)
-
 -- the hash reads the text alone
 pub id_hash-same : (a b : Id) → id_text a ≡ id_text b → (id_hash.ghosts).hash_input a ≡ (id_hash.ghosts).hash_input b
 id_hash-same a b e = id_hash.Laws.respects_eq-law a b ((id_eq-same a b).1 e)
@@ -61,10 +57,6 @@ eid_eq-same a b = text_eq-Decides (eid_text a) (eid_text b)
 -- entity ids order by their texts
 pub eid_ord-text_cmp : (a b : Eid) → (eid_ord.ghosts).cmp a b ≡ text_cmp (eid_text a) (eid_text b)
 eid_ord-text_cmp a b = refl
-
--- entity ids tie exactly where their texts are equal
-pub eid_ord-Equal : (a b : Eid) → ((eid_ord.ghosts).cmp a b ≡ Equal) ↔ (eid_text a ≡ eid_text b)
-eid_ord-Equal a b = text_cmp-Equal (eid_text a) (eid_text b)
 
 -- the hash reads the text alone
 pub eid_hash-same : (a b : Eid) → eid_text a ≡ eid_text b → (eid_hash.ghosts).hash_input a ≡ (eid_hash.ghosts).hash_input b

@@ -1,5 +1,5 @@
 -- Lists whose members are members of others.
-use Rattle.std.proofs.Common.{◌↔◌, ◌⊎◌, inl, inr, ⊎_elim, Bool, true, false, refl, subst, List, [], ◌∷◌, Option, Some, if◌then◌else◌, Contains, arith}
+use Rattle.std.proofs.Common.{◌↔◌, ◌⊎◌, inl, inr, Bool, true, false, refl, subst, List, [], ◌∷◌, Option, Some, if◌then◌else◌, Contains, arith}
 use Rattle.std.specs.Bool.{Decides}
 use Rattle.std.specs.Option.{is_some}
 use Rattle.cedar_below.proofs.Lists.{Contains-cons, Contains-cons_cases}
@@ -13,7 +13,7 @@ Included-none upper x among = absurd (omega (arith, among.1))
 pub Included-cons : {A : Type 0} (x : A) (lower upper : List A) → Contains upper x → Included lower upper → Included (x ∷ lower) upper
 Included-cons x lower upper first rest y among =
     let P = Contains upper in
-    ⊎_elim (λ same. subst P same first) (λ there. rest y there) (Contains-cons_cases x lower y among)
+    elim (Contains-cons_cases x lower y among) [ inl same ↦ subst P same first | inr there ↦ rest y there ]
 
 -- the first member of an included list is a member
 pub Included-head : {A : Type 0} (x : A) (lower upper : List A) → Included (x ∷ lower) upper → Contains upper x
@@ -37,7 +37,7 @@ Included-step x lower upper so_far first =
 pub chosen : {A : Type 0} (b : Bool) (x : A) (m : Option A) (P Q : Type 0) → Decides b P → Decides (is_some m) Q
     → Decides (is_some (if b then Some x else m)) (P ⊎ Q)
 chosen true x m P Q h k = (λ _. inl (h.0 refl), λ _. refl)
-chosen false x m P Q h k = (λ e. inr (k.0 e), λ either. ⊎_elim (λ p. absurd cc (h.1 p)) k.1 either)
+chosen false x m P Q h k = (λ e. inr (k.0 e), λ either. elim either [ inl p ↦ absurd cc (h.1 p) | inr right ↦ k.1 right ])
 
 -- one more part holds, so that what is left is as much
 pub rest_alone : {H R W : Type 0} → (H × R) ↔ W → H → R ↔ W

@@ -1,5 +1,5 @@
 -- Tests over a list, against what its elements give.
-use Rattle.std.proofs.Common.{◌≡◌, ◌≢◌, ◌<◌, ℕ, suc, zero, ◌+◌, Bool, List, [], ◌∷◌, ◌++◌, ◌⊎◌, inl, inr, ⊎_elim, map, length, take, get_or, All, AllPairs, Contains, arith, sym, subst, ◌∙◌, ap}
+use Rattle.std.proofs.Common.{◌≡◌, ◌≢◌, ◌<◌, ℕ, suc, zero, ◌+◌, Bool, List, [], ◌∷◌, ◌++◌, ◌⊎◌, inl, inr, map, length, take, get_or, All, AllPairs, Contains, arith, sym, subst, ◌∙◌, ap}
 use Rattle.std.proofs.lemmas.Bool.Decides.{Decides-like, Decides-or}
 use Rattle.std.proofs.lemmas.List.{get_or-map, get_or_default, get_or-take, map_more, take-map}
 use Rattle.std.proofs.lemmas.List.Quantifiers.{all_pairs_push}
@@ -31,7 +31,7 @@ one_of [] x is = absurd is
 one_of (only ∷ []) x is = Contains-cons only [] x (inl (sym is))
 one_of (first ∷ second ∷ rest) x is =
     Contains-cons first (second ∷ rest) x
-    (⊎_elim (λ here. inl (sym here)) (λ later. inr (one_of (second ∷ rest) x later)) is)
+    (elim is [ inl here ↦ inl (sym here) | inr later ↦ inr (one_of (second ∷ rest) x later) ])
 
 -- where a test decides whether an element gives x, its search decides whether x is given
 pub list_any-Contains : {X B : Type 0} (f : X → B) (x : B) (test : X → Bool) → ((y : X) → Decides (test y) (f y ≡ x))
@@ -39,9 +39,7 @@ pub list_any-Contains : {X B : Type 0} (f : X → B) (x : B) (test : X → Bool)
 list_any-Contains f x test same [] = (λ e. absurd cc, λ there. absurd (omega (arith, there.1)))
 list_any-Contains f x test same (y ∷ ys) =
     Decides-like
-    _
-    (Contains-cons (f y) (map f ys) x)
-    (Contains-cons_cases (f y) (map f ys) x)
+    _ (Contains-cons (f y) (map f ys) x) (Contains-cons_cases (f y) (map f ys) x)
     (Decides-or _ _ (same y) (list_any-Contains f x test same ys))
 
 -- what holds of all that the elements give holds of each of those
@@ -74,8 +72,10 @@ Twice-at f [] i y lt is there = absurd (omega (arith, lt))
 Twice-at f (first ∷ ys) zero y lt is there = absurd (omega (arith, there.1))
 Twice-at f (first ∷ ys) (suc i) y lt is there =
     let below : i < length ys = omega (arith, lt) in
-    ⊎_elim (λ here. inl (here, Contains-at f ys i y below is)) (λ rest. inr (Twice-at f ys i y below is rest))
-    (Contains-cons_cases (f first) (map f (take i ys)) (f y) there)
+    elim (Contains-cons_cases (f first) (map f (take i ys)) (f y) there) [
+      | inl here ↦ inl (here, Contains-at f ys i y below is)
+      | inr rest ↦ inr (Twice-at f ys i y below is rest)
+    ]
 
 -- a list stays without repeats as an element is added that isn't in it
 distinct_push : {B : Type 0} (xs : List B) (x : B) → AllPairs (λ a b. a ≢ b) xs → ¬ Contains xs x → AllPairs (λ a b. a ≢ b) (xs ++ x ∷ [])

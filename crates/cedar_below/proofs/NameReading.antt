@@ -1,5 +1,5 @@
 -- How a text is read as a name, byte by byte, and where it stops being one.
-use Rattle.std.proofs.Common.{◌≡◌, ◌≢◌, ◌<◌, ◌≤◌, ◌+◌, ◌-◌, ℕ, suc, zero, Bool, true, false, List, [], ◌∷◌, ◌++◌, ◌&&◌, ◌||◌, ◌==◌, Option, Some, None, codes, length, take, drop, get_or, map, All, refl, sym, ap, ◌∙◌, subst, arith, slice_index_or, cond, nat_le, ◌⊎◌, inl, inr, ⊎_elim, append-nil}
+use Rattle.std.proofs.Common.{◌≡◌, ◌≢◌, ◌<◌, ◌≤◌, ◌+◌, ◌-◌, ℕ, suc, zero, Bool, true, false, List, [], ◌∷◌, ◌++◌, ◌&&◌, ◌||◌, ◌==◌, Option, Some, None, codes, length, take, drop, get_or, map, All, refl, sym, ap, ◌∙◌, subst, arith, slice_index_or, cond, nat_le, ◌⊎◌, inl, inr, append-nil}
 use Rattle.std.proofs.Math.ListN.{length-take}
 use Rattle.std.proofs.Math.Seq.{take-append-add}
 use Rattle.std.proofs.lemmas.Bool.{false≢true, eqb-true, leb-true}
@@ -76,8 +76,7 @@ run-path_text (part ∷ path) all =
 pub run-name_text : (name : PlainName) → IsOfIdentifiers name → run (Some Start) (name_text name) ≡ Some Inside
 run-name_text name (base, path) =
     run-append (Some Start) (path_text name.path) name.base
-    ∙ ap (λ reading. run reading name.base) (run-path_text name.path path)
-    ∙ run-identifier name.base base
+    ∙ ap (λ reading. run reading name.base) (run-path_text name.path path) ∙ run-identifier name.base base
 
 -- what is read of a name: the parts that are finished, and the one that has begun
 abbrev pub HasRead : Reading → List Text → Text → Text → Type 0
@@ -101,10 +100,6 @@ run-HasRead Colon path part text all (identifier, is) =
     ∙ ap (λ reading. run reading (part ++ 58 ∷ [])) (run-path_text path all)
     ∙ run-append (Some Start) part (58 ∷ []) ∙ ap (λ reading. run reading (58 ∷ [])) (run-identifier part identifier)
 
--- at first nothing is read
-pub HasRead-nothing : HasRead Start [] [] []
-HasRead-nothing = (refl, refl)
-
 -- an identifier with one more byte of identifiers is one
 longer_identifier : (part : Text) (byte : ℕ) → IsIdentifier part → is_identifier_byte byte ≡ true → IsIdentifier (part ++ byte ∷ [])
 longer_identifier [] byte is more = absurd (false≢true is)
@@ -112,8 +107,7 @@ longer_identifier (first ∷ part) byte is more =
     let halves = both_true (is_identifier_start first) (list_all is_identifier_byte (first ∷ part)) is in
     let all : list_all is_identifier_byte (first ∷ part ++ byte ∷ []) ≡ true =
     list_all-append is_identifier_byte (first ∷ part) (byte ∷ [])
-    ∙ ap (λ test. test && (is_identifier_byte byte && true)) halves.1
-    ∙ ap (λ test. test && true) more in
+    ∙ ap (λ test. test && (is_identifier_byte byte && true)) halves.1 ∙ ap (λ test. test && true) more in
     ap (λ test. test && list_all is_identifier_byte (first ∷ part ++ byte ∷ [])) halves.0 ∙ all
 
 -- which byte leads from what is read to what is read then
@@ -133,13 +127,21 @@ chosen false first other a e = inr e
 -- a byte leads just there
 pub leads : (reading : Reading) (byte : ℕ) (next : Reading) → reading_then reading byte ≡ Some next → Leads reading byte next
 leads Start byte next e =
-    ⊎_elim (λ is. subst (Leads Start byte) is.1 is.0) (λ none. absurd cc) (chosen (is_identifier_start byte) Inside None next e)
+    elim (chosen (is_identifier_start byte) Inside None next e) [ inl is ↦ subst (Leads Start byte) is.1 is.0 | inr none ↦ absurd cc ]
 leads Inside byte next e =
-    ⊎_elim (λ is. subst (Leads Inside byte) is.1 is.0) (λ other.
-    ⊎_elim (λ is. subst (Leads Inside byte) is.1 (eqb-true byte 58 is.0)) (λ none. absurd cc) (chosen (byte == 58) Colon None next other))
-    (chosen (is_identifier_byte byte) Inside (cond (byte == 58) (Some Colon) None) next e)
+    elim (chosen (is_identifier_byte byte) Inside (cond (byte == 58) (Some Colon) None) next e) [
+      | inl is ↦ subst (Leads Inside byte) is.1 is.0
+      | inr other ↦
+          elim (chosen (byte == 58) Colon None next other) [
+            | inl is ↦ subst (Leads Inside byte) is.1 (eqb-true byte 58 is.0)
+            | inr none ↦ absurd cc
+          ]
+    ]
 leads Colon byte next e =
-    ⊎_elim (λ is. subst (Leads Colon byte) is.1 (eqb-true byte 58 is.0)) (λ none. absurd cc) (chosen (byte == 58) Start None next e)
+    elim (chosen (byte == 58) Start None next e) [
+      | inl is ↦ subst (Leads Colon byte) is.1 (eqb-true byte 58 is.0)
+      | inr none ↦ absurd cc
+    ]
 
 -- one byte that may begin an identifier is one
 single_identifier : (byte : ℕ) → is_identifier_start byte ≡ true → IsIdentifier (byte ∷ [])
@@ -162,25 +164,15 @@ HasRead-byte Colon byte path part text never read = absurd never
 -- one `:` after a part is read
 pub HasRead-colon : (reading : Reading) (byte : ℕ) (path : List Text) (part text : Text) → Leads reading byte Colon
     → HasRead reading path part text → HasRead Colon path part (text ++ byte ∷ [])
-HasRead-colon Start byte path part text never read = absurd never
 HasRead-colon Inside byte path part text colon (identifier, is) = (
   identifier,
   ap (λ all. all ++ byte ∷ []) is ∙ append_assoc (path_text path) part (byte ∷ []) ∙ ap (λ last. path_text path ++ (part ++ last ∷ [])) colon,
 )
-HasRead-colon Colon byte path part text never read = absurd never
-
--- a part that is followed by `::` is one
-pub HasRead-identifier : (reading : Reading) (byte : ℕ) (path : List Text) (part text : Text) → Leads reading byte Start
-    → HasRead reading path part text → IsIdentifier part
-HasRead-identifier Start byte path part text never read = absurd never
-HasRead-identifier Inside byte path part text never read = absurd never
-HasRead-identifier Colon byte path part text colon read = read.0
+HasRead-colon _ _ _ _ _ never _ = absurd never
 
 -- and is the last of the path
 pub HasRead-part : (reading : Reading) (byte : ℕ) (path : List Text) (part text : Text) → Leads reading byte Start
     → HasRead reading path part text → HasRead Start (path ++ part ∷ []) [] (text ++ byte ∷ [])
-HasRead-part Start byte path part text never read = absurd never
-HasRead-part Inside byte path part text never read = absurd never
 HasRead-part Colon byte path part text colon (identifier, is) = (
   refl,
   ap (λ all. all ++ byte ∷ []) is ∙ append_assoc (path_text path) (part ++ 58 ∷ []) (byte ∷ [])
@@ -188,6 +180,7 @@ HasRead-part Colon byte path part text colon (identifier, is) = (
       ∙ ap (λ last. path_text path ++ (part ++ 58 ∷ last ∷ [])) colon
       ∙ flat_map_more (λ part. part ++ codes "::") [] path part,
 )
+HasRead-part _ _ _ _ _ never _ = absurd never
 
 -- what is read goes on to a name
 pub HasRead-begins : (reading : Reading) (path : List Text) (part text : Text) → All IsIdentifier path
@@ -202,8 +195,7 @@ HasRead-begins Colon path part text all (identifier, is) =
     ap (λ front. front ++ 97 ∷ []) (sym (flat_map_more (λ part. part ++ codes "::") [] path part))
     ∙ append_assoc (path_text path) (part ++ codes "::") (97 ∷ [])
     ∙ ap (λ rest. path_text path ++ rest) (append_assoc part (codes "::") (97 ∷ []) ∙ sym (append_assoc part (58 ∷ []) (58 ∷ 97 ∷ [])))
-    ∙ sym (append_assoc (path_text path) (part ++ 58 ∷ []) (58 ∷ 97 ∷ []))
-    ∙ ap (λ front. front ++ 58 ∷ 97 ∷ []) (sym is) in
+    ∙ sym (append_assoc (path_text path) (part ++ 58 ∷ []) (58 ∷ 97 ∷ [])) ∙ ap (λ front. front ++ 58 ∷ 97 ∷ []) (sym is) in
     (58 ∷ 97 ∷ [], (name, (refl, All-push IsIdentifier path part all identifier), prints))
 
 -- the same is read under other names
@@ -223,11 +215,18 @@ at_most low high byte is = leb-true byte high (both_true (nat_le low byte) (nat_
 -- a byte of an identifier is of ASCII
 ascii_byte : (byte : ℕ) → is_identifier_byte byte ≡ true → byte < 128
 ascii_byte byte is =
-    ⊎_elim (λ start. ⊎_elim (λ letter. ⊎_elim (λ upper. let within = at_most 65 90 byte upper in omega (arith, within)) (λ lower. let within = at_most 97 122 byte lower in omega (arith, within))
-    (either (is_in_range 65 90 byte) (is_in_range 97 122 byte) letter))
-    (λ underline. let is : byte ≡ 95 = eqb-true byte 95 underline in omega (arith, is)) (either (is_ascii_alphabetic byte) (byte == 95) start))
-    (λ digit. let within = at_most 48 57 byte digit in omega (arith, within))
-    (either (is_identifier_start byte) (is_ascii_digit byte) is)
+    elim (either (is_identifier_start byte) (is_ascii_digit byte) is) [
+      | inl start ↦
+          elim (either (is_ascii_alphabetic byte) (byte == 95) start) [
+            | inl letter ↦
+                elim (either (is_in_range 65 90 byte) (is_in_range 97 122 byte) letter) [
+                  | inl upper ↦ let within = at_most 65 90 byte upper in omega (arith, within)
+                  | inr lower ↦ let within = at_most 97 122 byte lower in omega (arith, within)
+                ]
+            | inr underline ↦ let is : byte ≡ 95 = eqb-true byte 95 underline in omega (arith, is)
+          ]
+      | inr digit ↦ let within = at_most 48 57 byte digit in omega (arith, within)
+    ]
 
 -- a byte that leads into a part is of ASCII
 pub leads-ascii : (reading : Reading) (byte : ℕ) → Leads reading byte Inside → byte < 128
@@ -298,8 +297,10 @@ name_bytes name (base, path) = bytes-append (path_text name.path) name.base (pat
 
 -- a byte of a name is of ASCII
 name_byte-ascii : (byte : ℕ) → is_name_byte byte ≡ true → byte < 128
-name_byte-ascii byte is = ⊎_elim (λ part. ascii_byte byte part)
-    (λ colon. let same : byte ≡ 58 = eqb-true byte 58 colon in omega (arith, same)) (either (is_identifier_byte byte) (byte == 58) is)
+name_byte-ascii byte is = elim (either (is_identifier_byte byte) (byte == 58) is) [
+  | inl part ↦ ascii_byte byte part
+  | inr colon ↦ let same : byte ≡ 58 = eqb-true byte 58 colon in omega (arith, same)
+]
 
 -- bytes of a name are those of a text
 name_bytes-ascii : (text : Text) → list_all is_name_byte text ≡ true → IsAscii text

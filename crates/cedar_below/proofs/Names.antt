@@ -38,8 +38,7 @@ use Rattle.cedar_below.proofs.Texts.{text_eq-Decides, texts_eq-Decides}
 same_parts : (a b : PlainName) → Decides (pointwise nat_eq a.base b.base && pointwise (pointwise nat_eq) a.path b.path) (a ≡ b)
 same_parts a b =
     Decides-like
-    _
-    (λ both i. record { base = both.0 i; path = both.1 i })
+    _ (λ both i. record { base = both.0 i; path = both.1 i })
     (λ e. (ap (λ (name : PlainName). name.base) e, ap (λ (name : PlainName). name.path) e))
     (Decides-and _ _ (text_eq-Decides a.base b.base) (texts_eq-Decides a.path b.path))
 
@@ -48,10 +47,8 @@ name_parts_eq-same : (a b : NameParts) → IsTrue ((name_parts_eq.ghosts).eq a b
 name_parts_eq-same a b =
     Decides-at
     _
-    _
-    (ap (λ paths. pointwise nat_eq (id_text a.id) (id_text b.id) && paths)
-    (sym (pointwise-map id_text (pointwise nat_eq) a.path.items b.path.items)))
-    (same_parts (parts_of a) (parts_of b))
+    _ (ap (λ paths. pointwise nat_eq (id_text a.id) (id_text b.id) && paths)
+    (sym (pointwise-map id_text (pointwise nat_eq) a.path.items b.path.items))) (same_parts (parts_of a) (parts_of b))
 
 -- the parts of names order as what they stand for
 name_parts_ord-name_cmp : (a b : NameParts) → (name_parts_ord.ghosts).cmp a b ≡ name_cmp (parts_of a) (parts_of b)

@@ -10,9 +10,8 @@ use Rattle.cedar_below.specs.declared.memory.Memory.{Memory}
 pub same_shown : {A P : Type 0} (R : A → A → Type 0) (shown : A → P) → ((x y : A) → R x y → shown y ≡ shown x) → (xs ys : List A)
     → HoldsPairwise R xs ys → map shown ys ≡ map shown xs
 same_shown R shown same [] [] turn = refl
-same_shown R shown same [] (y ∷ ys) turn = absurd turn
-same_shown R shown same (x ∷ xs) [] turn = absurd turn
 same_shown R shown same (x ∷ xs) (y ∷ ys) turn = λ i. same x y turn.0 i ∷ same_shown R shown same xs ys turn.1 i
+same_shown _ _ _ _ _ turn = absurd turn
 
 -- a copy that stands for the same as a key ties with it, where keys tie exactly as what they stand for is the same
 pub copy_ties : {K P : Type 0} (R : K → K → Ordering) (shown : K → P) → ((a b : K) → (R a b ≡ Equal) ↔ (shown a ≡ shown b)) → (key given : K)

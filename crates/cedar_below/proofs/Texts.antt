@@ -33,10 +33,6 @@ texts_cmp-IsAntisymmetric = slice_cmp-IsAntisymmetric text_cmp-IsAntisymmetric
 pub text_cmp-Equal : (a b : Text) → (text_cmp a b ≡ Equal) ↔ (a ≡ b)
 text_cmp-Equal = Equal_is_same text_cmp-total text_cmp-IsAntisymmetric
 
--- lists of texts tie exactly where they are equal
-pub texts_cmp-Equal : (a b : List Text) → (slice_cmp text_cmp a b ≡ Equal) ↔ (a ≡ b)
-texts_cmp-Equal = Equal_is_same texts_cmp-total texts_cmp-IsAntisymmetric
-
 -- the test of two texts, byte by byte, decides whether they are equal
 pub text_eq-Decides : (a b : Text) → Decides (pointwise nat_eq a b) (a ≡ b)
 text_eq-Decides = bytes_decides

@@ -1,5 +1,5 @@
 -- A uid is known by its text.
-use Rattle.std.proofs.Common.{◌≡◌, ◌≤◌, ◌==◌, ℕ, Bool, true, false, List, [], ◌∷◌, ◌++◌, Option, Some, None, codes, refl, sym, ap, ◌∙◌, arith, ⊎_elim}
+use Rattle.std.proofs.Common.{◌≡◌, ◌==◌, ℕ, Bool, true, List, [], ◌∷◌, ◌++◌, Option, Some, None, codes, refl, sym, ap, ◌∙◌, arith, inl, inr}
 use Rattle.std.proofs.lemmas.List.{append_assoc, append_cancel_right}
 use Rattle.std.proofs.Math.Utf8.{encodes}
 use Rattle.std.proofs.lemmas.Str.{encodes_same, encodes-chars, scalars-chars}
@@ -8,7 +8,7 @@ use Rattle.std.specs.Fmt.{digits}
 use Rattle.std.specs.List.{cons_option}
 use Rattle.std.specs.Str.{IsUtf8, chars}
 use Rattle.cedar_below.specs.declared.escape.Escape.{Escape}
-use Rattle.cedar_below.specs.declared.escape.Escape.TheVariants.{Whole, Backslash, Unicode, Open, Code, Closed}
+use Rattle.cedar_below.specs.declared.escape.Escape.TheVariants.{Whole}
 use Rattle.cedar_below.specs.Escapes.{escape_then, last_whole}
 use Rattle.cedar_below.specs.NameText.{IsOfIdentifiers}
 use Rattle.cedar_below.specs.PlainName.{name_text}
@@ -54,12 +54,14 @@ table_decoded last = refl
 
 -- and so is any other
 decoded-spelled : (last : Option ℕ) (c : ℕ) → decoded (Some (Whole last)) (spelled c) ≡ c ∷ []
-decoded-spelled last c = ⊎_elim
-    (λ small. (text_eq-Decides (decoded (Some (Whole last)) (spelled c)) (c ∷ [])).0 (every-at 160 (decodes_to_itself last) (table_decoded last) c small))
-    (λ large. ap (decoded (Some (Whole last))) (spelled-wide c large)
-    ∙ ap (λ escape. cons_option (last_read escape) (decoded escape [])) (cond_false (c == 92) _ _ (other c 92 large (omega arith))
-    ∙ cond_false (c == 34) _ _ (other c 34 large (omega arith)) ∙ cond_false (is_control c) _ _ (no_control c large)))
-    (below_or_not c 160)
+decoded-spelled last c = elim (below_or_not c 160) [
+  | inl small ↦
+      (text_eq-Decides (decoded (Some (Whole last)) (spelled c)) (c ∷ [])).0 (every-at 160 (decodes_to_itself last) (table_decoded last) c small)
+  | inr large ↦
+      ap (decoded (Some (Whole last))) (spelled-wide c large)
+      ∙ ap (λ escape. cons_option (last_read escape) (decoded escape [])) (cond_false (c == 92) _ _ (other c 92 large (omega arith))
+      ∙ cond_false (c == 34) _ _ (other c 34 large (omega arith)) ∙ cond_false (is_control c) _ _ (no_control c large))
+]
 
 -- the characters of an id are read from how it stands in quotes
 decoded-all_spelled : (last : Option ℕ) (es : List ℕ) → decoded (Some (Whole last)) (all_spelled es ++ 34 ∷ []) ≡ es

@@ -1,5 +1,5 @@
 -- Value trees, and arguments that fit.
-use Rattle.std.proofs.Common.{◌≡◌, ◌⊎◌, inl, inr, ⊎_elim, Bool, true, false, refl, sym, ap, subst, ◌∙◌, List, [], ◌∷◌, map, Option, Some, None, if◌then◌else◌, string_bytes, cond, Vec, Contains, arith, Bor, Box, ◌==◌, not, ℕ, suc, ◌+◌, ◌<◌, length, get_or, drop, drop-cons, add-one}
+use Rattle.std.proofs.Common.{◌≡◌, ◌⊎◌, inl, inr, Bool, true, false, refl, sym, ap, ◌∙◌, List, [], ◌∷◌, map, Option, Some, None, if◌then◌else◌, string_bytes, cond, Vec, Contains, arith, Bor, Box, ◌==◌, not, ℕ, suc, ◌+◌, ◌<◌, length, get_or, drop, drop-cons, add-one}
 use Rattle.std.proofs.lemmas.Slice.Eq.{bytes_eq-Decides}
 use Rattle.cedar_below.proofs.Inclusion.{chosen}
 use Rattle.cedar_below.proofs.Lists.{Contains-cons, Contains-cons_cases}
@@ -143,8 +143,8 @@ lookup-names name (first ∷ rest) =
     chosen (bytes_eq name key) first.1 _ (name ≡ key) (Contains (map (λ entry. string_bytes entry.0) rest) name) same
     (lookup-names name rest) in
     rw (is_eq-slice_cmp name key) (
-      λ e. Contains-cons key _ name (⊎_elim (λ s. inl (sym s)) (λ there. inr there) (either.0 e)),
-      λ among. either.1 (⊎_elim (λ s. inl (sym s)) (λ there. inr there) (Contains-cons_cases key _ name among)),
+      λ e. Contains-cons key _ name (elim (either.0 e) [ inl s ↦ inl (sym s) | inr there ↦ inr there ]),
+      λ among. either.1 (elim (Contains-cons_cases key _ name among) [ inl s ↦ inl (sym s) | inr there ↦ inr there ]),
     )
 
 -- the names of a core type's attributes are the keys
@@ -157,9 +157,7 @@ core_names-entries (first ∷ rest) = ap (λ names. string_bytes first.0 ∷ nam
 -- whether an attribute of that name is found decides whether the name is listed
 pub listed-Decides : (name : Text) (attrs : BTreeMap (String Global) CoreAttributeType)
     → Decides (is_some (get_by_text attrs name)) (Contains (core_names (core_fields_of attrs)) name)
-listed-Decides name attrs =
-    let P : List Text → Type 0 = λ names. Decides (is_some (get_by_text attrs name)) (Contains names name) in
-    subst P (sym (core_names-entries attrs.entries)) (lookup-names name attrs.entries)
+listed-Decides name attrs = rw (core_names-entries attrs.entries) (lookup-names name attrs.entries)
 
 -- from a place on, a list is the element there and what follows
 pub drop-at : {X : Type 0} (xs : List X) (i : ℕ) (x : X) → i < length xs → x ≡ get_or xs i x → drop i xs ≡ x ∷ drop (i + 1) xs
@@ -171,8 +169,7 @@ pub EntryFits-Some : (P : Tree → Type 0) (required : Bool) (name : Text)
     (b : Bool) → option_copied got ≡ get_by_text values name → got ≡ Some value → Decides b (P (tree_of value.now))
     → Decides b (EntryFits P required (entry_at name (entries_of values)))
 EntryFits-Some P required name values got value b found is decides =
-    let Q : Option Tree → Type 0 = λ at. Decides b (EntryFits P required at) in
-    subst Q (sym (entry_at-entries name values.entries ∙ ap (option_map tree_of) (sym found ∙ ap option_copied is))) decides
+    rw (entry_at-entries name values.entries ∙ ap (option_map tree_of) (sym found ∙ ap option_copied is)) decides
 
 -- a test decides whether a name may be missing
 pub EntryFits-None : (P : Tree → Type 0) (required : Bool) (name : Text)
@@ -180,8 +177,7 @@ pub EntryFits-None : (P : Tree → Type 0) (required : Bool) (name : Text)
     → option_copied got ≡ get_by_text values name → got ≡ None → Decides b (required ≡ false)
     → Decides b (EntryFits P required (entry_at name (entries_of values)))
 EntryFits-None P required name values got b found is decides =
-    let Q : Option Tree → Type 0 = λ at. Decides b (EntryFits P required at) in
-    subst Q (sym (entry_at-entries name values.entries ∙ ap (option_map tree_of) (sym found ∙ ap option_copied is))) decides
+    rw (entry_at-entries name values.entries ∙ ap (option_map tree_of) (sym found ∙ ap option_copied is)) decides
 
 -- the opposite of a flag decides whether it is false
 pub not-Decides : (required b : Bool) → b ≡ not required → Decides b (required ≡ false)

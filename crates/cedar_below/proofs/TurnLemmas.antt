@@ -6,9 +6,8 @@ module _ {A B : Type 0} (R : A → B → Type 0) where
   -- it holds of one more of both
   pub turn_more : (xs : List A) (ys : List B) (x : A) (y : B) → HoldsPairwise R xs ys → R x y → HoldsPairwise R (xs ++ x ∷ []) (ys ++ y ∷ [])
   turn_more [] [] x y turn here = (here, tt)
-  turn_more [] (other ∷ ys) x y turn here = absurd turn
-  turn_more (first ∷ xs) [] x y turn here = absurd turn
   turn_more (first ∷ xs) (other ∷ ys) x y turn here = (turn.0, turn_more xs ys x y turn.1 here)
+  turn_more _ _ _ _ turn _ = absurd turn
 
 -- where a relation implies another, so it does in turn
 pub turn_weaker : {A B : Type 0} (R S : A → B → Type 0) → ((x : A) (y : B) → R x y → S x y) → (xs : List A) (ys : List B)

@@ -1,18 +1,17 @@
 -- How a uid is read: what stands before its first quote, and its id.
-use Rattle.std.proofs.Common.{◌≡◌, ◌≢◌, ◌<◌, ◌≤◌, ◌+◌, ◌-◌, ℕ, suc, zero, Bool, true, false, List, [], ◌∷◌, ◌++◌, ◌&&◌, ◌==◌, codes, length, take, drop, refl, sym, ap, ◌∙◌, subst, arith, append-nil, not, All, ⊎_elim, get_or}
-use Rattle.std.proofs.Math.ListN.{length-append, length-take}
+use Rattle.std.proofs.Common.{◌≡◌, ◌≢◌, ◌<◌, ◌+◌, ◌-◌, ℕ, suc, zero, Bool, true, false, [], ◌∷◌, ◌++◌, ◌&&◌, ◌==◌, codes, length, take, refl, sym, ap, ◌∙◌, subst, arith, append-nil, not, get_or, inl, inr}
+use Rattle.std.proofs.Math.ListN.{length-append}
 use Rattle.std.proofs.Math.Utf8.{encode}
-use Rattle.std.proofs.Math.Seq.{take-append_seam, take-append-add}
+use Rattle.std.proofs.Math.Seq.{take-append-add}
 use Rattle.std.proofs.lemmas.Bool.{false≢true, eqb-true, ne_eqb}
-use Rattle.std.proofs.lemmas.List.{append_assoc, flat_map_more, take_all, take-append-le, take-append-drop}
+use Rattle.std.proofs.lemmas.List.{append_assoc, flat_map_more, take_all, take-append-le}
 use Rattle.std.proofs.lemmas.List.Elements.{All-push}
-use Rattle.std.proofs.lemmas.List.Folds.{list_all-append}
 use Rattle.std.proofs.lemmas.Str.{IsUtf8-append, IsUtf8-nil, chars-nil}
 use Rattle.std.specs.List.{flat_map, list_all}
 use Rattle.std.specs.Str.{IsUtf8}
 use Rattle.cedar_below.specs.Identifier.{IsIdentifier}
 use Rattle.cedar_below.specs.declared.name_fault.NameFault.{NameFault}
-use Rattle.cedar_below.specs.declared.name_fault.NameFault.TheVariants.{NotAName, Reserved, NoCommonType, Memory}
+use Rattle.cedar_below.specs.declared.name_fault.NameFault.TheVariants.{NotAName, Memory}
 use Rattle.cedar_below.specs.NameFault.{IsNameFault}
 use Rattle.cedar_below.specs.NameText.{IsNameText, IsOfIdentifiers}
 use Rattle.cedar_below.specs.PlainName.{PlainName, name_text}
@@ -129,8 +128,7 @@ take_behind : (before after : Text) (k : ℕ) → take (length before + 1 + k) (
 take_behind before after k =
     let front : Text = before ++ 34 ∷ [] in
     let long : length before + 1 + k ≡ length front + k = (let sum = length-append before (34 ∷ []) in omega (arith, sum)) in
-    ap (λ n. take n (before ++ 34 ∷ after)) long
-    ∙ ap (take (length front + k)) (sym (append_assoc before (34 ∷ []) after))
+    ap (λ n. take n (before ++ 34 ∷ after)) long ∙ ap (take (length front + k)) (sym (append_assoc before (34 ∷ []) after))
     ∙ take-append-add front after k ∙ append_assoc before (34 ∷ []) (take k after)
 
 -- a text without quotes stops being a uid's where it stops beginning a name
@@ -158,13 +156,13 @@ stops_before_quote before after at free none most =
         within = (let inside = most.within in let long = length-append before (34 ∷ after) in omega (arith, inside, long));
         whole = subst IsUtf8 (sym front) most.whole;
         begins = subst (Begins IsUidText) (sym front) (begins_uid (take at before) most.begins);
-        longest = λ longer more inside utf8 begun. ⊎_elim
-            (λ beyond. behind_quote longer beyond begun)
-            (λ short.
-            let same : take longer (before ++ 34 ∷ after) ≡ take longer before = take-append-le longer before (34 ∷ after) short in
-            most.longest longer more short (subst IsUtf8 same utf8)
-            (begins_name (take longer before) (front-no_quote longer before free) (subst (Begins IsUidText) same begun)))
-            (below_or_not (length before) longer);
+        longest = λ longer more inside utf8 begun. elim (below_or_not (length before) longer) [
+          | inl beyond ↦ behind_quote longer beyond begun
+          | inr short ↦
+              let same : take longer (before ++ 34 ∷ after) ≡ take longer before = take-append-le longer before (34 ∷ after) short in
+              most.longest longer more short (subst IsUtf8 same utf8)
+              (begins_name (take longer before) (front-no_quote longer before free) (subst (Begins IsUidText) same begun))
+        ];
       };
     }
   where
@@ -243,18 +241,16 @@ no_quote_by_bytes (c ∷ text) others =
 pub fault_without_quote : (text : Text) (fault : NameFault) → HasNoQuote text → IsTypeFault text fault
     → IsNameFault IsUidText IsReservedUidText (λ _. ⊥) text fault
 fault_without_quote text (NotAName at) free is = stops_without_quote text at free is
-fault_without_quote text Reserved free is = absurd is
-fault_without_quote text NoCommonType free is = absurd is
 fault_without_quote text (Memory refused) free is = tt
+fault_without_quote _ _ _ is = absurd is
 
 -- and one in which no name and `::` stand before the first quote
 pub fault_before_quote : (before after : Text) (fault : NameFault) → HasNoQuote before
     → ((name : PlainName) → IsOfIdentifiers name → before ≢ name_text name ++ codes "::") → IsTypeFault before fault
     → IsNameFault IsUidText IsReservedUidText (λ _. ⊥) (before ++ 34 ∷ after) fault
 fault_before_quote before after (NotAName at) free none is = stops_before_quote before after at free none is
-fault_before_quote before after Reserved free none is = absurd is
-fault_before_quote before after NoCommonType free none is = absurd is
 fault_before_quote before after (Memory refused) free none is = tt
+fault_before_quote _ _ _ _ _ is = absurd is
 
 -- a uid's text by its parts
 pub uid_by_parts : (uid : PlainUid) (before after : Text) → before ≡ name_text uid.ty ++ codes "::" → escaped_text uid.eid ++ codes "\"" ≡ after
@@ -264,6 +260,5 @@ uid_by_parts uid before after front rest = uid_text-split uid ∙ (λ i. sym fro
 -- why a text doesn't go on to a uid, from why it is no name
 pub type_fault_by_name : (text : Text) (fault : NameFault) → IsNameFault IsNameText (λ _. ⊥) (λ _. ⊥) text fault → IsTypeFault text fault
 type_fault_by_name text (NotAName at) stop = stop.beginning
-type_fault_by_name text Reserved is = absurd is
-type_fault_by_name text NoCommonType is = absurd is
 type_fault_by_name text (Memory refused) is = tt
+type_fault_by_name _ _ is = absurd is

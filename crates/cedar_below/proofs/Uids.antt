@@ -22,8 +22,7 @@ use Rattle.cedar_below.proofs.PlainNames.{uid_cmp-Equal}
 pub entity_uid_eq-same : (a b : EntityUID) → IsTrue ((entity_uid_eq.ghosts).eq a b) ↔ (uid_of a ≡ uid_of b)
 entity_uid_eq-same a b =
     Decides-like
-    _
-    (λ both i. record { ty = both.0 i; eid = both.1 i })
+    _ (λ both i. record { ty = both.0 i; eid = both.1 i })
     (λ e. (ap (λ (uid : PlainUid). uid.ty) e, ap (λ (uid : PlainUid). uid.eid) e))
     (Decides-and _ _ (entity_type_eq-same a.ty b.ty) (eid_eq-same a.eid.value b.eid.value))
 

@@ -1,5 +1,5 @@
 -- Copies of values.
-use Rattle.std.proofs.Common.{◌≡◌, ⊎_elim, Bool, refl, ap, sym, subst, ◌∙◌, List, [], ◌∷◌, ◌++◌, map, Contains, arith, string_bytes, string_cmp, append_assoc, Global}
+use Rattle.std.proofs.Common.{◌≡◌, Bool, refl, ap, sym, subst, ◌∙◌, List, [], ◌∷◌, ◌++◌, map, Contains, arith, string_bytes, string_cmp, append_assoc, Global, inl, inr}
 use Rattle.std.proofs.lemmas.List.{map-append, append-nil}
 use Rattle.std.proofs.lemmas.Str.{IsUtf8-string_bytes}
 use Rattle.std.specs.BTreeMap.{BTreeMap, insert_entry}
@@ -106,8 +106,10 @@ AreReal (pair ∷ rest) = IsValue (tree_of pair.1) × AreReal rest
 absent_below : (name : Text) (names : List Text) → AllByRecursion (λ other. text_cmp name other ≡ Less) names → ¬ Contains names name
 absent_below name [] below among = omega (arith, among.1)
 absent_below name (first ∷ rest) below among =
-    ⊎_elim (λ same. not_itself text_cmp text_cmp-total name first (sym same) below.0) (absent_below name rest below.1)
-    (Contains-cons_cases first rest name among)
+    elim (Contains-cons_cases first rest name among) [
+      | inl same ↦ not_itself text_cmp text_cmp-total name first (sym same) below.0
+      | inr right ↦ absent_below name rest below.1 right
+    ]
 
 -- real values whose names are sorted without duplicates are the values of a record
 pub entries_real : (pairs : Pairs) → IsStrictlySortedBy text_cmp (texts pairs) → AreReal pairs → AreEntries (entries_from (plain_pairs pairs))
@@ -117,8 +119,7 @@ entries_real (pair ∷ rest) sorted_by_name real = (
   IsUtf8-string_bytes pair.0,
   real.0,
   entries_real rest sorted_by_name.1 real.1,
-  (let P : List Text → Type 0 = λ names. ¬ Contains names (string_bytes pair.0) in
-      subst P (sym (entry_names-entries rest)) (absent_below (string_bytes pair.0) (texts rest) sorted_by_name.0)),
+  (rw (entry_names-entries rest) (absent_below (string_bytes pair.0) (texts rest) sorted_by_name.0)),
 )
 
 -- the values of a record are real
@@ -144,15 +145,6 @@ pub record EntriesSoFar (all made left : Pairs) : Type 0 where
   pub same : plain_pairs made ≡ plain_pairs done
   pub real : AreReal made
 
--- at first none is copied
-pub entries_first : (all left made : Pairs) → all ≡ left → made ≡ [] → EntriesSoFar all made left
-entries_first all left made is nothing = record {
-  done = [];
-  split = is;
-  same = ap plain_pairs nothing;
-  real = subst AreReal (sym nothing) tt;
-}
-
 -- a key above the names of all others is above their keys
 keys_below : (key : String Global) (name : Text) (pairs : Pairs) → string_bytes key ≡ name
     → AllByRecursion (λ other. text_cmp name other ≡ Greater) (texts pairs)
@@ -172,18 +164,15 @@ pub entries_more : (all made left rest : Pairs) (key copied : String Global) (va
     → IsCopy (tree_of value) (tree_of copy) → EntriesSoFar all made left → EntriesSoFar all (insert_entry string_cmp made copied copy) rest
 entries_more all made left rest key copied value copy sorted_by_name is named one so_far =
     let name = string_bytes key in
-    let P : List Text → Type 0 = IsStrictlySortedBy text_cmp in
-    let Q : List Text → Type 0 = AllByRecursion (λ other. text_cmp name other ≡ Greater) in
-    let R : Pairs → Type 0 = λ pairs. EntriesSoFar all pairs rest in
     let whole : texts all ≡ texts so_far.done ++ name ∷ texts rest =
     ap texts (so_far.split ∙ ap (λ others. so_far.done ++ others) is) ∙ map-append (λ pair. string_bytes pair.0) so_far.done ((key, value) ∷ rest) in
     let before : texts so_far.done ≡ texts made =
     texts-plain so_far.done ∙ (ap (map (λ (pair : Text × Tree). pair.0)) (sym so_far.same) ∙ sym (texts-plain made)) in
-    let above : Q (texts made) = subst Q before (above_front text_cmp-total (texts so_far.done) name (texts rest) (subst P whole sorted_by_name)) in
+    let above = rw before at (above_front text_cmp-total (texts so_far.done) name (texts rest) (rw whole at sorted_by_name)) in
     let at_end : insert_entry string_cmp made copied copy ≡ made ++ (copied, copy) ∷ [] =
     insert_entry-end string_cmp made copied copy (keys_below copied name made named above) in
     let pair : (string_bytes copied, tree_of copy) ≡ (name, tree_of value) = λ i. (named i, one.0 i) in
-    subst R (sym at_end) (record {
+    rw at_end (record {
       done = so_far.done ++ (key, value) ∷ [];
       split = so_far.split ∙ (ap (λ others. so_far.done ++ others) is ∙ sym (append_assoc so_far.done ((key, value) ∷ []) rest));
       same = map-append (λ each. (string_bytes each.0, tree_of each.1)) made ((copied, copy) ∷ [])

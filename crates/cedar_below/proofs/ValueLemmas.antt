@@ -1,5 +1,5 @@
 -- Texts and names of a length, which strings and names can hold, and names that aren't reserved.
-use Rattle.std.proofs.Common.{◌≡◌, ◌≢◌, ◌<◌, true, refl, sym, ap, ◌∙◌, ℕ, zero, suc, length, [], ◌∷◌, ◌==◌, ⊎_elim, slice_index, slice_index_or, arith}
+use Rattle.std.proofs.Common.{◌≡◌, ◌≢◌, ◌<◌, true, refl, sym, ap, ◌∙◌, ℕ, zero, suc, length, [], ◌∷◌, ◌==◌, slice_index, slice_index_or, arith, inl, inr}
 use Rattle.std.proofs.lemmas.Bool.{false≢true}
 use Rattle.std.proofs.lemmas.List.Elements.{All-nil, All-map}
 use Rattle.std.proofs.lemmas.Str.{IsUtf8-from_ascii, IsUtf8-nil}
@@ -65,7 +65,7 @@ pub IsName-stretch : (k : ℕ) → IsName (stretch_name k)
 IsName-stretch k = (
   IsIdentifier-stretch k,
   All-nil IsIdentifier,
-  ⊎_elim (stretch-unreserved (suc k)) (λ among. omega (arith, among.1)),
+  elim [ inl left ↦ stretch-unreserved (suc k) left | inr among ↦ omega (arith, among.1) ],
 )
 
 -- what a name stands for isn't reserved

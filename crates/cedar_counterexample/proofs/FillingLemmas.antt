@@ -1,5 +1,5 @@
 -- Records that are filled up with samples.
-use Rattle.std.proofs.Common.{◌≡◌, ◌≢◌, ◌⊎◌, inl, inr, ⊎_elim, Bool, true, false, refl, sym, subst, ◌∙◌, [], Option, Some, None, Contains, arith, Global}
+use Rattle.std.proofs.Common.{◌≡◌, ◌≢◌, ◌⊎◌, inl, inr, Bool, true, false, refl, sym, subst, ◌∙◌, [], Option, Some, None, Contains, arith, Global}
 use Rattle.std.proofs.lemmas.Option.{same_Some}
 use Rattle.std.proofs.lemmas.Slice.Eq.{bytes_eq-Decides}
 use Rattle.std.specs.BTreeMap.{BTreeMap, get_by_text}
@@ -46,12 +46,15 @@ nothing_or (Some value) = inr (value, refl)
 pub named_entry : (name : Text) (values : Entries) → Contains (entry_names values) name → (value : Tree) × (entry_at name values ≡ Some value)
 named_entry name no_entry among = absurd (omega (arith, among.1))
 named_entry name (entry other value rest) among =
-    ⊎_elim
-    (λ same. (value, entry_here name other value rest same))
-    (λ differ. (let there : Contains (entry_names rest) name = ⊎_elim (λ same. absurd (differ (sym same))) (λ there. there)
-    (Contains-cons_cases other (entry_names rest) name among) in
-    let found = named_entry name rest there in (found.0, entry_there name other value rest differ ∙ found.1)))
-    (decide_texts name other)
+    elim (decide_texts name other) [
+      | inl same ↦ (value, entry_here name other value rest same)
+      | inr differ ↦
+          let there : Contains (entry_names rest) name = elim (Contains-cons_cases other (entry_names rest) name among) [
+            | inl same ↦ absurd (differ (sym same))
+            | inr there ↦ there
+          ] in
+          let found = named_entry name rest there in (found.0, entry_there name other value rest differ ∙ found.1)
+    ]
 
 -- where a value was put, it is
 pub put_here : (name : Text) (value : Tree) (old new : Entries) → IsPut name value old new → entry_at name new ≡ Some value
@@ -68,8 +71,7 @@ put_there name value old new other put differ =
 apart_from : (values : Entries) (name other : Text) (value : Tree) → entry_at name values ≡ None → entry_at other values ≡ Some value
     → other ≢ name
 apart_from values name other value none found same =
-    let P : Text → Type 0 = λ n. entry_at n values ≡ Some value in
-    let wrong : None ≡ Some value = sym none ∙ subst P same found in
+    let wrong : None ≡ Some value = sym none ∙ rw same at found in
     absurd cc
 
 -- values are filled up so far: for the attributes of which none is left
@@ -83,16 +85,6 @@ pub record FillingSoFar (extensions : Extensions) (all : Fields) (start : Entrie
   pub within : FieldsWithin left all
 
 module _ (extensions : Extensions) (all : Fields) (start : Entries) where
-  -- at first all are left
-  pub filling_first : FillingSoFar extensions all start all start
-  filling_first = record {
-    kept = λ name value found. found;
-    filled = λ name ty has. inl has;
-    listed = λ name value found. inl found;
-    real = λ real. real;
-    within = λ name required ty has. has;
-  }
-
   module _ (name : Text) (required : Bool) (ty : Ty) (rest : Fields) (now : Entries)
       (so_far : FillingSoFar extensions all start (field name required ty rest) now) where
     -- past an attribute that is there, if it is required, all else is left
@@ -100,13 +92,10 @@ module _ (extensions : Extensions) (all : Fields) (start : Entries) where
         → FillingSoFar extensions all start rest now
     filling_there found = record {
       kept = so_far.kept;
-      filled = λ n t has. ⊎_elim
-          (λ still. ⊎_elim
-          (λ same. inr (let P : Text → Type 0 = λ m. (value : Tree) × (entry_at m now ≡ Some value) in subst P same.0 (found same.1)))
-          (λ later. inl later)
-          still)
-          (λ done. inr done)
-          (so_far.filled n t has);
+      filled = λ n t has. elim (so_far.filled n t has) [
+        | inl still ↦ elim still [ inl same ↦ inr (rw same.0 at (found same.1)) | inr later ↦ inl later ]
+        | inr done ↦ inr done
+      ];
       listed = so_far.listed;
       real = so_far.real;
       within = λ n r t has. so_far.within n r t (inr has);
@@ -121,37 +110,22 @@ module _ (extensions : Extensions) (all : Fields) (start : Entries) where
         let own = so_far.within name true ty (inl (refl, needed, refl)) in
         record {
           kept = λ n v found. stays n v (so_far.kept n v found);
-          filled = λ n t has. ⊎_elim
-              (λ still. ⊎_elim
-              (λ same. inr (let P : Text → Type 0 = λ m. entry_at m new ≡ Some value in
-              (value, subst P same.0 (put_here name value now new put))))
-              (λ later. inl later)
-              still)
-              (λ done. inr (done.0, stays n done.0 done.1))
-              (so_far.filled n t has);
-          listed = λ n v found. ⊎_elim
-              (λ same. inr (let is : entry_at n new ≡ Some value = subst (λ m. entry_at m new ≡ Some value) (sym same)
-              (put_here name value now new put) in
-              let one : Some value ≡ Some v = sym is ∙ found in
-              (ty, subst (λ m. HasField all m true ty) (sym same) own, subst (λ w. Has extensions w ty) (same_Some value v one) sample.1)))
-              (λ differ. so_far.listed n v (sym (put_there name value now new n put differ) ∙ found))
-              (decide_texts n name);
+          filled = λ n t has. elim (so_far.filled n t has) [
+            | inl still ↦
+                elim still [ inl same ↦ inr (value, rw same.0 at (put_here name value now new put)) | inr later ↦ inl later ]
+            | inr done ↦ inr (done.0, stays n done.0 done.1)
+          ];
+          listed = λ n v found. elim (decide_texts n name) [
+            | inl same ↦
+                inr (let is : entry_at n new ≡ Some value = subst (λ m. entry_at m new ≡ Some value) (sym same)
+                (put_here name value now new put) in
+                let one : Some value ≡ Some v = sym is ∙ found in
+                (ty, subst (λ m. HasField all m true ty) (sym same) own, subst (λ w. Has extensions w ty) (same_Some value v one) sample.1))
+            | inr differ ↦ so_far.listed n v (sym (put_there name value now new n put differ) ∙ found)
+          ];
           real = λ real. put.real (so_far.real real) sample.0;
           within = λ n r t has. so_far.within n r t (inr has);
         }
-
-  -- where none is left, all is filled up
-  pub filling_all : (left : Fields) (now : Entries) → left ≡ end → FillingSoFar extensions all start left now
-      → IsFilled extensions all start now
-  filling_all left now nothing so_far =
-      let P : Fields → Type 0 = λ fields. FillingSoFar extensions all start fields now in
-      let done = subst P nothing so_far in
-      record {
-        kept = done.kept;
-        filled = λ n t has. ⊎_elim (λ still. absurd still) (λ found. found) (done.filled n t has);
-        listed = done.listed;
-        real = done.real;
-      }
 
 -- what is filled up has listed names where what it began with had
 filled_listed : (extensions : Extensions) (fields : Fields) (openness : OpenTag) (start whole : Entries) → IsFilled extensions fields start whole
@@ -160,8 +134,10 @@ filled_listed : (extensions : Extensions) (fields : Fields) (openness : OpenTag)
 filled_listed extensions fields OpenAttributes start whole filled listed = tt
 filled_listed extensions fields ClosedAttributes start whole filled listed = λ name among.
     let found = named_entry name whole among in
-    ⊎_elim (λ there. listed name (entry_named name start found.0 there)) (λ own. HasField-name fields name true own.0 own.1)
-    (filled.listed name found.0 found.1)
+    elim (filled.listed name found.0 found.1) [
+      | inl there ↦ listed name (entry_named name start found.0 there)
+      | inr own ↦ HasField-name fields name true own.0 own.1
+    ]
 
 -- where what is filled up has no value, no attribute is required
 missing_optional : (extensions : Extensions) (fields : Fields) (start whole : Entries) → IsFilled extensions fields start whole → (name : Text)
@@ -179,23 +155,24 @@ pub filled_has : (extensions : Extensions) (fields : Fields) (openness : OpenTag
     → NamesListed (is_open openness) (entry_names start) (field_names fields) → Has extensions (map_value whole) (record_of fields openness)
 filled_has extensions fields openness start whole sorted_by_name filled fits listed = (
   filled_listed extensions fields openness start whole filled listed,
-  HasFields-from (Gives extensions) whole fields
-      (λ n r t has. ⊎_elim
-      (λ none. subst (EntryFits (λ v. Has extensions v t) r) (sym none) (missing_optional extensions fields start whole filled n r t has none))
-      (λ there. fits_some (λ v. Has extensions v t) r (entry_at n whole) there.0 there.1
-      (⊎_elim
-      (λ begun. fits n there.0 r t begun has)
-      (λ own. subst (Has extensions there.0) (HasField-once fields n true r own.0 t sorted_by_name own.1 has).1 own.2)
-      (filled.listed n there.0 there.1)))
-      (nothing_or (entry_at n whole))),
+  HasFields-from (Gives extensions) whole fields (λ n r t has. elim (nothing_or (entry_at n whole)) [
+    | inl none ↦
+        subst (EntryFits (λ v. Has extensions v t) r) (sym none) (missing_optional extensions fields start whole filled n r t has none)
+    | inr there ↦
+        fits_some (λ v. Has extensions v t) r (entry_at n whole) there.0 there.1
+        (elim (filled.listed n there.0 there.1) [
+          | inl begun ↦ fits n there.0 r t begun has
+          | inr own ↦
+              subst (Has extensions there.0) (HasField-once fields n true r own.0 t sorted_by_name own.1 has).1 own.2
+        ])
+  ]),
 )
 
 -- what is filled up from nothing is a value of the record
 pub record_sample : (extensions : Extensions) (fields : Fields) (openness : OpenTag) (start whole : Entries) → IsSortedByName fields
     → start ≡ no_entry → IsFilled extensions fields start whole → IsValueOf extensions (record_of fields openness) (map_value whole)
 record_sample extensions fields openness start whole sorted_by_name nothing filled =
-    let P : Entries → Type 0 = λ begun. IsFilled extensions fields begun whole in
-    let all = subst P nothing filled in (
+    let all = rw nothing at filled in (
       all.real tt,
       filled_has extensions fields openness no_entry whole sorted_by_name all (λ n v r t found has. absurd cc)
           (only_listed openness no_entry fields (Included-none (field_names fields))),
@@ -226,15 +203,10 @@ pub entity_sample : (extensions : Extensions) (of : EntityKind) (ty : EntityType
     → value ≡ uid_value (record { ty = type_name ty; eid = [] }) → type_name ty ≡ name
     → HasUid (record { ty = name; eid = [] }) (kind_ty of) → IsValueOf extensions (kind_ty of) value
 entity_sample extensions of ty name value is named has =
-    let P : Tree → Type 0 = IsValueOf extensions (kind_ty of) in
-    let Q : PlainName → Type 0 = λ n. HasUid (record { ty = n; eid = [] }) (kind_ty of) in
-    subst P (sym is) (uid_is_value (type_name ty) (IsName-type_name ty), subst Q (sym named) has)
+    rw is (uid_is_value (type_name ty) (IsName-type_name ty), rw named has)
 
 -- an entity whose type isn't of a kind isn't of the kind
 pub entity_apart : (extensions : Extensions) (of : EntityKind) (ty : EntityType) (name : PlainName) (value : Tree)
     → value ≡ uid_value (record { ty = type_name ty; eid = [] }) → type_name ty ≡ name
     → ¬ HasUid (record { ty = name; eid = [] }) (kind_ty of) → ¬ Has extensions value (kind_ty of)
-entity_apart extensions of ty name value is named lacks has =
-    let P : Tree → Type 0 = λ tree. Has extensions tree (kind_ty of) in
-    let Q : PlainName → Type 0 = λ n. HasUid (record { ty = n; eid = [] }) (kind_ty of) in
-    lacks (subst Q named (subst P is has))
+entity_apart extensions of ty name value is named lacks has = lacks (rw (is, named) at has)

@@ -1,5 +1,5 @@
 -- Texts that are longer than all of some.
-use Rattle.std.proofs.Common.{◌≡◌, ◌≤◌, ◌⊎◌, ◌+◌, inl, inr, ⊎_elim, refl, ap, subst, ℕ, zero, suc, List, [], ◌∷◌, length, Contains, arith, add-one}
+use Rattle.std.proofs.Common.{◌≡◌, ◌≤◌, ◌⊎◌, ◌+◌, inl, inr, refl, ap, subst, ℕ, zero, suc, List, [], ◌∷◌, length, Contains, arith, add-one}
 use Rattle.std.proofs.Math.ListN.{replicate}
 use Rattle.cedar_below.proofs.Lists.{Contains-cons_cases}
 use Rattle.cedar_below.proofs.ValueLemmas.{stretch}
@@ -22,19 +22,11 @@ LongestSoFar {A} f all left longest = (x : A) → Contains all x → Contains le
 pub longest_next : {A : Type 0} (f : A → Text) (all rest : List A) (first : A) (longest next : ℕ) → longest ≤ next
     → length (f first) ≤ next → LongestSoFar f all (first ∷ rest) longest → LongestSoFar f all rest next
 longest_next f all rest first longest next more long so_far x among =
-    ⊎_elim
-    (λ still. ⊎_elim (λ same. inr (subst (λ y. length (f y) ≤ next) same long)) (λ there. inl there) (Contains-cons_cases first rest x still))
-    (λ less. inr (omega (arith, less, more)))
-    (so_far x among)
-
--- where none is left, none is longer
-pub longest_all : {A : Type 0} (f : A → Text) (all left : List A) (longest : ℕ) → left ≡ [] → LongestSoFar f all left longest
-    → (x : A) → Contains all x → length (f x) ≤ longest
-longest_all f all left longest nothing so_far x among =
-    let P : List _ → Type 0 = λ xs. Contains xs x in
-    ⊎_elim (λ still. absurd (let there = subst P nothing still in omega (arith, there.1))) (λ less. less) (so_far x among)
-
--- one that is longer than all isn't one of them
-pub longer_apart : {A : Type 0} (f : A → Text) (all : List A) (longest : ℕ) (x : A) → ((y : A) → Contains all y → length (f y) ≤ longest)
-    → length (f x) ≡ longest + 1 → ¬ Contains all x
-longer_apart f all longest x none longer among = (let less = none x among in omega (arith, less, longer))
+    elim (so_far x among) [
+      | inl still ↦
+          elim (Contains-cons_cases first rest x still) [
+            | inl same ↦ inr (subst (λ y. length (f y) ≤ next) same long)
+            | inr there ↦ inl there
+          ]
+      | inr less ↦ inr (omega (arith, less, more))
+    ]

@@ -8,10 +8,6 @@ abbrev pub IncludedSoFar : {A : Type 0} → List A → List A → List A → Typ
 IncludedSoFar lower upper left = (Included left upper → Included lower upper) × Included left lower
 
 module _ {A : Type 0} (lower upper : List A) where
-  -- at first all is left
-  pub included_first : (left : List A) → left ≡ lower → IncludedSoFar lower upper left
-  included_first left is = subst (IncludedSoFar lower upper) (sym is) ((λ all. all), λ x among. among)
-
   -- the next member is one of the list
   pub included_here : (x : A) (rest : List A) → IncludedSoFar lower upper (x ∷ rest) → Contains lower x
   included_here x rest so_far = Included-head x rest lower so_far.1
@@ -20,7 +16,3 @@ module _ {A : Type 0} (lower upper : List A) where
   pub included_next : (x : A) (rest : List A) → IncludedSoFar lower upper (x ∷ rest) → Contains upper x → IncludedSoFar lower upper rest
   included_next x rest so_far there =
       ((λ others. so_far.0 (Included-cons x rest upper there others)), Included-tail x rest lower so_far.1)
-
-  -- where none is left, all is included
-  pub included_all : (left : List A) → left ≡ [] → IncludedSoFar lower upper left → Included lower upper
-  included_all left nothing so_far = so_far.0 (subst (λ (xs : List A). Included xs upper) (sym nothing) (Included-none upper))

@@ -44,8 +44,7 @@ named_more all made after left rest name expr value is opens inserted so_far =
     ap keys_of split
     ∙ (map-append (λ entry. entry.0) (opened made) ((name, expr) ∷ rest) ∙ ap (λ keys. keys ++ name ∷ keys_of rest) (keys-opened made)) in
     let behind : after ≡ made ++ (name, value) ∷ [] =
-    inserted
-    ∙ insert_entry-end string_cmp made name value
+    inserted ∙ insert_entry-end string_cmp made name value
     (above_front string_cmp_total (keys_of made) name (keys_of rest) (subst (IsStrictlySortedBy string_cmp) names so_far.ordered)) in
     let more : opened made ++ (name, expr) ∷ [] ≡ opened after =
     sym (ap opened behind

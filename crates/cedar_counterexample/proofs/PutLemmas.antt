@@ -1,5 +1,5 @@
 -- Values that are put into records.
-use Rattle.std.proofs.Common.{◌≡◌, Bool, true, false, refl, ap, sym, subst, ◌∙◌, [], ◌∷◌, Some, string_bytes, string_cmp, if◌then◌else◌, Global}
+use Rattle.std.proofs.Common.{◌≡◌, Bool, true, false, refl, ap, sym, ◌∙◌, [], ◌∷◌, Some, string_bytes, string_cmp, if◌then◌else◌, Global}
 use Rattle.std.proofs.lemmas.Slice.Eq.{bytes_eq-Decides}
 use Rattle.std.specs.BTreeMap.{insert_entry}
 use Rattle.std.specs.Ordering.{match_ordering}
@@ -40,9 +40,7 @@ module _ (key : String Global) (value : RestrictedExpr) where
   found_at name pair rest later Equal is before =
       let same : string_bytes key ≡ string_bytes pair.0 = (text_cmp-Equal (string_bytes key) (string_bytes pair.0)).0 is in
       let others = entry_at name (entries_from (plain_pairs rest)) in
-      let P : Text → Type 0 = λ text. (if bytes_eq name text then Some (tree_of value) else others)
-      ≡ (if bytes_eq name (string_bytes key) then Some (tree_of value) else (if bytes_eq name text then Some (tree_of pair.1) else others)) in
-      subst P same (chosen_again (bytes_eq name (string_bytes key)) (Some (tree_of value)) (Some (tree_of pair.1)) others)
+      rw (← same) (chosen_again (bytes_eq name (string_bytes key)) (Some (tree_of value)) (Some (tree_of pair.1)) others)
   found_at name pair rest later Greater is before =
       ap (λ others. if bytes_eq name (string_bytes pair.0) then Some (tree_of pair.1) else others) before
       ∙ chosen_apart (bytes_eq name (string_bytes pair.0)) (bytes_eq name (string_bytes key)) (Some (tree_of pair.1)) (Some (tree_of value))

@@ -1,5 +1,5 @@
 -- The sizes of plain types.
-use Rattle.std.proofs.Common.{◌<◌, ◌+◌, ℕ, ⊎_elim, Bool, subst, arith}
+use Rattle.std.proofs.Common.{◌<◌, ◌+◌, ℕ, Bool, arith, inl, inr}
 use Rattle.cedar_below.specs.Text.{Text}
 use Rattle.cedar_type_rules.specs.Below.{HasField}
 use Rattle.cedar_type_rules.specs.Ty.{Fields, Ty, end, field, record_of, set_of}
@@ -21,7 +21,7 @@ pub attribute_smaller : (fields : Fields) (name : Text) (required : Bool) (ty : 
     → ty_size ty < fields_size fields
 attribute_smaller end name required ty has = absurd has
 attribute_smaller (field other flag of rest) name required ty has =
-    ⊎_elim
-    (λ same. (let P : Ty → Type 0 = λ t. ty_size t < ty_size of + fields_size rest + 1 in subst P same.2 (omega arith)))
-    (λ there. (let less = attribute_smaller rest name required ty there in omega (arith, less)))
-    has
+    elim has [
+      | inl same ↦ rw (← same.2) (omega arith)
+      | inr there ↦ let less = attribute_smaller rest name required ty there in omega (arith, less)
+    ]

@@ -1,5 +1,5 @@
 -- Starts of values of a record that another hasn't.
-use Rattle.std.proofs.Common.{◌≡◌, inl, inr, ⊎_elim, Bool, true, false, refl, sym, subst, ◌∙◌, List, [], Option, Some, None, Contains, arith, IsTrue}
+use Rattle.std.proofs.Common.{◌≡◌, inl, inr, Bool, true, false, refl, sym, subst, ◌∙◌, List, [], Option, Some, None, Contains, arith, IsTrue}
 use Rattle.cedar_below.proofs.Inclusion.{Included-cons, Included-none}
 use Rattle.cedar_below.proofs.Lists.{Contains-cons_cases}
 use Rattle.cedar_below.specs.Fits.{EntryFits, Gives, NamesListed}
@@ -40,10 +40,10 @@ AreInhabitedWith-of extensions samples (field other flag of rest) name required 
 -- what stands under the one name of a start is its value
 alone_is : (name other : Text) (value found : Tree) → entry_at other (entry name value no_entry) ≡ Some found → (other ≡ name) × (value ≡ found)
 alone_is name other value found is =
-    ⊎_elim
-    (λ same. (let e : Some value ≡ Some found = sym (entry_here other name value no_entry same) ∙ is in (same, cc)))
-    (λ differ. absurd (let e : None ≡ Some found = sym (entry_there other name value no_entry differ) ∙ is in cc))
-    (decide_texts other name)
+    elim (decide_texts other name) [
+      | inl same ↦ let e : Some value ≡ Some found = sym (entry_here other name value no_entry same) ∙ is in (same, cc)
+      | inr differ ↦ absurd (let e : None ≡ Some found = sym (entry_there other name value no_entry differ) ∙ is in cc)
+    ]
 
 -- where the other record requires a name that the one doesn't, nothing is a start
 pub missing_start : (extensions : Extensions) (lower upper : Fields) (openness upper_openness : OpenTag) (name : Text) (required : Bool) (ty : Ty)
@@ -56,13 +56,18 @@ missing_start extensions lower upper openness upper_openness name required ty ne
   lacks = λ whole filled has.
       let P : Option Tree → Type 0 = EntryFits (λ value. Has extensions value ty) required in
       let fits : P (entry_at name whole) = HasFieldsBy-of (Gives extensions) whole upper name required ty has.1 asked in
-      ⊎_elim
-      (λ none. (let optional : required ≡ false = subst P none fits in
-      let wrong : true ≡ false = sym needed ∙ optional in
-      absurd cc))
-      (λ there. ⊎_elim (λ found. absurd (let e : None ≡ Some there.0 = found in cc)) (λ own. never own.0 own.1) (filled.listed name there.0 there.1))
-      (nothing_or (entry_at name whole));
-  leads = λ apart. (let P : Bool → Type 0 = λ flag. HasField upper name flag ty in inr (refl, inl ((ty, subst P needed asked), never)));
+      elim (nothing_or (entry_at name whole)) [
+        | inl none ↦
+            let optional : required ≡ false = rw none at fits in
+            let wrong : true ≡ false = sym needed ∙ optional in
+            absurd cc
+        | inr there ↦
+            elim (filled.listed name there.0 there.1) [
+              | inl found ↦ absurd (let e : None ≡ Some there.0 = found in cc)
+              | inr own ↦ never own.0 own.1
+            ]
+      ];
+  leads = λ apart. (inr (refl, inl ((ty, rw needed at asked), never)));
 }
 
 -- what is filled up from a value that the type of its name hasn't isn't one of the other record
@@ -80,8 +85,7 @@ own_fits : (extensions : Extensions) (lower : Fields) (name : Text) (own_require
     → entry_at n (entry name value no_entry) ≡ Some v → HasField lower n r t → Has extensions v t
 own_fits extensions lower name own_required own value sorted_by_name has holds n v r t found there =
     let is = alone_is name n value v found in
-    let P : Text → Type 0 = λ m. HasField lower m r t in
-    let same = HasField-once lower name own_required r own t sorted_by_name has (subst P is.0 there) in
+    let same = HasField-once lower name own_required r own t sorted_by_name has (rw is.0 at there) in
     subst (Has extensions v) same.1 (subst (λ w. Has extensions w own) is.1 holds)
 
 -- a name of an attribute is listed
@@ -150,13 +154,14 @@ open_names : (lower upper : Fields) → FieldsIncluded OpenAttributes lower uppe
     → Contains (field_names lower) name
 open_names lower end parts name among = absurd (omega (arith, among.1))
 open_names lower (field other required ty rest) parts name among =
-    ⊎_elim
-    (λ same. subst (Contains (field_names lower)) same (⊎_elim
-    (λ own. HasField-name lower other own.0 own.1 own.2)
-    (λ never. absurd (let wrong : OpenAttributes ≡ ClosedAttributes = never.0 in cc))
-    parts.0))
-    (λ there. open_names lower rest parts.1 name there)
-    (Contains-cons_cases other (field_names rest) name among)
+    elim (Contains-cons_cases other (field_names rest) name among) [
+      | inl same ↦
+          subst (Contains (field_names lower)) same (elim parts.0 [
+            | inl own ↦ HasField-name lower other own.0 own.1 own.2
+            | inr never ↦ absurd (let wrong : OpenAttributes ≡ ClosedAttributes = never.0 in cc)
+          ])
+      | inr there ↦ open_names lower rest parts.1 name there
+    ]
 
 -- where an open record has all names of a closed one, a value under a further name is a start
 pub open_start : (extensions : Extensions) (lower upper : Fields) (name : Text) → IsText name → ¬ Contains (field_names lower) name
@@ -191,10 +196,6 @@ pub record CounterexampleSoFar (lower : Fields) (openness : OpenTag) (upper left
   pub within : FieldsWithin left upper
 
 module _ (lower : Fields) (openness : OpenTag) (upper : Fields) where
-  -- at first all are left
-  pub separating_first : CounterexampleSoFar lower openness upper upper
-  separating_first = record { before = λ parts. parts; within = λ n r t has. has }
-
   -- past an attribute whose values are included the rest decides
   pub separating_next : (name : Text) (required : Bool) (ty : Ty) (rest : Fields)
       → CounterexampleSoFar lower openness upper (field name required ty rest) → FieldsIncluded openness lower (field name required ty end)
@@ -204,22 +205,12 @@ module _ (lower : Fields) (openness : OpenTag) (upper : Fields) where
     within = λ n r t there. so_far.within n r t (inr there);
   }
 
-  -- where none is left, all are included
-  pub separating_all : (left : Fields) → left ≡ end → CounterexampleSoFar lower openness upper left → FieldsIncluded openness lower upper
-  separating_all left nothing so_far =
-      let P : Fields → Type 0 = CounterexampleSoFar lower openness upper in
-      let done = subst P nothing so_far in done.before tt
-
 -- a walk over the attributes of the one record: the names that are left decide about all
 pub record NamesSoFar (lower upper left : Fields) : Type 0 where
   pub before : Included (field_names left) (field_names upper) → Included (field_names lower) (field_names upper)
   pub within : FieldsWithin left lower
 
 module _ (lower upper : Fields) where
-  -- at first all are left
-  pub names_first : NamesSoFar lower upper lower
-  names_first = record { before = λ all. all; within = λ n r t has. has }
-
   -- past a name of the other the rest decides
   pub names_next : (name : Text) (required : Bool) (ty : Ty) (rest : Fields) → NamesSoFar lower upper (field name required ty rest)
       → Contains (field_names upper) name → NamesSoFar lower upper rest
@@ -230,6 +221,4 @@ module _ (lower upper : Fields) where
 
   -- where none is left, all are names of the other
   pub names_all : (left : Fields) → left ≡ end → NamesSoFar lower upper left → Included (field_names lower) (field_names upper)
-  names_all left nothing so_far =
-      let P : Fields → Type 0 = NamesSoFar lower upper in
-      let done = subst P nothing so_far in done.before (Included-none (field_names upper))
+  names_all left nothing so_far = let done = rw nothing at so_far in done.before (Included-none (field_names upper))

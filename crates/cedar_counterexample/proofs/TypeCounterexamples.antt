@@ -19,8 +19,7 @@ separated_outside extensions a b value separates within = separates.1 (within va
 -- the set type without an element type stands for the any-set
 pub ty_of-any_set : ty_of (type.Set None) ≡ any_set
 ty_of-any_set =
-    ap ty_of (sym (type.rolls-Set None))
-    ∙ (let e : ty_of (roll-Type (layer.Set None)) ≡ any_set =
+    ap ty_of (sym (type.rolls-Set None)) ∙ (let e : ty_of (roll-Type (layer.Set None)) ≡ any_set =
     fold-roll-Type Ty (Bool × Ty) Fields type_step attribute_step attributes_step (layer.Set None) in
     e)
 

@@ -1,5 +1,5 @@
 -- The entities of actions of a declared schema are those of the actions that are defined.
-use Rattle.std.proofs.Common.{List, [], ◌∷◌, map, sym, subst, ⊎_elim, Contains}
+use Rattle.std.proofs.Common.{List, [], ◌∷◌, map, sym, subst, Contains, inl, inr}
 use Rattle.cedar_below.proofs.Lists.{Contains-preimage}
 use Rattle.cedar_below.specs.PlainName.{PlainName}
 use Rattle.cedar_below.specs.PlainUid.{PlainUid}
@@ -24,15 +24,14 @@ use Rattle.cedar_declarations.specs.ValidSchema.{ListsDescendantAction}
 -- of the first item of which a fact holds it holds
 first_holds : {A : Type 0} (P : A → Type 0) (xs : List A) (x : A) → IsFirst P xs x → P x
 first_holds P [] x first = absurd first
-first_holds P (y ∷ rest) x first = ⊎_elim (λ here. subst P here.0 here.1) (λ later. first_holds P rest x later.1) first
+first_holds P (y ∷ rest) x first = elim first [ inl here ↦ subst P here.0 here.1 | inr later ↦ first_holds P rest x later.1 ]
 
 -- an action that a reference names is one of those that it may name
 named_action : (actions : List PlainUid) (reference : ActionReference) (uid : PlainUid) → NamesAction actions reference uid
     → Contains actions uid
 named_action actions reference uid names =
     let P : PlainName → Type 0 = λ ty. Contains actions (record { ty = ty; eid = reference.id }) in
-    let Q : PlainUid → Type 0 = Contains actions in
-    subst Q (λ i. record { ty = uid.ty; eid = sym names.1 i }) (first_holds P reference.ty.possibilities uid.ty names.0)
+    subst (Contains actions) (λ i. record { ty = uid.ty; eid = sym names.1 i }) (first_holds P reference.ty.possibilities uid.ty names.0)
 
 module _ (bag : Bag) (extensions : Extensions) (schema : PlainSchema) (declared : IsDeclaredSchema bag extensions schema) where
   -- a descendant of an action is listed
@@ -42,8 +41,7 @@ module _ (bag : Bag) (extensions : Extensions) (schema : PlainSchema) (declared 
       let step = (last_step (HasParentAction bag) lower upper below).1 in
       let it = Contains-preimage key schema.actions upper (declared.each_action upper
       (named_action (action_uids bag) step.0 upper step.2)) in
-      let P : PlainUid → Type 0 = λ uid. Contains schema.actions (uid, it.0.1) in
-      let there = subst P it.2 it.1 in
+      let there = subst (λ uid. Contains schema.actions (uid, it.0.1)) it.2 it.1 in
       (it.0.1, there, ((declared.actions (upper, it.0.1) there).descendants lower).1 below)
 
   -- an action that the schema defines the bag defines
@@ -62,8 +60,7 @@ module _ (bag : Bag) (extensions : Extensions) (schema : PlainSchema) (declared 
   defined_there uid defined =
       let key = λ (each : PlainUid × SchemaAction). each.0 in
       let it = Contains-preimage key schema.actions uid (declared.each_action uid (defined_action_is_declared bag uid defined)) in
-      let P : PlainUid → Type 0 = λ uid. Contains schema.actions (uid, it.0.1) in
-      let there = subst P it.2 it.1 in
+      let there = subst (λ uid. Contains schema.actions (uid, it.0.1)) it.2 it.1 in
       let found = declared.actions (uid, it.0.1) there in
       (it.0.1, there, by found.applies_to it.0.1.kind found.says found.kind)
     where

@@ -1,17 +1,15 @@
 -- A type has just the values that the expression admits which is elaborated as it.
-use Rattle.std.proofs.Common.{◌≡◌, Bool, false, List, [], ◌∷◌, Option, Some, None, ap, sym, subst, refl, arith, ⊎_elim}
+use Rattle.std.proofs.Common.{◌≡◌, Bool, false, [], ◌∷◌, Option, Some, None, ap, refl, arith, inl, inr}
 use Rattle.cedar_below.proofs.Lists.{Contains-cons_cases}
 use Rattle.cedar_below.specs.Fits.{Gives, EntryFits}
-use Rattle.cedar_below.specs.Lists.{Included}
-use Rattle.cedar_below.specs.PlainName.{PlainName}
 use Rattle.cedar_below.specs.Text.{Text}
-use Rattle.cedar_below.specs.Tree.{Tree, truth_value, number_value, text_value, uid_value, set_value, map_value, call_value, Trees, no_tree, tree, Entries, entry_at, entry_names, EachTree}
+use Rattle.cedar_below.specs.Tree.{Tree, truth_value, number_value, text_value, uid_value, set_value, map_value, call_value, Trees, no_tree, tree, Entries, entry_at, EachTree}
 use Rattle.cedar_below.specs.declared.extension.Extensions.{Extensions}
 use Rattle.cedar_names.specs.Expr.{Expr, Members, member}
 use Rattle.cedar_declarations.proofs.ResolutionLemmas.{IsFirst-same, HasOneDefinition, same_definition}
 use Rattle.cedar_declarations.specs.Admits.{Admits, AdmitsEach, AdmitsMembers, member_names, admits_text, admits_long, admits_truth, admits_set, admits_record, admits_entity, admits_common, admits_extension, admits_none, admits_first, admits_no_member, admits_missing, admits_there}
-use Rattle.cedar_declarations.specs.Defined.{Defined, IsCommon, names_of}
-use Rattle.cedar_declarations.specs.Names.{IsDefined, IsEntity, ResolvesTo}
+use Rattle.cedar_declarations.specs.Defined.{Defined, names_of}
+use Rattle.cedar_declarations.specs.Names.{IsDefined}
 use Rattle.cedar_declarations.specs.ElaboratesTo.{ElaboratesTo, MembersElaborateTo, as_text, as_long, as_truth, as_set, as_record, as_entity, as_common, as_extension, as_no_member, as_member}
 use Rattle.cedar_type_rules.specs.Fields.{field_names}
 use Rattle.cedar_type_rules.specs.Has.{Has, HasFieldsBy}
@@ -26,13 +24,11 @@ same_names defined (as_member {name = name} first rest) = ap (λ names. name ∷
 -- what holds of a found entry
 entry_of : (P : Tree → Type 0) (required : Bool) (found : Option Tree) (value : Tree) → found ≡ Some value → P value
     → EntryFits P required found
-entry_of P required found value is holds =
-    let Q : Option Tree → Type 0 = EntryFits P required in subst Q (sym is) holds
+entry_of P required found value is holds = rw is holds
 
 -- an attribute may be missing that isn't required
 entry_missing : (P : Tree → Type 0) (found : Option Tree) → found ≡ None → EntryFits P false found
-entry_missing P found is =
-    let Q : Option Tree → Type 0 = EntryFits P false in subst Q (sym is) refl
+entry_missing P found is = rw is refl
 
 mutual
   -- a value that is admitted has the type that the expression is elaborated as
@@ -44,26 +40,22 @@ mutual
   has_admitted defined extensions one (admits_truth it) as_truth = tt
   has_admitted defined extensions one (admits_set each) (as_set element) = each_has_admitted defined extensions one each element
   has_admitted defined extensions one (admits_record {values = values} listed admitted) (as_record {fields = fields} written) =
-      let P : List Text → Type 0 = Included (entry_names values) in
-      (subst P (sym (same_names defined written)) listed, members_have_admitted defined extensions one admitted written)
+      (rw (same_names defined written) listed, members_have_admitted defined extensions one admitted written)
   has_admitted defined extensions one (admits_entity uid reference resolves is_entity no_common)
       (as_entity reference' name resolves' is_entity' no_common') =
       (0, omega arith, IsFirst-same (IsDefined (names_of defined) reference.kind) reference.possibilities name uid.ty resolves' resolves)
   has_admitted defined extensions one (admits_entity uid reference resolves is_entity no_common)
       (as_common reference' name body resolves' is_common written) =
       let same : name ≡ uid.ty = IsFirst-same (IsDefined (names_of defined) reference.kind) reference.possibilities name uid.ty resolves' resolves in
-      let P : PlainName → Type 0 = λ each. IsCommon defined reference.kind each body in
-      absurd (no_common body (subst P same is_common))
+      absurd (no_common body (rw same at is_common))
   has_admitted defined extensions one (admits_common reference name body resolves is_common admitted)
       (as_entity reference' name' resolves' is_entity no_common) =
       let same : name ≡ name' = IsFirst-same (IsDefined (names_of defined) reference.kind) reference.possibilities name name' resolves resolves' in
-      let P : PlainName → Type 0 = λ each. IsCommon defined reference.kind each body in
-      absurd (no_common body (subst P same is_common))
+      absurd (no_common body (rw same at is_common))
   has_admitted defined extensions one {ty = ty} (admits_common reference name body resolves is_common admitted)
       (as_common reference' name' body' resolves' is_common' written) =
       let same : body ≡ body' = same_definition defined one reference name name' body body' resolves resolves' is_common is_common' in
-      let P : Expr → Type 0 = λ each. ElaboratesTo defined each ty in
-      has_admitted defined extensions one admitted (subst P (sym same) written)
+      has_admitted defined extensions one admitted (rw same written)
   has_admitted defined extensions one (admits_extension function args name gives) (as_extension name') = gives
 
   -- the same of each value
@@ -100,8 +92,7 @@ entry_admitted : (defined : Defined) (extensions : Extensions) (values : Entries
     → EntryFits (λ value. Has extensions value ty) required found → AdmitsMembers defined extensions values rest
     → AdmitsMembers defined extensions values (member name required expr rest)
 entry_admitted defined extensions values name required expr rest ty None is admits fits others =
-    let P : Bool → Type 0 = λ each. AdmitsMembers defined extensions values (member name each expr rest) in
-    subst P (sym fits) (admits_missing is others)
+    rw fits (admits_missing is others)
 entry_admitted defined extensions values name required expr rest ty (Some value) is admits fits others =
     admits_there value is (admits value fits) others
 
@@ -123,14 +114,13 @@ mutual
   admitted_of defined extensions (as_set element) (set_value values) has =
       admits_set (each_admitted defined extensions _ _ (λ value holds. admitted_of defined extensions element value holds) values has)
   admitted_of defined extensions (as_record written) (map_value values) has =
-      let P : List Text → Type 0 = Included (entry_names values) in
-      admits_record (subst P (same_names defined written) has.0) (members_admitted_of defined extensions written values has.1)
+      admits_record (rw (same_names defined written) at has.0) (members_admitted_of defined extensions written values has.1)
   admitted_of defined extensions (as_entity reference name resolves is_entity no_common) (uid_value uid) has =
-      let same : name ≡ uid.ty = ⊎_elim (λ is. is) (λ none. absurd (omega (arith, none.1))) (Contains-cons_cases name [] uid.ty has) in
-      let P : PlainName → Type 0 = λ each. ResolvesTo (names_of defined) reference each in
-      let Q : PlainName → Type 0 = λ each. IsEntity (names_of defined) reference.kind each in
-      let R : PlainName → Type 0 = λ each. (body : Expr) → IsCommon defined reference.kind each body → ⊥ in
-      admits_entity uid reference (subst P same resolves) (subst Q same is_entity) (subst R same no_common)
+      let same : name ≡ uid.ty = elim (Contains-cons_cases name [] uid.ty has) [
+        | inl is ↦ is
+        | inr none ↦ absurd (omega (arith, none.1))
+      ] in
+      admits_entity uid reference (rw same at resolves) (rw same at is_entity) (rw same at no_common)
   admitted_of defined extensions (as_common reference name body resolves is_common written) value has =
       admits_common reference name body resolves is_common (admitted_of defined extensions written value has)
   admitted_of defined extensions (as_extension name) (call_value function args) has = admits_extension function args name has

@@ -1,5 +1,5 @@
 -- Whether a chain leads from one item to another is decided, where its steps are, and start from listed items.
-use Rattle.std.proofs.Common.{◌⊎◌, List, [], ◌∷◌, inl, inr, ⊎_elim, sym, subst, arith, Contains}
+use Rattle.std.proofs.Common.{◌⊎◌, List, [], ◌∷◌, inl, inr, sym, subst, arith, Contains}
 use Rattle.cedar_below.proofs.Chains.{first_step, joined}
 use Rattle.cedar_below.proofs.Lists.{Contains-cons_cases}
 use Rattle.cedar_below.specs.Chain.{Chain, one, more}
@@ -22,25 +22,27 @@ module _ {A : Type 0} (Step : A → A → Type 0) where
   reaches_more : (xs : List A) (a b c : A) → Contains xs b → Step a b → Reaches xs b c → Reaches xs a c
   reaches_more [] a b c among step onwards = absurd (omega (arith, among.1))
   reaches_more (x ∷ rest) a b c among step onwards =
-      ⊎_elim
-      (λ here. let P : A → Type 0 = λ each. Reaches rest each c in inr (
-        reaches_one rest a x (subst (Step a) (sym here) step),
-        ⊎_elim (λ straight. subst P (sym here) straight) (λ both. both.1) onwards,
-      ))
-      (λ later. ⊎_elim
-      (λ straight. inl (reaches_more rest a b c later step straight))
-      (λ both. inr (reaches_more rest a b x later step both.0, both.1))
-      onwards)
-      (Contains-cons_cases x rest b among)
+      elim (Contains-cons_cases x rest b among) [
+        | inl here ↦
+            inr (
+              reaches_one rest a x (subst (Step a) (sym here) step),
+              elim onwards [ inl straight ↦ rw here straight | inr both ↦ both.1 ],
+            )
+        | inr later ↦
+            elim onwards [
+              | inl straight ↦ inl (reaches_more rest a b c later step straight)
+              | inr both ↦ inr (reaches_more rest a b x later step both.0, both.1)
+            ]
+      ]
 
   -- a chain leads to what is reached
   chain_of_reaches : (xs : List A) (a b : A) → Reaches xs a b → Chain Step a b
   chain_of_reaches [] a b step = one step
   chain_of_reaches (x ∷ rest) a b reaches =
-      ⊎_elim
-      (λ straight. chain_of_reaches rest a b straight)
-      (λ both. joined (chain_of_reaches rest a x both.0) (chain_of_reaches rest x b both.1))
-      reaches
+      elim reaches [
+        | inl straight ↦ chain_of_reaches rest a b straight
+        | inr both ↦ joined (chain_of_reaches rest a x both.0) (chain_of_reaches rest x b both.1)
+      ]
 
   module _ (xs : List A) (starts : (a b : A) → Step a b → Contains xs a) where
     -- what a chain leads to is reached

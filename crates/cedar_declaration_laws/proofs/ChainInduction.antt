@@ -1,5 +1,5 @@
 -- Where no chain of steps leads back, and the steps end at listed items, what an item has by what it steps to each has.
-use Rattle.std.proofs.Common.{◌≡◌, ◌≢◌, ℕ, zero, suc, List, [], ◌∷◌, length, inl, inr, ⊎_elim, sym, subst, ◌∙◌, refl, arith, Contains}
+use Rattle.std.proofs.Common.{◌≡◌, ◌≢◌, ℕ, zero, suc, List, [], ◌∷◌, length, inl, inr, sym, subst, ◌∙◌, refl, arith, Contains}
 use Rattle.cedar_below.proofs.Chains.{last_step}
 use Rattle.cedar_below.proofs.Lists.{Contains-cons, Contains-cons_cases}
 use Rattle.cedar_below.specs.Chain.{Chain, one, more}
@@ -9,19 +9,25 @@ taken_out : {A : Type 0} (xs : List A) (x : A) → Contains xs x → (less : Lis
     × ((y : A) → Contains xs y → x ≢ y → Contains less y)
 taken_out [] x among = absurd (omega (arith, among.1))
 taken_out (first ∷ rest) x among =
-    ⊎_elim
-    (λ here. (
-      rest,
-      omega arith,
-      λ y there other. ⊎_elim (λ same. absurd (other (sym here ∙ same))) (λ later. later) (Contains-cons_cases first rest y there),
-    ))
-    (λ later. let less = taken_out rest x later in (
-      first ∷ less.0,
-      omega (arith, less.1),
-      λ y there other. Contains-cons first less.0 y (⊎_elim (λ same. inl same) (λ after. inr (less.2 y after other))
-          (Contains-cons_cases first rest y there)),
-    ))
-    (Contains-cons_cases first rest x among)
+    elim (Contains-cons_cases first rest x among) [
+      | inl here ↦ (
+        rest,
+        omega arith,
+        λ y there other. elim (Contains-cons_cases first rest y there) [
+          | inl same ↦ absurd (other (sym here ∙ same))
+          | inr later ↦ later
+        ],
+      )
+      | inr later ↦
+          let less = taken_out rest x later in (
+            first ∷ less.0,
+            omega (arith, less.1),
+            λ y there other. Contains-cons first less.0 y (elim (Contains-cons_cases first rest y there) [
+              | inl same ↦ inl same
+              | inr after ↦ inr (less.2 y after other)
+            ]),
+          )
+    ]
 
 module _ {A : Type 0} (Step : A → A → Type 0) (acyclic : (a : A) → ¬ Chain Step a a) (P : A → Type 0)
     (along : (a : A) → ((b : A) → Step a b → P b) → P a) where

@@ -2,8 +2,8 @@
 use Rattle.std.proofs.Common.{◌≡◌, Option, None, Some, inl, inr, sym, subst}
 use Rattle.cedar_declarations.specs.DeclaredSchema.{AreDeclaredTags, IsDeclaredActionKind, IsDeclaredKind}
 use Rattle.cedar_declarations.specs.Defined.{Defined}
-use Rattle.cedar_declarations.specs.EntityTypeKind.{EntityTypeKind, standard_kind, enumerated_kind, external_kind}
-use Rattle.cedar_declarations.specs.PlainSchema.{ActionKind, defined_action, external_action}
+use Rattle.cedar_declarations.specs.EntityTypeKind.{EntityTypeKind, standard_kind}
+use Rattle.cedar_declarations.specs.PlainSchema.{ActionKind, defined_action}
 use Rattle.cedar_declarations.specs.ValidSchema.{IsContextOf, IsTypeOfKind}
 use Rattle.cedar_declarations.specs.ElaboratesTo.{ElaboratesTo, MembersElaborateTo, as_text, as_long, as_truth, as_set, as_record, as_entity, as_common, as_extension, as_no_member, as_member}
 use Rattle.cedar_declaration_laws.specs.EndToEnd.{DeclaredTypesAreClean}
@@ -34,15 +34,13 @@ mutual
 tags_clean : (defined : Defined) (tags : Option Expr) (given : Option Ty) (ty : Ty) → AreDeclaredTags defined tags given → given ≡ Some ty
     → IsClean ty
 tags_clean defined (Some expr) (Some own) ty declared is =
-    let P : Option Ty → Type 0 = clean_option in
-    subst P is (elaborated_clean defined expr own declared)
+    subst clean_option is (elaborated_clean defined expr own declared)
   where
     clean_option : Option Ty → Type 0
     clean_option None = Unit {0}
     clean_option (Some each) = IsClean each
-tags_clean defined (Some expr) None ty declared is = absurd declared
 tags_clean defined None (Some own) ty declared is = absurd declared
-tags_clean defined None None ty declared is = absurd cc
+tags_clean defined _ None ty declared is = absurd (first_of (assumption, cc))
 
 -- the types of a declared kind of entity types
 kind_clean : (defined : Defined) (body : EntityBody) (kind : EntityTypeKind) (ty : Ty) → IsDeclaredKind defined body kind
@@ -51,23 +49,17 @@ kind_clean defined (standard parents shape tags) (standard_kind fields openness 
     subst IsClean (sym is) (elaborated_clean defined shape _ declared.0)
 kind_clean defined (standard parents shape tags) (standard_kind fields openness given) ty declared (inr is) =
     tags_clean defined tags given ty declared.2 is
-kind_clean defined (standard parents shape tags) (enumerated_kind choices) ty declared is = absurd is
-kind_clean defined (standard parents shape tags) external_kind ty declared is = absurd is
 kind_clean defined (enumerated ids) (standard_kind fields openness given) ty declared is = absurd declared
-kind_clean defined (enumerated ids) (enumerated_kind choices) ty declared is = absurd is
-kind_clean defined (enumerated ids) external_kind ty declared is = absurd is
 kind_clean defined (external parents) (standard_kind fields openness given) ty declared is = absurd declared
-kind_clean defined (external parents) (enumerated_kind choices) ty declared is = absurd is
-kind_clean defined (external parents) external_kind ty declared is = absurd is
+kind_clean _ _ _ _ declared is = absurd assumption
 
 -- the context of a declared kind of actions
 context_clean : (defined : Defined) (applies_to : Requests) (kind : ActionKind) (ty : Ty) → IsDeclaredActionKind defined applies_to kind
     → IsContextOf kind ty → IsClean ty
 context_clean defined (requests principals resources context) (defined_action principal_types resource_types own) ty declared is =
     subst IsClean is (elaborated_clean defined context own declared.2)
-context_clean defined (requests principals resources context) external_action ty declared is = absurd is
 context_clean defined elsewhere (defined_action principal_types resource_types own) ty declared is = absurd declared
-context_clean defined elsewhere external_action ty declared is = absurd is
+context_clean _ _ _ _ declared is = absurd assumption
 
 -- the types of the schema that a bag declares are clean
 pub declared_clean : DeclaredTypesAreClean

@@ -1,5 +1,5 @@
 -- The schema that a bag declares meets what a schema has to that is converted back, so that it comes back.
-use Rattle.std.proofs.Common.{subst, inl, inr, ⊎_elim}
+use Rattle.std.proofs.Common.{subst, inl, inr}
 use Rattle.cedar_below.specs.Extensions.{extension_types}
 use Rattle.cedar_below.specs.PlainUid.{PlainUid}
 use Rattle.cedar_below.specs.TypeNames.{TypeNamesFit}
@@ -10,7 +10,7 @@ use Rattle.cedar_declarations.specs.Counted.{PositionsFit}
 use Rattle.cedar_declarations.specs.DeclaredSchema.{IsDeclaredActionKind, IsDeclaredSchema}
 use Rattle.cedar_declarations.specs.Fault.{context_not_record, reserved_name}
 use Rattle.cedar_declarations.specs.IllFormed.{IsIllFormed}
-use Rattle.cedar_declarations.specs.PlainSchema.{ActionKind, PlainSchema, defined_action, external_action}
+use Rattle.cedar_declarations.specs.PlainSchema.{ActionKind, PlainSchema, defined_action}
 use Rattle.cedar_declarations.specs.Together.{ActionSays}
 use Rattle.cedar_declarations.specs.ValidSchema.{IsContextOf}
 use Rattle.cedar_declarations.specs.ElaboratesTo.{IsRecordType}
@@ -39,13 +39,12 @@ module _ (bag : Bag) (extensions : Extensions) (schema : PlainSchema) (declared 
       → ActionSays bag uid applies_to → IsDeclaredActionKind (definitions bag extensions) applies_to kind → (ty : Ty)
       → IsContextOf kind ty → IsRecordType ty
   context_is_record well uid (requests principals resources context) (defined_action ps rs other) says is ty same =
-      ⊎_elim
-      (λ is_record. subst IsRecordType same is_record)
-      (λ none. absurd (well (context_not_record uid, (principals, resources, context, says, (other, is.2, none)))))
-      (decide_record other)
-  context_is_record well uid (requests principals resources context) external_action says is ty same = absurd is
+      elim (decide_record other) [
+        | inl is_record ↦ subst IsRecordType same is_record
+        | inr none ↦ absurd (well (context_not_record uid, (principals, resources, context, says, (other, is.2, none))))
+      ]
   context_is_record well uid elsewhere (defined_action ps rs other) says is ty same = absurd is
-  context_is_record well uid elsewhere external_action says is ty same = absurd same
+  context_is_record _ _ _ _ _ is _ same = absurd assumption
 
   -- so are the contexts of a declared schema
   declared_contexts : ¬ IsIllFormed bag extensions → HasRecordContexts schema

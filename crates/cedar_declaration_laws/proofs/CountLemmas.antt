@@ -1,5 +1,5 @@
 -- How often an item stands in a list.
-use Rattle.std.proofs.Common.{◌≡◌, ◌⊎◌, ◌+◌, ◌≤◌, ℕ, Bool, true, false, List, [], ◌∷◌, ◌++◌, map, ap, sym, ◌∙◌, refl, inl, inr, ⊎_elim, arith, Contains}
+use Rattle.std.proofs.Common.{◌≡◌, ◌⊎◌, ◌+◌, ◌≤◌, ℕ, Bool, true, false, List, [], ◌∷◌, ◌++◌, map, ap, sym, ◌∙◌, refl, inl, inr, arith, Contains}
 use Rattle.std.proofs.lemmas.Bool.{false≢true}
 use Rattle.std.proofs.lemmas.List.{map-append}
 use Rattle.std.proofs.lemmas.List.Sums.{sum_by-cons}
@@ -30,38 +30,46 @@ module _ {A : Type 0} (test : A → A → Bool) (decides : (y x : A) → Decides
   hits_of : (xs : List A) (x : A) → Contains xs x → 1 ≤ hits x xs
   hits_of [] x among = absurd (omega (arith, among.1))
   hits_of (y ∷ ys) x among =
-      ⊎_elim
-      (λ hit. omega (arith, hit.1))
-      (λ miss. ⊎_elim (λ same. absurd (miss.0 same)) (λ there. omega (arith, miss.1, hits_of ys x there))
-      (Contains-cons_cases y ys x among))
-      (hit_cases y x)
+      elim (hit_cases y x) [
+        | inl hit ↦ omega (arith, hit.1)
+        | inr miss ↦
+            elim (Contains-cons_cases y ys x among) [
+              | inl same ↦ absurd (miss.0 same)
+              | inr there ↦ omega (arith, miss.1, hits_of ys x there)
+            ]
+      ]
 
   -- what is counted stands in the list
   of_hits : (xs : List A) (x : A) → 1 ≤ hits x xs → Contains xs x
   of_hits [] x count = absurd (omega (arith, count))
   of_hits (y ∷ ys) x count =
-      ⊎_elim
-      (λ hit. Contains-cons y ys x (inl hit.0))
-      (λ miss. Contains-cons y ys x (inr (of_hits ys x (omega (arith, miss.1, count)))))
-      (hit_cases y x)
+      elim (hit_cases y x) [
+        | inl hit ↦ Contains-cons y ys x (inl hit.0)
+        | inr miss ↦ Contains-cons y ys x (inr (of_hits ys x (omega (arith, miss.1, count))))
+      ]
 
   -- what stands twice is counted twice
   pub hits_of_twice : (xs : List A) (x : A) → Twice xs x → 2 ≤ hits x xs
   hits_of_twice [] x twice = absurd twice
   hits_of_twice (y ∷ ys) x twice =
-      ⊎_elim
-      (λ hit. ⊎_elim (λ here. omega (arith, hit.1, hits_of ys x here.1)) (λ later. omega (arith, hit.1, hits_of_twice ys x later)) twice)
-      (λ miss. ⊎_elim (λ here. absurd (miss.0 here.0)) (λ later. omega (arith, miss.1, hits_of_twice ys x later)) twice)
-      (hit_cases y x)
+      elim (hit_cases y x) [
+        | inl hit ↦
+            elim twice [
+              | inl here ↦ omega (arith, hit.1, hits_of ys x here.1)
+              | inr later ↦ omega (arith, hit.1, hits_of_twice ys x later)
+            ]
+        | inr miss ↦
+            elim twice [ inl here ↦ absurd (miss.0 here.0) | inr later ↦ omega (arith, miss.1, hits_of_twice ys x later) ]
+      ]
 
   -- what is counted twice stands twice
   pub twice_of_hits : (xs : List A) (x : A) → 2 ≤ hits x xs → Twice xs x
   twice_of_hits [] x count = absurd (omega (arith, count))
   twice_of_hits (y ∷ ys) x count =
-      ⊎_elim
-      (λ hit. inl (hit.0, of_hits ys x (omega (arith, hit.1, count))))
-      (λ miss. inr (twice_of_hits ys x (omega (arith, miss.1, count))))
-      (hit_cases y x)
+      elim (hit_cases y x) [
+        | inl hit ↦ inl (hit.0, of_hits ys x (omega (arith, hit.1, count)))
+        | inr miss ↦ inr (twice_of_hits ys x (omega (arith, miss.1, count)))
+      ]
 
   -- lists one after the other count together
   pub hits-append : (xs ys : List A) (x : A) → hits x (xs ++ ys) ≡ hits x xs + hits x ys

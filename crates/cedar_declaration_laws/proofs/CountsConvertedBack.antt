@@ -1,5 +1,5 @@
 -- In the bag of a schema that is in order and converted back nothing is defined twice.
-use Rattle.std.proofs.Common.{◌≡◌, ◌⊎◌, List, [], ◌∷◌, ◌++◌, map, ap, subst, ◌∙◌, refl, inl, inr, ⊎_elim, arith, Contains}
+use Rattle.std.proofs.Common.{◌≡◌, ◌⊎◌, List, [], ◌∷◌, ◌++◌, map, ap, ◌∙◌, refl, inl, inr, arith, Contains}
 use Rattle.std.proofs.lemmas.List.{map-append}
 use Rattle.std.proofs.lemmas.List.Sorted.{IsPermutation-sym}
 use Rattle.std.specs.List.{flat_map}
@@ -29,7 +29,7 @@ use Rattle.cedar_names.specs.Expr.{Expr}
 twice_among : {A : Type 0} (xs : List A) (x : A) → Twice xs x → Contains xs x
 twice_among [] x twice = absurd twice
 twice_among (first ∷ rest) x twice =
-    Contains-cons first rest x (⊎_elim (λ here. inl here.0) (λ later. inr (twice_among rest x later)) twice)
+    Contains-cons first rest x (elim twice [ inl here ↦ inl here.0 | inr later ↦ inr (twice_among rest x later) ])
 
 -- where each entry gives one under its own key at most, a key that stands twice in what they give stands twice in theirs
 module _ {K V W : Type 0} (f : K × V → List (K × W))
@@ -40,28 +40,26 @@ module _ {K V W : Type 0} (f : K × V → List (K × W))
   given_key entries key among =
       let given = Contains-preimage (λ (it : K × W). it.0) (flat_map f entries) key among in
       let from = Contains-flat_map f entries given.0 given.1 in
-      let P : List (K × W) → Type 0 = λ items. Contains items given.0 in
-      let Q : K → Type 0 = Contains (map (λ it. it.0) entries) in
-      ⊎_elim
-      (λ none. absurd (omega (arith, (subst P none from.2).1)))
-      (λ one.
-      let same : from.0.0 ≡ given.0.0 = ap (λ (it : K × W). it.0) (Contains-single (from.0.0, one.0) given.0 (subst P one.1 from.2)) in
-      subst Q (same ∙ given.2) (Contains-image (λ (it : K × V). it.0) entries from.0 from.1))
-      (each from.0)
+      elim (each from.0) [
+        | inl none ↦ absurd (omega (arith, (rw none at from.2).1))
+        | inr one ↦
+            let same : from.0.0 ≡ given.0.0 = ap (λ (it : K × W). it.0) (Contains-single (from.0.0, one.0) given.0 (rw one.1 at from.2)) in
+            rw (same ∙ given.2) at (Contains-image (λ (it : K × V). it.0) entries from.0 from.1)
+      ]
 
   -- so it stands twice
   pub twice_given : (entries : List (K × V)) (key : K) → Twice (map (λ it. it.0) (flat_map f entries)) key
       → Twice (map (λ it. it.0) entries) key
   twice_given [] key twice = twice
   twice_given (first ∷ rest) key twice =
-      let P : List (K × W) → Type 0 = λ items. Twice (map (λ it. it.0) (items ++ flat_map f rest)) key in
-      ⊎_elim
-      (λ none. inr (twice_given rest key (subst P none twice)))
-      (λ one. ⊎_elim
-      (λ here. inl (here.0, given_key rest key here.1))
-      (λ later. inr (twice_given rest key later))
-      (subst P one.1 twice))
-      (each first)
+      elim (each first) [
+        | inl none ↦ inr (twice_given rest key (rw none at twice))
+        | inr one ↦
+            elim (rw one.1 at twice) [
+              | inl here ↦ inl (here.0, given_key rest key here.1)
+              | inr later ↦ inr (twice_given rest key later)
+            ]
+      ]
 
 -- an action gives one definition at most
 one_definition_in : (it : PlainUid × ActionBody) → (action_definition_in it.0 it.1.applies_to ≡ [])
@@ -119,9 +117,8 @@ module _ (schema : PlainSchema) (bag : Bag) (order : IsInOrder schema) (written 
       let other = (order_is_nothing bag ordered (IsPermutation-sym ordered bag written.in_some_order)).0.entities_twice name twice in
       let keys = types_declare_their_names schema schema.entity_types written.entity_types written.actions written.each_entity_type
       (actions_declare_no_type schema schema.actions written.actions written.each_action) in
-      let P : List PlainName → Type 0 = λ names. Twice names name in
       Twice-sorted_by_name name_cmp name_cmp-total (map (λ it. it.0) schema.entity_types) name order.entity_types
-      (subst P keys (twice_declared (declared_entities ordered) name other))
+      (rw keys at (twice_declared (declared_entities ordered) name other))
 
   -- no action is defined twice
   pub actions_once : (uid : PlainUid) → ¬ Twice (map (λ it. it.0) (defined_actions bag)) uid
@@ -131,10 +128,8 @@ module _ (schema : PlainSchema) (bag : Bag) (order : IsInOrder schema) (written 
       let keys = ap (map (λ (it : PlainUid × ActionBody). it.0))
       (types_declare_no_action schema schema.entity_types written.entity_types written.actions written.each_entity_type)
       ∙ actions_declare_their_uids schema schema.actions written.actions written.each_action in
-      let P : List PlainUid → Type 0 = λ uids. Twice uids uid in
       Twice-sorted_by_name uid_cmp uid_cmp-total (map (λ it. it.0) schema.actions) uid order.actions
-      (subst P keys
-      (twice_given (λ it. action_definition_in it.0 it.1.applies_to) one_definition_in (declared_actions ordered) uid other))
+      (rw keys at (twice_given (λ it. action_definition_in it.0 it.1.applies_to) one_definition_in (declared_actions ordered) uid other))
 
 -- no common type is defined twice, since none is declared
 pub common_types_once : (schema : PlainSchema) (bag : Bag) (extensions : Extensions) → TypeNamesFit (extension_types extensions)
@@ -143,9 +138,8 @@ common_types_once schema bag extensions fit written name twice =
     let none : ¬ Contains (map (λ (it : PlainName × Expr). it.0) (declared_common bag)) name =
     λ among. no_common_type schema bag written _
     (Contains-preimage (λ (it : PlainName × Expr). it.0) (declared_common bag) name among).1 in
-    let P : List PlainName → Type 0 = λ names. Twice names name in
     let keys = map-append (λ (it : PlainName × Expr). it.0) (declared_common bag) (built_ins extensions) in
-    ⊎_elim
-    (λ declared. none (twice_among _ name declared))
-    (λ others. ⊎_elim (built_ins_once extensions fit name) (λ both. none both.0) others)
-    (Twice-append (map (λ it. it.0) (declared_common bag)) (map (λ it. it.0) (built_ins extensions)) name (subst P keys twice))
+    elim (Twice-append (map (λ it. it.0) (declared_common bag)) (map (λ it. it.0) (built_ins extensions)) name (rw keys at twice)) [
+      | inl declared ↦ none (twice_among _ name declared)
+      | inr others ↦ elim others [ inl left ↦ built_ins_once extensions fit name left | inr both ↦ none both.0 ]
+    ]

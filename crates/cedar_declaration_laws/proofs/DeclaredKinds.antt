@@ -1,17 +1,16 @@
 -- What is declared in a bag that isn't ill-formed has a kind, entity types and actions alike.
-use Rattle.std.proofs.Common.{◌≡◌, [], Option, Some, None, map, inl, inr, ⊎_elim, refl, sym, subst, Contains}
+use Rattle.std.proofs.Common.{◌≡◌, [], Option, Some, None, map, inl, inr, refl, subst, Contains}
 use Rattle.cedar_below.proofs.Lists.{Contains-preimage}
 use Rattle.cedar_below.specs.PlainName.{PlainName}
 use Rattle.cedar_below.specs.PlainUid.{PlainUid}
 use Rattle.cedar_below.specs.declared.extension.Extensions.{Extensions}
 use Rattle.cedar_names.specs.ActionBody.{Requests, requests, elsewhere}
-use Rattle.cedar_names.specs.Declaration.{Body}
 use Rattle.cedar_names.specs.EntityBody.{EntityBody, standard, enumerated, external}
 use Rattle.cedar_names.specs.Expr.{Expr}
 use Rattle.cedar_declarations.proofs.DeclarationLemmas.{entity_declaration, action_declaration}
 use Rattle.cedar_declarations.proofs.TogetherLemmas.{action_definition_declared, action_definition_says, definition_declared, definition_says}
 use Rattle.cedar_declarations.specs.Bag.{Bag, action_uids, declared_entities, definitions}
-use Rattle.cedar_declarations.specs.Counted.{CountsIn, CountsInEntity, CountsInRequests, IsCounted}
+use Rattle.cedar_declarations.specs.Counted.{CountsInEntity, CountsInRequests, IsCounted}
 use Rattle.cedar_declarations.specs.DeclaredSchema.{AreDeclaredTags, IsDeclaredActionKind, IsDeclaredKind}
 use Rattle.cedar_declarations.specs.Defined.{Defined, names_of}
 use Rattle.cedar_declarations.specs.EntityTypeKind.{EntityTypeKind, standard_kind, enumerated_kind, external_kind}
@@ -19,7 +18,7 @@ use Rattle.cedar_declarations.specs.Fault.{shape_not_record}
 use Rattle.cedar_declarations.specs.IllFormed.{IsIllFormed}
 use Rattle.cedar_declarations.specs.PlainSchema.{ActionKind, defined_action, external_action}
 use Rattle.cedar_declarations.specs.Together.{ActionSays, EntitySays, defined_actions, defined_entities}
-use Rattle.cedar_declarations.specs.ElaboratesTo.{ElaboratesTo, IsNoRecord, IsRecordType, as_text, as_long, as_truth, as_set, as_record, as_entity, as_common, as_extension}
+use Rattle.cedar_declarations.specs.ElaboratesTo.{ElaboratesTo, IsNoRecord, IsRecordType, as_record, as_common}
 use Rattle.cedar_declaration_laws.proofs.ReferenceDecisions.{list_named}
 use Rattle.cedar_declaration_laws.proofs.TypeDecisions.{decide_names, decide_uids}
 use Rattle.cedar_declaration_laws.proofs.ElaboratedTypes.{counted_written}
@@ -43,24 +42,22 @@ decide_record _ = inr (λ is. is)
 pub entity_says : (bag : Bag) (name : PlainName) → Contains (map (λ it. it.0) (declared_entities bag)) name
     → (body : EntityBody) × EntitySays bag name body
 entity_says bag name among =
-    ⊎_elim
-    (λ is.
-    let it = Contains-preimage (λ (it : PlainName × EntityBody). it.0) (defined_entities bag) name is in
-    let P : PlainName → Type 0 = λ each. Contains (defined_entities bag) (each, it.0.1) in
-    (it.0.1, definition_says bag name it.0.1 (subst P it.2 it.1)))
-    (λ none. (external [], (among, none)))
-    (decide_among decide_names (map (λ it. it.0) (defined_entities bag)) name)
+    elim (decide_among decide_names (map (λ it. it.0) (defined_entities bag)) name) [
+      | inl is ↦
+          let it = Contains-preimage (λ (it : PlainName × EntityBody). it.0) (defined_entities bag) name is in
+          (it.0.1, definition_says bag name it.0.1 (subst (λ each. Contains (defined_entities bag) (each, it.0.1)) it.2 it.1))
+      | inr none ↦ (external [], (among, none))
+    ]
 
 -- the declarations of a declared action say something together
 pub action_says : (bag : Bag) (uid : PlainUid) → Contains (action_uids bag) uid → (applies_to : Requests) × ActionSays bag uid applies_to
 action_says bag uid among =
-    ⊎_elim
-    (λ is.
-    let it = Contains-preimage (λ (it : PlainUid × Requests). it.0) (defined_actions bag) uid is in
-    let P : PlainUid → Type 0 = λ each. Contains (defined_actions bag) (each, it.0.1) in
-    (it.0.1, action_definition_says bag uid it.0.1 (subst P it.2 it.1)))
-    (λ none. (elsewhere, (among, none)))
-    (decide_among decide_uids (map (λ it. it.0) (defined_actions bag)) uid)
+    elim (decide_among decide_uids (map (λ it. it.0) (defined_actions bag)) uid) [
+      | inl is ↦
+          let it = Contains-preimage (λ (it : PlainUid × Requests). it.0) (defined_actions bag) uid is in
+          (it.0.1, action_definition_says bag uid it.0.1 (subst (λ each. Contains (defined_actions bag) (each, it.0.1)) it.2 it.1))
+      | inr none ↦ (elsewhere, (among, none))
+    ]
 
 module _ (bag : Bag) (extensions : Extensions) (well : ¬ IsIllFormed bag extensions) where
   -- what the bag defines
@@ -72,8 +69,7 @@ module _ (bag : Bag) (extensions : Extensions) (well : ¬ IsIllFormed bag extens
       → CountsInEntity body expr → IsCounted bag expr
   entity_counts name body expr among counts =
       let it = entity_declaration bag name body among in
-      let P : Body → Type 0 = λ each. CountsIn each expr in
-      (it.0, it.1, subst P (sym it.2) counts)
+      (it.0, it.1, rw it.2 counts)
 
   -- what counts in the definition of an action counts
   requests_count : (uid : PlainUid) (of : Requests) (expr : Expr) → Contains (defined_actions bag) (uid, of)
@@ -81,19 +77,18 @@ module _ (bag : Bag) (extensions : Extensions) (well : ¬ IsIllFormed bag extens
   requests_count uid of expr among counts =
       let found = action_definition_declared bag uid of among in
       let it = action_declaration bag uid found.0 found.1 in
-      let P : Requests → Type 0 = λ each. CountsInRequests each expr in
-      let Q : Body → Type 0 = λ each. CountsIn each expr in
-      (it.0, it.1, subst Q (sym it.2) (subst P (sym found.2) counts))
+      (it.0, it.1, rw (it.2, found.2) counts)
 
   -- what counts, and is elaborated as no type but a record type, is elaborated as a closed one
   record_written : (expr : Expr) → IsCounted bag expr → ¬ IsNoRecord ours expr → (fields : Fields)
       × ElaboratesTo ours expr (record_of fields ClosedAttributes)
   record_written expr counts some =
       let it = counted_written bag extensions well expr counts in
-      ⊎_elim
-      (λ is. let closed = elaborated_closed ours it.1 is in (closed.0, subst (ElaboratesTo ours expr) closed.1 it.1))
-      (λ none. absurd (some (it.0, it.1, none)))
-      (decide_record it.0)
+      elim (decide_record it.0) [
+        | inl is ↦
+            let closed = elaborated_closed ours it.1 is in (closed.0, subst (ElaboratesTo ours expr) closed.1 it.1)
+        | inr none ↦ absurd (some (it.0, it.1, none))
+      ]
 
   -- tags that count are elaborated, if there are some
   tags_written : (tags : Option Expr) → ((expr : Expr) → tags ≡ Some expr → IsCounted bag expr) → (ty : Option Ty)

@@ -1,9 +1,8 @@
 -- Expressions that count in a bag which isn't ill-formed are elaborated.
-use Rattle.std.proofs.Common.{[], ◌∷◌, map, inl, inr, ⊎_elim, refl, sym, subst, Contains}
+use Rattle.std.proofs.Common.{[], ◌∷◌, map, inl, inr, refl, subst, Contains}
 use Rattle.cedar_below.proofs.Lists.{Contains-preimage}
 use Rattle.cedar_below.specs.PlainName.{PlainName}
 use Rattle.cedar_below.specs.declared.extension.Extensions.{Extensions}
-use Rattle.cedar_names.specs.Declaration.{Body}
 use Rattle.cedar_names.specs.Expr.{Expr, text_expr, long_expr, truth_expr, set_expr, record_expr, named, extension_expr, Members, no_member, member}
 use Rattle.cedar_names.specs.Reference.{Reference}
 use Rattle.cedar_declarations.proofs.BuiltInLemmas.{refers_declared}
@@ -11,12 +10,12 @@ use Rattle.cedar_declarations.proofs.DeclarationLemmas.{common_declaration}
 use Rattle.cedar_declarations.proofs.OccurrenceLemmas.{Contains-image, Contains-single}
 use Rattle.cedar_declarations.proofs.ResolutionLemmas.{first_defined}
 use Rattle.cedar_declarations.specs.Bag.{Bag, definitions, defined_names}
-use Rattle.cedar_declarations.specs.Counted.{CountsIn, HasToResolve, IsCounted}
+use Rattle.cedar_declarations.specs.Counted.{HasToResolve, IsCounted}
 use Rattle.cedar_declarations.specs.Defined.{Defined, IsCommon, names_of}
 use Rattle.cedar_declarations.specs.Fault.{common_type_cycle, type_not_defined}
 use Rattle.cedar_declarations.specs.IllFormed.{IsIllFormed, RefersToCommon}
 use Rattle.cedar_declarations.specs.Mentions.{Refers, MembersRefer}
-use Rattle.cedar_declarations.specs.Names.{IsUnresolved, ResolvesTo}
+use Rattle.cedar_declarations.specs.Names.{ResolvesTo}
 use Rattle.cedar_declarations.specs.ElaboratesTo.{ElaboratesTo, MembersElaborateTo, as_text, as_long, as_truth, as_set, as_record, as_entity, as_common, as_extension, as_no_member, as_member}
 use Rattle.cedar_declaration_laws.proofs.ChainInduction.{by_steps}
 use Rattle.cedar_declaration_laws.proofs.ReferenceDecisions.{decide_may_common, resolves_or_not}
@@ -59,21 +58,23 @@ module _ (defined : Defined) where
       → ((body : Expr) → IsCommon defined reference.kind name body → IsWritten defined body)
       → IsWritten defined (named reference)
   of_common reference name resolves each =
-      ⊎_elim
-      (λ is.
-      let it = Contains-preimage (λ (it : PlainName × Expr). it.0) defined.common name is.1 in
-      let P : PlainName → Type 0 = λ each. Contains defined.common (each, it.0.1) in
-      let body : IsCommon defined reference.kind name it.0.1 = (is.0, subst P it.2 it.1) in
-      let written = each it.0.1 body in
-      (written.0, as_common reference name it.0.1 resolves body written.1))
-      (λ none. (
-        union_of (name ∷ []),
-        as_entity reference name resolves
-            (⊎_elim (λ common. absurd (none common)) (λ is_entity. is_entity)
-            (first_defined (names_of defined) reference.kind reference.possibilities name resolves).1)
-            (λ body is. none (is.0, Contains-image (λ (it : PlainName × Expr). it.0) defined.common (name, body) is.1)),
-      ))
-      (decide_both (decide_may_common reference.kind) (decide_among decide_names (names_of defined).common name))
+      elim (decide_both (decide_may_common reference.kind) (decide_among decide_names (names_of defined).common name)) [
+        | inl is ↦
+            let it = Contains-preimage (λ (it : PlainName × Expr). it.0) defined.common name is.1 in
+            let P : PlainName → Type 0 = λ each. Contains defined.common (each, it.0.1) in
+            let body : IsCommon defined reference.kind name it.0.1 = (is.0, subst P it.2 it.1) in
+            let written = each it.0.1 body in
+            (written.0, as_common reference name it.0.1 resolves body written.1)
+        | inr none ↦ (
+          union_of (name ∷ []),
+          as_entity reference name resolves
+              (elim (first_defined (names_of defined) reference.kind reference.possibilities name resolves).1 [
+                | inl common ↦ absurd (none common)
+                | inr is_entity ↦ is_entity
+              ])
+              (λ body is. none (is.0, Contains-image (λ (it : PlainName × Expr). it.0) defined.common (name, body) is.1)),
+        )
+      ]
 
 module _ (bag : Bag) (extensions : Extensions) (well : ¬ IsIllFormed bag extensions) where
   -- what the bag defines
@@ -84,22 +85,21 @@ module _ (bag : Bag) (extensions : Extensions) (well : ¬ IsIllFormed bag extens
   resolves : (reference : Reference) → HasToResolve bag reference
       → (name : PlainName) × ResolvesTo (defined_names bag extensions) reference name
   resolves reference has =
-      let P : Reference → Type 0 = λ each. HasToResolve bag each × IsUnresolved (defined_names bag extensions) each in
-      ⊎_elim
-      (λ found. found)
-      (λ none. absurd (well (
-        type_not_defined (reference ∷ []),
-        (λ is. absurd cc, λ each among. subst P (Contains-single reference each among) (has, none)),
-      )))
-      (resolves_or_not (defined_names bag extensions) reference)
+      elim (resolves_or_not (defined_names bag extensions) reference) [
+        | inl found ↦ found
+        | inr none ↦
+            absurd (well (
+              type_not_defined (reference ∷ []),
+              (λ is. absurd cc, λ each among. rw (← (Contains-single reference each among)) (has, none)),
+            ))
+      ]
 
   -- the body of a common type that refers to something counts
   common_counts : (name : PlainName) (body : Expr) (reference : Reference) → Contains ours.common (name, body)
       → Refers body reference → IsCounted bag body
   common_counts name body reference among refers =
       let it = common_declaration bag name body (refers_declared bag extensions name body reference among refers) in
-      let P : Body → Type 0 = λ each. CountsIn each body in
-      (it.0, it.1, subst P (sym it.2) refl)
+      (it.0, it.1, rw it.2 refl)
 
   -- the definition of each common type is elaborated
   common_written : (name : PlainName) (body : Expr) → Contains ours.common (name, body) → IsWritten ours body

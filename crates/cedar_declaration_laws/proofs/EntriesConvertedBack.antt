@@ -1,5 +1,5 @@
 -- What the bag of a schema that is converted back declares, entry by entry.
-use Rattle.std.proofs.Common.{◌≡◌, ◌↔◌, false, Option, map, ap, sym, subst, ◌∙◌, refl, ⊎_elim, Contains}
+use Rattle.std.proofs.Common.{◌≡◌, ◌↔◌, false, Option, map, ap, sym, subst, ◌∙◌, refl, Contains, inl, inr}
 use Rattle.cedar_below.proofs.Lists.{Contains-preimage}
 use Rattle.cedar_below.specs.PlainName.{PlainName}
 use Rattle.cedar_below.specs.PlainUid.{PlainUid}
@@ -60,8 +60,7 @@ module _ (schema : PlainSchema) (bag : Bag) (written : IsConvertedBack schema ba
       → (body : EntityBody) × Contains (declared_entities bag) (it.0, body) × IsTypeWritten schema it body
   type_declared it among =
       let d = type_there schema bag written it among in
-      let P : PlainName → Type 0 = λ name. Contains (declared_entities bag) (name, d.2.body) in
-      (d.2.body, subst P d.2.name (declares_entity bag d.0 d.2.body d.1 d.2.declares), type_written_by schema it d.0 d.2)
+      (d.2.body, rw d.2.name at (declares_entity bag d.0 d.2.body d.1 d.2.declares), type_written_by schema it d.0 d.2)
 
   -- an action of the schema is declared
   pub action_declared : (it : PlainUid × SchemaAction) → Contains schema.actions it
@@ -69,52 +68,49 @@ module _ (schema : PlainSchema) (bag : Bag) (written : IsConvertedBack schema ba
   action_declared it among =
       let d = action_there schema bag written it among in
       let body : ActionBody = record { has_attributes = false; parents = d.2.parents; applies_to = d.2.applies_to } in
-      let P : PlainUid → Type 0 = λ uid. Contains (declared_actions bag) (uid, body) in
-      (body, subst P d.2.uid (declares_action bag d.0 body d.1 d.2.declares), action_written_by schema it d.0 d.2)
+      (body, rw d.2.uid at (declares_action bag d.0 body d.1 d.2.declares), action_written_by schema it d.0 d.2)
 
   -- an entity type that is declared is one of the schema
   pub declared_type_from : (name : PlainName) (body : EntityBody) → Contains (declared_entities bag) (name, body)
       → (it : SchemaEntityType) × Contains schema.entity_types (name, it) × IsTypeWritten schema (name, it) body
   declared_type_from name body among =
       let d = entity_declaration bag name body among in
-      ⊎_elim
-      (λ from.
-      let same : entity_type from.2.body ≡ entity_type body = sym from.2.declares ∙ d.2 in
-      let same_body : from.2.body ≡ body = cc in
-      let key : from.0.0 ≡ name = sym from.2.name ∙ d.3 in
-      let P : PlainName → Type 0 = λ each. Contains schema.entity_types (each, from.0.1) × IsTypeWritten schema (each, from.0.1) body in
-      let Q : EntityBody → Type 0 = IsTypeWritten schema from.0 in
-      let both = subst P key (from.1, subst Q same_body (type_written_by schema from.0 d.0 from.2)) in
-      (from.0.1, both.0, both.1))
-      (λ from. absurd (types_are_no_actions schema body _ (sym d.2 ∙ from.2.declares)))
-      (from_schema schema bag written d.0 d.1)
+      elim (from_schema schema bag written d.0 d.1) [
+        | inl from ↦
+            let same : entity_type from.2.body ≡ entity_type body = sym from.2.declares ∙ d.2 in
+            let same_body : from.2.body ≡ body = cc in
+            let key : from.0.0 ≡ name = sym from.2.name ∙ d.3 in
+            let P : PlainName → Type 0 = λ each. Contains schema.entity_types (each, from.0.1) × IsTypeWritten schema (each, from.0.1) body in
+            let both = subst P key (from.1, rw same_body at (type_written_by schema from.0 d.0 from.2)) in
+            (from.0.1, both.0, both.1)
+        | inr from ↦ absurd (types_are_no_actions schema body _ (sym d.2 ∙ from.2.declares))
+      ]
 
   -- an action that is declared is one of the schema
   pub declared_action_from : (uid : PlainUid) (body : ActionBody) → Contains (declared_actions bag) (uid, body)
       → (it : SchemaAction) × Contains schema.actions (uid, it) × IsActionWritten schema (uid, it) body
   declared_action_from uid body among =
       let d = action_declaration bag uid body among in
-      ⊎_elim
-      (λ from. absurd (types_are_no_actions schema _ body (sym from.2.declares ∙ d.2)))
-      (λ from.
-      let made : ActionBody = record { has_attributes = false; parents = from.2.parents; applies_to = from.2.applies_to } in
-      let same : action made ≡ action body = sym from.2.declares ∙ d.2 in
-      let same_body : made ≡ body = cc in
-      let key : from.0.0 ≡ uid = sym from.2.uid ∙ d.3 in
-      let P : PlainUid → Type 0 = λ each. Contains schema.actions (each, from.0.1) × IsActionWritten schema (each, from.0.1) body in
-      let Q : ActionBody → Type 0 = IsActionWritten schema from.0 in
-      let both = subst P key (from.1, subst Q same_body (action_written_by schema from.0 d.0 from.2)) in
-      (from.0.1, both.0, both.1))
-      (from_schema schema bag written d.0 d.1)
+      elim (from_schema schema bag written d.0 d.1) [
+        | inl from ↦ absurd (types_are_no_actions schema _ body (sym from.2.declares ∙ d.2))
+        | inr from ↦
+            let made : ActionBody = record { has_attributes = false; parents = from.2.parents; applies_to = from.2.applies_to } in
+            let same : action made ≡ action body = sym from.2.declares ∙ d.2 in
+            let same_body : made ≡ body = cc in
+            let key : from.0.0 ≡ uid = sym from.2.uid ∙ d.3 in
+            let P : PlainUid → Type 0 = λ each. Contains schema.actions (each, from.0.1) × IsActionWritten schema (each, from.0.1) body in
+            let both = subst P key (from.1, rw same_body at (action_written_by schema from.0 d.0 from.2)) in
+            (from.0.1, both.0, both.1)
+      ]
 
   -- no common type is declared
   pub no_common_type : (it : PlainName × Expr) → ¬ Contains (declared_common bag) it
   no_common_type it among =
       let d = common_declaration bag it.0 it.1 among in
-      ⊎_elim
-      (λ from. let clash = sym d.2 ∙ from.2.declares in absurd cc)
-      (λ from. let clash = sym d.2 ∙ from.2.declares in absurd cc)
-      (from_schema schema bag written d.0 d.1)
+      elim (from_schema schema bag written d.0 d.1) [
+        | inl from ↦ let clash = sym d.2 ∙ from.2.declares in absurd cc
+        | inr from ↦ let clash = sym d.2 ∙ from.2.declares in absurd cc
+      ]
 
   -- the names of the declared entity types are those of the schema
   pub same_types : (name : PlainName) → Contains (map (λ it. it.0) (declared_entities bag)) name ↔ HasEntityType schema name
@@ -127,9 +123,7 @@ module _ (schema : PlainSchema) (bag : Bag) (written : IsConvertedBack schema ba
     λ has.
         let it = Contains-preimage (λ (each : PlainName × SchemaEntityType). each.0) schema.entity_types name has in
         let found = type_declared it.0 it.1 in
-        let P : PlainName → Type 0 = Contains (map (λ each. each.0) (declared_entities bag)) in
-        subst P it.2
-        (Contains-image (λ (each : PlainName × EntityBody). each.0) (declared_entities bag) (it.0.0, found.0) found.1),
+        rw it.2 at (Contains-image (λ (each : PlainName × EntityBody). each.0) (declared_entities bag) (it.0.0, found.0) found.1),
   )
 
   -- the uids of the declared actions are those of the schema
@@ -143,7 +137,5 @@ module _ (schema : PlainSchema) (bag : Bag) (written : IsConvertedBack schema ba
     λ has.
         let it = Contains-preimage (λ (each : PlainUid × SchemaAction). each.0) schema.actions uid has in
         let found = action_declared it.0 it.1 in
-        let P : PlainUid → Type 0 = Contains (action_uids bag) in
-        subst P it.2
-        (Contains-image (λ (each : PlainUid × ActionBody). each.0) (declared_actions bag) (it.0.0, found.0) found.1),
+        rw it.2 at (Contains-image (λ (each : PlainUid × ActionBody). each.0) (declared_actions bag) (it.0.0, found.0) found.1),
   )

@@ -15,7 +15,7 @@ use Rattle.cedar_declarations.specs.Defined.{Defined}
 use Rattle.cedar_declarations.specs.Environments.{Environment, IsRequestOf, IsEnvironmentOf, IsDeclaredRequest, IsDeclaredEnvironment}
 use Rattle.cedar_declarations.specs.Fault.{duplicate_common_type, duplicate_action}
 use Rattle.cedar_declarations.specs.IllFormed.{IsIllFormed}
-use Rattle.cedar_declarations.specs.PlainSchema.{ActionKind, defined_action, external_action, SchemaAction, PlainSchema}
+use Rattle.cedar_declarations.specs.PlainSchema.{ActionKind, defined_action, SchemaAction, PlainSchema}
 use Rattle.cedar_declarations.specs.Together.{defined_actions, ActionSays}
 use Rattle.cedar_declarations.specs.ElaboratesTo.{ElaboratesTo}
 use Rattle.cedar_names.specs.ActionBody.{Requests, requests, elsewhere}
@@ -25,17 +25,15 @@ declared_request : (defined : Defined) (declared : Requests) (kind : ActionKind)
     → IsDeclaredActionKind defined declared kind → IsRequestOf kind it → IsDeclaredRequest defined declared it
 declared_request defined (requests principals resources context) (defined_action ps rs ty) it fits request =
     ((fits.0 it.principal).0 request.0, (fits.1 it.resource).0 request.1, subst (ElaboratesTo defined context) request.2 fits.2)
-declared_request defined (requests principals resources context) external_action it fits request = absurd fits
 declared_request defined elsewhere (defined_action ps rs ty) it fits request = absurd fits
-declared_request defined elsewhere external_action it fits request = absurd request
+declared_request _ _ _ _ fits request = absurd assumption
 
 -- requests that are declared are those of the declared kind of action
 request_of : (defined : Defined) → HasOneDefinition defined → (declared : Requests) (kind : ActionKind) (it : Environment)
     → IsDeclaredActionKind defined declared kind → IsDeclaredRequest defined declared it → IsRequestOf kind it
 request_of defined one (requests principals resources context) (defined_action ps rs ty) it fits request =
     ((fits.0 it.principal).1 request.0, (fits.1 it.resource).1 request.1, elaborated_once defined one fits.2 request.2)
-request_of defined one (requests principals resources context) external_action it fits request = absurd fits
-request_of defined one elsewhere kind it fits request = absurd request
+request_of _ _ _ _ _ fits request = absurd assumption
 
 -- the requests of a declared kind of action whose environments there are, are those of its definition
 said_requests : (bag : Bag) (uid : PlainUid) (defined : Defined) (applies_to : Requests) (it : Environment)
@@ -62,11 +60,9 @@ module _ (bag : Bag) (extensions : Extensions) (fit : TypeNamesFit (extension_ty
       let named = declared.each_action it.action (defined_action_is_declared bag it.action
       (Contains-image (λ (each : PlainUid × Requests). each.0) (defined_actions bag) (it.action, found.0) found.1)) in
       let there = Contains-preimage (λ (each : PlainUid × SchemaAction). each.0) schema.actions it.action named in
-      let P : PlainUid → Type 0 = λ uid. Contains schema.actions (uid, there.0.1) in
-      let among = subst P there.2 there.1 in
+      let among = subst (λ uid. Contains schema.actions (uid, there.0.1)) there.2 there.1 in
       let action = declared.actions (it.action, there.0.1) among in
       let same = action_says_once bag (λ uid twice. well (duplicate_action uid, twice)) it.action action.applies_to found.0
       action.says (action_definition_says bag it.action found.0 found.1) in
-      let Q : Requests → Type 0 = λ applies_to. IsDeclaredActionKind defined applies_to there.0.1.kind in
       let one = one_definition bag extensions fit (λ name twice. well (duplicate_common_type name, twice)) in
-      (there.0.1, among, request_of defined one found.0 there.0.1.kind it (subst Q same action.kind) found.2)
+      (there.0.1, among, request_of defined one found.0 there.0.1.kind it (rw same at action.kind) found.2)

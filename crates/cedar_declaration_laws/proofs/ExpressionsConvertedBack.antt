@@ -1,13 +1,13 @@
 -- What stands in the expressions of types that are written, and which expressions count in the bag of a schema that is
 -- converted back.
-use Rattle.std.proofs.Common.{◌≡◌, false, List, [], ◌∷◌, Option, Some, None, ap, subst, ◌∙◌, refl, inl, inr, ⊎_elim, arith}
+use Rattle.std.proofs.Common.{◌≡◌, false, List, [], ◌∷◌, Option, Some, None, ap, subst, ◌∙◌, refl, inl, inr, arith}
 use Rattle.std.proofs.lemmas.Bool.{false≢true}
 use Rattle.std.specs.Option.{option_zip}
 use Rattle.cedar_below.specs.PlainName.{PlainName}
 use Rattle.cedar_below.specs.Text.{Text}
 use Rattle.cedar_below.specs.declared.extension.Extensions.{Extensions}
 use Rattle.cedar_declarations.specs.Bag.{Bag, definitions}
-use Rattle.cedar_declarations.specs.Counted.{CountsIn, CountsInEntity, CountsInRequests, HasToResolve, IsCounted, IsEntityTypePosition, IsAtEntityTypePosition, IsPrincipalOrResource}
+use Rattle.cedar_declarations.specs.Counted.{CountsInEntity, CountsInRequests, HasToResolve, IsCounted, IsAtEntityTypePosition, IsPrincipalOrResource}
 use Rattle.cedar_declarations.specs.EntityTypeKind.{EntityTypeKind, enumerated_kind, external_kind, standard_kind}
 use Rattle.cedar_declarations.specs.Mentions.{HasOpenRecord, MembersHaveOpenRecord, MembersMentionExtension, MembersRefer, MentionsExtension, Refers}
 use Rattle.cedar_declarations.specs.PlainSchema.{ActionKind, PlainSchema, defined_action, external_action}
@@ -21,7 +21,6 @@ use Rattle.cedar_declaration_laws.proofs.ParentsConvertedBack.{parent_above, typ
 use Rattle.cedar_declaration_laws.proofs.TypesConvertedBack.{map_some, zip_some}
 use Rattle.cedar_declaration_laws.specs.EndToEnd.{IsNamedAgain}
 use Rattle.cedar_names.specs.ActionBody.{Requests, elsewhere, requests}
-use Rattle.cedar_names.specs.Declaration.{Body}
 use Rattle.cedar_names.specs.EntityBody.{EntityBody, enumerated, external, standard}
 use Rattle.cedar_names.specs.Expr.{Expr, Members, extension_expr, long_expr, member, named, no_member, record_expr, set_expr, text_expr, truth_expr}
 use Rattle.cedar_names.specs.Reference.{Reference}
@@ -94,7 +93,7 @@ module _ (namespace : Option PlainName) where
         let of = map_some (λ members. record_expr members false) (fields_written namespace fields) expr is in
         let says = fields_say fields of.0 of.1 in
         subst (SaysOf (record_of fields ClosedAttributes)) of.2 (record {
-          closed = λ opened. ⊎_elim (λ additional. false≢true additional) says.closed opened;
+          closed = λ opened. elim opened [ inl additional ↦ false≢true additional | inr right ↦ says.closed right ];
           refers = says.refers;
           mentions = says.mentions;
         })
@@ -114,30 +113,32 @@ module _ (namespace : Option PlainName) where
         let first = type_says ty of.0.0 both.0 in
         let later = fields_say rest of.0.1 both.1 in
         subst (MembersSayOf (field name required ty rest)) of.2 (record {
-          closed = λ opened. ⊎_elim first.closed later.closed opened;
-          refers = λ reference refers. ⊎_elim
-              (λ here. let found = first.refers reference here in (found.0, inl found.1, found.2))
-              (λ there. let found = later.refers reference there in (found.0, inr found.1, found.2))
-              refers;
-          mentions = λ word mentions. ⊎_elim (λ here. inl (first.mentions word here)) (λ there. inr (later.mentions word there)) mentions;
+          closed = λ opened. elim opened [ inl left ↦ first.closed left | inr right ↦ later.closed right ];
+          refers = λ reference refers. elim refers [
+            | inl here ↦ let found = first.refers reference here in (found.0, inl found.1, found.2)
+            | inr there ↦ let found = later.refers reference there in (found.0, inr found.1, found.2)
+          ];
+          mentions = λ word mentions. elim mentions [
+            | inl here ↦ inl (first.mentions word here)
+            | inr there ↦ inr (later.mentions word there)
+          ];
         })
 
   -- the type of tags that count is that of the kind
   tags_count : (tags : Option Ty) (written : Option Expr) → AreTagsWritten namespace tags written → (expr : Expr) → written ≡ Some expr
       → (ty : Ty) × (tags ≡ Some ty) × (type_written namespace ty ≡ Some expr)
   tags_count (Some ty) (Some other) is expr same = (ty, refl, is ∙ same)
-  tags_count (Some ty) None is expr same = absurd is
   tags_count None (Some other) is expr same = absurd is
-  tags_count None None is expr same = absurd cc
+  tags_count _ None is expr same = absurd (first_of (assumption, cc))
 
   -- what counts in what is written of an entity type is the expression of a type of its kind
   kind_counts : (IsAbove : PlainName → Type 0) (kind : EntityTypeKind) (body : EntityBody) → IsKindWritten namespace IsAbove kind body
       → (expr : Expr) → CountsInEntity body expr → (ty : Ty) × IsTypeOfKind kind ty × (type_written namespace ty ≡ Some expr)
   kind_counts IsAbove (standard_kind fields openness tags) (standard parents shape written) is expr counts =
-      ⊎_elim
-      (λ same. (record_of fields openness, inl refl, is.1 ∙ ap Some same))
-      (λ same. let found = tags_count tags written is.2 expr same in (found.0, inr found.1, found.2))
-      counts
+      elim counts [
+        | inl same ↦ (record_of fields openness, inl refl, is.1 ∙ ap Some same)
+        | inr same ↦ let found = tags_count tags written is.2 expr same in (found.0, inr found.1, found.2)
+      ]
   kind_counts IsAbove (enumerated_kind choices) (standard parents shape written) is expr counts = absurd is
   kind_counts IsAbove external_kind (standard parents shape written) is expr counts = absurd is
   kind_counts IsAbove kind (enumerated ids) is expr counts = absurd counts
@@ -155,10 +156,10 @@ module _ (namespace : Option PlainName) where
       → IsPrincipalOrResource applies_to reference
       → (name : PlainName) × IsPrincipalOrResourceOf kind name × (full_name namespace name ≡ reference)
   request_placed_by (defined_action ps rs ty) (requests principals resources context) is reference placed =
-      ⊎_elim
-      (λ principal. let found = (is.0 reference).0 principal in (found.0, inl found.1, found.2))
-      (λ resource. let found = (is.1 reference).0 resource in (found.0, inr found.1, found.2))
-      placed
+      elim placed [
+        | inl principal ↦ let found = (is.0 reference).0 principal in (found.0, inl found.1, found.2)
+        | inr resource ↦ let found = (is.1 reference).0 resource in (found.0, inr found.1, found.2)
+      ]
   request_placed_by external_action (requests principals resources context) is reference placed = absurd is
   request_placed_by kind elsewhere is reference placed = absurd placed
 
@@ -181,63 +182,61 @@ module _ (schema : PlainSchema) (bag : Bag) (extensions : Extensions) (written :
   -- an expression that counts is that of a type which is written
   pub counted_of : (expr : Expr) → IsCounted bag expr → IsExpressionOf schema expr
   counted_of expr (d, among, counts) =
-      let P : Body → Type 0 = λ body. CountsIn body expr in
-      ⊎_elim
-      (λ from.
-      let entry = type_written_by schema from.0 d from.2 in
-      let found = kind_counts entry.namespace (λ upper. ListsDescendant schema from.0.0 upper) from.0.1.kind from.2.body entry.kind expr
-      (subst P from.2.declares counts) in
-      record { namespace = entry.namespace; ty = found.0; place = inl (from.0, from.1, entry.path, found.1); is = found.2 })
-      (λ from.
-      let entry = action_written_by schema from.0 d from.2 in
-      let found = requests_count entry.namespace from.0.1.kind from.2.applies_to entry.applies_to expr (subst P from.2.declares counts) in
-      record { namespace = entry.namespace; ty = found.0; place = inr (from.0, from.1, entry.path, found.1); is = found.2 })
-      (from_schema schema bag written d among)
+      elim (from_schema schema bag written d among) [
+        | inl from ↦
+            let entry = type_written_by schema from.0 d from.2 in
+            let found = kind_counts entry.namespace (λ upper. ListsDescendant schema from.0.0 upper) from.0.1.kind from.2.body entry.kind expr
+            (rw from.2.declares at counts) in
+            record { namespace = entry.namespace; ty = found.0; place = inl (from.0, from.1, entry.path, found.1); is = found.2 }
+        | inr from ↦
+            let entry = action_written_by schema from.0 d from.2 in
+            let found = requests_count entry.namespace from.0.1.kind from.2.applies_to entry.applies_to expr (rw from.2.declares at counts) in
+            record { namespace = entry.namespace; ty = found.0; place = inr (from.0, from.1, entry.path, found.1); is = found.2 }
+      ]
 
   -- a reference at the place of an entity type names one of the schema in full
   pub placed_of : IsValidSchema extensions schema → (reference : Reference) → IsAtEntityTypePosition bag reference → IsFullNameOf schema reference
   placed_of valid reference (d, among, placed) =
-      let P : Body → Type 0 = λ body. IsEntityTypePosition body reference in
-      ⊎_elim
-      (λ from.
-      let entry = type_written_by schema from.0 d from.2 in
-      let found = parent_above entry.namespace (λ upper. ListsDescendant schema from.0.0 upper) from.0.1.kind from.2.body entry.kind
-      reference (subst P from.2.declares placed) in
-      record {
-        namespace = entry.namespace;
-        name = found.0;
-        place = inr (inl (from.0.0, entry.path, found.1));
-        there = upper_there schema from.0.0 found.0 found.1;
-        is = found.2;
-      })
-      (λ from.
-      let entry = action_written_by schema from.0 d from.2 in
-      let found = request_placed_by entry.namespace from.0.1.kind from.2.applies_to entry.applies_to reference
-      (subst P from.2.declares placed) in
-      record {
-        namespace = entry.namespace;
-        name = found.0;
-        place = inr (inr (from.0, from.1, entry.path, found.1));
-        there = request_known schema extensions valid from.0 from.1 found.0 found.1;
-        is = found.2;
-      })
-      (from_schema schema bag written d among)
+      elim (from_schema schema bag written d among) [
+        | inl from ↦
+            let entry = type_written_by schema from.0 d from.2 in
+            let found = parent_above entry.namespace (λ upper. ListsDescendant schema from.0.0 upper) from.0.1.kind from.2.body entry.kind
+            reference (rw from.2.declares at placed) in
+            record {
+              namespace = entry.namespace;
+              name = found.0;
+              place = inr (inl (from.0.0, entry.path, found.1));
+              there = upper_there schema from.0.0 found.0 found.1;
+              is = found.2;
+            }
+        | inr from ↦
+            let entry = action_written_by schema from.0 d from.2 in
+            let found = request_placed_by entry.namespace from.0.1.kind from.2.applies_to entry.applies_to reference
+            (rw from.2.declares at placed) in
+            record {
+              namespace = entry.namespace;
+              name = found.0;
+              place = inr (inr (from.0, from.1, entry.path, found.1));
+              there = request_known schema extensions valid from.0 from.1 found.0 found.1;
+              is = found.2;
+            }
+      ]
 
   -- a reference that has to name something names again what it names in full
   pub resolves_again : IsWritable schema → IsValidSchema extensions schema → (reference : Reference) → HasToResolve bag reference
       → (namespace : Option PlainName) × (name : PlainName) × IsNamedAgain (definitions bag extensions) namespace name
       × (full_name namespace name ≡ reference)
   resolves_again writable valid reference has =
-      ⊎_elim
-      (λ counted.
-      let of = counted_of counted.0 counted.1 in
-      let found = (type_says of.namespace of.ty counted.0 of.is).refers reference counted.2 in (
-        of.namespace,
-        found.0,
-        mentioned_again schema bag extensions writable written valid of.namespace of.ty of.place found.0 found.1,
-        found.2,
-      ))
-      (λ placed.
-      let of = placed_of valid reference placed in
-      (of.namespace, of.name, type_again schema bag extensions writable written of.namespace of.name of.place of.there, of.is))
-      has
+      elim has [
+        | inl counted ↦
+            let of = counted_of counted.0 counted.1 in
+            let found = (type_says of.namespace of.ty counted.0 of.is).refers reference counted.2 in (
+              of.namespace,
+              found.0,
+              mentioned_again schema bag extensions writable written valid of.namespace of.ty of.place found.0 found.1,
+              found.2,
+            )
+        | inr placed ↦
+            let of = placed_of valid reference placed in
+            (of.namespace, of.name, type_again schema bag extensions writable written of.namespace of.name of.place of.there, of.is)
+      ]

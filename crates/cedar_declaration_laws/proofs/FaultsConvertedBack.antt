@@ -1,5 +1,5 @@
 -- The bag of a valid schema that is converted back isn't ill-formed.
-use Rattle.std.proofs.Common.{◌≡◌, ◌⊎◌, List, [], Option, map, sym, subst, ◌∙◌, refl, inl, inr, ⊎_elim, Contains}
+use Rattle.std.proofs.Common.{◌≡◌, ◌⊎◌, List, [], Option, map, sym, subst, ◌∙◌, refl, inl, inr, Contains}
 use Rattle.std.proofs.lemmas.Bool.{false≢true}
 use Rattle.std.proofs.lemmas.List.Elements.{Contains-append_cases}
 use Rattle.cedar_below.proofs.Chains.{first_step}
@@ -21,14 +21,13 @@ use Rattle.cedar_declarations.specs.Bag.{Bag, action_uids, declared_common, decl
 use Rattle.cedar_declarations.specs.Counted.{HasToResolve, IsCounted, IsAtEntityTypePosition}
 use Rattle.cedar_declarations.specs.DeclaredSchema.{IsDeclaredActionKind, IsDeclaredKind}
 use Rattle.cedar_declarations.specs.Defined.{Defined}
-use Rattle.cedar_declarations.specs.EntityTypeKind.{EntityTypeKind, enumerated_kind, external_kind, standard_kind}
+use Rattle.cedar_declarations.specs.EntityTypeKind.{EntityTypeKind, enumerated_kind, standard_kind}
 use Rattle.cedar_declarations.specs.Fault.{Fault, action_attributes, open_record, undeclared_entity_types, type_not_defined, action_not_defined, type_shadowing, action_shadowing, duplicate_entity_type, duplicate_common_type, duplicate_action, action_cycle, common_type_cycle, action_entity_type, shape_not_record, context_not_record, unknown_extension_type, reserved_name, external_below_enumerated, enumerated_below}
 use Rattle.cedar_declarations.specs.IllFormed.{HasAttributes, HasUnknownParent, IsFault, RefersToCommon}
 use Rattle.cedar_declarations.specs.Mentions.{MentionsExtension}
-use Rattle.cedar_declarations.specs.Names.{IsDefined, IsUnresolved, NamesNoAction, ResolvesTo}
+use Rattle.cedar_declarations.specs.Names.{IsDefined, IsUnresolved, ResolvesTo}
 use Rattle.cedar_declarations.specs.PlainSchema.{ActionKind, PlainSchema, defined_action, external_action}
 use Rattle.cedar_declarations.specs.Together.{IsExternalType, defined_actions}
-use Rattle.cedar_declarations.specs.TypeMentions.{MentionsExtensionType}
 use Rattle.cedar_declarations.specs.ValidSchema.{HasEntityType, IsContextOf, IsEnumerated, IsExternal, IsOfKind, IsValidSchema, ListsDescendant}
 use Rattle.cedar_declarations.specs.ConvertedBack.{IsKindWritten, IsWritable, IsConvertedBack, full_name}
 use Rattle.cedar_declarations.specs.ElaboratesTo.{IsNoRecord, IsRecordType, ElaboratesTo}
@@ -41,10 +40,10 @@ use Rattle.cedar_declaration_laws.proofs.ParentsConvertedBack.{parent_lists, sam
 use Rattle.cedar_declaration_laws.proofs.SchemasConvertedBack.{external_written}
 use Rattle.cedar_declaration_laws.proofs.ValidLaws.{some_first}
 use Rattle.cedar_declaration_laws.specs.EndToEnd.{HasNoReservedName, HasRecordContexts, IsInOrder, ConvertedSchemasAreWellFormed}
-use Rattle.cedar_names.specs.ActionBody.{Requests, requests}
+use Rattle.cedar_names.specs.ActionBody.{requests}
 use Rattle.cedar_names.specs.EntityBody.{EntityBody, enumerated, external, standard}
 use Rattle.cedar_names.specs.Expr.{Expr}
-use Rattle.cedar_names.specs.Reference.{ActionReference, Reference}
+use Rattle.cedar_names.specs.Reference.{Reference}
 use Rattle.cedar_names.specs.declared.json_schema.reference_type.ReferenceType.TheVariants.{Entity}
 use Rattle.cedar_type_rules.specs.Ty.{Ty, record_of}
 use Rattle.cedar_type_rules.specs.declared.open_tag.OpenTag.TheVariants.{ClosedAttributes}
@@ -87,18 +86,18 @@ module _ (schema : PlainSchema) (bag : Bag) (extensions : Extensions) (written :
   no_unknown_parent writable carried (uid, parent, (body, among, has), same, none) =
       let above = ((declared_action_from schema bag written uid body among).2.parents parent).0 has in
       let namespace = (declared_action_from schema bag written uid body among).2.namespace in
-      let P : ActionReference → Type 0 = NamesNoAction (action_uids bag) in
-      subst P (sym above.2) none above.0.ty (stands_for_itself namespace above.0.ty)
+      (rw (← above.2) at none) above.0.ty (stands_for_itself namespace above.0.ty)
       ((same_uids schema bag written above.0).1 (upper_action_there schema uid above.0 above.1))
 
   -- a type that is declared is an entity type of the schema
   declared_there : (name : PlainName) → Contains (declared_types bag) name → HasEntityType schema name
   declared_there name among =
-      ⊎_elim
-      (λ common. absurd (no_common_type schema bag written _
-      (Contains-preimage (λ (it : PlainName × Expr). it.0) (declared_common bag) name common).1))
-      (λ entity. (same_types schema bag written name).0 entity)
-      (Contains-append_cases (map (λ it. it.0) (declared_common bag)) (map (λ it. it.0) (declared_entities bag)) name among)
+      elim (Contains-append_cases (map (λ it. it.0) (declared_common bag)) (map (λ it. it.0) (declared_entities bag)) name among) [
+        | inl common ↦
+            absurd (no_common_type schema bag written _
+            (Contains-preimage (λ (it : PlainName × Expr). it.0) (declared_common bag) name common).1)
+        | inr entity ↦ (same_types schema bag written name).0 entity
+      ]
 
   -- an entity type that is declared is one of the schema
   entity_there : (name : PlainName) (body : EntityBody) → Contains (declared_entities bag) (name, body) → HasEntityType schema name
@@ -118,22 +117,21 @@ module _ (schema : PlainSchema) (bag : Bag) (extensions : Extensions) (written :
   external_there : (name : PlainName) → IsExternalType bag name → IsOfKind schema name IsExternal
   external_there name (declared, undefined) =
       let it = Contains-preimage (λ (each : PlainName × EntityBody). each.0) (declared_entities bag) name declared in
-      let P : PlainName → Type 0 = λ each. Contains (declared_entities bag) (each, it.0.1) in
-      let among = subst P it.2 it.1 in
+      let among = subst (λ each. Contains (declared_entities bag) (each, it.0.1)) it.2 it.1 in
       let from = declared_type_from schema bag written name it.0.1 among in
       let entry = from.2 in
-      let Q : EntityBody → Type 0 = IsKindWritten entry.namespace (λ upper. ListsDescendant schema name upper) from.0.kind in
-      ⊎_elim
-      (λ definition. absurd (undefined
-      (Contains-image (λ (each : PlainName × EntityBody). each.0) _ (name, it.0.1)
-      (declared_definition bag name it.0.1 definition among))))
-      (λ is_external. (
-        from.0,
-        from.1,
-        external_written entry.namespace (λ upper. ListsDescendant schema name upper) from.0.kind is_external.0
-            (subst Q is_external.1 entry.kind),
-      ))
-      (definition_or_external it.0.1)
+      elim (definition_or_external it.0.1) [
+        | inl definition ↦
+            absurd (undefined
+            (Contains-image (λ (each : PlainName × EntityBody). each.0) _ (name, it.0.1)
+            (declared_definition bag name it.0.1 definition among)))
+        | inr is_external ↦ (
+          from.0,
+          from.1,
+          external_written entry.namespace (λ upper. ListsDescendant schema name upper) from.0.kind is_external.0
+              (rw (← is_external.1) entry.kind),
+        )
+      ]
 
   -- no common type refers to another, since none is declared
   no_common_step : (name other : PlainName) → ¬ RefersToCommon (definitions bag extensions) name other
@@ -147,8 +145,7 @@ module _ (schema : PlainSchema) (bag : Bag) (extensions : Extensions) (written :
   none_reserved plain name (inl entity) reserved = plain.entity_types name ((same_types schema bag written name).0 entity) reserved
   none_reserved plain name (inr of_action) reserved =
       let uid = Contains-preimage (λ (each : PlainUid). each.ty) (action_uids bag) name of_action in
-      let P : PlainName → Type 0 = λ each. Contains each.path reserved_word in
-      plain.actions uid.0 ((same_uids schema bag written uid.0).0 uid.1) (subst P (sym uid.2) reserved)
+      plain.actions uid.0 ((same_uids schema bag written uid.0).0 uid.1) (rw uid.2 reserved)
 
   module _ (writable : IsWritable schema) (valid : IsValidSchema extensions schema) where
     -- no action's type stands where an entity type has to
@@ -158,9 +155,8 @@ module _ (schema : PlainSchema) (bag : Bag) (extensions : Extensions) (written :
         let of = placed_of schema bag extensions written valid reference placed in
         let again = type_again schema bag extensions writable written of.namespace of.name of.place of.there in
         let names = defined_names bag extensions in
-        let P : Reference → Type 0 = λ each. ResolvesTo names each name in
         let same = IsFirst-same (IsDefined names Entity) (full_name of.namespace of.name).possibilities of.name name again.resolves
-        (subst P (sym of.is) resolves) in
+        (rw (← of.is) at resolves) in
         valid (action_entity_type name) (subst (HasEntityType schema) same of.there, is_action)
 
     -- what has to name something does
@@ -168,9 +164,8 @@ module _ (schema : PlainSchema) (bag : Bag) (extensions : Extensions) (written :
     none_unresolved reference has unresolved =
         let of = resolves_again schema bag extensions written writable valid reference has in
         let names = defined_names bag extensions in
-        let P : Reference → Type 0 = IsUnresolved names in
         let first = first_defined names Entity (full_name of.0 of.1).possibilities of.1 of.2.resolves in
-        subst P (sym of.3) unresolved of.1 first.0 first.1
+        (rw (← of.3) at unresolved) of.1 first.0 first.1
 
     -- no extension type counts that wasn't handed in
     none_foreign : (name : PlainName) (expr : Expr) → IsCounted bag expr → MentionsExtension expr name.base → IsUnqualified name
@@ -179,8 +174,7 @@ module _ (schema : PlainSchema) (bag : Bag) (extensions : Extensions) (written :
         let of = counted_of schema bag extensions written expr counted in
         let stands = (type_says of.namespace of.ty expr of.is).mentions name.base mentions in
         let same : record { base = name.base; path = [] } ≡ name = λ i. record { base = name.base; path = sym plain i } in
-        let P : PlainName → Type 0 = MentionsExtensionType of.ty in
-        valid (unknown_extension_type name) (of.ty, written_in_schema schema of.namespace of.ty of.place, subst P same stands, unknown)
+        valid (unknown_extension_type name) (of.ty, written_in_schema schema of.namespace of.ty of.place, rw same at stands, unknown)
 
     module _ (once : HasOneDefinition (definitions bag extensions)) where
       -- each shape is elaborated as a record type
@@ -199,9 +193,8 @@ module _ (schema : PlainSchema) (bag : Bag) (extensions : Extensions) (written :
       contexts_are_records are_records uid principals resources context among =
           let definition = action_definition_declared bag uid (requests principals resources context) among in
           let from = declared_action_from schema bag written uid definition.0 definition.1 in
-          let P : Requests → Type 0 = λ each. IsDeclaredActionKind (definitions bag extensions) each from.0.kind in
           let kind = action_kind_declared schema bag extensions writable written valid (uid, from.0) from.1 definition.0 from.2 in
-          let out = context_written (definitions bag extensions) principals resources context from.0.kind (subst P definition.2 kind) in
+          let out = context_written (definitions bag extensions) principals resources context from.0.kind (rw definition.2 at kind) in
           record_alone (definitions bag extensions) once context out.0 out.1 (are_records (uid, from.0) out.0 from.1 out.2)
 
   module _ (fit : TypeNamesFit (extension_types extensions)) (order : IsInOrder schema) (plain : HasNoReservedName schema)

@@ -1,5 +1,5 @@
 -- The kind that fits what is declared fits what is the same, where the same names are defined.
-use Rattle.std.proofs.Common.{◌↔◌, List, Option, Some, None, sym, subst, ◌∙◌, Contains}
+use Rattle.std.proofs.Common.{◌↔◌, List, Option, Some, None, sym, ◌∙◌, Contains}
 use Rattle.cedar_below.specs.Lists.{SameItems}
 use Rattle.cedar_below.specs.PlainName.{PlainName}
 use Rattle.cedar_names.specs.ActionBody.{Requests, requests, elsewhere}
@@ -12,9 +12,7 @@ use Rattle.cedar_declarations.specs.Defined.{Defined, names_of}
 use Rattle.cedar_declarations.specs.EntityTypeKind.{EntityTypeKind, standard_kind, enumerated_kind, external_kind}
 use Rattle.cedar_declarations.specs.PlainSchema.{ActionKind, defined_action, external_action}
 use Rattle.cedar_declarations.specs.SameBag.{SameEntityBody, SameRequests}
-use Rattle.cedar_declarations.specs.ElaboratesTo.{ElaboratesTo}
-use Rattle.cedar_type_rules.specs.Ty.{Ty, record_of}
-use Rattle.cedar_type_rules.specs.declared.open_tag.OpenTag.TheVariants.{ClosedAttributes}
+use Rattle.cedar_type_rules.specs.Ty.{Ty}
 
 module _ (defined other : Defined) (same : SameDefined defined other) where
   -- tags fit alike
@@ -27,23 +25,10 @@ module _ (defined other : Defined) (same : SameDefined defined other) where
   pub kind_there : (body found : EntityBody) (kind : EntityTypeKind) → SameEntityBody body found
       → IsDeclaredKind defined body kind → IsDeclaredKind other found kind
   kind_there (standard ps shape tags) (standard ps' shape' tags') (standard_kind fields openness ty) alike fits =
-      let P : Expr → Type 0 = λ each. ElaboratesTo other each (record_of fields ClosedAttributes) in
-      let Q : Option Expr → Type 0 = λ each. AreDeclaredTags other each ty in
-      (subst P alike.0 (elaborated_there defined other same fits.0), fits.1, subst Q alike.1 (tags_there tags ty fits.2))
+      (rw alike.0 at (elaborated_there defined other same fits.0), fits.1, rw alike.1 at (tags_there tags ty fits.2))
   kind_there (enumerated choices) (enumerated others) (enumerated_kind ids) alike fits = sym alike ∙ fits
   kind_there (external ps) (external ps') external_kind alike fits = tt
-  kind_there (standard ps shape tags) found (enumerated_kind ids) alike fits = absurd fits
-  kind_there (standard ps shape tags) found external_kind alike fits = absurd fits
-  kind_there (standard ps shape tags) (enumerated choices) kind alike fits = absurd alike
-  kind_there (standard ps shape tags) (external ps') kind alike fits = absurd alike
-  kind_there (enumerated choices) found (standard_kind fields openness ty) alike fits = absurd fits
-  kind_there (enumerated choices) found external_kind alike fits = absurd fits
-  kind_there (enumerated choices) (standard ps shape tags) kind alike fits = absurd alike
-  kind_there (enumerated choices) (external ps) kind alike fits = absurd alike
-  kind_there (external ps) found (standard_kind fields openness ty) alike fits = absurd fits
-  kind_there (external ps) found (enumerated_kind ids) alike fits = absurd fits
-  kind_there (external ps) (standard ps' shape tags) kind alike fits = absurd alike
-  kind_there (external ps) (enumerated choices) kind alike fits = absurd alike
+  kind_there _ _ _ alike fits = absurd assumption
 
   -- what some references name the same name
   named_there : (references others : List Reference) (name : PlainName) → SameItems references others
@@ -66,14 +51,10 @@ pub action_kind_there : (defined other : Defined) → SameDefined defined other 
     → (body found : Requests) (kind : ActionKind) → SameRequests body found → IsDeclaredActionKind defined body kind
     → IsDeclaredActionKind other found kind
 action_kind_there defined other same back (requests ps rs context) (requests ps' rs' context')
-    (defined_action principals resources ty) alike fits =
-    let P : Expr → Type 0 = λ each. ElaboratesTo other each ty in (
+    (defined_action principals resources ty) alike fits = (
       named_both defined other same back ps ps' principals alike.0 fits.0,
       named_both defined other same back rs rs' resources alike.1 fits.1,
-      subst P alike.2 (elaborated_there defined other same fits.2),
+      rw alike.2 at (elaborated_there defined other same fits.2),
     )
 action_kind_there defined other same back elsewhere elsewhere external_action alike fits = tt
-action_kind_there defined other same back (requests ps rs context) found external_action alike fits = absurd fits
-action_kind_there defined other same back (requests ps rs context) elsewhere kind alike fits = absurd alike
-action_kind_there defined other same back elsewhere found (defined_action principals resources ty) alike fits = absurd fits
-action_kind_there defined other same back elsewhere (requests ps rs context) kind alike fits = absurd alike
+action_kind_there _ _ _ _ _ _ _ alike fits = absurd assumption

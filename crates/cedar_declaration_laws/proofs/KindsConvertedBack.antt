@@ -1,5 +1,5 @@
 -- In the bag of a valid schema that is converted back each entity type and action is declared as it is in the schema.
-use Rattle.std.proofs.Common.{◌≡◌, ◌↔◌, List, [], ◌∷◌, Option, Some, None, map, sym, subst, refl, inl, inr, ⊎_elim, Contains}
+use Rattle.std.proofs.Common.{◌≡◌, ◌↔◌, List, [], ◌∷◌, Option, Some, None, map, refl, inl, inr, Contains}
 use Rattle.std.proofs.lemmas.List.Elements.{Contains-append_left, Contains-append_right}
 use Rattle.cedar_below.proofs.Lists.{Contains-preimage}
 use Rattle.cedar_below.specs.PlainName.{PlainName}
@@ -12,7 +12,7 @@ use Rattle.cedar_declarations.specs.DeclaredSchema.{AreDeclaredTags, IsDeclaredA
 use Rattle.cedar_declarations.specs.Defined.{Defined, names_of}
 use Rattle.cedar_declarations.specs.EntityTypeKind.{EntityTypeKind, enumerated_kind, external_kind, standard_kind}
 use Rattle.cedar_declarations.specs.Fault.{undeclared_entity_types}
-use Rattle.cedar_declarations.specs.Names.{IsDefined, ResolvesTo}
+use Rattle.cedar_declarations.specs.Names.{IsDefined}
 use Rattle.cedar_declarations.specs.PlainSchema.{ActionKind, PlainSchema, SchemaAction, SchemaEntityType, defined_action, external_action}
 use Rattle.cedar_declarations.specs.TypeMentions.{MentionsEntity}
 use Rattle.cedar_declarations.specs.ValidSchema.{HasEntityType, IsContextOf, IsKnownType, IsPrincipalOrResourceOf, IsTypeIn, IsTypeOfKind, IsUnknownType, IsValidSchema, ListsDescendant}
@@ -37,49 +37,45 @@ module _ (schema : PlainSchema) (extensions : Extensions) (valid : IsValidSchema
   -- no name is unknown
   none_unknown : (name : PlainName) → ¬ IsUnknownType schema name
   none_unknown name unknown =
-      let P : PlainName → Type 0 = IsUnknownType schema in
       valid (undeclared_entity_types (name ∷ []))
-      ((λ is. absurd cc), λ each among. subst P (Contains-single name each among) unknown)
+      ((λ is. absurd cc), λ each among. rw (Contains-single name each among) at unknown)
 
   -- a known type is one of those that the schema defines
   known_defined : (name : PlainName) → IsKnownType schema name → Contains (schema_names schema).entities name
   known_defined name known =
       let types = map (λ (it : PlainName × SchemaEntityType). it.0) schema.entity_types in
       let of_actions = map (λ (it : PlainUid × SchemaAction). it.0.ty) schema.actions in
-      ⊎_elim
-      (λ has. Contains-append_left types of_actions name has)
-      (λ of_action.
-      let it = Contains-preimage (λ (each : PlainUid × SchemaAction). each.0) schema.actions of_action.0 of_action.1 in
-      let P : PlainName → Type 0 = Contains of_actions in
-      let Q : PlainUid → Type 0 = λ uid. Contains of_actions uid.ty in
-      Contains-append_right types of_actions name
-      (subst P of_action.2
-      (subst Q it.2 (Contains-image (λ (each : PlainUid × SchemaAction). each.0.ty) schema.actions it.0 it.1))))
-      known
+      elim known [
+        | inl has ↦ Contains-append_left types of_actions name has
+        | inr of_action ↦
+            let it = Contains-preimage (λ (each : PlainUid × SchemaAction). each.0) schema.actions of_action.0 of_action.1 in
+            Contains-append_right types of_actions name
+            (rw (it.2, of_action.2) at (Contains-image (λ (each : PlainUid × SchemaAction). each.0.ty) schema.actions it.0 it.1))
+      ]
 
   -- a name that stands in a type of the schema is one of those that it defines
   pub mentioned_known : (ty : Ty) → IsTypeIn schema ty → (name : PlainName) → MentionsEntity ty name
       → Contains (schema_names schema).entities name
   mentioned_known ty type_in name mentions =
-      ⊎_elim
-      (λ known. known)
-      (λ none. absurd (none_unknown name (inl (ty, type_in, mentions, λ known. none (known_defined name known)))))
-      (decide_among decide_names (schema_names schema).entities name)
+      elim (decide_among decide_names (schema_names schema).entities name) [
+        | inl known ↦ known
+        | inr none ↦ absurd (none_unknown name (inl (ty, type_in, mentions, λ known. none (known_defined name known))))
+      ]
 
   -- a principal or a resource of an action is an entity type of the schema
   pub request_known : (it : PlainUid × SchemaAction) → Contains schema.actions it → (name : PlainName)
       → IsPrincipalOrResourceOf it.1.kind name → HasEntityType schema name
   request_known it among name of =
-      ⊎_elim
-      (λ known. known)
-      (λ none. absurd (none_unknown name (inr (inr (it, among, of, none)))))
-      (decide_among decide_names (map (λ (each : PlainName × SchemaEntityType). each.0) schema.entity_types) name)
+      elim (decide_among decide_names (map (λ (each : PlainName × SchemaEntityType). each.0) schema.entity_types) name) [
+        | inl known ↦ known
+        | inr none ↦ absurd (none_unknown name (inr (inr (it, among, of, none))))
+      ]
 
 -- a type that is written in a namespace is one of the schema
 pub written_in_schema : (schema : PlainSchema) (namespace : Option PlainName) (ty : Ty) → IsTypeWrittenIn schema namespace ty
     → IsTypeIn schema ty
 written_in_schema schema namespace ty place =
-    ⊎_elim (λ of_type. inl (of_type.0, of_type.1, of_type.3)) (λ of_action. inr (of_action.0, of_action.1, of_action.3)) place
+    elim place [ inl of_type ↦ inl (of_type.0, of_type.1, of_type.3) | inr of_action ↦ inr (of_action.0, of_action.1, of_action.3) ]
 
 module _ (defined : Defined) (namespace : Option PlainName) where
   -- the type of tags is the one that is declared, where it is elaborated
@@ -113,11 +109,9 @@ module _ (defined : Defined) (namespace : Option PlainName) where
     λ among. (full_name namespace name, (are (full_name namespace name)).1 (name, among, refl), (again name among).resolves),
     λ named.
         let from = (are named.0).0 named.1 in
-        let P : Reference → Type 0 = λ each. ResolvesTo (names_of defined) each name in
         let same = IsFirst-same (IsDefined (names_of defined) Entity) (full_name namespace from.0).possibilities from.0 name
-        (again from.0 from.1).resolves (subst P (sym from.2) named.2) in
-        let Q : PlainName → Type 0 = Contains names in
-        subst Q same from.1,
+        (again from.0 from.1).resolves (rw (← from.2) at named.2) in
+        rw same at from.1,
   )
 
   -- a kind of action that is written is the one that is declared, where its types are elaborated and its names named

@@ -1,5 +1,5 @@
 -- What stands in lists is decided, and what a fact holds of is listed, in order too.
-use Rattle.std.proofs.Common.{◌≡◌, ◌⊎◌, ◌↔◌, List, [], ◌∷◌, inl, inr, ⊎_elim, refl, sym, subst, arith, Contains}
+use Rattle.std.proofs.Common.{◌≡◌, ◌⊎◌, ◌↔◌, List, [], ◌∷◌, inl, inr, refl, sym, subst, arith, Contains}
 use Rattle.std.specs.Cmp.{IsTotalOrder}
 use Rattle.std.specs.List.Sorted.{IsStrictlySortedBy}
 use Rattle.std.specs.declared.cmp.Ordering.{Ordering}
@@ -12,28 +12,32 @@ use Rattle.cedar_type_rules.proofs.Decisions.{IsDecided, decide_both, merge}
 -- of two facts one is decided to hold, or that neither does
 pub decide_either : {A B : Type 0} → IsDecided A → IsDecided B → IsDecided (A ⊎ B)
 decide_either (inl a) b = inl (inl a)
-decide_either (inr none) b = decide_like inr (λ either. ⊎_elim (λ a. absurd (none a)) (λ b. b) either) b
+decide_either (inr none) b = decide_like inr (λ either. elim either [ inl a ↦ absurd (none a) | inr b ↦ b ]) b
 
 -- some item of a list is one of which a fact holds, or none is
 pub decide_some : {A : Type 0} (P : A → Type 0) → ((x : A) → IsDecided (P x)) → (xs : List A)
     → IsDecided ((x : A) × Contains xs x × P x)
 decide_some P decide [] = inr (λ found. omega (arith, found.1.1))
 decide_some P decide (y ∷ ys) =
-    ⊎_elim (λ here. inl (y, Contains-cons y ys y (inl refl), here))
-    (λ not_here. ⊎_elim
-    (λ later. inl (later.0, Contains-cons y ys later.0 (inr later.1), later.2))
-    (λ not_later. inr (λ found. ⊎_elim (λ same. not_here (subst P (sym same) found.2))
-    (λ among. not_later (found.0, among, found.2))
-    (Contains-cons_cases y ys found.0 found.1)))
-    (decide_some P decide ys))
-    (decide y)
+    elim (decide y) [
+      | inl here ↦ inl (y, Contains-cons y ys y (inl refl), here)
+      | inr not_here ↦
+          elim (decide_some P decide ys) [
+            | inl later ↦ inl (later.0, Contains-cons y ys later.0 (inr later.1), later.2)
+            | inr not_later ↦
+                inr (λ found. elim (Contains-cons_cases y ys found.0 found.1) [
+                  | inl same ↦ not_here (subst P (sym same) found.2)
+                  | inr among ↦ not_later (found.0, among, found.2)
+                ])
+          ]
+    ]
 
 -- a value of which a fact holds stands under the key, or none does
 pub decide_stands : {K V : Type 0} → ((a b : K) → IsDecided (a ≡ b)) → (entries : List (K × V)) (Fits : V → Type 0)
     → ((value : V) → IsDecided (Fits value)) → (key : K) → IsDecided ((value : V) × Contains entries (key, value) × Fits value)
 decide_stands {K = K} {V = V} same entries Fits decide key =
     decide_like
-    (λ found. let P : K → Type 0 = λ each. Contains entries (each, found.0.1) in (found.0.1, subst P found.2.0 found.1, found.2.1))
+    (λ found. (found.0.1, rw found.2.0 at found.1, found.2.1))
     (λ stands. ((key, stands.0), stands.1, (refl, stands.2)))
     (decide_some (λ (it : K × V). (it.0 ≡ key) × Fits it.1) (λ it. decide_both (same it.0 key) (decide it.1)) entries)
 
@@ -42,25 +46,31 @@ pub find_first : {A : Type 0} (P : A → Type 0) → ((x : A) → IsDecided (P x
     → ((x : A) × IsFirst P xs x) ⊎ ((x : A) → Contains xs x → ¬ P x)
 find_first P decide [] = inr (λ x among. absurd (omega (arith, among.1)))
 find_first P decide (y ∷ ys) =
-    ⊎_elim (λ here. inl (y, inl (refl, here)))
-    (λ not_here. ⊎_elim
-    (λ later. inl (later.0, inr (not_here, later.1)))
-    (λ not_later. inr (λ x among holds. ⊎_elim (λ same. not_here (subst P (sym same) holds))
-    (λ there. not_later x there holds)
-    (Contains-cons_cases y ys x among)))
-    (find_first P decide ys))
-    (decide y)
+    elim (decide y) [
+      | inl here ↦ inl (y, inl (refl, here))
+      | inr not_here ↦
+          elim (find_first P decide ys) [
+            | inl later ↦ inl (later.0, inr (not_here, later.1))
+            | inr not_later ↦
+                inr (λ x among holds. elim (Contains-cons_cases y ys x among) [
+                  | inl same ↦ not_here (subst P (sym same) holds)
+                  | inr there ↦ not_later x there holds
+                ])
+          ]
+    ]
 
 -- an item is the first of which a fact holds, or isn't
 pub decide_first : {A : Type 0} (P : A → Type 0) → ((x : A) → IsDecided (P x)) → ((x y : A) → IsDecided (x ≡ y))
     → (xs : List A) (x : A) → IsDecided (IsFirst P xs x)
 decide_first P decide same [] x = inr (λ first. first)
 decide_first P decide same (y ∷ ys) x =
-    ⊎_elim
-    (λ here. decide_like (λ is. inl (is, here)) (λ first. ⊎_elim (λ it. it.0) (λ later. absurd (later.0 here)) first) (same y x))
-    (λ not_here. decide_like (λ later. inr (not_here, later)) (λ first. ⊎_elim (λ it. absurd (not_here it.1)) (λ later. later.1) first)
-    (decide_first P decide same ys x))
-    (decide y)
+    elim (decide y) [
+      | inl here ↦
+          decide_like (λ is. inl (is, here)) (λ first. elim first [ inl it ↦ it.0 | inr later ↦ absurd (later.0 here) ]) (same y x)
+      | inr not_here ↦
+          decide_like (λ later. inr (not_here, later)) (λ first. elim first [ inl it ↦ absurd (not_here it.1) | inr later ↦ later.1 ])
+          (decide_first P decide same ys x)
+    ]
 
 -- a list of just what a fact holds of
 abbrev pub Listed : {A : Type 0} → (A → Type 0) → Type 0
@@ -71,26 +81,31 @@ list_kept : {A : Type 0} (P : A → Type 0) → ((x : A) → IsDecided (P x)) �
 list_kept P decide [] = ([], λ x. (λ among. absurd (omega (arith, among.1)), λ kept. kept.0))
 list_kept P decide (y ∷ ys) =
     let rest = list_kept P decide ys in
-    ⊎_elim
-    (λ here. (
-      y ∷ rest.0,
-      λ x. (
-        λ among. ⊎_elim (λ same. (Contains-cons y ys x (inl same), subst P same here))
-            (λ later. let kept = (rest.1 x).0 later in (Contains-cons y ys x (inr kept.0), kept.1))
-            (Contains-cons_cases y rest.0 x among),
-        λ kept. Contains-cons y rest.0 x (⊎_elim (λ same. inl same) (λ later. inr ((rest.1 x).1 (later, kept.1)))
-            (Contains-cons_cases y ys x kept.0)),
-      ),
-    ))
-    (λ not_here. (
-      rest.0,
-      λ x. (
-        λ among. let kept = (rest.1 x).0 among in (Contains-cons y ys x (inr kept.0), kept.1),
-        λ kept. ⊎_elim (λ same. absurd (not_here (subst P (sym same) kept.1))) (λ later. (rest.1 x).1 (later, kept.1))
-            (Contains-cons_cases y ys x kept.0),
-      ),
-    ))
-    (decide y)
+    elim (decide y) [
+      | inl here ↦ (
+        y ∷ rest.0,
+        λ x. (
+          λ among. elim (Contains-cons_cases y rest.0 x among) [
+            | inl same ↦ (Contains-cons y ys x (inl same), subst P same here)
+            | inr later ↦ let kept = (rest.1 x).0 later in (Contains-cons y ys x (inr kept.0), kept.1)
+          ],
+          λ kept. Contains-cons y rest.0 x (elim (Contains-cons_cases y ys x kept.0) [
+            | inl same ↦ inl same
+            | inr later ↦ inr ((rest.1 x).1 (later, kept.1))
+          ]),
+        ),
+      )
+      | inr not_here ↦ (
+        rest.0,
+        λ x. (
+          λ among. let kept = (rest.1 x).0 among in (Contains-cons y ys x (inr kept.0), kept.1),
+          λ kept. elim (Contains-cons_cases y ys x kept.0) [
+            | inl same ↦ absurd (not_here (subst P (sym same) kept.1))
+            | inr later ↦ (rest.1 x).1 (later, kept.1)
+          ],
+        ),
+      )
+    ]
 
 -- what a fact holds of is listed, where it all stands in a list
 pub list_all : {A : Type 0} (P : A → Type 0) → ((x : A) → IsDecided (P x)) → (xs : List A) → ((x : A) → P x → Contains xs x)
@@ -107,7 +122,7 @@ in_order R total ties xs =
     let all = merge R total ties xs [] tt in (
       all.all,
       λ x. (
-        λ among. ⊎_elim (λ there. there) (λ none. absurd (omega (arith, none.1))) (all.only x among),
+        λ among. elim (all.only x among) [ inl there ↦ there | inr none ↦ absurd (omega (arith, none.1)) ],
         all.first x,
       ),
       all.sorted_by_name,

@@ -1,5 +1,5 @@
 -- References that mean the same, and expressions that are alike but for such references.
-use Rattle.std.proofs.Common.{◌≡◌, ◌↔◌, Bool, ap, sym, subst, refl, inl, inr, ⊎_elim, Contains}
+use Rattle.std.proofs.Common.{◌≡◌, ◌↔◌, Bool, ap, sym, subst, refl, inl, inr, Contains}
 use Rattle.cedar_below.specs.PlainName.{PlainName}
 use Rattle.cedar_below.specs.Text.{Text}
 use Rattle.cedar_names.specs.Expr.{Expr, text_expr, long_expr, truth_expr, set_expr, record_expr, named, extension_expr, Members, no_member, member}
@@ -34,21 +34,16 @@ resolved_means names others same reference resolved (name, resolves, is) = (
   (name, resolves),
 ) where
   defined_there : IsDefined others reference.kind name
-  defined_there =
-      let P : Names → Type 0 = λ each. IsDefined each reference.kind name in
-      subst P same (first_defined names reference.kind reference.possibilities name resolves).1
+  defined_there = rw same at (first_defined names reference.kind reference.possibilities name resolves).1
 
   both : (each : PlainName) → ResolvesTo names reference each ↔ ResolvesTo others resolved each
   both each = (
-    λ to. let P : Reference → Type 0 = λ it. ResolvesTo others it each in
-        subst P (sym is) (inl (
-          IsFirst-same
-              (IsDefined names reference.kind) reference.possibilities name each resolves to,
-          defined_there,
-        )),
-    λ to. let P : Reference → Type 0 = λ it. ResolvesTo others it each in
-        let Q : PlainName → Type 0 = ResolvesTo names reference in
-        ⊎_elim (λ here. subst Q here.0 resolves) (λ none. absurd none.1) (subst P is to),
+    λ to. rw is (inl (
+      IsFirst-same
+          (IsDefined names reference.kind) reference.possibilities name each resolves to,
+      defined_there,
+    )),
+    λ to. elim (rw is at to) [ inl here ↦ rw here.0 at resolves | inr none ↦ absurd none.1 ],
   )
 
 mutual
@@ -115,7 +110,7 @@ module _ (names others : Names) where
     -- an open record stands in what is alike
     pub open_alike : {expr other : Expr} → AreAlike names others expr other → HasOpenRecord expr → HasOpenRecord other
     open_alike (alike_set element) has = open_alike element has
-    open_alike (alike_record additional members) has = ⊎_elim (λ is. inl is) (λ later. inr (members_open_alike members later)) has
+    open_alike (alike_record additional members) has = elim has [ inl is ↦ inl is | inr later ↦ inr (members_open_alike members later) ]
     open_alike _ has = absurd has
 
     -- the same of the attributes of a record
@@ -123,7 +118,7 @@ module _ (names others : Names) where
         → MembersHaveOpenRecord more
     members_open_alike alike_no_member has = absurd has
     members_open_alike (alike_member name required first rest) has =
-        ⊎_elim (λ here. inl (open_alike first here)) (λ later. inr (members_open_alike rest later)) has
+        elim has [ inl here ↦ inl (open_alike first here) | inr later ↦ inr (members_open_alike rest later) ]
 
   mutual
     -- an extension type stands in what is alike
@@ -139,7 +134,7 @@ module _ (names others : Names) where
         → MembersMentionExtension members word → MembersMentionExtension more word
     members_extension_alike alike_no_member word has = absurd has
     members_extension_alike (alike_member name required first rest) word has =
-        ⊎_elim (λ here. inl (extension_alike first word here)) (λ later. inr (members_extension_alike rest word later)) has
+        elim has [ inl here ↦ inl (extension_alike first word here) | inr later ↦ inr (members_extension_alike rest word later) ]
 
   mutual
     -- for each reference one that means the same stands in what is alike
@@ -147,8 +142,7 @@ module _ (names others : Names) where
         → (found : Reference) × Refers other found × MeansTheSame names others reference found
     refers_alike (alike_set element) reference refers = refers_alike element reference refers
     refers_alike (alike_record additional members) reference refers = members_refer_alike members reference refers
-    refers_alike (alike_named {reference = r} {other = r'} same) reference refers =
-        let P : Reference → Type 0 = λ each. MeansTheSame names others each r' in (r', refl, subst P refers same)
+    refers_alike (alike_named {reference = r} {other = r'} same) reference refers = (r', refl, rw refers at same)
     refers_alike _ reference refers = absurd refers
 
     -- the same of the attributes of a record
@@ -156,10 +150,10 @@ module _ (names others : Names) where
         → MembersRefer members reference → (found : Reference) × MembersRefer more found × MeansTheSame names others reference found
     members_refer_alike alike_no_member reference refers = absurd refers
     members_refer_alike (alike_member name required first rest) reference refers =
-        ⊎_elim
-        (λ here. let found = refers_alike first reference here in (found.0, inl found.1, found.2))
-        (λ later. let found = members_refer_alike rest reference later in (found.0, inr found.1, found.2))
-        refers
+        elim refers [
+          | inl here ↦ let found = refers_alike first reference here in (found.0, inl found.1, found.2)
+          | inr later ↦ let found = members_refer_alike rest reference later in (found.0, inr found.1, found.2)
+        ]
 
 -- what some names define is defined by others, up to references that mean the same
 pub record MovesTo (defined other : Defined) : Type 0 where

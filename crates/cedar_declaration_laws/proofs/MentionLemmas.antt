@@ -1,5 +1,5 @@
 -- What stands in types that are elaborated is known.
-use Rattle.std.proofs.Common.{◌≡◌, ◌⊎◌, zero, suc, Bool, true, false, [], ap, sym, subst, refl, inl, inr, ⊎_elim, arith, Contains}
+use Rattle.std.proofs.Common.{◌≡◌, ◌⊎◌, zero, suc, Bool, true, false, [], ap, sym, subst, refl, inl, inr, arith, Contains}
 use Rattle.std.proofs.lemmas.Bool.{false≢true}
 use Rattle.std.proofs.lemmas.List.Elements.{All-contains, Contains-append_cases}
 use Rattle.std.specs.Bool.{Decides}
@@ -13,19 +13,18 @@ use Rattle.cedar_below.specs.Text.{Text}
 use Rattle.cedar_below.specs.TypeNames.{TypeNamesFit}
 use Rattle.cedar_below.specs.declared.extension.Extensions.{Extensions}
 use Rattle.cedar_below.specs.declared.name.Name.{Name}
-use Rattle.cedar_names.specs.Declaration.{Body}
 use Rattle.cedar_names.specs.Expr.{Expr, Members, extension_expr}
 use Rattle.cedar_declarations.proofs.BuiltInLemmas.{alias_of, common_cases}
 use Rattle.cedar_declarations.proofs.DeclarationLemmas.{common_declaration}
 use Rattle.cedar_declarations.proofs.OccurrenceLemmas.{name_test}
 use Rattle.cedar_declarations.specs.Bag.{Bag, declared_common, definitions, built_ins, built_in_types, built_in_name, alias_name}
-use Rattle.cedar_declarations.specs.Counted.{CountsIn, IsCounted}
+use Rattle.cedar_declarations.specs.Counted.{IsCounted}
 use Rattle.cedar_declarations.specs.Defined.{Defined}
 use Rattle.cedar_declarations.specs.Fault.{unknown_extension_type}
 use Rattle.cedar_declarations.specs.IllFormed.{IsIllFormed}
 use Rattle.cedar_declarations.specs.Mentions.{MentionsExtension, MembersMentionExtension}
 use Rattle.cedar_declarations.specs.TypeMentions.{MentionsEntity, FieldsMentionEntity, MentionsExtensionType, FieldsMentionExtensionType}
-use Rattle.cedar_declarations.specs.ElaboratesTo.{ElaboratesTo, MembersElaborateTo, as_text, as_long, as_truth, as_set, as_record, as_entity, as_common, as_extension, as_no_member, as_member}
+use Rattle.cedar_declarations.specs.ElaboratesTo.{ElaboratesTo, MembersElaborateTo, as_set, as_record, as_entity, as_common, as_extension, as_no_member, as_member}
 use Rattle.cedar_type_rules.specs.Ty.{Ty, Fields}
 
 mutual
@@ -35,8 +34,10 @@ mutual
   mentions_entity defined (as_set element) name mentions = mentions_entity defined element name mentions
   mentions_entity defined (as_record members) name mentions = members_mention_entity defined members name mentions
   mentions_entity defined (as_entity reference other resolves is_entity none) name mentions =
-      let P : PlainName → Type 0 = Contains defined.entities in
-      ⊎_elim (λ same. subst P same is_entity.1) (λ nothing. absurd (omega (arith, nothing.1))) (Contains-cons_cases other [] name mentions)
+      elim (Contains-cons_cases other [] name mentions) [
+        | inl same ↦ rw same at is_entity.1
+        | inr nothing ↦ absurd (omega (arith, nothing.1))
+      ]
   mentions_entity defined (as_common reference other body resolves is_common written) name mentions =
       mentions_entity defined written name mentions
   mentions_entity defined _ name mentions = absurd mentions
@@ -46,7 +47,7 @@ mutual
       → MembersElaborateTo defined members fields → (name : PlainName) → FieldsMentionEntity fields name → Contains defined.entities name
   members_mention_entity defined as_no_member name mentions = absurd mentions
   members_mention_entity defined (as_member first rest) name mentions =
-      ⊎_elim (λ here. mentions_entity defined first name here) (λ later. members_mention_entity defined rest name later) mentions
+      elim mentions [ inl here ↦ mentions_entity defined first name here | inr later ↦ members_mention_entity defined rest name later ]
 
 -- each extension type that the expression mentions is known
 abbrev pub HasKnownExtensions : Extensions → Expr → Type 0
@@ -68,8 +69,7 @@ mutual
       members_known_written defined extensions each members known name mentions
   known_written defined extensions each (as_common reference other body resolves is_common written) known name mentions =
       known_written defined extensions each written (each other body is_common.1) name mentions
-  known_written defined extensions each (as_extension word) known name mentions =
-      let P : PlainName → Type 0 = Contains (extension_types extensions) in subst P mentions (known word refl)
+  known_written defined extensions each (as_extension word) known name mentions = rw mentions at (known word refl)
   known_written defined extensions each _ known name mentions = absurd mentions
 
   -- the same of the attributes of a record
@@ -80,10 +80,11 @@ mutual
       → Contains (extension_types extensions) name
   members_known_written defined extensions each as_no_member known name mentions = absurd mentions
   members_known_written defined extensions each (as_member first rest) known name mentions =
-      ⊎_elim
-      (λ here. known_written defined extensions each first (λ word stands. known word (inl stands)) name here)
-      (λ later. members_known_written defined extensions each rest (λ word stands. known word (inr stands)) name later)
-      mentions
+      elim mentions [
+        | inl here ↦ known_written defined extensions each first (λ word stands. known word (inl stands)) name here
+        | inr later ↦
+            members_known_written defined extensions each rest (λ word stands. known word (inr stands)) name later
+      ]
 
 -- whether a name is that of an extension type
 is_type_name : PlainName → Name → Bool
@@ -92,8 +93,7 @@ is_type_name name ty = is_eq (name_cmp (plain_name ty) name)
 -- the test of the name of an extension type decides
 is_type_name-Decides : (name : PlainName) (ty : Name) → Decides (is_type_name name ty) (plain_name ty ≡ name)
 unfolding is_type_name
-is_type_name-Decides name ty =
-    name_test (plain_name ty) name
+is_type_name-Decides name ty = name_test (plain_name ty) name
 
 -- an extension type is known or it isn't
 known_or_not : (extensions : Extensions) (name : PlainName) → Contains (extension_types extensions) name
@@ -110,43 +110,43 @@ known_or_not extensions name =
 pub known_counted : (bag : Bag) (extensions : Extensions) → ¬ IsIllFormed bag extensions → (expr : Expr)
     → IsCounted bag expr → HasKnownExtensions extensions expr
 known_counted bag extensions well expr counted word mentions =
-    ⊎_elim (λ known. known) (λ unknown. absurd
-    (well (unknown_extension_type (alias_name word), (expr, counted, mentions, refl, unknown))))
-    (known_or_not extensions (alias_name word))
+    elim (known_or_not extensions (alias_name word)) [
+      | inl known ↦ known
+      | inr unknown ↦
+          absurd
+          (well (unknown_extension_type (alias_name word), (expr, counted, mentions, refl, unknown)))
+    ]
 
 -- what a built-in base name stands for mentions known extension types alone
 pub known_built_in : (extensions : Extensions) → TypeNamesFit (extension_types extensions) → (word : Text) (body : Expr)
     → Contains (built_in_types extensions) (word, body) → HasKnownExtensions extensions body
 known_built_in extensions fit word body (zero, below, is) other mentions =
-    let P : Text × Expr → Type 0 = λ each. MentionsExtension each.1 other in absurd (subst P (sym is) mentions)
+    absurd (subst (λ each. MentionsExtension each.1 other) (sym is) mentions)
 known_built_in extensions fit word body (suc zero, below, is) other mentions =
-    let P : Text × Expr → Type 0 = λ each. MentionsExtension each.1 other in absurd (subst P (sym is) mentions)
+    absurd (subst (λ each. MentionsExtension each.1 other) (sym is) mentions)
 known_built_in extensions fit word body (suc (suc zero), below, is) other mentions =
-    let P : Text × Expr → Type 0 = λ each. MentionsExtension each.1 other in absurd (subst P (sym is) mentions)
+    absurd (subst (λ each. MentionsExtension each.1 other) (sym is) mentions)
 known_built_in extensions fit word body (suc (suc (suc k)), below, is) other mentions =
-    let P : Text × Expr → Type 0 = λ each. MentionsExtension each.1 other in
     let found = Contains-preimage (λ name. (name.base, extension_expr name.base)) (extension_types extensions)
     (word, body) (k, omega (arith, below), is) in
-    let same : found.0.base ≡ other = subst P (sym found.2) mentions in
+    let same : found.0.base ≡ other = subst (λ each. MentionsExtension each.1 other) (sym found.2) mentions in
     let plain : IsUnqualified found.0 = All-contains IsUnqualified (extension_types extensions) found.0 fit.unqualified found.1 in
-    let Q : PlainName → Type 0 = Contains (extension_types extensions) in
-    subst Q (λ i. record { base = same i; path = plain i }) found.1
+    subst (Contains (extension_types extensions)) (λ i. record { base = same i; path = plain i }) found.1
 
 -- where the bag isn't ill-formed, each definition mentions known extension types alone
 pub known_common : (bag : Bag) (extensions : Extensions) → TypeNamesFit (extension_types extensions)
     → ¬ IsIllFormed bag extensions → (name : PlainName) (body : Expr)
     → Contains (definitions bag extensions).common (name, body) → HasKnownExtensions extensions body
 known_common bag extensions fit well name body among =
-    ⊎_elim
-    (λ here. ⊎_elim
-    (λ declared.
-    (let found = common_declaration bag name body declared in
-    let P : Body → Type 0 = λ each. CountsIn each body in
-    known_counted bag extensions well body (found.0, found.1, subst P (sym found.2) refl)))
-    (λ built_in.
-    (let found = Contains-preimage (λ it. (built_in_name it.0, it.1)) (built_in_types extensions) (name, body) built_in in
-    let P : Expr → Type 0 = HasKnownExtensions extensions in
-    subst P (ap (λ each. each.1) found.2) (known_built_in extensions fit found.0.0 found.0.1 found.1)))
-    (Contains-append_cases (declared_common bag) (built_ins extensions) (name, body) here))
-    (λ alias. known_built_in extensions fit name.base body (alias_of bag extensions name body alias).0)
-    (common_cases bag extensions (name, body) among)
+    elim (common_cases bag extensions (name, body) among) [
+      | inl here ↦
+          elim (Contains-append_cases (declared_common bag) (built_ins extensions) (name, body) here) [
+            | inl declared ↦
+                let found = common_declaration bag name body declared in
+                known_counted bag extensions well body (found.0, found.1, rw found.2 refl)
+            | inr built_in ↦
+                let found = Contains-preimage (λ it. (built_in_name it.0, it.1)) (built_in_types extensions) (name, body) built_in in
+                rw (ap (λ each. each.1) found.2) at (known_built_in extensions fit found.0.0 found.0.1 found.1)
+          ]
+      | inr alias ↦ known_built_in extensions fit name.base body (alias_of bag extensions name body alias).0
+    ]

@@ -1,5 +1,5 @@
 -- What bags define and declare whose declarations are alike pairwise.
-use Rattle.std.proofs.Common.{◌≡◌, zero, suc, List, [], ◌∷◌, ◌++◌, map, not, ap, sym, subst, ◌∙◌, refl, ⊎_elim, arith, Contains}
+use Rattle.std.proofs.Common.{◌≡◌, zero, suc, List, [], ◌∷◌, ◌++◌, map, not, ap, sym, subst, ◌∙◌, refl, arith, Contains, inl, inr}
 use Rattle.std.proofs.lemmas.List.{map-append}
 use Rattle.std.proofs.lemmas.List.Elements.{Contains-append_left, Contains-append_right, Contains-append_cases}
 use Rattle.std.specs.List.{flat_map, filter, list_any}
@@ -218,16 +218,15 @@ module _ (names others : Names) (bag other : Bag) (turn : HoldsPairwise (Declara
 built_in_alike : (names others : Names) (extensions : Extensions) (word : Text) (body : Expr)
     → Contains (built_in_types extensions) (word, body) → AreAlike names others body body
 built_in_alike names others extensions word body (zero, below, is) =
-    let P : Text × Expr → Type 0 = λ each. AreAlike names others each.1 each.1 in subst P is alike_truth
+    subst (λ each. AreAlike names others each.1 each.1) is alike_truth
 built_in_alike names others extensions word body (suc zero, below, is) =
-    let P : Text × Expr → Type 0 = λ each. AreAlike names others each.1 each.1 in subst P is alike_long
+    subst (λ each. AreAlike names others each.1 each.1) is alike_long
 built_in_alike names others extensions word body (suc (suc zero), below, is) =
-    let P : Text × Expr → Type 0 = λ each. AreAlike names others each.1 each.1 in subst P is alike_text
+    subst (λ each. AreAlike names others each.1 each.1) is alike_text
 built_in_alike names others extensions word body (suc (suc (suc k)), below, is) =
-    let P : Text × Expr → Type 0 = λ each. AreAlike names others each.1 each.1 in
     let found = Contains-preimage (λ name. (name.base, extension_expr name.base)) (extension_types extensions)
     (word, body) (k, omega (arith, below), is) in
-    subst P found.2 (alike_extension found.0.base)
+    subst (λ each. AreAlike names others each.1 each.1) found.2 (alike_extension found.0.base)
 
 module _ (names others : Names) (bag other : Bag) (extensions : Extensions) (turn : HoldsPairwise
     (DeclarationsAlike names others) bag other) where
@@ -235,29 +234,29 @@ module _ (names others : Names) (bag other : Bag) (extensions : Extensions) (tur
   pub definition_moved : (name : PlainName) (body : Expr) → Contains (definitions bag extensions).common (name, body) → (found : Expr)
       × Contains (definitions other extensions).common (name, found) × AreAlike names others body found
   definition_moved name body among =
-      ⊎_elim
-      (λ here. ⊎_elim
-      (λ declared. let found = common_moved names others bag other turn name body declared in (
-        found.0,
-        Contains-append_left (declared_common other ++ built_ins extensions) (aliases other extensions) (name, found.0)
-            (Contains-append_left (declared_common other) (built_ins extensions) (name, found.0) found.1),
-        found.2,
-      ))
-      (λ built_in.
-      let entry = Contains-preimage (λ (it : Text
-      × Expr). (built_in_name it.0, it.1)) (built_in_types extensions) (name, body) built_in in
-      let P : Expr → Type 0 = λ each. AreAlike names others each each in (
-        body,
-        Contains-append_left (declared_common other ++ built_ins extensions) (aliases other extensions) (name, body)
-            (Contains-append_right (declared_common other) (built_ins extensions) (name, body) built_in),
-        subst P (ap (λ (each : PlainName × Expr). each.1) entry.2) (built_in_alike names others extensions entry.0.0 entry.0.1 entry.1),
-      ))
-      (Contains-append_cases (declared_common bag) (built_ins extensions) (name, body) here))
-      (λ alias.
-      let Q : List (PlainName × Expr) → Type 0 = λ list. Contains list (name, body) in (
-        body,
-        Contains-append_right (declared_common other ++ built_ins extensions) (aliases other extensions) (name, body)
-            (subst Q (aliases_same names others bag other turn extensions) alias),
-        built_in_alike names others extensions name.base body (alias_of bag extensions name body alias).0,
-      ))
-      (Contains-append_cases (declared_common bag ++ built_ins extensions) (aliases bag extensions) (name, body) among)
+      elim (Contains-append_cases (declared_common bag ++ built_ins extensions) (aliases bag extensions) (name, body) among) [
+        | inl here ↦
+            elim (Contains-append_cases (declared_common bag) (built_ins extensions) (name, body) here) [
+              | inl declared ↦
+                  let found = common_moved names others bag other turn name body declared in (
+                    found.0,
+                    Contains-append_left (declared_common other ++ built_ins extensions) (aliases other extensions) (name, found.0)
+                        (Contains-append_left (declared_common other) (built_ins extensions) (name, found.0) found.1),
+                    found.2,
+                  )
+              | inr built_in ↦
+                  let entry = Contains-preimage (λ (it : Text
+                  × Expr). (built_in_name it.0, it.1)) (built_in_types extensions) (name, body) built_in in (
+                    body,
+                    Contains-append_left (declared_common other ++ built_ins extensions) (aliases other extensions) (name, body)
+                        (Contains-append_right (declared_common other) (built_ins extensions) (name, body) built_in),
+                    rw (ap (λ (each : PlainName × Expr). each.1) entry.2) at (built_in_alike names others extensions entry.0.0 entry.0.1 entry.1),
+                  )
+            ]
+        | inr alias ↦ (
+          body,
+          Contains-append_right (declared_common other ++ built_ins extensions) (aliases other extensions) (name, body)
+              (rw (aliases_same names others bag other turn extensions) at alias),
+          built_in_alike names others extensions name.base body (alias_of bag extensions name body alias).0,
+        )
+      ]

@@ -1,5 +1,5 @@
 -- Bags whose declarations are alike pairwise, but for references that mean the same.
-use Rattle.std.proofs.Common.{◌≡◌, ◌↔◌, List, [], ◌∷◌, ◌++◌, Option, Some, None, map, ap, sym, subst, ◌∙◌, refl, inl, ⊎_elim, Contains}
+use Rattle.std.proofs.Common.{◌≡◌, ◌↔◌, List, [], ◌∷◌, ◌++◌, Option, Some, None, map, ap, sym, subst, ◌∙◌, refl, inl, Contains, inr}
 use Rattle.std.proofs.lemmas.List.{map-append}
 use Rattle.std.specs.List.{flat_map}
 use Rattle.cedar_below.specs.Lists.{HoldsPairwise}
@@ -190,20 +190,17 @@ module _ (names : Names) where
     there = first_holds parent.ty.possibilities named.0 where
       first_holds : (xs : List PlainName) → IsFirst Stands xs uid.ty → Stands uid.ty
       first_holds [] first = absurd first
-      first_holds (x ∷ xs) first = ⊎_elim (λ here. subst Stands here.0 here.1) (λ later. first_holds xs later.1) first
+      first_holds (x ∷ xs) first = elim first [ inl here ↦ subst Stands here.0 here.1 | inr later ↦ first_holds xs later.1 ]
 
     own : NamesAction names.actions resolved uid
-    own = let P : ActionReference → Type 0 = λ each. NamesAction names.actions each uid in
-        subst P (sym is) (inl (refl, there), named.1)
+    own = rw is (inl (refl, there), named.1)
 
     both : (other : PlainUid) → NamesAction names.actions parent other ↔ NamesAction names.actions resolved other
     both other = (
-      λ named'. let P : PlainUid → Type 0 = NamesAction names.actions resolved in subst P (one_uid other named') own,
-      λ named'. let P : ActionReference → Type 0 = λ each. NamesAction names.actions each other in
-          let at = subst P is named' in
-          let Q : PlainUid → Type 0 = NamesAction names.actions parent in
-          let ty : uid.ty ≡ other.ty = ⊎_elim (λ here. here.0) (λ none. absurd none.1) at.0 in
-          subst Q (λ i. record { ty = ty i; eid = (named.1 ∙ sym at.1) i }) named,
+      λ named'. rw (one_uid other named') at own,
+      λ named'. let at = rw is at named' in
+          let ty : uid.ty ≡ other.ty = elim at.0 [ inl here ↦ here.0 | inr none ↦ absurd none.1 ] in
+          subst (NamesAction names.actions parent) (λ i. record { ty = ty i; eid = (named.1 ∙ sym at.1) i }) named,
     )
 
   -- what is declared is like itself resolved

@@ -1,5 +1,5 @@
 -- Names that are written in full name the same again, in the bag of a schema that is converted back.
-use Rattle.std.proofs.Common.{◌⊎◌, ◌↔◌, ◌++◌, List, [], ◌∷◌, Option, None, Some, map, ap, sym, subst, ◌∙◌, refl, inl, inr, ⊎_elim, arith, Contains}
+use Rattle.std.proofs.Common.{◌⊎◌, ◌↔◌, ◌++◌, List, [], ◌∷◌, Option, None, Some, map, ap, sym, subst, ◌∙◌, refl, inl, inr, arith, Contains}
 use Rattle.std.proofs.lemmas.List.Elements.{Contains-append_cases, Contains-append_left, Contains-append_right}
 use Rattle.std.proofs.lemmas.List.Sorted.{Contains-permutation, IsPermutation-sym}
 use Rattle.cedar_below.proofs.Lists.{Contains-preimage}
@@ -12,7 +12,7 @@ use Rattle.cedar_declarations.proofs.OccurrenceLemmas.{Contains-image}
 use Rattle.cedar_declarations.proofs.ResolutionLemmas.{IsFirst-like}
 use Rattle.cedar_declarations.proofs.TurnLemmas.{turn_back, turn_forth}
 use Rattle.cedar_declarations.specs.Bag.{Bag, action_uids, declared_actions, declared_entities, declared_uid, defined_names, definitions}
-use Rattle.cedar_declarations.specs.Names.{IsDefined, ResolvesTo}
+use Rattle.cedar_declarations.specs.Names.{IsDefined}
 use Rattle.cedar_declarations.specs.PlainSchema.{PlainSchema, SchemaAction, SchemaEntityType}
 use Rattle.cedar_declarations.specs.ConvertedBack.{IsActionDeclaration, IsTypeDeclaration, IsConvertedBack, NamesNoOther, full_name, schema_names}
 use Rattle.cedar_declaration_laws.proofs.ReferenceDecisions.{resolves_or_not}
@@ -60,18 +60,20 @@ module _ (schema : PlainSchema) (bag : Bag) (written : IsConvertedBack schema ba
       ⊎ ((it : PlainUid × SchemaAction) × Contains schema.actions it × IsActionDeclaration schema it d)
   from_schema d among =
       let back = Contains-permutation _ _ d (IsPermutation-sym _ _ written.in_some_order) among in
-      ⊎_elim
-      (λ here. inl (turn_forth (λ (e : Declaration) (it : PlainName
-      × SchemaEntityType). IsTypeDeclaration schema it e) written.entity_types schema.entity_types
-      (turn_back (IsTypeDeclaration schema) (λ (e : Declaration) (it : PlainName
-      × SchemaEntityType). IsTypeDeclaration schema it e) (λ it e is. is)
-      schema.entity_types written.entity_types written.each_entity_type) d here))
-      (λ there. inr (turn_forth (λ (e : Declaration) (it : PlainUid
-      × SchemaAction). IsActionDeclaration schema it e) written.actions schema.actions
-      (turn_back (IsActionDeclaration schema) (λ (e : Declaration) (it : PlainUid
-      × SchemaAction). IsActionDeclaration schema it e) (λ it e is. is)
-      schema.actions written.actions written.each_action) d there))
-      (Contains-append_cases written.entity_types written.actions d back)
+      elim (Contains-append_cases written.entity_types written.actions d back) [
+        | inl here ↦
+            inl (turn_forth (λ (e : Declaration) (it : PlainName
+            × SchemaEntityType). IsTypeDeclaration schema it e) written.entity_types schema.entity_types
+            (turn_back (IsTypeDeclaration schema) (λ (e : Declaration) (it : PlainName
+            × SchemaEntityType). IsTypeDeclaration schema it e) (λ it e is. is)
+            schema.entity_types written.entity_types written.each_entity_type) d here)
+        | inr there ↦
+            inr (turn_forth (λ (e : Declaration) (it : PlainUid
+            × SchemaAction). IsActionDeclaration schema it e) written.actions schema.actions
+            (turn_back (IsActionDeclaration schema) (λ (e : Declaration) (it : PlainUid
+            × SchemaAction). IsActionDeclaration schema it e) (λ it e is. is)
+            schema.actions written.actions written.each_action) d there)
+      ]
 
   module _ (extensions : Extensions) where
     -- the bag defines the entity types that the schema does
@@ -82,43 +84,44 @@ module _ (schema : PlainSchema) (bag : Bag) (written : IsConvertedBack schema ba
         let of_actions = map (λ (it : PlainUid × SchemaAction). it.0.ty) schema.actions in
         let declared = map (λ (it : PlainName × EntityBody). it.0) (declared_entities bag) in
         let declared_types = map (λ (uid : PlainUid). uid.ty) (action_uids bag) in
-        let P : PlainName → Type 0 = Contains (declared ++ declared_types) in
         let Q : PlainName → Type 0 = Contains (types ++ of_actions) in (
-          λ among. ⊎_elim
-              (λ here.
-              let it = Contains-preimage (λ (each : PlainName × SchemaEntityType). each.0) schema.entity_types name here in
-              let d = type_there it.0 it.1 in
-              subst P (d.2.name ∙ it.2) (Contains-append_left declared declared_types _
-              (Contains-image (λ (each : PlainName × EntityBody). each.0) (declared_entities bag) _
-              (declares_entity bag d.0 d.2.body d.1 d.2.declares))))
-              (λ there.
-              let it = Contains-preimage (λ (each : PlainUid × SchemaAction). each.0.ty) schema.actions name there in
-              let d = action_there it.0 it.1 in
-              subst P (ap (λ (uid : PlainUid). uid.ty) d.2.uid ∙ it.2) (Contains-append_right declared declared_types _
-              (Contains-image (λ (uid : PlainUid). uid.ty) (action_uids bag) (declared_uid d.0)
-              (Contains-image (λ (each : PlainUid × ActionBody). each.0) (declared_actions bag) _
-              (declares_action bag d.0 _ d.1 d.2.declares)))))
-              (Contains-append_cases types of_actions name among),
-          λ among. ⊎_elim
-              (λ here.
-              let entry = Contains-preimage (λ (each : PlainName × EntityBody). each.0) (declared_entities bag) name here in
-              let d = entity_declaration bag entry.0.0 entry.0.1 entry.1 in
-              ⊎_elim
-              (λ it. subst Q (sym it.2.name ∙ (d.3 ∙ entry.2)) (Contains-append_left types of_actions it.0.0
-              (Contains-image (λ (each : PlainName × SchemaEntityType). each.0) schema.entity_types it.0 it.1)))
-              (λ it. let clash = sym d.2 ∙ it.2.declares in absurd cc)
-              (from_schema d.0 d.1))
-              (λ there.
-              let uid = Contains-preimage (λ (each : PlainUid). each.ty) (action_uids bag) name there in
-              let entry = Contains-preimage (λ (each : PlainUid × ActionBody). each.0) (declared_actions bag) uid.0 uid.1 in
-              let d = action_declaration bag entry.0.0 entry.0.1 entry.1 in
-              ⊎_elim
-              (λ it. let clash = sym d.2 ∙ it.2.declares in absurd cc)
-              (λ it. subst Q (ap (λ (each : PlainUid). each.ty) (sym it.2.uid ∙ (d.3 ∙ entry.2)) ∙ uid.2)
-              (Contains-append_right types of_actions it.0.0.ty
-              (Contains-image (λ (each : PlainUid × SchemaAction). each.0.ty) schema.actions it.0 it.1)))
-              (from_schema d.0 d.1))
-              (Contains-append_cases declared declared_types name among),
+          λ among. elim (Contains-append_cases types of_actions name among) [
+            | inl here ↦
+                let it = Contains-preimage (λ (each : PlainName × SchemaEntityType). each.0) schema.entity_types name here in
+                let d = type_there it.0 it.1 in
+                rw (d.2.name ∙ it.2) at (Contains-append_left declared declared_types _
+                (Contains-image (λ (each : PlainName × EntityBody). each.0) (declared_entities bag) _
+                (declares_entity bag d.0 d.2.body d.1 d.2.declares)))
+            | inr there ↦
+                let it = Contains-preimage (λ (each : PlainUid × SchemaAction). each.0.ty) schema.actions name there in
+                let d = action_there it.0 it.1 in
+                rw (ap (λ (uid : PlainUid). uid.ty) d.2.uid ∙ it.2) at (Contains-append_right declared declared_types _
+                (Contains-image (λ (uid : PlainUid). uid.ty) (action_uids bag) (declared_uid d.0)
+                (Contains-image (λ (each : PlainUid × ActionBody). each.0) (declared_actions bag) _
+                (declares_action bag d.0 _ d.1 d.2.declares))))
+          ],
+          λ among. elim (Contains-append_cases declared declared_types name among) [
+            | inl here ↦
+                let entry = Contains-preimage (λ (each : PlainName × EntityBody). each.0) (declared_entities bag) name here in
+                let d = entity_declaration bag entry.0.0 entry.0.1 entry.1 in
+                elim (from_schema d.0 d.1) [
+                  | inl it ↦
+                      subst Q (sym it.2.name ∙ (d.3 ∙ entry.2)) (Contains-append_left types of_actions it.0.0
+                      (Contains-image (λ (each : PlainName × SchemaEntityType). each.0) schema.entity_types it.0 it.1))
+                  | inr it ↦ let clash = sym d.2 ∙ it.2.declares in absurd cc
+                ]
+            | inr there ↦
+                let uid = Contains-preimage (λ (each : PlainUid). each.ty) (action_uids bag) name there in
+                let entry = Contains-preimage (λ (each : PlainUid × ActionBody). each.0) (declared_actions bag) uid.0 uid.1 in
+                let d = action_declaration bag entry.0.0 entry.0.1 entry.1 in
+                elim (from_schema d.0 d.1) [
+                  | inl it ↦ let clash = sym d.2 ∙ it.2.declares in absurd cc
+                  | inr it ↦
+                      subst Q (ap (λ (each : PlainUid). each.ty) (sym it.2.uid ∙ (d.3 ∙ entry.2)) ∙ uid.2)
+                      (Contains-append_right types of_actions it.0.0.ty
+                      (Contains-image (λ (each : PlainUid × SchemaAction). each.0.ty) schema.actions it.0 it.1))
+                ]
+          ],
         )
 
     -- a name that names no other, and that is defined, resolves to itself
@@ -128,15 +131,15 @@ module _ (schema : PlainSchema) (bag : Bag) (written : IsConvertedBack schema ba
         let names = defined_names bag extensions in
         let there = (same_entities name).0 known in
         let possibilities = (full_name namespace name).possibilities in
-        let P : PlainName → Type 0 = ResolvesTo names (full_name namespace name) in
         record {
-          resolves = ⊎_elim
-              (λ first. subst P (no_other first.0 (IsFirst-like (IsDefined names Entity) (IsDefined (schema_names schema) Entity)
-              (λ each. ⊎_elim (λ common. absurd common.0) (λ of. inr (tt, (same_entities each).1 of.1)))
-              (λ each. ⊎_elim (λ common. absurd common.0) (λ of. inr (tt, (same_entities each).0 of.1)))
-              possibilities first.0 first.1)) first.1)
-              (λ none. absurd (none name (stands_for_itself namespace name) (inr (tt, there))))
-              (resolves_or_not names (full_name namespace name));
+          resolves = elim (resolves_or_not names (full_name namespace name)) [
+            | inl first ↦
+                rw (no_other first.0 (IsFirst-like (IsDefined names Entity) (IsDefined (schema_names schema) Entity)
+                (λ each. elim [ inl common ↦ absurd common.0 | inr of ↦ inr (tt, (same_entities each).1 of.1) ])
+                (λ each. elim [ inl common ↦ absurd common.0 | inr of ↦ inr (tt, (same_entities each).0 of.1) ])
+                possibilities first.0 first.1)) at first.1
+            | inr none ↦ absurd (none name (stands_for_itself namespace name) (inr (tt, there)))
+          ];
           there = there;
         }
 

@@ -1,5 +1,5 @@
 -- A bag in another order is the same bag.
-use Rattle.std.proofs.Common.{◌≡◌, Bool, List, [], ◌∷◌, ◌++◌, map, ap, sym, subst, ◌∙◌, refl, arith, Contains}
+use Rattle.std.proofs.Common.{◌≡◌, Bool, List, [], ◌∷◌, ◌++◌, map, ap, sym, ◌∙◌, refl, arith, Contains}
 use Rattle.std.proofs.lemmas.List.Sorted.{Contains-permutation, IsPermutation-sym, sum_by-IsPermutation}
 use Rattle.std.specs.Bool.{Decides}
 use Rattle.std.specs.List.{flat_map}
@@ -60,8 +60,7 @@ image_permuted : {X Y Z : Type 0} (f : X → List Y) (key : Y → Z) (xs others 
     → Contains (map key (flat_map f xs)) z → Contains (map key (flat_map f others)) z
 image_permuted {Z = Z} f key xs others permuted z among =
     let it = Contains-preimage key (flat_map f xs) z among in
-    let P : Z → Type 0 = Contains (map key (flat_map f others)) in
-    subst P it.2 (Contains-image key (flat_map f others) it.0 (given_permuted f xs others permuted it.0 it.1))
+    rw it.2 at (Contains-image key (flat_map f others) it.0 (given_permuted f xs others permuted it.0 it.1))
 
 -- what a declaration says of an entity type, if it is one
 abbrev entity_given : Declaration → List (PlainName × EntityBody)
@@ -96,19 +95,15 @@ module _ (bag other : Bag) (permuted : IsPermutation bag other) where
   entities_twice_permuted : (name : PlainName) → Twice (map (λ it. it.0) (defined_entities bag)) name
       → Twice (map (λ it. it.0) (defined_entities other)) name
   entities_twice_permuted name twice =
-      let P : List (PlainName × EntityBody) → Type 0 = λ each. Twice (map (λ it. it.0) each) name in
-      subst P (sym (nested entity_given entity_defined other))
-      (Twice-permuted (λ a b. is_eq (name_cmp a b)) name_test (λ it. flat_map entity_defined (entity_given it)) (λ it. it.0) bag other
-      permuted name (subst P (nested entity_given entity_defined bag) twice))
+      rw (nested entity_given entity_defined other) (Twice-permuted (λ a b. is_eq (name_cmp a b)) name_test (λ it. flat_map entity_defined (entity_given it)) (λ it. it.0) bag other
+      permuted name (rw (nested entity_given entity_defined bag) at twice))
 
   -- an action with two definitions has them in the other order
   actions_twice_permuted : (uid : PlainUid) → Twice (map (λ it. it.0) (defined_actions bag)) uid
       → Twice (map (λ it. it.0) (defined_actions other)) uid
   actions_twice_permuted uid twice =
-      let P : List (PlainUid × Requests) → Type 0 = λ each. Twice (map (λ it. it.0) each) uid in
-      subst P (sym (nested action_given action_defined other))
-      (Twice-permuted (λ a b. is_eq (uid_cmp a b)) uid_test (λ it. flat_map action_defined (action_given it)) (λ it. it.0) bag other
-      permuted uid (subst P (nested action_given action_defined bag) twice))
+      rw (nested action_given action_defined other) (Twice-permuted (λ a b. is_eq (uid_cmp a b)) uid_test (λ it. flat_map action_defined (action_given it)) (λ it. it.0) bag other
+      permuted uid (rw (nested action_given action_defined bag) at twice))
 
   -- a bag in another order says all that the bag says
   says_permuted : SaysAll bag other

@@ -1,5 +1,5 @@
 -- In the bag of a schema that is converted back each is below those that list it among their descendants.
-use Rattle.std.proofs.Common.{◌≡◌, ◌↔◌, Option, map, ap, sym, subst, refl, inl, inr, ⊎_elim, arith, Contains}
+use Rattle.std.proofs.Common.{◌≡◌, ◌↔◌, Option, map, ap, sym, subst, refl, inl, inr, arith, Contains}
 use Rattle.std.proofs.lemmas.List.Elements.{Contains-append_left}
 use Rattle.cedar_below.proofs.Chains.{refined}
 use Rattle.cedar_below.proofs.Lists.{Contains-preimage}
@@ -14,7 +14,6 @@ use Rattle.cedar_declarations.specs.Counted.{entity_parents}
 use Rattle.cedar_declarations.specs.Descent.{HasParent, HasParentAction, IsDescendant, IsDescendantAction}
 use Rattle.cedar_declarations.specs.EntityTypeKind.{EntityTypeKind, enumerated_kind, external_kind, standard_kind}
 use Rattle.cedar_declarations.specs.Names.{IsDefined, NamesAction}
-use Rattle.cedar_declarations.specs.Occurrences.{IsFirst}
 use Rattle.cedar_declarations.specs.PlainSchema.{PlainSchema, SchemaAction, SchemaEntityType}
 use Rattle.cedar_declarations.specs.ValidSchema.{HasAction, HasEntityType, IsEnumerated, ListsDescendant, ListsDescendantAction}
 use Rattle.cedar_declarations.specs.ConvertedBack.{IsKindWritten, IsNameWrittenIn, IsUidWrittenIn, IsWritable, IsConvertedBack, full_name, full_uid}
@@ -24,7 +23,7 @@ use Rattle.cedar_declaration_laws.proofs.NamesConvertedBack.{named_again, stands
 use Rattle.cedar_declaration_laws.proofs.TypeDecisions.{decide_uids}
 use Rattle.cedar_declaration_laws.specs.EndToEnd.{IsNamedAgain}
 use Rattle.cedar_names.specs.EntityBody.{EntityBody, enumerated, external, standard}
-use Rattle.cedar_names.specs.Reference.{ActionReference, Reference}
+use Rattle.cedar_names.specs.Reference.{Reference}
 use Rattle.cedar_names.specs.declared.json_schema.reference_type.ReferenceType.TheVariants.{Entity}
 use Rattle.cedar_type_rules.proofs.Decisions.{decide_among}
 
@@ -77,9 +76,8 @@ module _ (schema : PlainSchema) (bag : Bag) (extensions : Extensions) (writable 
       let again = type_again entry.namespace above.0 (inr (inl (lower, entry.path, above.1)))
       (upper_there schema lower above.0 above.1) in
       let names = defined_names bag extensions in
-      let P : Reference → Type 0 = λ each. IsFirst (IsDefined names each.kind) each.possibilities upper in
       let same = IsFirst-same (IsDefined names Entity) (full_name entry.namespace above.0).possibilities above.0 upper
-      again.resolves (subst P (sym above.2) resolves) in
+      again.resolves (rw (← above.2) at resolves) in
       subst (ListsDescendant schema lower) same above.1
 
   -- what lists another among its descendants is a parent of it in the bag
@@ -87,8 +85,7 @@ module _ (schema : PlainSchema) (bag : Bag) (extensions : Extensions) (writable 
   lists_parent lower upper lists =
       let key = λ (each : PlainName × SchemaEntityType). each.0 in
       let it = Contains-preimage key schema.entity_types lower (writable.entity_types_below lower upper lists) in
-      let P : PlainName → Type 0 = λ each. Contains schema.entity_types (each, it.0.1) in
-      let here = subst P it.2 it.1 in
+      let here = subst (λ each. Contains schema.entity_types (each, it.0.1)) it.2 it.1 in
       let found = type_declared schema bag written (lower, it.0.1) here in
       let entry = found.2 in
       let parent = above_parent entry.namespace (λ other. ListsDescendant schema lower other) it.0.1.kind found.0 entry.kind
@@ -104,18 +101,18 @@ module _ (schema : PlainSchema) (bag : Bag) (extensions : Extensions) (writable 
       let InBag : PlainName → Type 0 = λ ty. Contains (action_uids bag) (record { ty = ty; eid = uid.eid }) in
       let InSchema : PlainName → Type 0 = λ ty. Contains uids (record { ty = ty; eid = uid.eid }) in
       let possibilities = (full_name namespace uid.ty).possibilities in
-      let P : PlainName → Type 0 = IsFirst InBag possibilities in
-      ⊎_elim
-      (λ first.
-      let other : PlainUid = record { ty = first.0; eid = uid.eid } in
-      let same = writable.uids namespace uid in_place other (
-        IsFirst-like InBag InSchema (λ ty. (same_uids schema bag written (record { ty = ty; eid = uid.eid })).0)
-            (λ ty. (same_uids schema bag written (record { ty = ty; eid = uid.eid })).1) possibilities first.0 first.1,
-        refl,
-      ) in
-      (subst P (ap (λ (each : PlainUid). each.ty) same) first.1, refl))
-      (λ none. absurd (none uid.ty (stands_for_itself namespace uid.ty) ((same_uids schema bag written uid).1 has)))
-      (find_first InBag (λ ty. decide_among decide_uids (action_uids bag) (record { ty = ty; eid = uid.eid })) possibilities)
+      elim (find_first InBag (λ ty. decide_among decide_uids (action_uids bag) (record { ty = ty; eid = uid.eid })) possibilities) [
+        | inl first ↦
+            let other : PlainUid = record { ty = first.0; eid = uid.eid } in
+            let same = writable.uids namespace uid in_place other (
+              IsFirst-like InBag InSchema (λ ty. (same_uids schema bag written (record { ty = ty; eid = uid.eid })).0)
+                  (λ ty. (same_uids schema bag written (record { ty = ty; eid = uid.eid })).1) possibilities first.0 first.1,
+              refl,
+            ) in
+            (rw (ap (λ (each : PlainUid). each.ty) same) at first.1, refl)
+        | inr none ↦
+            absurd (none uid.ty (stands_for_itself namespace uid.ty) ((same_uids schema bag written uid).1 has))
+      ]
 
   -- a parent of an action in the bag lists the one among its descendants
   parent_lists_action : (lower upper : PlainUid) → HasParentAction bag lower upper → ListsDescendantAction schema lower upper
@@ -123,8 +120,7 @@ module _ (schema : PlainSchema) (bag : Bag) (extensions : Extensions) (writable 
       let entry = (declared_action_from schema bag written lower body among).2 in
       let above = (entry.parents reference).0 parent in
       let again = action_again entry.namespace above.0 (lower, entry.path, above.1) (upper_action_there schema lower above.0 above.1) in
-      let P : ActionReference → Type 0 = λ each. NamesAction (action_uids bag) each upper in
-      let other = subst P (sym above.2) names_upper in
+      let other = rw (← above.2) at names_upper in
       let same_type = IsFirst-same (λ ty. Contains (action_uids bag) (record { ty = ty; eid = above.0.eid }))
       (full_name entry.namespace above.0.ty).possibilities above.0.ty upper.ty again.0 other.0 in
       let same : above.0 ≡ upper = λ i. record { ty = same_type i; eid = sym other.1 i } in
@@ -135,8 +131,7 @@ module _ (schema : PlainSchema) (bag : Bag) (extensions : Extensions) (writable 
   lists_parent_action lower upper lists =
       let key = λ (each : PlainUid × SchemaAction). each.0 in
       let it = Contains-preimage key schema.actions lower (writable.actions_below lower upper lists) in
-      let P : PlainUid → Type 0 = λ each. Contains schema.actions (each, it.0.1) in
-      let found = action_declared schema bag written (lower, it.0.1) (subst P it.2 it.1) in
+      let found = action_declared schema bag written (lower, it.0.1) (subst (λ each. Contains schema.actions (each, it.0.1)) it.2 it.1) in
       let entry = found.2 in
       let reference = full_uid entry.namespace upper in
       let parent = (entry.parents reference).1 (upper, lists, refl) in (

@@ -1,5 +1,5 @@
 -- The references of raw fragments fit their positions.
-use Rattle.std.proofs.Common.{◌≡◌, Bool, true, false, List, ◌++◌, Option, None, Some, map, ap, sym, subst, ⊎_elim, arith, Contains}
+use Rattle.std.proofs.Common.{◌≡◌, Bool, true, false, List, ◌++◌, Option, None, Some, map, ap, sym, arith, Contains, inl, inr}
 use Rattle.std.proofs.lemmas.List.Elements.{Contains-append_cases}
 use Rattle.std.specs.Option.{option_map}
 use Rattle.cedar_below.proofs.Lists.{Contains-preimage}
@@ -40,27 +40,36 @@ module _ (namespace : Option PlainName) where
   requests_fit : (is_external : Bool) (it : Option (ApplySpec RawName)) (reference : Reference)
       → IsPrincipalOrResource (requests_by RawName (raw_reference namespace) namespace is_external it) reference → reference.kind ≡ Entity
   requests_fit true it reference place = absurd place
-  requests_fit false None reference place = ⊎_elim (λ none. absurd (omega (arith, none.1))) (λ none. absurd (omega (arith, none.1))) place
+  requests_fit false None reference place = elim place [
+    | inl none ↦ absurd (omega (arith, none.1))
+    | inr none ↦ absurd (omega (arith, none.1))
+  ]
   requests_fit false (Some it) reference place =
-      ⊎_elim (named_fit it.principal_types.items reference) (named_fit it.resource_types.items reference) place
+      elim place [
+        | inl left ↦ named_fit it.principal_types.items reference left
+        | inr right ↦ named_fit it.resource_types.items reference right
+      ]
 
   -- the references of a definition do
   definition_fits : (definition : NamespaceDefinition RawName) (it : Declaration) (reference : Reference)
       → Contains (raw_declarations namespace definition) it → IsEntityTypePosition it.body reference → reference.kind ≡ Entity
   definition_fits definition it reference among place =
-      let P : Declaration → Type 0 = λ each. IsEntityTypePosition each.body reference in
       let common = common_declarations RawName (raw_reference namespace) namespace definition.common_types.entries in
       let entities = entity_declarations RawName (raw_reference namespace) namespace definition.entity_types.entries in
       let actions = action_declarations RawName (raw_reference namespace) namespace definition.actions.entries in
-      ⊎_elim
-      (λ types. ⊎_elim
-      (λ here. let found = Contains-preimage _ definition.common_types.entries it here in absurd (subst P (sym found.2) place))
-      (λ here. let found = Contains-preimage _ definition.entity_types.entries it here in
-      parents_fit found.0.1.kind found.0.1.external reference (subst P (sym found.2) place))
-      (Contains-append_cases common entities it types))
-      (λ here. let found = Contains-preimage _ definition.actions.entries it here in
-      requests_fit found.0.1.external found.0.1.applies_to reference (subst P (sym found.2) place))
-      (Contains-append_cases (common ++ entities) actions it among)
+      elim (Contains-append_cases (common ++ entities) actions it among) [
+        | inl types ↦
+            elim (Contains-append_cases common entities it types) [
+              | inl here ↦
+                  let found = Contains-preimage _ definition.common_types.entries it here in absurd (rw (← found.2) at place)
+              | inr here ↦
+                  let found = Contains-preimage _ definition.entity_types.entries it here in
+                  parents_fit found.0.1.kind found.0.1.external reference (rw (← found.2) at place)
+            ]
+        | inr here ↦
+            let found = Contains-preimage _ definition.actions.entries it here in
+            requests_fit found.0.1.external found.0.1.applies_to reference (rw (← found.2) at place)
+      ]
 
 -- the references of raw fragments fit their positions
 pub raw_bag_fits : (fragments : List (Fragment RawName)) → PositionsFit (raw_bag fragments)

@@ -1,5 +1,5 @@
 -- What references resolve to is decided, and so is which entity types and actions are below which.
-use Rattle.std.proofs.Common.{◌⊎◌, ◌++◌, List, inl, inr, ⊎_elim, map, Contains}
+use Rattle.std.proofs.Common.{◌⊎◌, ◌++◌, List, inl, inr, map, Contains}
 use Rattle.std.proofs.lemmas.List.Elements.{Contains-append_left, Contains-append_right}
 use Rattle.cedar_below.specs.PlainName.{PlainName}
 use Rattle.cedar_below.specs.PlainUid.{PlainUid}
@@ -57,10 +57,10 @@ module _ (names : Names) where
       list_all (IsNamedBy names references)
       (λ name. decide_some (λ reference. ResolvesTo names reference name) (decide_resolves name) references)
       (names.common ++ names.entities)
-      (λ name named. ⊎_elim
-      (λ common. Contains-append_left names.common names.entities name common.1)
-      (λ is_entity. Contains-append_right names.common names.entities name is_entity.1)
-      (first_defined names named.0.kind named.0.possibilities name named.2).1)
+      (λ name named. elim (first_defined names named.0.kind named.0.possibilities name named.2).1 [
+        | inl common ↦ Contains-append_left names.common names.entities name common.1
+        | inr is_entity ↦ Contains-append_right names.common names.entities name is_entity.1
+      ])
 
 -- a reference to an action names that of the uid or doesn't
 decide_action : (actions : List PlainUid) (uid : PlainUid) (reference : ActionReference) → IsDecided (NamesAction actions reference uid)

@@ -1,10 +1,10 @@
 -- Resolving the references of a bag changes none of its faults, and no schema that it declares.
-use Rattle.std.proofs.Common.{◌≡◌, ◌≢◌, ◌⊎◌, List, [], ◌∷◌, ◌++◌, Option, Some, None, map, sym, subst, ◌∙◌, refl, inl, inr, ⊎_elim, arith, Contains}
+use Rattle.std.proofs.Common.{◌≡◌, ◌≢◌, ◌⊎◌, List, [], ◌∷◌, ◌++◌, Option, Some, None, map, sym, subst, ◌∙◌, refl, inl, inr, arith, Contains}
 use Rattle.std.proofs.lemmas.List.{map-append}
 use Rattle.cedar_below.proofs.Chains.{refined}
 use Rattle.cedar_below.proofs.Lists.{Contains-cons}
 use Rattle.cedar_below.specs.Chain.{one}
-use Rattle.cedar_below.specs.Lists.{HoldsPairwise, Twice}
+use Rattle.cedar_below.specs.Lists.{HoldsPairwise}
 use Rattle.cedar_below.specs.PlainName.{PlainName}
 use Rattle.cedar_below.specs.PlainUid.{PlainUid}
 use Rattle.cedar_below.specs.Text.{Text}
@@ -55,8 +55,10 @@ named actions reference (uid, names) none = by reference.ty.possibilities names.
       → ¬ ((ty : PlainName) → Contains xs ty → ¬ Contains actions (record { ty = ty; eid = reference.id }))
   by [] first nothing = first
   by (x ∷ xs) first nothing =
-      ⊎_elim (λ here. nothing x (Contains-cons x xs x (inl refl)) here.1)
-      (λ later. by xs later.1 (λ ty among. nothing ty (Contains-cons x xs ty (inr among)))) first
+      elim first [
+        | inl here ↦ nothing x (Contains-cons x xs x (inl refl)) here.1
+        | inr later ↦ by xs later.1 (λ ty among. nothing ty (Contains-cons x xs ty (inr among)))
+      ]
 
 module _ (bag other : Bag) (extensions : Extensions)
     (turn : HoldsPairwise (DeclarationsAlike (defined_names bag extensions) (defined_names other extensions)) bag other) where
@@ -77,8 +79,7 @@ module _ (bag other : Bag) (extensions : Extensions)
     common = definition_moved ours theirs bag other extensions turn;
     common_back = λ name found among. let body = definition_moved theirs ours other bag extensions back name found among in
         (body.0, body.1);
-    entities = λ name among. let P : Names → Type 0 = λ names. Contains names.entities name in
-        subst P (names_same ours theirs bag other turn extensions) among;
+    entities = λ name among. subst (λ names. Contains names.entities name) (names_same ours theirs bag other turn extensions) among;
   }
 
   -- a parent of an entity type moves
@@ -111,13 +112,14 @@ module _ (bag other : Bag) (extensions : Extensions)
       → IsPrincipalOrResource it reference
       → (moved : Reference) × IsPrincipalOrResource found moved × MeansTheSame ours theirs reference moved
   request_moved (requests ps rs context) (requests ps' rs' context') like reference place =
-      ⊎_elim
-      (λ principal. let found = turn_forth (MeansTheSame ours theirs) ps ps' like.0 reference principal in
-      (found.0, inl found.1, found.2))
-      (λ resource. let found = turn_forth (MeansTheSame ours theirs) rs rs' like.1 reference resource in (found.0, inr found.1, found.2))
-      place
-  request_moved (requests ps rs context) elsewhere like reference place = absurd like
-  request_moved elsewhere found like reference place = absurd place
+      elim place [
+        | inl principal ↦
+            let found = turn_forth (MeansTheSame ours theirs) ps ps' like.0 reference principal in
+            (found.0, inl found.1, found.2)
+        | inr resource ↦
+            let found = turn_forth (MeansTheSame ours theirs) rs rs' like.1 reference resource in (found.0, inr found.1, found.2)
+      ]
+  request_moved _ _ like _ place = absurd assumption
 
   -- a place of an entity type moves
   placed_moved : (reference : Reference) → IsAtEntityTypePosition bag reference
@@ -128,29 +130,23 @@ module _ (bag other : Bag) (extensions : Extensions)
     where
       by : (body found : Body) → BodiesAlike ours theirs body found → IsEntityTypePosition body reference → (moved : Reference)
           × IsEntityTypePosition found moved × MeansTheSame ours theirs reference moved
-      by (common_type definition) found like place = absurd place
       by (entity_type body) (entity_type found) like place = parents_moved body found like reference place
       by (action body) (action found) like place = request_moved body.applies_to found.applies_to like.2 reference place
-      by _ _ like place = absurd like
+      by _ _ like place = absurd assumption
 
   -- what counts in an entity type moves
   entity_count_moved : (body found : EntityBody) → EntitiesAlike ours theirs body found → (expr : Expr) → CountsInEntity body expr
       → (moved : Expr) × CountsInEntity found moved × AreAlike ours theirs expr moved
   entity_count_moved (standard ps shape tags) (standard ps' shape' tags') like expr counts =
-      let P : Expr → Type 0 = λ each. AreAlike ours theirs each shape' in
-      ⊎_elim (λ is. (shape', inl refl, subst P is like.1)) (λ is. of_tags tags tags' like.2 is) counts
+      elim counts [ inl is ↦ (shape', inl refl, rw is at like.1) | inr is ↦ of_tags tags tags' like.2 is ]
     where
       of_tags : (tags tags' : Option Expr) → TagsAlike ours theirs tags tags' → tags ≡ Some expr → (moved : Expr)
           × ((shape' ≡ moved) ⊎ (tags' ≡ Some moved)) × AreAlike ours theirs expr moved
       of_tags (Some it) (Some found) alike is =
-          let Q : Option Expr → Type 0 = λ each. TagsAlike ours theirs each (Some found) in (found, inr refl, subst Q is alike)
-      of_tags None None alike is = absurd cc
-      of_tags (Some it) None alike is = absurd alike
-      of_tags None (Some found) alike is = absurd alike
+          (found, inr refl, subst (λ each. TagsAlike ours theirs each (Some found)) is alike)
+      of_tags _ _ alike is = absurd (first_of (assumption, cc))
   entity_count_moved (standard ps shape tags) (enumerated choices) like expr counts = absurd like
-  entity_count_moved (standard ps shape tags) (external ps') like expr counts = absurd like
-  entity_count_moved (enumerated choices) found like expr counts = absurd counts
-  entity_count_moved (external ps) found like expr counts = absurd counts
+  entity_count_moved _ _ like _ counts = absurd assumption
 
   -- what counts moves
   counted_moved : (expr : Expr) → IsCounted bag expr → (moved : Expr) × IsCounted other moved × AreAlike ours theirs expr moved
@@ -161,14 +157,12 @@ module _ (bag other : Bag) (extensions : Extensions)
       of_requests : (it found : Requests) → RequestsAlike ours theirs it found → CountsInRequests it expr → (moved : Expr)
           × CountsInRequests found moved × AreAlike ours theirs expr moved
       of_requests (requests ps rs context) (requests ps' rs' context') like counts =
-          let P : Expr → Type 0 = λ each. AreAlike ours theirs each context' in (context', refl, subst P counts like.2)
-      of_requests (requests ps rs context) elsewhere like counts = absurd like
-      of_requests elsewhere found like counts = absurd counts
+          (context', refl, rw counts at like.2)
+      of_requests _ _ like counts = absurd assumption
 
       by : (body found : Body) → BodiesAlike ours theirs body found → CountsIn body expr → (moved : Expr)
           × CountsIn found moved × AreAlike ours theirs expr moved
-      by (common_type definition) (common_type found) like counts =
-          let P : Expr → Type 0 = λ each. AreAlike ours theirs each found in (found, refl, subst P counts like)
+      by (common_type definition) (common_type found) like counts = (found, refl, rw counts at like)
       by (entity_type body) (entity_type found) like counts = entity_count_moved body found like expr counts
       by (action body) (action found) like counts = of_requests body.applies_to found.applies_to like.2 counts
       by _ _ like counts = absurd like
@@ -176,10 +170,10 @@ module _ (bag other : Bag) (extensions : Extensions)
   -- what has to resolve does
   has_to_resolves : (reference : Reference) → HasToResolve bag reference → (name : PlainName) × ResolvesTo ours reference name
   has_to_resolves reference has =
-      ⊎_elim
-      (λ counts. (refers_alike ours theirs (counted_moved counts.0 counts.1).2 reference counts.2).2.2)
-      (λ placed. (placed_moved reference placed).2.2)
-      has
+      elim has [
+        | inl counts ↦ (refers_alike ours theirs (counted_moved counts.0 counts.1).2 reference counts.2).2.2
+        | inr placed ↦ (placed_moved reference placed).2.2
+      ]
 
   -- a descendant moves
   descendant_moved : (lower upper : PlainName) → IsDescendant bag extensions lower upper → IsDescendant other extensions lower upper
@@ -215,11 +209,8 @@ module _ (bag other : Bag) (extensions : Extensions)
         by : (found : EntityBody) → Contains (declared_entities other) (name, found)
             → EntitiesAlike ours theirs (enumerated choices) found
             → Contains (declared_entities other) (name, enumerated choices)
-        by (enumerated others) there like = let P : List Text
-            → Type 0 = λ each. Contains (declared_entities other) (name, enumerated each) in
-            subst P (sym like) there
-        by (standard ps shape tags) there like = absurd like
-        by (external ps) there like = absurd like
+        by (enumerated others) there like = rw like there
+        by _ _ like = absurd like
 
   -- an external declaration moves
   external_moved : (name : PlainName) (parents : List Reference) → Contains (declared_entities bag) (name, external parents)
@@ -231,16 +222,14 @@ module _ (bag other : Bag) (extensions : Extensions)
             → (found : List Reference) × Contains (declared_entities other) (name, external found)
             × HoldsPairwise (MeansTheSame ours theirs) parents found
         by (external ps) there like = (ps, there, like)
-        by (standard ps shape tags) there like = absurd like
-        by (enumerated choices) there like = absurd like
+        by _ _ like = absurd like
 
   -- an external entity type is one
   external_type_moved : (name : PlainName) → IsExternalType bag name → IsExternalType other name
-  external_type_moved name is_external =
-      let P : List PlainName → Type 0 = λ names. Contains names name in (
-        subst P (entity_same ours theirs bag other turn) is_external.0,
-        λ defined. is_external.1 (subst P (sym (defined_entity_same ours theirs bag other turn)) defined),
-      )
+  external_type_moved name is_external = (
+    rw (entity_same ours theirs bag other turn) at is_external.0,
+    λ defined. is_external.1 (rw (defined_entity_same ours theirs bag other turn) defined),
+  )
 
   -- the requests of a definition move
   definition_requests_moved : (uid : PlainUid) (it : Requests) → Contains (defined_actions bag) (uid, it) → (found : Requests)
@@ -248,8 +237,7 @@ module _ (bag other : Bag) (extensions : Extensions)
   definition_requests_moved uid it among =
       let body = action_definition_declared bag uid it among in
       let there = action_moved ours theirs bag other turn uid body.0 body.1 in
-      let P : Requests → Type 0 = λ each. RequestsAlike ours theirs each there.0.applies_to in
-      let like = subst P body.2 there.2.2 in (
+      let like = rw body.2 at there.2.2 in (
         there.0.applies_to,
         declared_action_definition other uid there.0 there.0.applies_to there.1 refl
             (are it there.0.applies_to like body.3),
@@ -258,8 +246,7 @@ module _ (bag other : Bag) (extensions : Extensions)
     where
       are : (it found : Requests) → RequestsAlike ours theirs it found → AreRequests it → AreRequests found
       are (requests ps rs context) (requests ps' rs' context') like is = tt
-      are (requests ps rs context) elsewhere like is = absurd like
-      are elsewhere found like is = absurd is
+      are _ _ like is = absurd assumption
 
   -- an action with attributes moves
   attributes_moved : (namespace : _) (id : Text) → HasAttributes bag namespace id → HasAttributes other namespace id
@@ -271,10 +258,8 @@ module _ (bag other : Bag) (extensions : Extensions)
       by : (y : Declaration) → Contains other y → namespace ≡ y.namespace → id ≡ y.id → (found : Body) → y.body ≡ found
           → BodiesAlike ours theirs (action body) found → HasAttributes other namespace id
       by y there same_namespace same_id (action found) is like =
-          let P : Declaration → Type 0 = Contains other in
-          (found, subst P (λ i. record { namespace = sym same_namespace i; id = sym same_id i; body = is i }) there, sym like.0 ∙ has)
-      by y there same_namespace same_id (common_type definition) is like = absurd like
-      by y there same_namespace same_id (entity_type found) is like = absurd like
+          (found, subst (Contains other) (λ i. record { namespace = sym same_namespace i; id = sym same_id i; body = is i }) there, sym like.0 ∙ has)
+      by _ _ _ _ _ _ like = absurd like
 
   -- a shape that is no record moves
   shape_moved : (name : PlainName) → IsFault bag extensions (shape_not_record name) → IsFault other extensions (shape_not_record name)
@@ -285,8 +270,7 @@ module _ (bag other : Bag) (extensions : Extensions)
             → IsFault other extensions (shape_not_record name)
         by (standard ps' shape' tags') there like =
             (ps', shape', tags', there, no_record_alike (definitions bag extensions) (definitions other extensions) moves like.1 none)
-        by (enumerated choices) there like = absurd like
-        by (external ps') there like = absurd like
+        by _ _ like = absurd like
 
   -- a context that is no record moves
   context_moved : (uid : PlainUid) → IsFault bag extensions (context_not_record uid) → IsFault other extensions (context_not_record uid)
@@ -328,18 +312,15 @@ module _ (bag other : Bag) (extensions : Extensions)
       let P : PlainUid → List PlainUid → Type 0 = λ each list. Contains list each in
       let same = action_same ours theirs bag other turn in
       (subst (P uid) same at_fault.0, subst (P qualified) same at_fault.1, at_fault.2)
-  fault_moved (duplicate_entity_type name) at_fault =
-      let P : List PlainName → Type 0 = λ list. Twice list name in subst P (defined_entity_same ours theirs bag other turn) at_fault
+  fault_moved (duplicate_entity_type name) at_fault = rw (defined_entity_same ours theirs bag other turn) at at_fault
   fault_moved (duplicate_common_type name) at_fault =
-      let P : List PlainName → Type 0 = λ list. Twice list name in
       let key = λ (each : PlainName × Expr). each.0 in
       let same : map key (declared_common bag ++ built_ins extensions) ≡ map key (declared_common other ++ built_ins extensions) =
       map-append key (declared_common bag) (built_ins extensions)
       ∙ ((λ i. common_same ours theirs bag other turn i ++ map key (built_ins extensions))
       ∙ sym (map-append key (declared_common other) (built_ins extensions))) in
-      subst P same at_fault
-  fault_moved (duplicate_action uid) at_fault =
-      let P : List PlainUid → Type 0 = λ list. Twice list uid in subst P (defined_action_same ours theirs bag other turn) at_fault
+      rw same at at_fault
+  fault_moved (duplicate_action uid) at_fault = rw (defined_action_same ours theirs bag other turn) at at_fault
   fault_moved (action_cycle uid) at_fault = descendant_action_moved uid uid at_fault
   fault_moved (common_type_cycle name) at_fault = refined (λ a b step. one (refers_moved a b step)) at_fault
   fault_moved (action_entity_type name) at_fault =
@@ -351,10 +332,11 @@ module _ (bag other : Bag) (extensions : Extensions)
       (counted.0, counted.1, extension_alike ours theirs counted.2 name.base at_fault.2, at_fault.3, at_fault.4)
   fault_moved (reserved_name name) at_fault =
       let P : List PlainName → Type 0 = λ list. Contains list name in (
-        ⊎_elim
-            (λ is_entity. inl (subst P (entity_same ours theirs bag other turn) is_entity))
-            (λ of_action. inr (subst P (λ i. map (λ uid. uid.ty) (action_same ours theirs bag other turn i)) of_action))
-            at_fault.0,
+        elim at_fault.0 [
+          | inl is_entity ↦ inl (subst P (entity_same ours theirs bag other turn) is_entity)
+          | inr of_action ↦
+              inr (subst P (λ i. map (λ uid. uid.ty) (action_same ours theirs bag other turn i)) of_action)
+        ],
         at_fault.1,
       )
   fault_moved (external_below_enumerated lower upper) at_fault = (
@@ -402,10 +384,7 @@ module _ (bag other : Bag) (extensions : Extensions)
   tags_moved None None None like fits = tt
   tags_moved (Some expr) (Some found) (Some ty) like fits =
       elaborated_alike (definitions bag extensions) (definitions other extensions) moves fits like
-  tags_moved None None (Some ty) like fits = absurd fits
-  tags_moved (Some expr) (Some found) None like fits = absurd fits
-  tags_moved None (Some found) ty like fits = absurd like
-  tags_moved (Some expr) None ty like fits = absurd like
+  tags_moved _ _ _ like fits = absurd assumption
 
   -- what the declarations of an entity type say moves, with its kind
   says_moved : (name : PlainName) (body : EntityBody) (kind : EntityTypeKind) → EntitySays bag name body
@@ -419,8 +398,7 @@ module _ (bag other : Bag) (extensions : Extensions)
       by : (kind : EntityTypeKind) → IsDeclaredKind (definitions bag extensions) (enumerated choices) kind
           → IsDeclaredKind (definitions other extensions) (enumerated choices) kind
       by (enumerated_kind ids) fits = fits
-      by (standard_kind fields openness ty) fits = absurd fits
-      by external_kind fits = absurd fits
+      by _ fits = absurd fits
   says_moved name (standard ps shape tags) kind says fits =
       let there = entity_moved ours theirs bag other turn name (standard ps shape tags) (definition_declared bag name
       (standard ps shape tags) says).0 in
@@ -439,25 +417,21 @@ module _ (bag other : Bag) (extensions : Extensions)
           tags_moved tags tags' ty like.2 fits.2,
         ),
       )
-      by (standard ps' shape' tags') there like (enumerated_kind choices) fits = absurd fits
-      by (standard ps' shape' tags') there like external_kind fits = absurd fits
-      by (enumerated choices) there like kind fits = absurd like
-      by (external ps') there like kind fits = absurd like
+      by _ _ like _ fits = absurd assumption
   says_moved name (external ps) _ says fits = absurd fits
 
   -- what the declarations of an action say moves, with its kind
   action_says_moved : (uid : PlainUid) (it : Requests) (kind : ActionKind) → ActionSays bag uid it
       → IsDeclaredActionKind (definitions bag extensions) it kind → (found : Requests) × ActionSays other uid found
       × IsDeclaredActionKind (definitions other extensions) found kind
-  action_says_moved uid elsewhere external_action says fits =
-      let P : List PlainUid → Type 0 = λ uids. Contains uids uid in (
-        elsewhere,
-        (
-          subst P (action_same ours theirs bag other turn) says.0,
-          λ defined. says.1 (subst P (sym (defined_action_same ours theirs bag other turn)) defined),
-        ),
-        tt,
-      )
+  action_says_moved uid elsewhere external_action says fits = (
+    elsewhere,
+    (
+      rw (action_same ours theirs bag other turn) at says.0,
+      λ defined. says.1 (rw (defined_action_same ours theirs bag other turn) defined),
+    ),
+    tt,
+  )
   action_says_moved uid elsewhere (defined_action ps rs ty) says fits = absurd fits
   action_says_moved uid (requests ps rs context) kind says fits =
       let there = definition_requests_moved uid (requests ps rs context) says in by there.0 there.1 there.2 kind fits where
@@ -481,8 +455,7 @@ module _ (bag other : Bag) (extensions : Extensions)
             elaborated_alike (definitions bag extensions) (definitions other extensions) moves fits.2 like.2,
           ),
         )
-        by (requests ps' rs' context') there like external_action fits = absurd fits
-        by elsewhere there like kind fits = absurd like
+        by _ _ like _ fits = absurd assumption
 
 -- the other way round
 reversed : (bag other : Bag) (extensions : Extensions)
@@ -558,8 +531,7 @@ resolved_turn : (bag resolved : Bag) (extensions : Extensions) → ResolvesBag (
 resolved_turn bag resolved extensions it =
     let names = defined_names bag extensions in
     let alike = resolved_alike bag resolved extensions it in
-    let P : Names → Type 0 = λ others. HoldsPairwise (DeclarationsAlike names others) bag resolved in
-    subst P (names_same names names bag resolved alike extensions) alike
+    rw (← (names_same names names bag resolved alike extensions)) alike
 
 -- resolving the references of a bag changes nothing
 pub resolution : ResolutionChangesNothing

@@ -1,5 +1,5 @@
 -- Where each of two bags says all that the other does, they are ill-formed both or neither.
-use Rattle.std.proofs.Common.{◌≡◌, List, ◌++◌, Option, map, ap, sym, subst, ◌∙◌, refl, inl, inr, ⊎_elim, Contains}
+use Rattle.std.proofs.Common.{◌≡◌, List, ◌++◌, Option, map, ap, sym, subst, ◌∙◌, refl, inl, inr, Contains}
 use Rattle.std.proofs.lemmas.List.{map-append}
 use Rattle.cedar_below.proofs.Lists.{Contains-preimage}
 use Rattle.cedar_below.specs.Chain.{one}
@@ -33,25 +33,20 @@ use Rattle.cedar_declarations.specs.Together.{defined_entities, defined_actions,
 -- what counts in what is declared of an entity type counts in the same
 entity_counts : (body other : EntityBody) (expr : Expr) → SameEntityBody body other → CountsInEntity body expr → CountsInEntity other expr
 entity_counts (standard ps shape tags) (standard ps' shape' tags') expr same counts =
-    ⊎_elim (λ is. inl (sym same.0 ∙ is)) (λ is. inr (sym same.1 ∙ is)) counts
-entity_counts (standard ps shape tags) (enumerated choices) expr same counts = absurd same
-entity_counts (standard ps shape tags) (external ps') expr same counts = absurd same
-entity_counts (enumerated choices) other expr same counts = absurd counts
-entity_counts (external ps) other expr same counts = absurd counts
+    elim counts [ inl is ↦ inl (sym same.0 ∙ is) | inr is ↦ inr (sym same.1 ∙ is) ]
+entity_counts _ _ _ same counts = absurd assumption
 
 -- what counts in the requests of an action counts in the same
 requests_count : (body other : Requests) (expr : Expr) → SameRequests body other → CountsInRequests body expr → CountsInRequests other expr
 requests_count (requests ps rs context) (requests ps' rs' context') expr same counts = sym same.2 ∙ counts
-requests_count (requests ps rs context) elsewhere expr same counts = absurd same
-requests_count elsewhere other expr same counts = absurd counts
+requests_count _ _ _ same counts = absurd assumption
 
 -- a principal or a resource of requests is one of the same
 request_there : (body other : Requests) (reference : Reference) → SameRequests body other
     → IsPrincipalOrResource body reference → IsPrincipalOrResource other reference
 request_there (requests ps rs context) (requests ps' rs' context') reference same place =
-    ⊎_elim (λ principal. inl ((same.0 reference).0 principal)) (λ resource. inr ((same.1 reference).0 resource)) place
-request_there (requests ps rs context) elsewhere reference same place = absurd same
-request_there elsewhere other reference same place = absurd place
+    elim place [ inl principal ↦ inl ((same.0 reference).0 principal) | inr resource ↦ inr ((same.1 reference).0 resource) ]
+request_there _ _ _ same place = absurd assumption
 
 -- what is the same as a definition is one
 same_enumerated : (choices : List Text) (body : EntityBody) → SameEntityBody (enumerated choices) body → body ≡ enumerated choices
@@ -73,8 +68,7 @@ module _ (bag other : Bag) (said : SaysAll bag other) where
   action_definition_said uid body are among =
       let same = said.action_definitions uid body.applies_to (declared_action_definition bag uid body body.applies_to among refl are) in
       let found = action_definition_declared other uid same.0 same.1 in
-      let P : Requests → Type 0 = SameRequests body.applies_to in
-      (found.0, found.1, subst P (sym found.2) same.2)
+      (found.0, found.1, rw found.2 same.2)
 
   -- what counts in the one counts in the other
   counted_said : (expr : Expr) → IsCounted bag expr → IsCounted other expr
@@ -83,19 +77,16 @@ module _ (bag other : Bag) (said : SaysAll bag other) where
     by (common_type definition) is same =
         let there = said.common (declared_name it, definition) (declares_common bag it definition among is) in
         let found = common_declaration other (declared_name it) definition there in
-        let P : Body → Type 0 = λ each. CountsIn each expr in
-        (found.0, found.1, subst P (sym found.2) same)
+        (found.0, found.1, rw found.2 same)
     by (entity_type body) is counts =
         let there = definition_said (declared_name it) body (entity_counted body expr counts) (declares_entity bag it body among is) in
         let found = entity_declaration other (declared_name it) there.0 there.1 in
-        let P : Body → Type 0 = λ each. CountsIn each expr in
-        (found.0, found.1, subst P (sym found.2) (entity_counts body there.0 expr there.2 counts))
+        (found.0, found.1, rw found.2 (entity_counts body there.0 expr there.2 counts))
     by (action body) is counts =
         let there = action_definition_said (declared_uid it) body (requests_counted body.applies_to expr counts)
         (declares_action bag it body among is) in
         let found = action_declaration other (declared_uid it) there.0 there.1 in
-        let P : Body → Type 0 = λ each. CountsIn each expr in
-        (found.0, found.1, subst P (sym found.2) (requests_count body.applies_to there.0.applies_to expr there.2 counts))
+        (found.0, found.1, rw found.2 (requests_count body.applies_to there.0.applies_to expr there.2 counts))
 
   -- a place of an entity type in the one is one in the other
   pub placed_said : (reference : Reference) → IsAtEntityTypePosition bag reference → IsAtEntityTypePosition other reference
@@ -105,19 +96,20 @@ module _ (bag other : Bag) (said : SaysAll bag other) where
     by (entity_type body) is place =
         let there = said.parents (declared_name it) reference (body, declares_entity bag it body among is, place) in
         let found = entity_declaration other (declared_name it) there.0 there.1 in
-        let P : Body → Type 0 = λ each. IsEntityTypePosition each reference in
-        (found.0, found.1, subst P (sym found.2) there.2)
+        (found.0, found.1, rw found.2 there.2)
     by (action body) is place =
         let there = action_definition_said (declared_uid it) body (request_placed body.applies_to reference place)
         (declares_action bag it body among is) in
         let found = action_declaration other (declared_uid it) there.0 there.1 in
-        let P : Body → Type 0 = λ each. IsEntityTypePosition each reference in
-        (found.0, found.1, subst P (sym found.2) (request_there body.applies_to there.0.applies_to reference there.2 place))
+        (found.0, found.1, rw found.2 (request_there body.applies_to there.0.applies_to reference there.2 place))
 
   -- what has to resolve in the one has to in the other
   has_to_said : (reference : Reference) → HasToResolve bag reference → HasToResolve other reference
   has_to_said reference has =
-      ⊎_elim (λ counts. inl (counts.0, counted_said counts.0 counts.1, counts.2)) (λ placed. inr (placed_said reference placed)) has
+      elim has [
+        | inl counts ↦ inl (counts.0, counted_said counts.0 counts.1, counts.2)
+        | inr placed ↦ inr (placed_said reference placed)
+      ]
 
   -- a common type that is declared twice in the one, built-in types included, is so in the other
   common_twice_said : (extensions : Extensions) (name : PlainName)
@@ -125,16 +117,17 @@ module _ (bag other : Bag) (said : SaysAll bag other) where
       → Twice (map (λ it. it.0) (declared_common other ++ built_ins extensions)) name
   common_twice_said extensions name twice =
       let key = λ (each : PlainName × Expr). each.0 in
-      let P : List PlainName → Type 0 = λ names. Twice names name in
       let ours = map key (declared_common bag) in
       let theirs = map key (declared_common other) in
       let built_in = map key (built_ins extensions) in
-      subst P (sym (map-append key (declared_common other) (built_ins extensions)))
-      (⊎_elim
-      (λ left. Twice-left theirs built_in name (said.common_twice name left))
-      (λ rest. ⊎_elim (λ right. Twice-right theirs built_in name right)
-      (λ both. Twice-both theirs built_in name (common_name_said bag other said name both.0) both.1) rest)
-      (Twice-append ours built_in name (subst P (map-append key (declared_common bag) (built_ins extensions)) twice)))
+      rw (map-append key (declared_common other) (built_ins extensions)) (elim (Twice-append ours built_in name (rw (map-append key (declared_common bag) (built_ins extensions)) at twice)) [
+        | inl left ↦ Twice-left theirs built_in name (said.common_twice name left)
+        | inr rest ↦
+            elim rest [
+              | inl right ↦ Twice-right theirs built_in name right
+              | inr both ↦ Twice-both theirs built_in name (common_name_said bag other said name both.0) both.1
+            ]
+      ])
 
 module _ (bag other : Bag) (extensions : Extensions) (said : SaysAll bag other) (back : SaysAll other bag) where
   -- what a reference resolves to in the one it resolves to in the other
@@ -202,8 +195,7 @@ module _ (bag other : Bag) (extensions : Extensions) (said : SaysAll bag other) 
         (let key = λ (each : PlainName × EntityBody). each.0 in
         let it = Contains-preimage key (defined_entities other) name defined in
         let found = back.entity_definitions it.0.0 it.0.1 it.1 in
-        let P : PlainName → Type 0 = Contains (map key (defined_entities bag)) in
-        is_external.1 (subst P it.2 (Contains-image key (defined_entities bag) (it.0.0, found.0) found.1))),
+        is_external.1 (rw it.2 at (Contains-image key (defined_entities bag) (it.0.0, found.0) found.1))),
   )
 
   -- an enumerated entity type of the one is one of the other
@@ -211,8 +203,7 @@ module _ (bag other : Bag) (extensions : Extensions) (said : SaysAll bag other) 
       → Contains (declared_entities other) (name, enumerated choices)
   enumerated_said name choices among =
       let found = definition_said bag other said name (enumerated choices) tt among in
-      let P : EntityBody → Type 0 = λ body. Contains (declared_entities other) (name, body) in
-      subst P (same_enumerated choices found.0 found.2) found.1
+      rw (same_enumerated choices found.0 found.2) at found.1
 
   -- the standard entity type whose shape is at fault in the one has it in the other
   shape_said : (name : PlainName) (parents : List Reference) (shape : Expr) (tags : Option Expr)
@@ -223,11 +214,8 @@ module _ (bag other : Bag) (extensions : Extensions) (said : SaysAll bag other) 
         by : (body : EntityBody) → Contains (declared_entities other) (name, body)
             → SameEntityBody (standard parents shape tags) body → (found : List Reference) × (found_tags : Option Expr)
             × Contains (declared_entities other) (name, standard found shape found_tags)
-        by (standard ps shape' tags') among same =
-            let P : Expr → Type 0 = λ each. Contains (declared_entities other) (name, standard ps each tags') in
-            (ps, tags', subst P (sym same.0) among)
-        by (enumerated choices) among same = absurd same
-        by (external ps) among same = absurd same
+        by (standard ps shape' tags') among same = (ps, tags', rw same.0 among)
+        by _ _ same = absurd same
 
   -- the requests whose context is at fault in the one are those of the other
   context_said : (uid : PlainUid) (principals resources : List Reference) (context : Expr)
@@ -237,9 +225,7 @@ module _ (bag other : Bag) (extensions : Extensions) (said : SaysAll bag other) 
       let found = said.action_definitions uid (requests principals resources context) among in by found.0 found.1 found.2 where
         by : (it : Requests) → Contains (defined_actions other) (uid, it) → SameRequests (requests principals resources context) it
             → (ps : List Reference) × (rs : List Reference) × Contains (defined_actions other) (uid, requests ps rs context)
-        by (requests ps rs context') among same =
-            let P : Expr → Type 0 = λ each. Contains (defined_actions other) (uid, requests ps rs each) in
-            (ps, rs, subst P (sym same.2) among)
+        by (requests ps rs context') among same = (ps, rs, rw same.2 among)
         by elsewhere among same = absurd same
 
   -- where the one has a fault the other is ill-formed
@@ -327,7 +313,10 @@ module _ (bag other : Bag) (extensions : Extensions) (said : SaysAll bag other) 
   fault_said (reserved_name name) at_fault = (
     reserved_name name,
     (
-      ⊎_elim (λ is_entity. inl (said.entities name is_entity)) (λ of_action. inr (action_type_said bag other said name of_action)) at_fault.0,
+      elim at_fault.0 [
+        | inl is_entity ↦ inl (said.entities name is_entity)
+        | inr of_action ↦ inr (action_type_said bag other said name of_action)
+      ],
       at_fault.1,
     ),
   )

@@ -1,5 +1,5 @@
 -- Where each of two bags says all that the other does, they define the same names.
-use Rattle.std.proofs.Common.{◌≡◌, Bool, true, false, not, List, ◌++◌, map, ap, sym, subst, refl, ⊎_elim, Contains}
+use Rattle.std.proofs.Common.{◌≡◌, Bool, true, false, not, ◌++◌, map, ap, sym, refl, Contains, inl, inr}
 use Rattle.std.proofs.lemmas.List.Elements.{Contains-append_left, Contains-append_right, Contains-append_cases, filter_agree}
 use Rattle.std.specs.Ordering.{is_eq}
 use Rattle.cedar_below.proofs.Lists.{Contains-preimage}
@@ -20,18 +20,19 @@ module _ (bag other : Bag) (said : SaysAll bag other) where
   common_name_said name among =
       let key = λ (each : PlainName × Expr). each.0 in
       let it = Contains-preimage key (declared_common bag) name among in
-      let P : PlainName → Type 0 = Contains (map key (declared_common other)) in
-      subst P it.2 (Contains-image key (declared_common other) it.0 (said.common it.0 it.1))
+      rw it.2 at (Contains-image key (declared_common other) it.0 (said.common it.0 it.1))
 
   -- the name of a type that the one declares the other does
   pub type_said : (name : PlainName) → Contains (declared_types bag) name → Contains (declared_types other) name
   type_said name among =
-      ⊎_elim
-      (λ common. Contains-append_left (map (λ it. it.0) (declared_common other)) (map (λ it. it.0) (declared_entities other)) name
-      (common_name_said name common))
-      (λ is_entity. Contains-append_right (map (λ it. it.0) (declared_common other)) (map (λ it. it.0) (declared_entities other)) name
-      (said.entities name is_entity))
-      (Contains-append_cases (map (λ it. it.0) (declared_common bag)) (map (λ it. it.0) (declared_entities bag)) name among)
+      elim (Contains-append_cases (map (λ it. it.0) (declared_common bag)) (map (λ it. it.0) (declared_entities bag)) name among) [
+        | inl common ↦
+            Contains-append_left (map (λ it. it.0) (declared_common other)) (map (λ it. it.0) (declared_entities other)) name
+            (common_name_said name common)
+        | inr is_entity ↦
+            Contains-append_right (map (λ it. it.0) (declared_common other)) (map (λ it. it.0) (declared_entities other)) name
+            (said.entities name is_entity)
+      ]
 
   -- the type of an action that the one declares is one of the other
   pub action_type_said : (name : PlainName) → Contains (map (λ uid. uid.ty) (action_uids bag)) name
@@ -39,8 +40,7 @@ module _ (bag other : Bag) (said : SaysAll bag other) where
   action_type_said name among =
       let type_of = λ (uid : PlainUid). uid.ty in
       let it = Contains-preimage type_of (action_uids bag) name among in
-      let P : PlainName → Type 0 = Contains (map type_of (action_uids other)) in
-      subst P it.2 (Contains-image type_of (action_uids other) it.0 (said.actions it.0 it.1))
+      rw it.2 at (Contains-image type_of (action_uids other) it.0 (said.actions it.0 it.1))
 
   -- a type that is declared in the empty namespace of the one is so in that of the other
   here_said : (word : Text) → is_declared_here bag word ≡ true → is_declared_here other word ≡ true
@@ -70,27 +70,31 @@ module _ (bag other : Bag) (extensions : Extensions) (said : SaysAll bag other) 
   common_said : (it : PlainName × Expr) → Contains (definitions bag extensions).common it
       → Contains (definitions other extensions).common it
   common_said it among =
-      let P : List (PlainName × Expr) → Type 0 = λ names. Contains names it in
-      ⊎_elim
-      (λ here. Contains-append_left (declared_common other ++ built_ins extensions) (aliases other extensions) it
-      (⊎_elim
-      (λ declared. Contains-append_left (declared_common other) (built_ins extensions) it (said.common it declared))
-      (λ built_in. Contains-append_right (declared_common other) (built_ins extensions) it built_in)
-      (Contains-append_cases (declared_common bag) (built_ins extensions) it here)))
-      (λ alias. Contains-append_right (declared_common other ++ built_ins extensions) (aliases other extensions) it
-      (subst P same_aliases alias))
-      (Contains-append_cases (declared_common bag ++ built_ins extensions) (aliases bag extensions) it among)
+      elim (Contains-append_cases (declared_common bag ++ built_ins extensions) (aliases bag extensions) it among) [
+        | inl here ↦
+            Contains-append_left (declared_common other ++ built_ins extensions) (aliases other extensions) it
+            (elim (Contains-append_cases (declared_common bag) (built_ins extensions) it here) [
+              | inl declared ↦
+                  Contains-append_left (declared_common other) (built_ins extensions) it (said.common it declared)
+              | inr built_in ↦ Contains-append_right (declared_common other) (built_ins extensions) it built_in
+            ])
+        | inr alias ↦
+            Contains-append_right (declared_common other ++ built_ins extensions) (aliases other extensions) it
+            (rw same_aliases at alias)
+      ]
 
   -- an entity name of the one is one of the other
   entity_said : (name : PlainName) → Contains (definitions bag extensions).entities name
       → Contains (definitions other extensions).entities name
   entity_said name among =
-      ⊎_elim
-      (λ here. Contains-append_left (map (λ it. it.0) (declared_entities other)) (map (λ uid. uid.ty) (action_uids other)) name
-      (said.entities name here))
-      (λ later. Contains-append_right (map (λ it. it.0) (declared_entities other)) (map (λ uid. uid.ty) (action_uids other)) name
-      (action_type_said bag other said name later))
-      (Contains-append_cases (map (λ it. it.0) (declared_entities bag)) (map (λ uid. uid.ty) (action_uids bag)) name among)
+      elim (Contains-append_cases (map (λ it. it.0) (declared_entities bag)) (map (λ uid. uid.ty) (action_uids bag)) name among) [
+        | inl here ↦
+            Contains-append_left (map (λ it. it.0) (declared_entities other)) (map (λ uid. uid.ty) (action_uids other)) name
+            (said.entities name here)
+        | inr later ↦
+            Contains-append_right (map (λ it. it.0) (declared_entities other)) (map (λ uid. uid.ty) (action_uids other)) name
+            (action_type_said bag other said name later)
+      ]
 
 -- bags that are the same define the same names
 pub same_defined : (bag other : Bag) (extensions : Extensions) → SaysAll bag other → SaysAll other bag

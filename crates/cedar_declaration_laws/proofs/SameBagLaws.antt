@@ -1,5 +1,4 @@
 -- Bags that are the same are ill-formed both or neither, and declare the same schemas.
-use Rattle.std.proofs.Common.{map, subst, Contains}
 use Rattle.cedar_below.specs.PlainName.{PlainName}
 use Rattle.cedar_below.specs.PlainUid.{PlainUid}
 use Rattle.cedar_below.specs.declared.extension.Extensions.{Extensions}
@@ -38,8 +37,7 @@ module _ (bag other : Bag) (said : SaysAll bag other) (back : SaysAll other bag)
         (let key = λ (each : PlainUid × Requests). each.0 in
         let it = Contains-preimage key (defined_actions other) uid defined in
         let found = back.action_definitions it.0.0 it.0.1 it.1 in
-        let P : PlainUid → Type 0 = Contains (map key (defined_actions bag)) in
-        is_external.1 (subst P it.2 (Contains-image key (defined_actions bag) (it.0.0, found.0) found.1))),
+        is_external.1 (rw it.2 at (Contains-image key (defined_actions bag) (it.0.0, found.0) found.1))),
   )
 
   -- what the declarations of an action say in the one they say in the other

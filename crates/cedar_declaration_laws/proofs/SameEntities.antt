@@ -14,8 +14,7 @@ use Rattle.cedar_type_rules.proofs.AntisymmetryLaws.{Included-same}
 -- a kind for the same requests as a defined one is defined
 defined_like : (kind other : ActionKind) → SameActionKind kind other → IsDefinedKind kind → IsDefinedKind other
 defined_like (defined_action principals resources context) (defined_action others other_resources other_context) same is = tt
-defined_like (defined_action principals resources context) external_action same is = absurd same
-defined_like external_action other same is = absurd is
+defined_like _ _ same is = absurd assumption
 
 -- the same kinds the other way round
 kind_back : (kind other : ActionKind) → SameActionKind kind other → SameActionKind other kind
@@ -71,14 +70,12 @@ entity_there schema other same it is =
 one_entity : (schema : PlainSchema) (it other : ActionEntity) → it.uid ≡ other.uid → IsEntityOfAction schema it
     → IsEntityOfAction schema other → SameActionEntity it other
 one_entity schema it other same first second =
-    let Lists : PlainUid → Type 0 = λ uid. (upper : PlainUid) → (Contains other.ancestors upper → ListsDescendantAction schema uid upper)
-    × (ListsDescendantAction schema uid upper → Contains other.ancestors upper) in
     record {
       uid = same;
       attributes = first.attributes ∙ sym second.attributes;
       tags = first.tags ∙ sym second.tags;
       ancestors = same_items (ListsDescendantAction schema it.uid) it.ancestors other.ancestors first.ancestors
-          (subst Lists (sym same) second.ancestors);
+          (rw same second.ancestors);
     }
 
 -- schemas with the same actions have the same entities of actions, where each has those of its actions

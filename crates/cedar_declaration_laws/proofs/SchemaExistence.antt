@@ -1,5 +1,5 @@
 -- A bag that isn't ill-formed declares a schema.
-use Rattle.std.proofs.Common.{◌≡◌, ◌↔◌, List, [], ◌∷◌, map, ap, inl, inr, ⊎_elim, refl, sym, subst, arith, Contains}
+use Rattle.std.proofs.Common.{◌≡◌, ◌↔◌, List, [], ◌∷◌, map, ap, inl, inr, refl, sym, subst, arith, Contains}
 use Rattle.std.specs.Cmp.{IsTotalOrder}
 use Rattle.std.specs.List.Sorted.{IsStrictlySortedBy}
 use Rattle.std.specs.declared.cmp.Ordering.{Ordering}
@@ -28,8 +28,10 @@ entries_of Fits (key ∷ rest) each =
     let first = each key (Contains-cons key rest key (inl refl)) in
     let later = entries_of Fits rest (λ other among. each other (Contains-cons key rest other (inr among))) in (
       (key, first.0) ∷ later.0,
-      λ it among. ⊎_elim (λ here. subst Fits here first.1) (λ there. later.1 it there)
-          (Contains-cons_cases (key, first.0) later.0 it among),
+      λ it among. elim (Contains-cons_cases (key, first.0) later.0 it among) [
+        | inl here ↦ subst Fits here first.1
+        | inr there ↦ later.1 it there
+      ],
       ap (λ others. key ∷ others) later.2,
     )
 

@@ -27,12 +27,11 @@ use Rattle.cedar_declarations.specs.IllFormed.{IsIllFormed}
 use Rattle.cedar_declarations.specs.PlainSchema.{SchemaEntityType, ActionKind, defined_action, external_action, SchemaAction, ActionEntity, PlainSchema}
 use Rattle.cedar_below.specs.Lists.{SameItems, HoldsPairwise}
 use Rattle.cedar_declarations.specs.SameSchema.{SameEntityType, SameActionKind, SameAction, SameActionEntity, SameSchema}
-use Rattle.cedar_declarations.specs.Together.{defined_actions, EntitySays, ActionSays}
+use Rattle.cedar_declarations.specs.Together.{defined_actions}
 use Rattle.cedar_declarations.specs.ElaboratesTo.{ElaboratesTo}
 use Rattle.cedar_type_rules.proofs.AntisymmetryLaws.{Included-same}
 use Rattle.cedar_declarations.specs.EntityTypeKind.{EntityTypeKind, standard_kind, enumerated_kind, external_kind}
 use Rattle.cedar_type_rules.specs.Ty.{Ty, Fields, end, record_of}
-use Rattle.cedar_type_rules.specs.declared.open_tag.OpenTag.{OpenTag}
 use Rattle.cedar_type_rules.specs.declared.open_tag.OpenTag.TheVariants.{ClosedAttributes}
 
 -- in a bag that isn't ill-formed each common name has one definition
@@ -51,10 +50,7 @@ tags_once : (defined : Defined) → HasOneDefinition defined → (tags : Option 
     → AreDeclaredTags defined tags ty → AreDeclaredTags defined tags ty' → ty ≡ ty'
 tags_once defined one None None None fits fits' = refl
 tags_once defined one (Some expr) (Some ty) (Some ty') fits fits' = ap Some (elaborated_once defined one fits fits')
-tags_once defined one None (Some ty) ty' fits fits' = absurd fits
-tags_once defined one None None (Some ty') fits fits' = absurd fits'
-tags_once defined one (Some expr) None ty' fits fits' = absurd fits
-tags_once defined one (Some expr) (Some ty) None fits fits' = absurd fits'
+tags_once _ _ _ _ _ fits fits' = absurd assumption
 
 -- what is declared of an entity type gives one kind
 kind_once : (defined : Defined) → HasOneDefinition defined → (body : EntityBody) (kind kind' : EntityTypeKind)
@@ -64,21 +60,10 @@ kind_once defined one (standard parents shape tags) (standard_kind fields openne
     let same_tag : openness ≡ openness' = fits.1 ∙ sym fits'.1 in
     let same_tags : ty ≡ ty' = tags_once defined one tags ty ty' fits.2 fits'.2 in
     λ i. standard_kind (same_fields i) (same_tag i) (same_tags i)
-kind_once defined one (standard parents shape tags) (standard_kind fields openness ty) (enumerated_kind choices) fits fits' = absurd fits'
-kind_once defined one (standard parents shape tags) (standard_kind fields openness ty) external_kind fits fits' = absurd fits'
-kind_once defined one (standard parents shape tags) (enumerated_kind choices) kind' fits fits' = absurd fits
-kind_once defined one (standard parents shape tags) external_kind kind' fits fits' = absurd fits
 kind_once defined one (enumerated ids) (enumerated_kind choices) (enumerated_kind choices') fits fits' =
     ap enumerated_kind (sym fits ∙ fits')
-kind_once defined one (enumerated ids) (enumerated_kind choices) (standard_kind fields openness ty) fits fits' = absurd fits'
-kind_once defined one (enumerated ids) (enumerated_kind choices) external_kind fits fits' = absurd fits'
-kind_once defined one (enumerated ids) (standard_kind fields openness ty) kind' fits fits' = absurd fits
-kind_once defined one (enumerated ids) external_kind kind' fits fits' = absurd fits
 kind_once defined one (external parents) external_kind external_kind fits fits' = refl
-kind_once defined one (external parents) external_kind (standard_kind fields openness ty) fits fits' = absurd fits'
-kind_once defined one (external parents) external_kind (enumerated_kind choices) fits fits' = absurd fits'
-kind_once defined one (external parents) (standard_kind fields openness ty) kind' fits fits' = absurd fits
-kind_once defined one (external parents) (enumerated_kind choices) kind' fits fits' = absurd fits
+kind_once _ _ _ _ _ fits fits' = absurd assumption
 
 -- lists of the items that one fact picks are the same up to order and repeats
 pub same_items : {A : Type 0} (P : A → Type 0) (items others : List A) → ((item : A) → Contains items item ↔ P item)
@@ -95,11 +80,8 @@ action_kind_once defined one (requests principals resources context) (defined_ac
       (IsNamedBy (names_of defined) resources) rs rs' fits.1 fits'.1,
   elaborated_once defined one fits.2 fits'.2,
 )
-action_kind_once defined one (requests principals resources context) (defined_action ps rs ty) external_action fits fits' = absurd fits'
-action_kind_once defined one (requests principals resources context) external_action kind' fits fits' = absurd fits
 action_kind_once defined one elsewhere external_action external_action fits fits' = tt
-action_kind_once defined one elsewhere external_action (defined_action ps rs ty) fits fits' = absurd fits'
-action_kind_once defined one elsewhere (defined_action ps rs ty) kind' fits fits' = absurd fits
+action_kind_once _ _ _ _ _ fits fits' = absurd assumption
 
 module _ (bag : Bag) (extensions : Extensions) (fit : TypeNamesFit (extension_types extensions)) (well : ¬ IsIllFormed bag extensions) where
   -- two entity types of one name that are declared are the same
@@ -107,18 +89,15 @@ module _ (bag : Bag) (extensions : Extensions) (fit : TypeNamesFit (extension_ty
       → IsDeclaredEntityType bag extensions other → SameEntityType it other
   same_entity_type it other same first second =
       let defined = definitions bag extensions in
-      let P : PlainName → Type 0 = λ name. EntitySays bag name second.body in
       let alike = entity_says_once bag (λ name twice. well (duplicate_entity_type name, twice)) it.0 second.body first.body
-      (subst P (sym same) second.says) first.says in
-      let R : PlainName → Type 0 = λ name. (lower : PlainName) → Contains other.1.descendants lower
-      ↔ IsDescendant bag extensions lower name in
+      (rw same second.says) first.says in
       record {
         key = same;
         name = first.name ∙ (same ∙ sym second.name);
         kind = kind_once defined (one_of_well_formed bag extensions fit well) first.body it.1.kind other.1.kind
             first.kind (kind_there defined defined (SameDefined-itself defined) second.body first.body other.1.kind alike second.kind);
         descendants = same_items (λ lower. IsDescendant bag extensions lower it.0) it.1.descendants other.1.descendants
-            first.descendants (subst R (sym same) second.descendants);
+            first.descendants (rw same second.descendants);
       }
 
   -- two actions of one uid that are declared are the same
@@ -126,31 +105,27 @@ module _ (bag : Bag) (extensions : Extensions) (fit : TypeNamesFit (extension_ty
       → IsDeclaredAction bag extensions other → SameAction it other
   same_action it other same first second =
       let defined = definitions bag extensions in
-      let P : PlainUid → Type 0 = λ uid. ActionSays bag uid second.applies_to in
       let alike = action_says_once bag (λ uid twice. well (duplicate_action uid, twice)) it.0 first.applies_to second.applies_to
-      first.says (subst P (sym same) second.says) in
-      let Q : Requests → Type 0 = λ applies_to. IsDeclaredActionKind defined applies_to other.1.kind in
-      let R : PlainUid → Type 0 = λ uid. (lower : PlainUid) → Contains other.1.descendants lower ↔ IsDescendantAction bag lower uid in
+      first.says (rw same second.says) in
       record {
         key = same;
         uid = first.uid ∙ (same ∙ sym second.uid);
         kind = action_kind_once defined (one_of_well_formed bag extensions fit well) first.applies_to it.1.kind
-            other.1.kind first.kind (subst Q (sym alike) second.kind);
+            other.1.kind first.kind (rw alike second.kind);
         descendants = same_items (λ lower. IsDescendantAction bag lower it.0) it.1.descendants other.1.descendants
-            first.descendants (subst R (sym same) second.descendants);
+            first.descendants (rw same second.descendants);
       }
 
   -- the entities of one action are the same
   same_action_entity : (it other : ActionEntity) → it.uid ≡ other.uid → IsEntityOfDefinition bag it
       → IsEntityOfDefinition bag other → SameActionEntity it other
   same_action_entity it other same first second =
-      let R : PlainUid → Type 0 = λ uid. (upper : PlainUid) → Contains other.ancestors upper ↔ IsDescendantAction bag uid upper in
       record {
         uid = same;
         attributes = first.attributes ∙ sym second.attributes;
         tags = first.tags ∙ sym second.tags;
         ancestors = same_items (λ upper. IsDescendantAction bag it.uid upper) it.ancestors other.ancestors
-            first.ancestors (subst R (sym same) second.ancestors);
+            first.ancestors (rw same second.ancestors);
       }
 
 -- the first of some items
@@ -169,14 +144,13 @@ pub same_pairwise : {A K : Type 0} (key : A → K) (P : A → Type 0) (R : A →
     → map key items ≡ map key others → ((it : A) → Contains items it → P it)
     → ((it : A) → Contains others it → P it) → HoldsPairwise R items others
 same_pairwise key P R same [] [] keys each each' = tt
-same_pairwise key P R same [] (other ∷ others) keys each each' = absurd cc
-same_pairwise key P R same (it ∷ items) [] keys each each' = absurd cc
 same_pairwise key P R same (it ∷ items) (other ∷ others) keys each each' = (
   same it other (ap (first_of (key it)) keys) (each it (Contains-cons it items it (inl refl)))
       (each' other (Contains-cons other others other (inl refl))),
   same_pairwise key P R same items others (ap rest_of keys) (λ x among. each x (Contains-cons it items x (inr among)))
       (λ x among. each' x (Contains-cons other others x (inr among))),
 )
+same_pairwise key P R same _ _ keys each each' = absurd cc
 
 -- keys that are all among those of another list, if each item of it is declared and each that is declared is there
 pub keys_included : {A K : Type 0} (key : A → K) (Q : K → Type 0) (items others : List A)
@@ -254,20 +228,15 @@ types_admit bag extensions fit well schema declared =
     found.kind) in
     record {
       attributes = λ name parents shape tags it fields openness tag_type among there is.
-          (let P : EntityTypeKind → Type 0 = IsDeclaredKind defined (standard parents shape tags) in
-          let kind_fits = subst P is (fits name (standard parents shape tags) it tt among there) in
-          let Q : OpenTag → Type 0 = λ each. AdmitsTheSame bag extensions shape (record_of fields each) in
-          subst Q (sym kind_fits.1) (admits_the_same bag extensions one shape (record_of fields ClosedAttributes) kind_fits.0));
+          (let kind_fits = rw is at (fits name (standard parents shape tags) it tt among there) in
+          rw kind_fits.1 (admits_the_same bag extensions one shape (record_of fields ClosedAttributes) kind_fits.0));
       tags = λ name parents shape tags it fields openness tag_type among there is.
-          (let P : EntityTypeKind → Type 0 = IsDeclaredKind defined (standard parents shape (Some tags)) in
-          let kind_fits = subst P is (fits name (standard parents shape (Some tags)) it tt among there) in
+          (let kind_fits = rw is at (fits name (standard parents shape (Some tags)) it tt among there) in
           admits_the_same bag extensions one tags tag_type kind_fits.2);
       contexts = λ uid principals resources context it principal_types resource_types ty among there is.
           (let found = declared.actions (uid, it) there in
           let same = action_says_once bag (λ each twice. well (duplicate_action each, twice)) uid
           found.applies_to (requests principals resources context) found.says among in
-          let Q : Requests → Type 0 = λ each. IsDeclaredActionKind defined each it.kind in
-          let R : ActionKind → Type 0 = IsDeclaredActionKind defined (requests principals resources context) in
-          let kind_fits = subst R is (subst Q same found.kind) in
+          let kind_fits = rw (same, is) at found.kind in
           admits_the_same bag extensions one context ty kind_fits.2);
     }

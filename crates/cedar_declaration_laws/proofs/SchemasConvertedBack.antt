@@ -1,5 +1,5 @@
 -- The bag of a valid schema that is converted back declares the schema with its descendants closed.
-use Rattle.std.proofs.Common.{◌≡◌, ◌↔◌, List, [], ◌∷◌, Option, map, sym, subst, ◌∙◌, refl, ⊎_elim, Contains}
+use Rattle.std.proofs.Common.{◌≡◌, List, [], ◌∷◌, Option, map, sym, subst, ◌∙◌, refl, Contains, inl, inr}
 use Rattle.std.specs.List.Sorted.{IsStrictlySortedBy}
 use Rattle.cedar_below.proofs.Lists.{Contains-preimage}
 use Rattle.cedar_below.proofs.PlainNames.{name_cmp-total, uid_cmp-total}
@@ -12,8 +12,7 @@ use Rattle.cedar_declarations.proofs.TogetherLemmas.{AreRequests, IsDefinition, 
 use Rattle.cedar_declarations.proofs.TurnLemmas.{turn_back, turn_forth}
 use Rattle.cedar_declarations.specs.Bag.{Bag, declared_actions, declared_entities}
 use Rattle.cedar_declarations.specs.ClosedSchema.{ClosesAction, ClosesType}
-use Rattle.cedar_declarations.specs.DeclaredSchema.{IsDeclaredAction, IsDeclaredActionKind, IsDeclaredEntityType, IsDeclaredKind}
-use Rattle.cedar_declarations.specs.Descent.{IsDescendant, IsDescendantAction}
+use Rattle.cedar_declarations.specs.DeclaredSchema.{IsDeclaredAction, IsDeclaredEntityType}
 use Rattle.cedar_declarations.specs.EntityTypeKind.{EntityTypeKind, enumerated_kind, external_kind, standard_kind}
 use Rattle.cedar_declarations.specs.PlainSchema.{ActionKind, PlainSchema, SchemaAction, SchemaEntityType, defined_action, external_action}
 use Rattle.cedar_declarations.specs.Together.{ActionSays, EntitySays, defined_actions, defined_entities}
@@ -70,59 +69,51 @@ module _ (schema : PlainSchema) (bag : Bag) (extensions : Extensions) (order : I
       → ¬ Contains (map (λ each. each.0) (defined_entities bag)) name
   external_undefined name it there is_external among =
       let found = Contains-preimage (λ (each : PlainName × EntityBody). each.0) (defined_entities bag) name among in
-      let P : PlainName → Type 0 = λ each. Contains (defined_entities bag) (each, found.0.1) in
-      let definition = definition_declared bag name found.0.1 (subst P found.2 found.1) in
+      let definition = definition_declared bag name found.0.1 (subst (λ each. Contains (defined_entities bag) (each, found.0.1)) found.2 found.1) in
       let from = declared_type_from schema bag written name found.0.1 definition.0 in
       let entry = from.2 in
-      let Q : SchemaEntityType → Type 0 = λ each. IsExternal each.kind in
       defined_written entry.namespace (λ upper. ListsDescendant schema name upper) from.0.kind found.0.1 entry.kind definition.1
-      (subst Q (one_type name it from.0 there from.1) is_external)
+      (rw (one_type name it from.0 there from.1) at is_external)
 
   -- what is declared of an entity type of the schema is what is said of it
   type_said : (it : PlainName × SchemaEntityType) → Contains schema.entity_types it → (body : EntityBody)
       → Contains (declared_entities bag) (it.0, body) → IsTypeWritten schema it body → EntitySays bag it.0 body
   type_said it there body among entry =
-      ⊎_elim
-      (λ definition. definition_says bag it.0 body (declared_definition bag it.0 body definition among))
-      (λ is_external.
-      let P : EntityBody → Type 0 = EntitySays bag it.0 in
-      let Q : EntityBody → Type 0 = IsKindWritten entry.namespace (λ upper. ListsDescendant schema it.0 upper) it.1.kind in
-      let kind = external_written entry.namespace (λ upper. ListsDescendant schema it.0 upper) it.1.kind is_external.0
-      (subst Q is_external.1 entry.kind) in
-      subst P (sym is_external.1) (
-        Contains-image (λ (each : PlainName × EntityBody). each.0) (declared_entities bag) (it.0, body) among,
-        external_undefined it.0 it.1 there kind,
-      ))
-      (definition_or_external body)
+      elim (definition_or_external body) [
+        | inl definition ↦ definition_says bag it.0 body (declared_definition bag it.0 body definition among)
+        | inr is_external ↦
+            let kind = external_written entry.namespace (λ upper. ListsDescendant schema it.0 upper) it.1.kind is_external.0
+            (rw is_external.1 at entry.kind) in
+            rw is_external.1 (
+              Contains-image (λ (each : PlainName × EntityBody). each.0) (declared_entities bag) (it.0, body) among,
+              external_undefined it.0 it.1 there kind,
+            )
+      ]
 
   -- an action of the schema that is written as external has no definition
   elsewhere_undefined : (uid : PlainUid) (it : SchemaAction) → Contains schema.actions (uid, it) → (namespace : Option PlainName)
       → AreRequestsWritten namespace it.kind elsewhere → ¬ Contains (map (λ each. each.0) (defined_actions bag)) uid
   elsewhere_undefined uid it there namespace is among =
       let found = Contains-preimage (λ (each : PlainUid × Requests). each.0) (defined_actions bag) uid among in
-      let P : PlainUid → Type 0 = λ each. Contains (defined_actions bag) (each, found.0.1) in
-      let definition = action_definition_declared bag uid found.0.1 (subst P found.2 found.1) in
+      let definition = action_definition_declared bag uid found.0.1 (subst (λ each. Contains (defined_actions bag) (each, found.0.1)) found.2 found.1) in
       let from = declared_action_from schema bag written uid definition.0 definition.1 in
       let entry = from.2 in
-      let Q : Requests → Type 0 = AreRequestsWritten entry.namespace from.0.kind in
-      let R : SchemaAction → Type 0 = λ each. AreRequestsWritten namespace each.kind elsewhere in
-      requests_written_once entry.namespace from.0.kind found.0.1 definition.3 (subst Q definition.2 entry.applies_to) namespace
-      (subst R (one_action uid it from.0 there from.1) is)
+      requests_written_once entry.namespace from.0.kind found.0.1 definition.3 (rw definition.2 at entry.applies_to) namespace
+      (rw (one_action uid it from.0 there from.1) at is)
 
   -- what is declared of an action of the schema is what is said of it
   action_said : (it : PlainUid × SchemaAction) → Contains schema.actions it → (body : ActionBody)
       → Contains (declared_actions bag) (it.0, body) → IsActionWritten schema it body → ActionSays bag it.0 body.applies_to
   action_said it there body among entry =
-      ⊎_elim
-      (λ are. action_definition_says bag it.0 body.applies_to (declared_action_definition bag it.0 body body.applies_to among refl are))
-      (λ is_elsewhere.
-      let P : Requests → Type 0 = ActionSays bag it.0 in
-      let Q : Requests → Type 0 = AreRequestsWritten entry.namespace it.1.kind in
-      subst P (sym is_elsewhere) (
-        Contains-image (λ (each : PlainUid × ActionBody). each.0) (declared_actions bag) (it.0, body) among,
-        elsewhere_undefined it.0 it.1 there entry.namespace (subst Q is_elsewhere entry.applies_to),
-      ))
-      (requests_or_elsewhere body.applies_to)
+      elim (requests_or_elsewhere body.applies_to) [
+        | inl are ↦
+            action_definition_says bag it.0 body.applies_to (declared_action_definition bag it.0 body body.applies_to among refl are)
+        | inr is_elsewhere ↦
+            rw is_elsewhere (
+              Contains-image (λ (each : PlainUid × ActionBody). each.0) (declared_actions bag) (it.0, body) among,
+              elsewhere_undefined it.0 it.1 there entry.namespace (rw is_elsewhere at entry.applies_to),
+            )
+      ]
 
   module _ (writable : IsWritable schema) (valid : IsValidSchema extensions schema) where
     -- an entity type of the schema, closed, is the declared one
@@ -130,17 +121,15 @@ module _ (schema : PlainSchema) (bag : Bag) (extensions : Extensions) (order : I
         → ClosesType schema it closed → IsDeclaredEntityType bag extensions closed
     closed_type_declared it closed there named closes =
         let found = type_declared schema bag written it there in
-        let P : PlainName → Type 0 = λ name. EntitySays bag name found.0 in
-        let Q : EntityTypeKind → Type 0 = IsDeclaredKind _ found.0 in record {
+        record {
           body = found.0;
-          says = subst P closes.key (type_said it there found.0 found.1 found.2);
+          says = rw (← closes.key) (type_said it there found.0 found.1 found.2);
           name = sym closes.name ∙ (named ∙ closes.key);
-          kind = subst Q closes.kind (kind_declared schema bag extensions writable written valid it there found.0 found.2);
+          kind = rw (← closes.kind) (kind_declared schema bag extensions writable written valid it there found.0 found.2);
           descendants = λ lower.
-              let R : PlainName → Type 0 = λ name. Contains closed.1.descendants lower ↔ IsDescendant bag extensions lower name in
               let same = same_descendants schema bag extensions writable written lower it.0 in
               let reached = closes.descendants lower in
-              subst R closes.key (λ among. same.1 (reached.0 among), λ below. reached.1 (same.0 below));
+              rw (← closes.key) (λ among. same.1 (reached.0 among), λ below. reached.1 (same.0 below));
         }
 
     -- an action of the schema, closed, is the declared one
@@ -148,17 +137,15 @@ module _ (schema : PlainSchema) (bag : Bag) (extensions : Extensions) (order : I
         → ClosesAction schema it closed → IsDeclaredAction bag extensions closed
     closed_action_declared it closed there named closes =
         let found = action_declared schema bag written it there in
-        let P : PlainUid → Type 0 = λ uid. ActionSays bag uid found.0.applies_to in
-        let Q : ActionKind → Type 0 = IsDeclaredActionKind _ found.0.applies_to in record {
+        record {
           applies_to = found.0.applies_to;
-          says = subst P closes.key (action_said it there found.0 found.1 found.2);
+          says = rw (← closes.key) (action_said it there found.0 found.1 found.2);
           uid = sym closes.uid ∙ (named ∙ closes.key);
-          kind = subst Q closes.kind (action_kind_declared schema bag extensions writable written valid it there found.0 found.2);
+          kind = rw (← closes.kind) (action_kind_declared schema bag extensions writable written valid it there found.0 found.2);
           descendants = λ lower.
-              let R : PlainUid → Type 0 = λ uid. Contains closed.1.descendants lower ↔ IsDescendantAction bag lower uid in
               let same = same_action_descendants schema bag extensions writable written lower it.0 in
               let reached = closes.descendants lower in
-              subst R closes.key (λ among. same.1 (reached.0 among), λ below. reached.1 (same.0 below));
+              rw (← closes.key) (λ among. same.1 (reached.0 among), λ below. reached.1 (same.0 below));
         }
 
 -- where entries hold pairwise under the same keys, these are the same

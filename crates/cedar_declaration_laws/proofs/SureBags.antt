@@ -105,8 +105,7 @@ sure_is_well bag extensions sure (fault, at_fault) = none fault at_fault where
   none (shape_not_record name) there = sure.shapes name there
   none (context_not_record uid) there = sure.contexts uid there
   none (unknown_extension_type name) (expr, counted, mentions, unqualified, unknown) =
-      let P : PlainName → Type 0 = Contains (extension_types extensions) in
-      unknown (subst P (λ i. record { base = name.base; path = sym unqualified i }) (sure.known expr counted name.base mentions))
+      unknown (subst (Contains (extension_types extensions)) (λ i. record { base = name.base; path = sym unqualified i }) (sure.known expr counted name.base mentions))
   none (reserved_name name) there = sure.unreserved name there
   none (external_below_enumerated lower upper) there = sure.external_above lower upper there
   none (enumerated_below lower upper) there = sure.enumerated_alone lower upper there

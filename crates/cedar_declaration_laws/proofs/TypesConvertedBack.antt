@@ -1,5 +1,5 @@
 -- Types that are written in a namespace are elaborated again.
-use Rattle.std.proofs.Common.{◌≡◌, false, List, [], ◌∷◌, Option, Some, None, ap, subst, refl, inl, inr, arith}
+use Rattle.std.proofs.Common.{◌≡◌, false, List, [], ◌∷◌, Option, Some, None, ap, refl, inl, inr, arith}
 use Rattle.std.specs.Option.{option_map, option_zip}
 use Rattle.cedar_below.specs.PlainName.{PlainName}
 use Rattle.cedar_below.specs.Text.{Text}
@@ -33,8 +33,7 @@ module _ (defined : Defined) (namespace : Option PlainName) where
       → ElaboratesTo defined expr (extension_of (record { base = base; path = path }))
   extension_back base [] expr is =
       let same : extension_expr base ≡ expr = cc in
-      let P : Expr → Type 0 = λ it. ElaboratesTo defined it (extension_of (record { base = base; path = [] })) in
-      subst P same (as_extension base)
+      rw (← same) (as_extension base)
   extension_back base (part ∷ path) expr is = cc
 
   mutual
@@ -44,33 +43,29 @@ module _ (defined : Defined) (namespace : Option PlainName) where
     type_back never expr is again = cc
     type_back (truth AnyBool) expr is again =
         let same : truth_expr ≡ expr = cc in
-        let P : Expr → Type 0 = λ it. ElaboratesTo defined it (truth AnyBool) in subst P same as_truth
+        rw (← same) as_truth
     type_back (truth True) expr is again = cc
     type_back (truth False) expr is again = cc
     type_back long expr is again =
         let same : long_expr ≡ expr = cc in
-        let P : Expr → Type 0 = λ it. ElaboratesTo defined it long in subst P same as_long
+        rw (← same) as_long
     type_back text expr is again =
         let same : text_expr ≡ expr = cc in
-        let P : Expr → Type 0 = λ it. ElaboratesTo defined it text in subst P same as_text
+        rw (← same) as_text
     type_back any_entity expr is again = cc
     type_back (union_of []) expr is again = cc
     type_back (union_of (name ∷ [])) expr is again =
         let same : named (full_name namespace name) ≡ expr = cc in
-        let P : Expr → Type 0 = λ it. ElaboratesTo defined it (union_of (name ∷ [])) in
         let named_again = again name (0, omega arith, refl) in
-        subst P same
-        (as_entity (full_name namespace name) name named_again.resolves (tt, named_again.there) (λ body common. common.0))
+        rw (← same) (as_entity (full_name namespace name) name named_again.resolves (tt, named_again.there) (λ body common. common.0))
     type_back (union_of (name ∷ other ∷ rest)) expr is again = cc
     type_back any_set expr is again = cc
     type_back (set_of ty) expr is again =
         let of = map_some set_expr (type_written namespace ty) expr is in
-        let P : Expr → Type 0 = λ it. ElaboratesTo defined it (set_of ty) in
-        subst P of.2 (as_set (type_back ty of.0 of.1 again))
+        rw of.2 at (as_set (type_back ty of.0 of.1 again))
     type_back (record_of fields ClosedAttributes) expr is again =
         let of = map_some (λ members. record_expr members false) (fields_written namespace fields) expr is in
-        let P : Expr → Type 0 = λ it. ElaboratesTo defined it (record_of fields ClosedAttributes) in
-        subst P of.2 (as_record (fields_back fields of.0 of.1 again))
+        rw (← of.2) (as_record (fields_back fields of.0 of.1 again))
     type_back (record_of fields OpenAttributes) expr is again = cc
     type_back (extension_of name) expr is again = extension_back name.base name.path expr is
 
@@ -80,14 +75,12 @@ module _ (defined : Defined) (namespace : Option PlainName) where
         → MembersElaborateTo defined members fields
     fields_back end members is again =
         let same : no_member ≡ members = cc in
-        let P : Members → Type 0 = λ it. MembersElaborateTo defined it end in subst P same as_no_member
+        rw (← same) as_no_member
     fields_back (field name required ty rest) members is again =
         let make : Expr × Members → Members = λ both. member name required both.0 both.1 in
         let of = map_some make (option_zip (type_written namespace ty) (fields_written namespace rest)) members is in
         let both = zip_some (type_written namespace ty) (fields_written namespace rest) of.0 of.1 in
-        let P : Members → Type 0 = λ it. MembersElaborateTo defined it (field name required ty rest) in
-        subst P of.2
-        (as_member (type_back ty of.0.0 both.0 (λ it mentions. again it (inl mentions)))
+        rw (← of.2) (as_member (type_back ty of.0.0 both.0 (λ it mentions. again it (inl mentions)))
         (fields_back rest of.0.1 both.1 (λ it mentions. again it (inr mentions))))
 
 -- so types come back

@@ -1,5 +1,5 @@
 -- The schema that a bag declares is valid, and its descendants are closed.
-use Rattle.std.proofs.Common.{◌≡◌, ◌≢◌, ◌⊎◌, List, [], ◌∷◌, Option, Some, None, map, ap, sym, subst, ◌∙◌, refl, inl, inr, ⊎_elim, arith, Contains}
+use Rattle.std.proofs.Common.{◌≡◌, ◌≢◌, ◌⊎◌, List, [], ◌∷◌, Option, Some, None, map, ap, sym, subst, ◌∙◌, refl, inl, inr, arith, Contains}
 use Rattle.std.proofs.lemmas.List.Elements.{Contains-append_right, Contains-append_cases}
 use Rattle.cedar_below.proofs.Lists.{Contains-cons, Contains-cons_cases, Contains-preimage}
 use Rattle.cedar_below.specs.Extensions.{extension_types}
@@ -9,7 +9,6 @@ use Rattle.cedar_below.specs.Text.{Text}
 use Rattle.cedar_below.specs.TypeNames.{TypeNamesFit}
 use Rattle.cedar_below.specs.declared.extension.Extensions.{Extensions}
 use Rattle.cedar_names.specs.ActionBody.{ActionBody, Requests, requests, elsewhere}
-use Rattle.cedar_names.specs.Declaration.{Body}
 use Rattle.cedar_names.specs.EntityBody.{EntityBody, standard, enumerated, external}
 use Rattle.cedar_names.specs.Expr.{Expr}
 use Rattle.cedar_names.specs.Reference.{Reference}
@@ -23,18 +22,18 @@ use Rattle.cedar_declarations.specs.Bag.{Bag, declared_common, declared_entities
 use Rattle.cedar_below.specs.Chain.{Chain, one}
 use Rattle.cedar_below.specs.Lists.{HoldsPairwise}
 use Rattle.cedar_declarations.specs.ClosedSchema.{ClosesType, ClosesAction, ClosesSchema}
-use Rattle.cedar_declarations.specs.Counted.{CountsIn, IsCounted, IsAtEntityTypePosition, PositionsFit, CountsInEntity, CountsInRequests, IsPrincipalOrResource, IsEntityTypePosition}
+use Rattle.cedar_declarations.specs.Counted.{IsCounted, IsAtEntityTypePosition, PositionsFit, CountsInEntity, CountsInRequests, IsPrincipalOrResource}
 use Rattle.cedar_declarations.specs.DeclaredSchema.{IsDeclaredSchema, IsDeclaredActionKind, IsDeclaredKind, AreDeclaredTags}
 use Rattle.cedar_declarations.specs.Names.{ResolvesTo}
 use Rattle.cedar_declarations.specs.Descent.{HasParent, HasParentAction, IsDescendant, IsDescendantAction}
 use Rattle.cedar_declarations.specs.Fault.{undeclared_entity_types, type_shadowing, action_shadowing, action_cycle, action_entity_type, unknown_extension_type, external_below_enumerated, enumerated_below, undeclared_action_descendant, invalid_action_type}
 use Rattle.cedar_declarations.specs.IllFormed.{IsIllFormed}
-use Rattle.cedar_declarations.specs.PlainSchema.{SchemaEntityType, ActionKind, defined_action, external_action, SchemaAction, PlainSchema}
+use Rattle.cedar_declarations.specs.PlainSchema.{SchemaEntityType, ActionKind, defined_action, SchemaAction, PlainSchema}
 use Rattle.cedar_declarations.proofs.TogetherLemmas.{definition_declared, said_is_declared, said_action_is_declared, said_definition, said_action_definition, entity_counted, requests_counted, request_placed}
 use Rattle.cedar_declarations.specs.Together.{EntitySays, IsExternalType}
 use Rattle.cedar_declarations.specs.ValidSchema.{IsTypeOfKind, IsContextOf, IsPrincipalOrResourceOf, IsTypeIn, HasEntityType, HasAction, ListsDescendant, ListsDescendantAction, IsOfKind, IsEnumerated, IsExternal, IsUnknownType, IsValidSchema}
 use Rattle.cedar_declarations.specs.ElaboratesTo.{ElaboratesTo}
-use Rattle.cedar_declarations.specs.EntityTypeKind.{EntityTypeKind, standard_kind, enumerated_kind, external_kind}
+use Rattle.cedar_declarations.specs.EntityTypeKind.{EntityTypeKind, standard_kind, enumerated_kind}
 use Rattle.cedar_type_rules.specs.Ty.{Ty, record_of}
 
 -- a relation of each item to itself holds pairwise of a list and itself
@@ -103,12 +102,12 @@ module _ (bag : Bag) (extensions : Extensions) (schema : PlainSchema) (fit : Typ
   entity_known : (name : PlainName) → Contains (defined_names bag extensions).entities name → HasEntityType schema name
       ⊎ ((uid : PlainUid) × HasAction schema uid × (uid.ty ≡ name))
   entity_known name among =
-      ⊎_elim
-      (λ here. inl (declared.each_entity_type name here))
-      (λ later.
-      (let found = Contains-preimage (λ uid. uid.ty) (action_uids bag) name later in
-      inr (found.0, declared.each_action found.0 found.1, found.2)))
-      (Contains-append_cases (map (λ it. it.0) (declared_entities bag)) (map (λ uid. uid.ty) (action_uids bag)) name among)
+      elim (Contains-append_cases (map (λ it. it.0) (declared_entities bag)) (map (λ uid. uid.ty) (action_uids bag)) name among) [
+        | inl here ↦ inl (declared.each_entity_type name here)
+        | inr later ↦
+            let found = Contains-preimage (λ uid. uid.ty) (action_uids bag) name later in
+            inr (found.0, declared.each_action found.0 found.1, found.2)
+      ]
 
   -- a declared action's type is that of actions
   action_type : (uid : PlainUid) → HasAction schema uid → IsActionType uid.ty
@@ -125,75 +124,63 @@ module _ (bag : Bag) (extensions : Extensions) (schema : PlainSchema) (fit : Typ
       → IsDeclaredKind (definitions bag extensions) body kind → IsTypeOfKind kind ty → (expr : Expr)
       × CountsInEntity body expr × ElaboratesTo (definitions bag extensions) expr ty
   kind_written (standard parents shape tags) (standard_kind fields openness tag_type) ty fits of_kind =
-      let P : Ty → Type 0 = ElaboratesTo (definitions bag extensions) shape in
-      ⊎_elim
-      (λ same. (shape, inl refl, subst P (sym (same ∙ ap (record_of fields) fits.1)) fits.0))
-      (λ same. tags_written tags tag_type fits.2 same)
-      of_kind
+      elim of_kind [
+        | inl same ↦ (shape, inl refl, rw (same ∙ ap (record_of fields) fits.1) fits.0)
+        | inr same ↦ tags_written tags tag_type fits.2 same
+      ]
     where
       tags_written : (tags : Option Expr) (tag_type : Option Ty)
           → AreDeclaredTags (definitions bag extensions) tags tag_type → tag_type ≡ Some ty → (expr : Expr)
           × ((shape ≡ expr) ⊎ (tags ≡ Some expr)) × ElaboratesTo (definitions bag extensions) expr ty
       tags_written (Some expr) (Some other) written same =
-          let P : Option Ty → Type 0 = AreDeclaredTags (definitions bag extensions) (Some expr) in (expr, inr refl, subst P same written)
-      tags_written (Some expr) None written same = absurd written
+          (expr, inr refl, subst (AreDeclaredTags (definitions bag extensions) (Some expr)) same written)
       tags_written None (Some other) written same = absurd written
-      tags_written None None written same = absurd cc
+      tags_written _ None written same = absurd (first_of (assumption, cc))
   kind_written (standard parents shape tags) (enumerated_kind choices) ty fits of_kind = absurd fits
-  kind_written (standard parents shape tags) external_kind ty fits of_kind = absurd fits
   kind_written (enumerated choices) (standard_kind fields openness tag_type) ty fits of_kind = absurd fits
-  kind_written (enumerated choices) (enumerated_kind ids) ty fits of_kind = absurd of_kind
-  kind_written (enumerated choices) external_kind ty fits of_kind = absurd of_kind
   kind_written (external parents) (standard_kind fields openness tag_type) ty fits of_kind = absurd fits
-  kind_written (external parents) (enumerated_kind ids) ty fits of_kind = absurd of_kind
-  kind_written (external parents) external_kind ty fits of_kind = absurd of_kind
+  kind_written _ _ _ fits of_kind = absurd assumption
 
   -- a context of an action is what a counted expression is elaborated as
   context_written : (body : Requests) (kind : ActionKind) (ty : Ty)
       → IsDeclaredActionKind (definitions bag extensions) body kind → IsContextOf kind ty → (expr : Expr)
       × CountsInRequests body expr × ElaboratesTo (definitions bag extensions) expr ty
   context_written (requests principals resources context) (defined_action ps rs other) ty fits same =
-      let P : Ty → Type 0 = ElaboratesTo (definitions bag extensions) context in (context, refl, subst P same fits.2)
-  context_written (requests principals resources context) external_action ty fits same = absurd same
+      (context, refl, rw same at fits.2)
   context_written elsewhere (defined_action ps rs other) ty fits same = absurd fits
-  context_written elsewhere external_action ty fits same = absurd same
+  context_written _ _ _ fits same = absurd assumption
 
   -- each type of the schema is what a counted expression is elaborated as
   type_written : (ty : Ty) → IsTypeIn schema ty → (expr : Expr) × IsCounted bag expr × ElaboratesTo (definitions bag extensions) expr ty
   type_written ty type_in =
-      ⊎_elim
-      (λ of_entity.
-      (let it = declared.entity_types of_entity.0 of_entity.1 in
-      let found = kind_written it.body of_entity.0.1.kind ty it.kind of_entity.2 in
-      let declaration = entity_declaration bag of_entity.0.0 it.body
-      (said_definition bag of_entity.0.0 it.body it.says (entity_counted it.body found.0 found.1)) in
-      let P : Body → Type 0 = λ body. CountsIn body found.0 in
-      (found.0, (declaration.0, declaration.1, subst P (sym declaration.2) found.1), found.2)))
-      (λ of_action.
-      (let it = declared.actions of_action.0 of_action.1 in
-      let found = context_written it.applies_to of_action.0.1.kind ty it.kind of_action.2 in
-      let body = said_action_definition bag of_action.0.0 it.applies_to it.says (requests_counted it.applies_to found.0 found.1) in
-      let declaration = action_declaration bag of_action.0.0 body.0 body.1 in
-      let P : Body → Type 0 = λ each. CountsIn each found.0 in
-      let Q : Requests → Type 0 = λ each. CountsInRequests each found.0 in
-      (found.0, (declaration.0, declaration.1, subst P (sym declaration.2) (subst Q (sym body.2) found.1)), found.2)))
-      type_in
+      elim type_in [
+        | inl of_entity ↦
+            let it = declared.entity_types of_entity.0 of_entity.1 in
+            let found = kind_written it.body of_entity.0.1.kind ty it.kind of_entity.2 in
+            let declaration = entity_declaration bag of_entity.0.0 it.body
+            (said_definition bag of_entity.0.0 it.body it.says (entity_counted it.body found.0 found.1)) in
+            (found.0, (declaration.0, declaration.1, rw declaration.2 found.1), found.2)
+        | inr of_action ↦
+            let it = declared.actions of_action.0 of_action.1 in
+            let found = context_written it.applies_to of_action.0.1.kind ty it.kind of_action.2 in
+            let body = said_action_definition bag of_action.0.0 it.applies_to it.says (requests_counted it.applies_to found.0 found.1) in
+            let declaration = action_declaration bag of_action.0.0 body.0 body.1 in
+            (found.0, (declaration.0, declaration.1, rw (declaration.2, body.2) found.1), found.2)
+      ]
 
   -- the name of an entity type of the schema is declared
   pub declared_type : (name : PlainName) → HasEntityType schema name → Contains (map (λ it. it.0) (declared_entities bag)) name
   declared_type name has =
       let found = Contains-preimage (λ it. it.0) schema.entity_types name has in
       let it = declared.entity_types found.0 found.1 in
-      let P : PlainName → Type 0 = Contains (map (λ it. it.0) (declared_entities bag)) in
-      subst P found.2 (said_is_declared bag found.0.0 it.body it.says)
+      rw found.2 at (said_is_declared bag found.0.0 it.body it.says)
 
   -- the uid of an action of the schema is declared
   pub declared_action_uid : (uid : PlainUid) → HasAction schema uid → Contains (action_uids bag) uid
   declared_action_uid uid has =
       let found = Contains-preimage (λ it. it.0) schema.actions uid has in
       let it = declared.actions found.0 found.1 in
-      let P : PlainUid → Type 0 = Contains (action_uids bag) in
-      subst P found.2 (said_action_is_declared bag found.0.0 it.applies_to it.says)
+      rw found.2 at (said_action_is_declared bag found.0.0 it.applies_to it.says)
 
   -- an external entity type of the schema is external
   declared_external : (name : PlainName) → IsOfKind schema name IsExternal → IsExternalType bag name
@@ -203,11 +190,8 @@ module _ (bag : Bag) (extensions : Extensions) (schema : PlainSchema) (fit : Typ
             → IsExternal kind → EntitySays bag name body → IsExternalType bag name
         by (external parents) kind fits is_external says = says
         by (standard parents shape tags) (standard_kind fields openness tag_type) fits is_external says = absurd is_external
-        by (standard parents shape tags) (enumerated_kind ids) fits is_external says = absurd fits
-        by (standard parents shape tags) external_kind fits is_external says = absurd fits
         by (enumerated choices) (standard_kind fields openness tag_type) fits is_external says = absurd fits
-        by (enumerated choices) (enumerated_kind ids) fits is_external says = absurd is_external
-        by (enumerated choices) external_kind fits is_external says = absurd fits
+        by _ _ fits is_external _ = absurd assumption
 
   -- an enumerated entity type of the schema is declared as one
   declared_enumerated : (name : PlainName) → IsOfKind schema name IsEnumerated → (choices : List Text)
@@ -219,11 +203,8 @@ module _ (bag : Bag) (extensions : Extensions) (schema : PlainSchema) (fit : Typ
             × Contains (declared_entities bag) (name, enumerated choices)
         by (enumerated choices) kind fits is_enumerated says = (choices, (definition_declared bag name (enumerated choices) says).0)
         by (standard parents shape tags) (standard_kind fields openness tag_type) fits is_enumerated says = absurd is_enumerated
-        by (standard parents shape tags) (enumerated_kind ids) fits is_enumerated says = absurd fits
-        by (standard parents shape tags) external_kind fits is_enumerated says = absurd fits
         by (external parents) (standard_kind fields openness tag_type) fits is_enumerated says = absurd fits
-        by (external parents) (enumerated_kind ids) fits is_enumerated says = absurd fits
-        by (external parents) external_kind fits is_enumerated says = absurd is_enumerated
+        by _ _ fits is_enumerated _ = absurd assumption
 
   -- a principal or a resource of an action of the schema is named at its place
   named_place : (it : PlainUid × SchemaAction) (name : PlainName) → Contains schema.actions it
@@ -234,51 +215,48 @@ module _ (bag : Bag) (extensions : Extensions) (schema : PlainSchema) (fit : Typ
       let place = by found.applies_to it.1.kind found.kind named in
       let body = said_action_definition bag it.0 found.applies_to found.says (request_placed found.applies_to place.0 place.1) in
       let declaration = action_declaration bag it.0 body.0 body.1 in
-      let P : Body → Type 0 = λ each. IsEntityTypePosition each place.0 in
-      let Q : Requests → Type 0 = λ each. IsPrincipalOrResource each place.0 in
-      (place.0, (declaration.0, declaration.1, subst P (sym declaration.2) (subst Q (sym body.2) place.1)), place.2)
+      (place.0, (declaration.0, declaration.1, rw (declaration.2, body.2) place.1), place.2)
     where
       by : (body : Requests) (kind : ActionKind) → IsDeclaredActionKind (definitions bag extensions) body kind
           → IsPrincipalOrResourceOf kind name → (reference : Reference) × IsPrincipalOrResource body reference
           × ResolvesTo (defined_names bag extensions) reference name
       by (requests principals resources context) (defined_action ps rs ty) fits names =
-          ⊎_elim
-          (λ principal. let found = (fits.0 name).0 principal in (found.0, inl found.1, found.2))
-          (λ resource. let found = (fits.1 name).0 resource in (found.0, inr found.1, found.2))
-          names
-      by (requests principals resources context) external_action fits names = absurd names
+          elim names [
+            | inl principal ↦ let found = (fits.0 name).0 principal in (found.0, inl found.1, found.2)
+            | inr resource ↦ let found = (fits.1 name).0 resource in (found.0, inr found.1, found.2)
+          ]
       by elsewhere (defined_action ps rs ty) fits names = absurd fits
-      by elsewhere external_action fits names = absurd names
+      by _ _ fits names = absurd assumption
 
   -- what a reference at the place of an entity type resolves to can be named as one
   placed_entity : (reference : Reference) (name : PlainName) → IsAtEntityTypePosition bag reference
       → ResolvesTo (defined_names bag extensions) reference name → Contains (defined_names bag extensions).entities name
   placed_entity reference name placed resolves =
-      ⊎_elim
-      (λ common. absurd (names_no_common reference.kind (places reference placed) common.0))
-      (λ is_entity. is_entity.1)
-      (first_defined (defined_names bag extensions) reference.kind reference.possibilities name resolves).1
+      elim (first_defined (defined_names bag extensions) reference.kind reference.possibilities name resolves).1 [
+        | inl common ↦ absurd (names_no_common reference.kind (places reference placed) common.0)
+        | inr is_entity ↦ is_entity.1
+      ]
 
   -- a principal or a resource of an action of the schema is an entity type of it
   request_known : (it : PlainUid × SchemaAction) (name : PlainName) → Contains schema.actions it
       → IsPrincipalOrResourceOf it.1.kind name → HasEntityType schema name
   request_known it name there named =
       let place = named_place it name there named in
-      ⊎_elim
-      (λ known. known)
-      (λ of_action.
-      (let is_action : IsActionType name = ap (λ (each : PlainName). each.base) (sym of_action.2) ∙ action_type of_action.0 of_action.1 in
-      let P : PlainName → Type 0 = λ each. IsActionType each × (reference : Reference) × IsAtEntityTypePosition bag reference
-      × ResolvesTo (defined_names bag extensions) reference each in
-      absurd (well (
-        undeclared_entity_types (name ∷ []),
-        (
-          λ none. cc,
-          λ each among. ⊎_elim (λ same. subst P same (is_action, place.0, place.1, place.2))
-              (λ nothing. absurd (omega (arith, nothing.1))) (Contains-cons_cases name [] each among),
-        ),
-      ))))
-      (entity_known name (placed_entity place.0 name place.1 place.2))
+      elim (entity_known name (placed_entity place.0 name place.1 place.2)) [
+        | inl known ↦ known
+        | inr of_action ↦
+            let is_action : IsActionType name = ap (λ (each : PlainName). each.base) (sym of_action.2) ∙ action_type of_action.0 of_action.1 in
+            absurd (well (
+              undeclared_entity_types (name ∷ []),
+              (
+                λ none. cc,
+                λ each among. elim (Contains-cons_cases name [] each among) [
+                  | inl same ↦ rw (← same) (is_action, place.0, place.1, place.2)
+                  | inr nothing ↦ absurd (omega (arith, nothing.1))
+                ],
+              ),
+            ))
+      ]
 
   -- a descendant that the schema lists is an entity type of it
   descendant_known : (lower upper : PlainName) → ListsDescendant schema lower upper → HasEntityType schema lower

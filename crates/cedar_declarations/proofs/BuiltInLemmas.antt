@@ -1,5 +1,5 @@
 -- Built-in types and aliases: their names are their own, and what they stand for refers to nothing.
-use Rattle.std.proofs.Common.{◌≡◌, ◌≢◌, ◌⊎◌, zero, suc, Bool, true, false, List, [], ◌∷◌, ◌++◌, map, ap, sym, subst, ◌∙◌, refl, inl, inr, ⊎_elim, arith, Contains, All, AllPairs, codes, not}
+use Rattle.std.proofs.Common.{◌≡◌, ◌≢◌, ◌⊎◌, zero, suc, Bool, true, false, List, [], ◌∷◌, ◌++◌, map, ap, sym, subst, ◌∙◌, refl, inl, inr, arith, Contains, All, AllPairs, codes, not}
 use Rattle.std.proofs.lemmas.Bool.{false≢true}
 use Rattle.std.proofs.lemmas.List.Elements.{All-contains, All-tail, Contains-append_left, Contains-append_cases}
 use Rattle.std.proofs.lemmas.Slice.Eq.{bytes_eq-Decides}
@@ -56,41 +56,44 @@ extensions_once : (names : List PlainName) → All IsUnqualified names → AllPa
     → ¬ Twice (map (λ entry. entry.0) (extension_entries names)) word
 extensions_once [] plain distinct word twice = twice
 extensions_once (first ∷ rest) plain distinct word twice =
-    ⊎_elim
-    (λ here.
-    let found = entry_name rest word here.1 in
-    let first_plain : IsUnqualified first = plain zero first (omega arith) in
-    let found_plain : IsUnqualified found.0 = All-contains IsUnqualified rest found.0 (All-tail IsUnqualified first rest plain) found.1 in
-    let same : first ≡ found.0 = same_unqualified first found.0 first_plain found_plain (here.0 ∙ sym found.2) in
-    Twice-distinct (first ∷ rest) found.0 distinct (inl (same, found.1)))
-    (λ later. extensions_once rest (All-tail IsUnqualified first rest plain)
-    (λ i j d below within. distinct (suc i) (suc j) d (omega (arith, below)) (omega (arith, within))) word later)
-    twice
+    elim twice [
+      | inl here ↦
+          let found = entry_name rest word here.1 in
+          let first_plain : IsUnqualified first = plain zero first (omega arith) in
+          let found_plain : IsUnqualified found.0 = All-contains IsUnqualified rest found.0 (All-tail IsUnqualified first rest plain) found.1 in
+          let same : first ≡ found.0 = same_unqualified first found.0 first_plain found_plain (here.0 ∙ sym found.2) in
+          Twice-distinct (first ∷ rest) found.0 distinct (inl (same, found.1))
+      | inr later ↦
+          extensions_once rest (All-tail IsUnqualified first rest plain)
+          (λ i j d below within. distinct (suc i) (suc j) d (omega (arith, below)) (omega (arith, within))) word later
+    ]
 
 -- no built-in base name stands for two types
 pub built_in_once : (extensions : Extensions) → TypeNamesFit (extension_types extensions) → (word : Text)
     → ¬ Twice (map (λ entry. entry.0) (built_in_types extensions)) word
 built_in_once extensions fit word twice =
     let names = extension_types extensions in
-    ⊎_elim (words_once word)
-    (λ others. ⊎_elim
-    (extensions_once names fit.unqualified fit.distinct word)
-    (λ both.
-    let found = entry_name names word both.1 in
-    let P : Text → Type 0 = Contains primitive_words in
-    All-contains (λ name. ¬ Contains primitive_words name.base) names found.0 fit.free found.1 (subst P (sym found.2) both.0))
-    others)
-    (Twice-append primitive_words (map (λ entry. entry.0) (extension_entries names)) word twice)
+    elim (Twice-append primitive_words (map (λ entry. entry.0) (extension_entries names)) word twice) [
+      | inl left ↦ words_once word left
+      | inr others ↦
+          elim others [
+            | inl left ↦ extensions_once names fit.unqualified fit.distinct word left
+            | inr both ↦
+                let found = entry_name names word both.1 in
+                All-contains (λ name. ¬ Contains primitive_words name.base) names found.0 fit.free found.1 (rw found.2 both.0)
+          ]
+    ]
 
 -- what stands twice among images stands twice among the items, where the images tell them apart
 Twice-image : {X Y : Type 0} (f : X → Y) → ((x y : X) → f x ≡ f y → x ≡ y) → (xs : List X) (y : Y) → Twice (map f xs) y
     → (x : X) × Twice xs x
 Twice-image f apart [] y twice = absurd twice
 Twice-image f apart (first ∷ rest) y twice =
-    ⊎_elim
-    (λ here. let found = Contains-preimage f rest y here.1 in (found.0, inl (apart first found.0 (here.0 ∙ sym found.2), found.1)))
-    (λ later. let found = Twice-image f apart rest y later in (found.0, inr found.1))
-    twice
+    elim twice [
+      | inl here ↦
+          let found = Contains-preimage f rest y here.1 in (found.0, inl (apart first found.0 (here.0 ∙ sym found.2), found.1))
+      | inr later ↦ let found = Twice-image f apart rest y later in (found.0, inr found.1)
+    ]
 
 -- the names of the built-in types are the base names in the reserved namespace
 built_in_names : (types : List (Text × Expr)) → map (λ (it : PlainName × Expr). it.0)
@@ -102,9 +105,8 @@ built_in_names (first ∷ rest) = ap (λ others. built_in_name first.0 ∷ other
 pub built_ins_once : (extensions : Extensions) → TypeNamesFit (extension_types extensions) → (name : PlainName)
     → ¬ Twice (map (λ it. it.0) (built_ins extensions)) name
 built_ins_once extensions fit name twice =
-    let P : List PlainName → Type 0 = λ names. Twice names name in
     let found = Twice-image built_in_name (λ a b same. ap (λ each. each.base) same)
-    (map (λ it. it.0) (built_in_types extensions)) name (subst P (built_in_names (built_in_types extensions)) twice) in
+    (map (λ it. it.0) (built_in_types extensions)) name (subst (λ names. Twice names name) (built_in_names (built_in_types extensions)) twice) in
     built_in_once extensions fit found.0 found.1
 
 -- a name without a path is that of an alias
@@ -128,13 +130,10 @@ alias_of bag extensions name body among =
     let kept = filter (λ it. not (is_declared_here bag it.0)) (built_in_types extensions) in
     let found = Contains-preimage (λ it. (alias_name it.0, it.1)) kept (name, body) among in
     let passed = Contains-filter (λ it. not (is_declared_here bag it.0)) (built_in_types extensions) found.0 found.1 in
-    let word : found.0.0 ≡ name.base = ap (λ each. each.0.base) found.2 in
-    let P : Text × Expr → Type 0 = Contains (built_in_types extensions) in
-    let Q : Text → Type 0 = λ each. is_declared_here bag each ≡ false in (
-      subst P (λ i. (word i, (found.2 i).1)) passed.0,
+    let word : found.0.0 ≡ name.base = ap (λ each. each.0.base) found.2 in (
+      subst (Contains (built_in_types extensions)) (λ i. (word i, (found.2 i).1)) passed.0,
       ap (λ each. each.0.path) (sym found.2),
-      subst Q word
-          (not_true (is_declared_here bag found.0.0) passed.1),
+      rw word at (not_true (is_declared_here bag found.0.0) passed.1),
     )
   where
     not_true : (b : Bool) → not b ≡ true → b ≡ false
@@ -156,10 +155,10 @@ pub alias_apart : (bag : Bag) (extensions : Extensions) (name : PlainName) (body
     → Contains (aliases bag extensions) (name, body) → ¬ Contains (declared_common bag ++ built_ins extensions) (name, other)
 alias_apart bag extensions name body other alias among =
     let found = alias_of bag extensions name body alias in
-    ⊎_elim
-    (λ declared. false≢true (sym found.2 ∙ declared_plainly bag name other found.1 declared))
-    (λ built_in. built_in_path extensions name other built_in found.1)
-    (Contains-append_cases (declared_common bag) (built_ins extensions) (name, other) among)
+    elim (Contains-append_cases (declared_common bag) (built_ins extensions) (name, other) among) [
+      | inl declared ↦ false≢true (sym found.2 ∙ declared_plainly bag name other found.1 declared)
+      | inr built_in ↦ built_in_path extensions name other built_in found.1
+    ]
 
 -- a common type is declared or built in, or an alias
 pub common_cases : (bag : Bag) (extensions : Extensions) (it : PlainName × Expr)
@@ -172,44 +171,47 @@ pub one_definition : (bag : Bag) (extensions : Extensions) → TypeNamesFit (ext
     → ((name : PlainName) → ¬ Twice (map (λ it. it.0) (declared_common bag ++ built_ins extensions)) name)
     → HasOneDefinition (definitions bag extensions)
 one_definition bag extensions fit once name body other among among' =
-    ⊎_elim
-    (λ here. ⊎_elim
-    (λ here'. value_once (declared_common bag ++ built_ins extensions) once name body other here here')
-    (λ alias'. absurd (alias_apart bag extensions name other body alias' here))
-    (common_cases bag extensions (name, other) among'))
-    (λ alias. ⊎_elim
-    (λ here'. absurd (alias_apart bag extensions name body other alias here'))
-    (λ alias'. value_once (built_in_types extensions) (built_in_once extensions fit) name.base body other
-    (alias_of bag extensions name body alias).0 (alias_of bag extensions name other alias').0)
-    (common_cases bag extensions (name, other) among'))
-    (common_cases bag extensions (name, body) among)
+    elim (common_cases bag extensions (name, body) among) [
+      | inl here ↦
+          elim (common_cases bag extensions (name, other) among') [
+            | inl here' ↦ value_once (declared_common bag ++ built_ins extensions) once name body other here here'
+            | inr alias' ↦ absurd (alias_apart bag extensions name other body alias' here)
+          ]
+      | inr alias ↦
+          elim (common_cases bag extensions (name, other) among') [
+            | inl here' ↦ absurd (alias_apart bag extensions name body other alias here')
+            | inr alias' ↦
+                value_once (built_in_types extensions) (built_in_once extensions fit) name.base body other
+                (alias_of bag extensions name body alias).0 (alias_of bag extensions name other alias').0
+          ]
+    ]
 
 -- what a built-in base name stands for refers to nothing
 built_in_refers : (extensions : Extensions) (word : Text) (body : Expr) (reference : Reference)
     → Contains (built_in_types extensions) (word, body) → ¬ Refers body reference
 built_in_refers extensions word body reference (zero, below, is) refers =
-    let P : Text × Expr → Type 0 = λ each. Refers each.1 reference in subst P (sym is) refers
+    subst (λ each. Refers each.1 reference) (sym is) refers
 built_in_refers extensions word body reference (suc zero, below, is) refers =
-    let P : Text × Expr → Type 0 = λ each. Refers each.1 reference in subst P (sym is) refers
+    subst (λ each. Refers each.1 reference) (sym is) refers
 built_in_refers extensions word body reference (suc (suc zero), below, is) refers =
-    let P : Text × Expr → Type 0 = λ each. Refers each.1 reference in subst P (sym is) refers
+    subst (λ each. Refers each.1 reference) (sym is) refers
 built_in_refers extensions word body reference (suc (suc (suc k)), below, is) refers =
-    let P : Text × Expr → Type 0 = λ each. Refers each.1 reference in
     let found = Contains-preimage (λ name. (name.base, extension_expr name.base)) (extension_types extensions)
     (word, body) (k, omega (arith, below), is) in
-    subst P (sym found.2) refers
+    subst (λ each. Refers each.1 reference) (sym found.2) refers
 
 -- a common type that refers to something is declared
 pub refers_declared : (bag : Bag) (extensions : Extensions) (name : PlainName) (body : Expr) (reference : Reference)
     → Contains (definitions bag extensions).common (name, body) → Refers body reference → Contains (declared_common bag) (name, body)
 refers_declared bag extensions name body reference among refers =
-    ⊎_elim
-    (λ here. ⊎_elim
-    (λ declared. declared)
-    (λ built_in.
-    let found = Contains-preimage (λ it. (built_in_name it.0, it.1)) (built_in_types extensions) (name, body) built_in in
-    let P : Expr → Type 0 = λ each. Refers each reference in
-    absurd (built_in_refers extensions found.0.0 found.0.1 reference found.1 (subst P (ap (λ each. each.1) (sym found.2)) refers)))
-    (Contains-append_cases (declared_common bag) (built_ins extensions) (name, body) here))
-    (λ alias. absurd (built_in_refers extensions name.base body reference (alias_of bag extensions name body alias).0 refers))
-    (common_cases bag extensions (name, body) among)
+    elim (common_cases bag extensions (name, body) among) [
+      | inl here ↦
+          elim (Contains-append_cases (declared_common bag) (built_ins extensions) (name, body) here) [
+            | inl declared ↦ declared
+            | inr built_in ↦
+                let found = Contains-preimage (λ it. (built_in_name it.0, it.1)) (built_in_types extensions) (name, body) built_in in
+                absurd (built_in_refers extensions found.0.0 found.0.1 reference found.1 (rw (ap (λ each. each.1) (sym found.2)) at refers))
+          ]
+      | inr alias ↦
+          absurd (built_in_refers extensions name.base body reference (alias_of bag extensions name body alias).0 refers)
+    ]

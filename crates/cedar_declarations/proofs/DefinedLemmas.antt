@@ -1,5 +1,5 @@
 -- Where the same names are defined, references and expressions mean the same.
-use Rattle.std.proofs.Common.{inl, inr, ⊎_elim, subst, Contains}
+use Rattle.std.proofs.Common.{inl, inr, Contains}
 use Rattle.cedar_below.proofs.Lists.{Contains-preimage}
 use Rattle.cedar_below.specs.PlainName.{PlainName}
 use Rattle.cedar_names.specs.Expr.{Expr, Members}
@@ -43,32 +43,30 @@ module _ (defined other : Defined) (same : SameDefined defined other) where
   common_there name among =
       let key = λ (each : PlainName × Expr). each.0 in
       let it = Contains-preimage key defined.common name among in
-      let P : PlainName → Type 0 = Contains (names_of other).common in
-      subst P it.2 (Contains-image key other.common it.0 (same.common it.0 it.1))
+      rw it.2 at (Contains-image key other.common it.0 (same.common it.0 it.1))
 
   -- and the other way round
   common_here : (name : PlainName) → Contains (names_of other).common name → Contains (names_of defined).common name
   common_here name among =
       let key = λ (each : PlainName × Expr). each.0 in
       let it = Contains-preimage key other.common name among in
-      let P : PlainName → Type 0 = Contains (names_of defined).common in
-      subst P it.2 (Contains-image key defined.common it.0 (same.common_back it.0 it.1))
+      rw it.2 at (Contains-image key defined.common it.0 (same.common_back it.0 it.1))
 
   -- a name is defined in the one as in the other
   defined_there : (kind : ReferenceType) (name : PlainName) → IsDefined (names_of defined) kind name → IsDefined (names_of other) kind name
   defined_there kind name found =
-      ⊎_elim
-      (λ common. inl (common.0, common_there name common.1))
-      (λ is_entity. inr (is_entity.0, same.entities name is_entity.1))
-      found
+      elim found [
+        | inl common ↦ inl (common.0, common_there name common.1)
+        | inr is_entity ↦ inr (is_entity.0, same.entities name is_entity.1)
+      ]
 
   -- and the other way round
   defined_here : (kind : ReferenceType) (name : PlainName) → IsDefined (names_of other) kind name → IsDefined (names_of defined) kind name
   defined_here kind name found =
-      ⊎_elim
-      (λ common. inl (common.0, common_here name common.1))
-      (λ is_entity. inr (is_entity.0, same.entities_back name is_entity.1))
-      found
+      elim found [
+        | inl common ↦ inl (common.0, common_here name common.1)
+        | inr is_entity ↦ inr (is_entity.0, same.entities_back name is_entity.1)
+      ]
 
   -- a reference resolves alike
   pub resolves_there : (reference : Reference) (name : PlainName) → ResolvesTo (names_of defined) reference name → ResolvesTo (names_of other) reference name

@@ -1,5 +1,5 @@
 -- Definitions among declarations, whatever is declared: which keys they define, what they say, and what one more changes.
-use Rattle.std.proofs.Common.{◌≡◌, ◌⊎◌, ◌↔◌, List, [], ◌∷◌, ◌++◌, map, ap, sym, subst, ◌∙◌, refl, inl, inr, ⊎_elim, arith, Contains}
+use Rattle.std.proofs.Common.{◌≡◌, ◌⊎◌, ◌↔◌, List, [], ◌∷◌, ◌++◌, map, ap, sym, subst, ◌∙◌, refl, inl, inr, arith, Contains}
 use Rattle.std.proofs.lemmas.Grind.{flat_map-append}
 use Rattle.std.proofs.lemmas.List.{append-nil, map-append}
 use Rattle.std.proofs.lemmas.List.Elements.{Contains-append_left, Contains-append_right, Contains-append_cases}
@@ -38,8 +38,7 @@ module _ {K B : Type 0} (of : Definitions K B) where
   definition_declared entries key body among =
       let it = Contains-flat_map (λ (each : K × B). of.definition_in each.0 each.1) entries (key, body) among in
       let found = of.only it.0.0 it.0.1 (key, body) it.2 in
-      let P : K × B → Type 0 = λ each. Contains entries each × of.IsDefinition each.1 in
-      subst P found.0 (it.1, found.1)
+      subst (λ each. Contains entries each × of.IsDefinition each.1) found.0 (it.1, found.1)
 
   -- and a declared one is among the definitions
   pub declared_definition : (entries : List (K × B)) (key : K) (body : B) → of.IsDefinition body → Contains entries (key, body)
@@ -53,8 +52,7 @@ module _ {K B : Type 0} (of : Definitions K B) where
   defined_key entries key among =
       let it = Contains-preimage (λ (each : K × B). each.0) (definitions entries) key among in
       let declared = definition_declared entries it.0.0 it.0.1 it.1 in
-      let P : K → Type 0 = λ each. Contains entries (each, it.0.1) in
-      (it.0.1, subst P it.2 declared.0, declared.1)
+      (it.0.1, rw it.2 at declared.0, declared.1)
 
   -- and a key with a definition is defined
   pub key_defined : (entries : List (K × B)) (key : K) (body : B) → of.IsDefinition body → Contains entries (key, body)
@@ -75,10 +73,11 @@ module _ {K B : Type 0} (of : Definitions K B) where
   -- what is said of a key is said of a declared one
   pub said_declared : (entries : List (K × B)) (key : K) (body : B) → of.Says entries key body → Contains (keys entries) key
   said_declared entries key body says =
-      ⊎_elim
-      (λ is. Contains-image (λ (each : K × B). each.0) entries (key, body) (said_definition entries key body is says))
-      (λ other. ((of.says_declared entries key body other).0 says).0)
-      (of.decided body)
+      elim (of.decided body) [
+        | inl is ↦
+            Contains-image (λ (each : K × B). each.0) entries (key, body) (said_definition entries key body is says)
+        | inr other ↦ ((of.says_declared entries key body other).0 says).0
+      ]
 
   -- the keys that more declarations define
   defined_keys_append : (entries more : List (K × B))
@@ -91,9 +90,7 @@ module _ {K B : Type 0} (of : Definitions K B) where
   pub defined_again : (entries rest : List (K × B)) (key : K) (body : B) → of.IsDefinition body
       → Contains (keys (definitions entries)) key → Twice (keys (definitions (entries ++ (key, body) ∷ rest))) key
   defined_again entries rest key body is defined =
-      let P : List K → Type 0 = λ each. Twice each key in
-      subst P (sym (defined_keys_append entries ((key, body) ∷ rest)))
-      (Twice-both (keys (definitions entries)) (keys (definitions ((key, body) ∷ rest))) key defined
+      rw (defined_keys_append entries ((key, body) ∷ rest)) (Twice-both (keys (definitions entries)) (keys (definitions ((key, body) ∷ rest))) key defined
       (key_defined ((key, body) ∷ rest) key body is (0, omega arith, refl)))
 
   module _ (entries : List (K × B)) (key : K) (body : B) where
@@ -104,17 +101,16 @@ module _ {K B : Type 0} (of : Definitions K B) where
     -- a key is declared among them where it is that one's, or was declared
     pub key_cases : (other : K) → Contains (keys More) other → Contains (keys entries) other ⊎ (key ≡ other)
     key_cases other among =
-        let P : List K → Type 0 = λ each. Contains each other in
-        ⊎_elim (λ before. inl before) (λ last. inr (Contains-single key other last))
-        (Contains-append_cases (keys entries) (key ∷ []) other
-        (subst P (map-append (λ (it : K × B). it.0) entries ((key, body) ∷ [])) among))
+        elim (Contains-append_cases (keys entries) (key ∷ []) other
+        (rw (map-append (λ (it : K × B). it.0) entries ((key, body) ∷ [])) at among)) [
+          | inl before ↦ inl before
+          | inr last ↦ inr (Contains-single key other last)
+        ]
 
     -- a declared key stays declared
     key_kept : (other : K) → Contains (keys entries) other → Contains (keys More) other
     key_kept other among =
-        let P : List K → Type 0 = λ each. Contains each other in
-        subst P (sym (map-append (λ (it : K × B). it.0) entries ((key, body) ∷ [])))
-        (Contains-append_left (keys entries) (key ∷ []) other among)
+        rw (map-append (λ (it : K × B). it.0) entries ((key, body) ∷ [])) (Contains-append_left (keys entries) (key ∷ []) other among)
 
     -- the new declaration is there
     last_among : Contains More (key, body)
@@ -125,30 +121,29 @@ module _ {K B : Type 0} (of : Definitions K B) where
         → Contains (keys (definitions entries)) other ⊎ ((key ≡ other) × of.IsDefinition body)
     defined_cases other among =
         let it = defined_key More other among in
-        ⊎_elim
-        (λ before. inl (key_defined entries other it.0 it.2 before))
-        (λ last.
-        let same = Contains-single (key, body) (other, it.0) last in
-        let P : B → Type 0 = of.IsDefinition in
-        inr (ap (λ (each : K × B). each.0) same, subst P (sym (ap (λ (each : K × B). each.1) same)) it.2))
-        (Contains-append_cases entries ((key, body) ∷ []) (other, it.0) it.1)
+        elim (Contains-append_cases entries ((key, body) ∷ []) (other, it.0) it.1) [
+          | inl before ↦ inl (key_defined entries other it.0 it.2 before)
+          | inr last ↦
+              let same = Contains-single (key, body) (other, it.0) last in
+              inr (ap (λ (each : K × B). each.0) same, rw (ap (λ (each : K × B). each.1) same) it.2)
+        ]
 
     -- what is said of a key stays said, where that key isn't defined newly
     said_still : (other : K) → ¬ ((key ≡ other) × of.IsDefinition body) → (said : B) → of.Says entries other said
         → of.Says More other said
     said_still other none said says =
-        ⊎_elim
-        (λ is.
-        let before = definition_declared entries other said ((of.says_itself entries other said is).0 says) in
-        (of.says_itself More other said is).1 (declared_definition More other said is
-        (Contains-append_left entries ((key, body) ∷ []) (other, said) before.0)))
-        (λ is.
-        let before = (of.says_declared entries other said is).0 says in
-        (of.says_declared More other said is).1 (
-          key_kept other before.0,
-          λ among. ⊎_elim before.1 none (defined_cases other among),
-        ))
-        (of.decided said)
+        elim (of.decided said) [
+          | inl is ↦
+              let before = definition_declared entries other said ((of.says_itself entries other said is).0 says) in
+              (of.says_itself More other said is).1 (declared_definition More other said is
+              (Contains-append_left entries ((key, body) ∷ []) (other, said) before.0))
+          | inr is ↦
+              let before = (of.says_declared entries other said is).0 says in
+              (of.says_declared More other said is).1 (
+                key_kept other before.0,
+                λ among. elim (defined_cases other among) [ inl left ↦ before.1 left | inr right ↦ none right ],
+              )
+        ]
 
     -- what is said of another key stays said
     pub said_of_other : (other : K) → ¬ (other ≡ key) → (said : B) → of.Says entries other said → of.Says More other said
@@ -161,30 +156,29 @@ module _ {K B : Type 0} (of : Definitions K B) where
     -- where the key was not defined, the new declaration is what is said
     pub said_of_new : ¬ Contains (keys (definitions entries)) key → of.Says More key body
     said_of_new none =
-        ⊎_elim
-        (λ is. (of.says_itself More key body is).1 (declared_definition More key body is last_among))
-        (λ is. (of.says_declared More key body is).1 (
-          Contains-image (λ (each : K × B). each.0) More (key, body) last_among,
-          λ among. ⊎_elim none (λ newly. is newly.1) (defined_cases key among),
-        ))
-        (of.decided body)
+        elim (of.decided body) [
+          | inl is ↦ (of.says_itself More key body is).1 (declared_definition More key body is last_among)
+          | inr is ↦
+              (of.says_declared More key body is).1 (
+                Contains-image (λ (each : K × B). each.0) More (key, body) last_among,
+                λ among. elim (defined_cases key among) [ inl left ↦ none left | inr newly ↦ is newly.1 ],
+              )
+        ]
 
     -- no key is defined twice, where the new declaration is no definition, or of a key that wasn't defined
     pub once_more : ((other : K) → ¬ Twice (keys (definitions entries)) other)
         → (of.IsDefinition body → ¬ Contains (keys (definitions entries)) key) → (other : K) → ¬ Twice (keys (definitions More)) other
     once_more once new other twice =
-        let P : List K → Type 0 = λ each. Twice each other in
         let last : List (K × B) = (key, body) ∷ [] in
         let alone : definitions last ≡ of.definition_in key body = append-nil (of.definition_in key body) in
-        ⊎_elim
-        (once other)
-        (λ others. ⊎_elim
-        (λ both. of.single key body other (subst P (ap keys alone) both))
-        (λ both.
-        let it = defined_key last other both.1 in
-        let same = Contains-single (key, body) (other, it.0) it.1 in
-        let Q : B → Type 0 = of.IsDefinition in
-        let R : K → Type 0 = Contains (keys (definitions entries)) in
-        new (subst Q (sym (ap (λ (each : K × B). each.1) same)) it.2) (subst R (sym (ap (λ (each : K × B). each.0) same)) both.0))
-        others)
-        (Twice-append (keys (definitions entries)) (keys (definitions last)) other (subst P (defined_keys_append entries last) twice))
+        elim (Twice-append (keys (definitions entries)) (keys (definitions last)) other (rw (defined_keys_append entries last) at twice)) [
+          | inl left ↦ once other left
+          | inr others ↦
+              elim others [
+                | inl both ↦ of.single key body other (rw (ap keys alone) at both)
+                | inr both ↦
+                    let it = defined_key last other both.1 in
+                    let same = Contains-single (key, body) (other, it.0) it.1 in
+                    new (rw (ap (λ (each : K × B). each.1) same) it.2) (rw (ap (λ (each : K × B). each.0) same) both.0)
+              ]
+        ]

@@ -1,5 +1,5 @@
 -- References resolve to one name, and an expression is elaborated as one type.
-use Rattle.std.proofs.Common.{◌≡◌, List, [], ◌∷◌, ap, sym, subst, ◌∙◌, refl, inl, inr, ⊎_elim, Contains, suc, arith}
+use Rattle.std.proofs.Common.{◌≡◌, List, [], ◌∷◌, ap, sym, ◌∙◌, refl, inl, inr, Contains, suc, arith}
 use Rattle.cedar_below.specs.PlainName.{PlainName}
 use Rattle.cedar_names.specs.Expr.{Expr}
 use Rattle.cedar_names.specs.Reference.{Reference}
@@ -16,18 +16,23 @@ use Rattle.cedar_names.specs.declared.json_schema.reference_type.ReferenceType.T
 pub IsFirst-same : {A : Type 0} (P : A → Type 0) (xs : List A) (x y : A) → IsFirst P xs x → IsFirst P xs y → x ≡ y
 IsFirst-same P [] x y one other = absurd one
 IsFirst-same P (first ∷ rest) x y one other =
-    ⊎_elim
-    (λ here. ⊎_elim (λ there. sym here.0 ∙ there.0) (λ later. absurd (later.0 here.1)) other)
-    (λ later. ⊎_elim (λ there. absurd (later.0 there.1)) (λ there. IsFirst-same P rest x y later.1 there.1) other)
-    one
+    elim one [
+      | inl here ↦ elim other [ inl there ↦ sym here.0 ∙ there.0 | inr later ↦ absurd (later.0 here.1) ]
+      | inr later ↦
+          elim other [ inl there ↦ absurd (later.0 there.1) | inr there ↦ IsFirst-same P rest x y later.1 there.1 ]
+    ]
 
 -- where two facts hold of the same items, they hold first of the same
 pub IsFirst-like : {A : Type 0} (P Q : A → Type 0) → ((x : A) → P x → Q x) → ((x : A) → Q x → P x)
     → (xs : List A) (x : A) → IsFirst P xs x → IsFirst Q xs x
 IsFirst-like P Q to from [] x first = absurd first
 IsFirst-like P Q to from (y ∷ rest) x first =
-    ⊎_elim (λ here. inl (here.0, to y here.1)) (λ later. inr
-    (λ holds. later.0 (from y holds), IsFirst-like P Q to from rest x later.1)) first
+    elim first [
+      | inl here ↦ inl (here.0, to y here.1)
+      | inr later ↦
+          inr
+          (λ holds. later.0 (from y holds), IsFirst-like P Q to from rest x later.1)
+    ]
 
 -- no common name has two definitions
 abbrev pub HasOneDefinition : Defined → Type 0
@@ -41,8 +46,7 @@ pub same_definition : (defined : Defined) → HasOneDefinition defined
     → IsCommon defined reference.kind name' body' → body ≡ body'
 same_definition defined one reference name name' body body' resolves resolves' common common' =
     let same : name ≡ name' = IsFirst-same (IsDefined (names_of defined) reference.kind) reference.possibilities name name' resolves resolves' in
-    let P : PlainName → Type 0 = λ each. Contains defined.common (each, body') in
-    one name body body' common.1 (subst P (sym same) common'.1)
+    one name body body' common.1 (rw same common'.1)
 
 mutual
   -- where no common name has two definitions, an expression is elaborated as one type
@@ -61,18 +65,15 @@ mutual
   elaborated_once defined one (as_entity reference name resolves is_entity no_common)
       (as_common reference' name' body resolves' is_common written) =
       let same : name ≡ name' = IsFirst-same (IsDefined (names_of defined) reference.kind) reference.possibilities name name' resolves resolves' in
-      let P : PlainName → Type 0 = λ each. IsCommon defined reference.kind each body in
-      absurd (no_common body (subst P (sym same) is_common))
+      absurd (no_common body (rw same is_common))
   elaborated_once defined one (as_common reference name body resolves is_common written)
       (as_entity reference' name' resolves' is_entity' no_common) =
       let same : name ≡ name' = IsFirst-same (IsDefined (names_of defined) reference.kind) reference.possibilities name name' resolves resolves' in
-      let P : PlainName → Type 0 = λ each. IsCommon defined reference.kind each body in
-      absurd (no_common body (subst P same is_common))
+      absurd (no_common body (rw same at is_common))
   elaborated_once defined one {ty = ty} {ty' = ty'} (as_common reference name body resolves is_common written)
       (as_common reference' name' body' resolves' is_common' written') =
       let same : body ≡ body' = same_definition defined one reference name name' body body' resolves resolves' is_common is_common' in
-      let P : Expr → Type 0 = λ each. ElaboratesTo defined each ty' in
-      elaborated_once defined one written (subst P (sym same) written')
+      elaborated_once defined one written (rw same written')
   elaborated_once defined one (as_extension name) (as_extension name') = refl
 
   -- the same of the attributes of a record
@@ -89,10 +90,11 @@ pub first_defined : (defined : Names) (kind : ReferenceType) (names : List Plain
     → IsFirst (IsDefined defined kind) names name → Contains names name × IsDefined defined kind name
 first_defined defined kind [] name none = absurd none
 first_defined defined kind (first ∷ rest) name found =
-    ⊎_elim
-    (λ here. let P : PlainName → Type 0 = IsDefined defined kind in ((0, omega arith, here.0), subst P here.0 here.1))
-    (λ later. let tail = first_defined defined kind rest name later.1 in ((suc tail.0.0, omega (arith, tail.0.1), tail.0.2), tail.1))
-    found
+    elim found [
+      | inl here ↦ ((0, omega arith, here.0), rw here.0 at here.1)
+      | inr later ↦
+          let tail = first_defined defined kind rest name later.1 in ((suc tail.0.0, omega (arith, tail.0.1), tail.0.2), tail.1)
+    ]
 
 -- a reference to an entity type names no common type
 pub names_no_common : (kind : ReferenceType) → kind ≡ Entity → ¬ MayNameCommon kind

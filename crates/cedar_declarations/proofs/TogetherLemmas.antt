@@ -1,5 +1,5 @@
 -- What the declarations of one name say together.
-use Rattle.std.proofs.Common.{◌≡◌, ◌⊎◌, ◌↔◌, List, [], ◌∷◌, ◌++◌, map, ap, sym, subst, ◌∙◌, refl, inl, inr, ⊎_elim, arith, Contains}
+use Rattle.std.proofs.Common.{◌≡◌, ◌⊎◌, ◌↔◌, List, [], ◌∷◌, ◌++◌, map, ap, ◌∙◌, refl, inl, inr, arith, Contains}
 use Rattle.std.specs.List.{flat_map}
 use Rattle.cedar_below.proofs.Lists.{Contains-preimage}
 use Rattle.cedar_below.specs.PlainName.{PlainName}
@@ -49,8 +49,8 @@ entity_only name (external parents) entry here = absurd (omega (arith, here.1))
 -- and gives it once
 pub entity_single : (name : PlainName) (body : EntityBody) (other : PlainName)
     → ¬ Twice (map (λ it. it.0) (entity_definition_in name body)) other
-entity_single name (standard parents shape tags) other twice = ⊎_elim (λ here. omega (arith, here.1.1)) (λ later. later) twice
-entity_single name (enumerated choices) other twice = ⊎_elim (λ here. omega (arith, here.1.1)) (λ later. later) twice
+entity_single name (standard parents shape tags) other twice = elim twice [ inl here ↦ omega (arith, here.1.1) | inr later ↦ later ]
+entity_single name (enumerated choices) other twice = elim twice [ inl here ↦ omega (arith, here.1.1) | inr later ↦ later ]
 entity_single name (external parents) other twice = twice
 
 -- a definition of an entity type says what it declares
@@ -64,9 +64,8 @@ entity_says_itself entries name (external parents) is = absurd is
 pub entity_says_declared : (entries : List (PlainName × EntityBody)) (name : PlainName) (body : EntityBody) → ¬ IsDefinition body
     → EntitiesSay entries name body
     ↔ (Contains (map (λ it. it.0) entries) name × ¬ Contains (map (λ it. it.0) (entity_definitions entries)) name)
-entity_says_declared entries name (standard parents shape tags) is = absurd (is tt)
-entity_says_declared entries name (enumerated choices) is = absurd (is tt)
 entity_says_declared entries name (external parents) is = (λ says. says, λ both. both)
+entity_says_declared _ _ _ is = absurd (is tt)
 
 -- definitions of entity types among their declarations
 abbrev pub of_entity_types : Definitions PlainName EntityBody
@@ -126,8 +125,7 @@ entity_says_once bag once name = by where
   one : (body other : EntityBody) → Contains (defined_entities bag) (name, body) → Contains (defined_entities bag) (name, other)
       → SameEntityBody body other
   one body other first second =
-      let P : EntityBody → Type 0 = SameEntityBody body in
-      subst P (value_once (defined_entities bag) once name body other first second) (SameEntityBody-itself body)
+      rw (← (value_once (defined_entities bag) once name body other first second)) (SameEntityBody-itself body)
 
   by : (body other : EntityBody) → EntitySays bag name body → EntitySays bag name other → SameEntityBody body other
   by (external ps) (external ps') first second = tt
@@ -158,22 +156,19 @@ action_definition_declared bag uid it among =
         → (body : ActionBody) × Contains (declared_actions bag) (uid, body) × (body.applies_to ≡ it) × AreRequests it
     by key body there elsewhere is here = absurd (omega (arith, here.1))
     by key body there (requests principals resources context) is here =
-        let same = Contains-single (key, requests principals resources context) (uid, it) here in
-        let P : PlainUid → Type 0 = λ each. Contains (declared_actions bag) (each, body) in
-        let Q : Requests → Type 0 = AreRequests in (
+        let same = Contains-single (key, requests principals resources context) (uid, it) here in (
           body,
-          subst P (ap (λ each. each.0) same) there,
+          rw (ap (λ each. each.0) same) at there,
           is ∙ ap (λ each. each.1) same,
-          subst Q (ap (λ each. each.1) same) tt,
+          rw (← (ap (λ each. each.1) same)) tt,
         )
 
 -- a declaration of an action that isn't external is a definition of it
 pub declared_action_definition : (bag : Bag) (uid : PlainUid) (body : ActionBody) (it : Requests)
     → Contains (declared_actions bag) (uid, body) → body.applies_to ≡ it → AreRequests it → Contains (defined_actions bag) (uid, it)
 declared_action_definition bag uid body it among is are =
-    let P : Requests → Type 0 = λ each. Contains (action_definition_in uid each) (uid, it) in
     Contains-given (λ (each : PlainUid × ActionBody). action_definition_in each.0 each.1.applies_to) (declared_actions bag)
-    (uid, body) (uid, it) among (subst P (sym is) (by it are))
+    (uid, body) (uid, it) among (rw is (by it are))
   where
     by : (of : Requests) → AreRequests of → Contains (action_definition_in uid of) (uid, of)
     by (requests principals resources context) are = (0, omega arith, refl)
@@ -190,8 +185,7 @@ pub defined_action_is_declared : (bag : Bag) (uid : PlainUid) → Contains (map 
 defined_action_is_declared bag uid among =
     let it = Contains-preimage (λ (each : PlainUid × Requests). each.0) (defined_actions bag) uid among in
     let found = action_definition_declared bag it.0.0 it.0.1 it.1 in
-    let P : PlainUid → Type 0 = Contains (action_uids bag) in
-    subst P it.2 (Contains-image (λ (each : PlainUid × ActionBody). each.0) (declared_actions bag) (it.0.0, found.0) found.1)
+    rw it.2 at (Contains-image (λ (each : PlainUid × ActionBody). each.0) (declared_actions bag) (it.0.0, found.0) found.1)
 
 -- what the declarations of an action say together is said of a declared one
 pub said_action_is_declared : (bag : Bag) (uid : PlainUid) (it : Requests) → ActionSays bag uid it → Contains (action_uids bag) uid
@@ -260,8 +254,7 @@ twice_declared (first ∷ rest) name twice = by first.1 (λ later. twice_declare
   named : (key : PlainName) (of : EntityBody) → Contains rest (key, of) → (it : PlainName × EntityBody)
       → Contains (entity_definition_in key of) it → it.0 ≡ name → Contains (map (λ each. each.0) rest) name
   named key of there it here is =
-      let P : PlainName → Type 0 = Contains (map (λ (each : PlainName × EntityBody). each.0) rest) in
-      subst P (same of here ∙ is) (Contains-image (λ (each : PlainName × EntityBody). each.0) rest (key, of) there)
+      rw (same of here ∙ is) at (Contains-image (λ (each : PlainName × EntityBody). each.0) rest (key, of) there)
     where
       same : (body : EntityBody) → Contains (entity_definition_in key body) it → key ≡ it.0
       same (standard ps shape tags) one = ap (λ each. each.0) (Contains-single (key, standard ps shape tags) it one)
@@ -277,6 +270,6 @@ twice_declared (first ∷ rest) name twice = by first.1 (λ later. twice_declare
   by : (body : EntityBody) → (Twice (map (λ it. it.0) (flat_map f rest)) name → Twice (map (λ it. it.0) rest) name)
       → Twice (map (λ it. it.0) (entity_definition_in first.0 body ++ flat_map f rest)) name
       → Twice (map (λ it. it.0) (first ∷ rest)) name
-  by (standard ps shape tags) after both = ⊎_elim (λ here. inl (here.0, later_name here.1)) (λ later. inr (after later)) both
-  by (enumerated choices) after both = ⊎_elim (λ here. inl (here.0, later_name here.1)) (λ later. inr (after later)) both
+  by (standard ps shape tags) after both = elim both [ inl here ↦ inl (here.0, later_name here.1) | inr later ↦ inr (after later) ]
+  by (enumerated choices) after both = elim both [ inl here ↦ inl (here.0, later_name here.1) | inr later ↦ inr (after later) ]
   by (external ps) after both = inr (after both)

@@ -1,5 +1,5 @@
 -- The entities of actions, as they are collected one after another.
-use Rattle.std.proofs.Common.{◌≡◌, ◌≢◌, ◌⊎◌, ◌↔◌, ◌++◌, Bool, true, false, List, [], ◌∷◌, Option, Some, IsSome, is_some, find, string_bytes, map, ap, sym, subst, ◌∙◌, refl, inl, inr, ⊎_elim, arith, append_assoc, Contains, IsSomeAnd}
+use Rattle.std.proofs.Common.{◌≡◌, ◌≢◌, ◌⊎◌, ◌↔◌, ◌++◌, Bool, true, false, List, [], ◌∷◌, Option, Some, IsSome, is_some, find, string_bytes, map, ap, sym, subst, ◌∙◌, refl, inl, inr, arith, append_assoc, Contains, IsSomeAnd}
 use Rattle.std.proofs.lemmas.Bool.{false≢true, cond-true, cond-false}
 use Rattle.std.proofs.lemmas.List.{append-nil}
 use Rattle.std.proofs.lemmas.Option.{same_Some}
@@ -75,9 +75,7 @@ module _ (all : List Item) where
       ↔ ListsBelow uid_of (λ (it : ValidatorActionId). (action_of it).descendants) all (uid_of key) above)
       → UppersLeft all uppers left
   left_all left uppers same distinct stands = record {
-    distinct =
-        let P : List Item → Type 0 = λ items. (uid : PlainUid) → ¬ Twice (map under (map plain_action_entry items)) uid in
-        subst P (sym same) distinct;
+    distinct = rw same distinct;
     still = λ key among above.
         let lists = plain_lists all (uid_of key) above in (
           λ upper. lists.0 ((stands key above).0 upper),
@@ -90,9 +88,8 @@ module _ (all : List Item) where
     -- those above the next one are
     pub left_here : (above : PlainUid) → IsUpper cmp uid_of uppers key above ↔ Lists all (uid_of key) above
     left_here =
-        let P : List Item → Type 0 = λ items. Contains (map under (map plain_action_entry items)) (uid_of key) in
         so_far.still key
-        (subst P (sym is) (Contains-cons (uid_of key) (map under (map plain_action_entry rest)) (uid_of key) (inl refl)))
+        (rw is (Contains-cons (uid_of key) (map under (map plain_action_entry rest)) (uid_of key) (inl refl)))
 
     -- where only these are taken out, the others are
     pub left_rest : (new : BTreeMap EntityUID (BTreeSet EntityUID))
@@ -101,21 +98,13 @@ module _ (all : List Item) where
     left_rest new others = record {
       distinct = λ uid twice. distinct_here uid (inr twice);
       still = λ other among above.
-          let P : List Item → Type 0 = λ items. Contains (map under (map plain_action_entry items)) (uid_of other) in
-          let Q : PlainUid → Type 0 = Contains (map under (map plain_action_entry rest)) in
-          let R : Option (BTreeSet EntityUID) → Type 0 = λ o. IsSomeAnd o (λ set. Contains (map uid_of set.keys) above)
-          ↔ Lists all (uid_of other) above in
-          subst R
-          (sym (others other (λ same. distinct_here (uid_of key) (inl (refl, subst Q same among)))))
-          (so_far.still other
-          (subst P (sym is) (Contains-cons (uid_of key) (map under (map plain_action_entry rest)) (uid_of other) (inr among)))
+          rw (others other (λ same. distinct_here (uid_of key) (inl (refl, rw same at among)))) (so_far.still other
+          (rw is (Contains-cons (uid_of key) (map under (map plain_action_entry rest)) (uid_of other) (inr among)))
           above);
     }
       where
         distinct_here : (uid : PlainUid) → ¬ Twice (uid_of key ∷ map under (map plain_action_entry rest)) uid
-        distinct_here =
-            let P : List Item → Type 0 = λ items. (uid : PlainUid) → ¬ Twice (map under (map plain_action_entry items)) uid in
-            subst P is so_far.distinct
+        distinct_here = rw is at so_far.distinct
 
 -- a kind that isn't external is that of a defined action
 pub defined_kind : (kind : ActionKind) → ¬ (kind ≡ external_action) → IsDefinedKind kind
@@ -124,7 +113,7 @@ defined_kind external_action other = absurd (other refl)
 
 -- and the external one is not
 pub external_undefined : (kind : ActionKind) → kind ≡ external_action → ¬ IsDefinedKind kind
-external_undefined kind is defined = let P : ActionKind → Type 0 = IsDefinedKind in subst P is defined
+external_undefined kind is defined = rw is at defined
 
 -- an entity just below those that stand above is one just below others that are the same
 pub same_entity : (IsAbove Stands : PlainUid → Type 0) (uid : PlainUid) (it : ActionEntity)
@@ -154,9 +143,10 @@ found_itself : (entities : List Entity) (entity : Entity) → ((uid : PlainUid) 
 found_itself [] entity once among = absurd (omega (arith, among.1))
 found_itself (first ∷ rest) entity once among =
     by (has_uid (entity_uid entity) first) refl
-    (⊎_elim (λ here. inl here)
-    (λ later. inr (later, found_itself rest entity (λ other twice. once other (inr twice)) later))
-    (Contains-cons_cases first rest entity among))
+    (elim (Contains-cons_cases first rest entity among) [
+      | inl here ↦ inl here
+      | inr later ↦ inr (later, found_itself rest entity (λ other twice. once other (inr twice)) later)
+    ])
   where
     uid : PlainUid
     uid = entity_uid entity
@@ -165,15 +155,17 @@ found_itself (first ∷ rest) entity once among =
         → find (has_uid uid) (first ∷ rest) ≡ Some entity
     by true is either =
         cond-true (has_uid uid first) (Some first) (find (has_uid uid) rest) is
-        ∙ ⊎_elim (λ here. ap Some here)
-        (λ later. absurd (once uid (inl (sym ((uid_test uid (entity_uid first)).0 is), Contains-image entity_uid rest entity later.0))))
-        either
+        ∙ (elim either [
+          | inl here ↦ ap Some here
+          | inr later ↦
+              absurd (once uid (inl (sym ((uid_test uid (entity_uid first)).0 is), Contains-image entity_uid rest entity later.0)))
+        ])
     by false is either =
         cond-false (has_uid uid first) (Some first) (find (has_uid uid) rest) is
-        ∙ ⊎_elim
-        (λ here. absurd (false≢true (sym is ∙ (uid_test uid (entity_uid first)).1 (sym (ap entity_uid here)))))
-        (λ later. later.1)
-        either
+        ∙ (elim either [
+          | inl here ↦ absurd (false≢true (sym is ∙ (uid_test uid (entity_uid first)).1 (sym (ap entity_uid here))))
+          | inr later ↦ later.1
+        ])
 
 -- what is found under a uid stands among the entities, and has the uid
 found_among : (entities : List Entity) (uid : PlainUid) → IsSome (find (has_uid uid) entities)
@@ -185,8 +177,7 @@ found_among (first ∷ rest) uid found = by (has_uid uid first) refl (found_amon
       → (entity : Entity) × Contains (first ∷ rest) entity × (entity_uid entity ≡ uid)
   by true is in_rest = (first, Contains-cons first rest first (inl refl), sym ((uid_test uid (entity_uid first)).0 is))
   by false is in_rest =
-      let P : Option Entity → Type 0 = IsSome in
-      let later = in_rest (subst P (cond-false (has_uid uid first) (Some first) (find (has_uid uid) rest) is) found) in
+      let later = in_rest (rw (cond-false (has_uid uid first) (Some first) (find (has_uid uid) rest) is) at found) in
       (later.0, Contains-cons first rest later.0 (inr later.1), later.2)
 
 -- of some actions the entities are collected, and others are left
@@ -222,10 +213,10 @@ module _ (all : List Item) where
       split = next_entity_split;
       each = λ uid entity found.
           let old = so_far.each uid entity found in (old.0, (defines_more so_far.done key it uid).1 (inl old.1));
-      complete = λ uid defined. ⊎_elim
-          (so_far.complete uid)
-          (λ last. absurd (external_undefined (action_of it).kind external last.1))
-          ((defines_more so_far.done key it uid).0 defined);
+      complete = λ uid defined. elim ((defines_more so_far.done key it uid).0 defined) [
+        | inl left ↦ so_far.complete uid left
+        | inr last ↦ absurd (external_undefined (action_of it).kind external last.1)
+      ];
     }
 
     -- the entity of one more is put in
@@ -254,13 +245,9 @@ module _ (all : List Item) where
             → entity_at new uid ≡ Some found_one → IsEntityOf (Lists all uid) uid (plain_action_entity found_one) × Defines More uid
         each_at uid found_one true is_it found =
             let same = (uid_test uid (entity_uid entity)).0 is_it in
-            let one : entity ≡ found_one = same_Some entity found_one (sym (here uid same) ∙ found) in
-            let P : Entity → Type 0 = λ each. IsEntityOf (Lists all uid) uid (plain_action_entity each) in
-            let Q : PlainUid → Type 0 = λ each. IsEntityOf (Lists all each) each (plain_action_entity entity) in
-            let R : PlainUid → Type 0 = Defines More in (
-              subst P one (subst Q (its_own ∙ sym same) of_it),
-              subst R (its_own ∙ sym same)
-                  ((defines_more so_far.done key it (uid_of key)).1 (inr (refl, defined_kind (action_of it).kind other))),
+            let one : entity ≡ found_one = same_Some entity found_one (sym (here uid same) ∙ found) in (
+              subst (λ each. IsEntityOf (Lists all uid) uid (plain_action_entity each)) one (subst (λ each. IsEntityOf (Lists all each) each (plain_action_entity entity)) (its_own ∙ sym same) of_it),
+              subst (Defines More) (its_own ∙ sym same) ((defines_more so_far.done key it (uid_of key)).1 (inr (refl, defined_kind (action_of it).kind other))),
             )
         each_at uid found_one false is_other found =
             let old = so_far.each uid found_one (sym (others uid (apart uid is_other)) ∙ found) in
@@ -271,10 +258,10 @@ module _ (all : List Item) where
         complete_at uid true is_it defined = ap is_some (here uid ((uid_test uid (entity_uid entity)).0 is_it))
         complete_at uid false is_other defined =
             ap is_some (others uid (apart uid is_other))
-            ∙ ⊎_elim
-            (so_far.complete uid)
-            (λ last. absurd (apart uid is_other (sym last.0 ∙ its_own)))
-            ((defines_more so_far.done key it uid).0 defined)
+            ∙ (elim ((defines_more so_far.done key it uid).0 defined) [
+              | inl left ↦ so_far.complete uid left
+              | inr last ↦ absurd (apart uid is_other (sym last.0 ∙ its_own))
+            ])
 
   -- where none is left, they are the entities of the actions
   pub entities_all : (left : List Item) (entities : Entities) → left ≡ [] → EntitiesSoFar all entities left
@@ -285,24 +272,18 @@ module _ (all : List Item) where
         let entity = Contains-preimage plain_action_entity (entities_of entities) it among in
         let both = so_far.each (entity_uid entity.0) entity.0 (found_itself (entities_of entities) entity.0 once entity.1) in
         let P : ActionEntity → Type 0 = IsEntityOfAction (schema_with types all (entities_of entities)) in
-        let Q : List Item → Type 0 = λ items. Defines items (entity_uid entity.0) in
         let made : P (plain_action_entity entity.0) = record {
-          defined = (plain_defines all (entity_uid entity.0)).0 (subst Q whole both.1);
+          defined = (plain_defines all (entity_uid entity.0)).0 (rw whole at both.1);
           attributes = both.0.attributes;
           tags = both.0.tags;
           ancestors = both.0.ancestors;
         } in
-        subst P entity.2 made;
+        rw entity.2 at made;
     each = λ uid defined.
-        let Q : List Item → Type 0 = λ items. Defines items uid in
-        let found = found_among (entities_of entities) uid (so_far.complete uid (subst Q (sym whole) ((plain_defines all uid).1 defined))) in
-        let P : PlainUid → Type 0 = Contains (map (λ it. it.uid) (map plain_action_entity (entities_of entities))) in
-        subst P found.2
-        (Contains-image (λ (it : ActionEntity). it.uid) (map plain_action_entity (entities_of entities)) (plain_action_entity found.0)
+        let found = found_among (entities_of entities) uid (so_far.complete uid (rw whole ((plain_defines all uid).1 defined))) in
+        rw found.2 at (Contains-image (λ (it : ActionEntity). it.uid) (map plain_action_entity (entities_of entities)) (plain_action_entity found.0)
         (Contains-image plain_action_entity (entities_of entities) found.0 found.1));
-    in_order =
-        let P : List PlainUid → Type 0 = IsStrictlySortedBy uid_cmp in
-        subst P (sym (map-map (λ (it : ActionEntity). it.uid) plain_action_entity (entities_of entities))) ordered;
+    in_order = rw (map-map (λ (it : ActionEntity). it.uid) plain_action_entity (entities_of entities)) ordered;
   }
     where
       whole : so_far.done ≡ all

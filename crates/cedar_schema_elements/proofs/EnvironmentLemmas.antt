@@ -1,5 +1,5 @@
 -- The environments that are listed for actions are those of the schema.
-use Rattle.std.proofs.Common.{◌≡◌, ◌≢◌, ◌↔◌, ◌+◌, ◌<◌, ℕ, List, [], ◌∷◌, ◌++◌, Some, None, map, ap, sym, subst, ◌∙◌, refl, ⊎_elim, Contains, AllPairs, append_assoc, arith, get_or, length, take}
+use Rattle.std.proofs.Common.{◌≡◌, ◌≢◌, ◌↔◌, ◌+◌, ◌<◌, ℕ, List, [], ◌∷◌, ◌++◌, Some, None, map, ap, sym, subst, ◌∙◌, refl, Contains, AllPairs, append_assoc, arith, get_or, length, take, inl, inr}
 use Rattle.std.proofs.lemmas.List.{append-nil, map-append, map-id, take_more}
 use Rattle.std.proofs.lemmas.List.Concat.{flat_map_single}
 use Rattle.std.specs.declared.alloc.Global.{Global}
@@ -42,21 +42,17 @@ of_resource uid context principal resource it among =
 
 -- what is alone stands once
 pub alone_once : {A : Type 0} (one it : A) → ¬ Twice (one ∷ []) it
-alone_once one it twice = ⊎_elim (λ here. absurd (omega (arith, here.1.1))) (λ later. later) twice
+alone_once one it twice = elim twice [ inl here ↦ absurd (omega (arith, here.1.1)) | inr later ↦ later ]
 
 -- names that differ stand once
 pub names_once : (names : List PlainName) → AllPairs (λ a b. a ≢ b) names → (name : PlainName) → ¬ Twice (map (λ each. each) names) name
-names_once names distinct name =
-    let P : List PlainName → Type 0 = λ each. ¬ Twice each name in
-    subst P (sym (map-id names)) (Twice-distinct names name distinct)
+names_once names distinct name = rw (map-id names) (Twice-distinct names name distinct)
 
 -- the environments of a principal with resources that differ stand once
 resources_once : (uid : PlainUid) (context : Ty) (principal : PlainName) (resources : List PlainName) → AllPairs (λ a b. a ≢ b) resources
     → (it : Environment) → ¬ Twice (with_resources uid context principal resources) it
 resources_once uid context principal resources differ =
-    let P : List Environment → Type 0 = λ items. (it : Environment) → ¬ Twice items it in
-    subst P (flat_map_single (environment uid context principal) resources)
-    (all_once (resource_environments uid context principal) (λ name. name) (λ it. it.resource) (of_resource uid context principal)
+    rw (flat_map_single (environment uid context principal) resources) at (all_once (resource_environments uid context principal) (λ name. name) (λ it. it.resource) (of_resource uid context principal)
     (λ resource. alone_once (environment uid context principal resource)) resources (names_once resources differ))
 
 -- what one more environment shows
@@ -88,21 +84,17 @@ of_kind uid external_action it = (λ among. absurd (omega (arith, among.1)), λ 
 of_kind uid (defined_action principals resources context) it = (
   λ among.
       let principal = Contains-flat_map (λ each. with_resources uid context each resources) principals it among in
-      let resource = Contains-preimage (environment uid context principal.0) resources it principal.2 in
-      let P : PlainName → Type 0 = Contains principals in
-      let R : PlainName → Type 0 = Contains resources in (
+      let resource = Contains-preimage (environment uid context principal.0) resources it principal.2 in (
         ap (λ (each : Environment). each.action) resource.2,
         (
-          subst P (ap (λ (each : Environment). each.principal) resource.2) principal.1,
-          subst R (ap (λ (each : Environment). each.resource) resource.2) resource.1,
+          rw (ap (λ (each : Environment). each.principal) resource.2) at principal.1,
+          rw (ap (λ (each : Environment). each.resource) resource.2) at resource.1,
           ap (λ (each : Environment). each.context) resource.2,
         ),
       ),
   λ both.
       let is : environment uid context it.principal it.resource ≡ it = λ i. environment (both.0 i) (both.1.2 i) it.principal it.resource in
-      let P : Environment → Type 0 = Contains (with_principals uid context principals resources) in
-      subst P is
-      (Contains-given (λ each. with_resources uid context each resources) principals it.principal
+      rw is at (Contains-given (λ each. with_resources uid context each resources) principals it.principal
       (environment uid context it.principal it.resource) both.1.0
       (Contains-image (environment uid context it.principal) resources it.resource both.1.1)),
 )
@@ -115,8 +107,7 @@ of_actions actions it = (
   λ among.
       let found = Contains-flat_map (λ (each : PlainUid × SchemaAction). kind_environments each.0 each.1.kind) actions it among in
       let both = (of_kind found.0.0 found.0.1.kind it).0 found.2 in
-      let P : PlainUid → Type 0 = λ uid. Contains actions (uid, found.0.1) in
-      (found.0.1, subst P both.0 found.1, both.1),
+      (found.0.1, subst (λ uid. Contains actions (uid, found.0.1)) both.0 found.1, both.1),
   λ found.
       Contains-given (λ (each : PlainUid × SchemaAction). kind_environments each.0 each.1.kind) actions (it.action, found.0) it found.1
       ((of_kind it.action found.0.kind it).1 (refl, found.2)),
@@ -154,7 +145,7 @@ are_environments entries environments is once types entities =
       each = of_actions (map plain_action_entry entries);
       once = all_differ (action_environments (map plain_action_entry entries)) once;
     } in
-    subst P (sym is) made
+    rw is made
 
 -- entity types that are shared
 abbrev Shared : Type 0

@@ -1,5 +1,5 @@
 -- What items give, one after another, put behind what was there, where no two items give the same.
-use Rattle.std.proofs.Common.{◌≡◌, ◌≢◌, List, [], ◌∷◌, ◌++◌, map, ap, sym, subst, ◌∙◌, refl, inl, inr, ⊎_elim, arith, append_assoc, Contains, AllPairs}
+use Rattle.std.proofs.Common.{◌≡◌, ◌≢◌, List, [], ◌∷◌, ◌++◌, map, ap, sym, subst, ◌∙◌, refl, inl, inr, arith, append_assoc, Contains, AllPairs}
 use Rattle.std.proofs.lemmas.Grind.{flat_map-append}
 use Rattle.std.proofs.lemmas.List.{append-nil, get_or_default, map-append}
 use Rattle.std.proofs.lemmas.List.Kept.{AllPairs-cons}
@@ -43,12 +43,9 @@ module _ {A B K : Type 0} (f : A → List B) (key : A → K) (before : List B) (
         → Contains (flat_map f done) it → ¬ Contains (f x) it
     apart done rest x split distinct it before_it now =
         let found = Contains-flat_map f done it before_it in
-        let P : K → Type 0 = Contains (map key done) in
-        let Q : List K → Type 0 = λ keys. Twice keys (key x) in
         distinct (key x)
-        (subst Q (sym (ap (map key) split ∙ map-append key done (x ∷ rest)))
-        (Twice-both (map key done) (key x ∷ map key rest) (key x)
-        (subst P (sym (keyed found.0 it found.2) ∙ keyed x it now) (Contains-image key done found.0 found.1))
+        (rw (ap (map key) split ∙ map-append key done (x ∷ rest)) (Twice-both (map key done) (key x ∷ map key rest) (key x)
+        (subst (Contains (map key done)) (sym (keyed found.0 it found.2) ∙ keyed x it now) (Contains-image key done found.0 found.1))
         (Contains-cons (key x) (map key rest) (key x) (inl refl))))
 
     -- what one more gives was put behind
@@ -60,10 +57,14 @@ module _ {A B K : Type 0} (f : A → List B) (key : A → K) (before : List B) (
       distinct = so_far.distinct;
       added = is_after ∙ (ap (λ items. items ++ f x) so_far.added
           ∙ (append_assoc before (flat_map f so_far.done) (f x) ∙ ap (λ items. before ++ items) (sym more)));
-      once = λ it twice. ⊎_elim
-          (so_far.once it)
-          (λ others. ⊎_elim (once it) (λ both. apart so_far.done rest x whole so_far.distinct it both.0 both.1) others)
-          (Twice-append (flat_map f so_far.done) (f x) it (subst (Q it) more twice));
+      once = λ it twice. elim (Twice-append (flat_map f so_far.done) (f x) it (subst (Q it) more twice)) [
+        | inl left ↦ so_far.once it left
+        | inr others ↦
+            elim others [
+              | inl left ↦ once it left
+              | inr both ↦ apart so_far.done rest x whole so_far.distinct it both.0 both.1
+            ]
+      ];
     }
       where
         whole : all ≡ so_far.done ++ x ∷ rest
@@ -79,20 +80,15 @@ module _ {A B K : Type 0} (f : A → List B) (key : A → K) (before : List B) (
     pub given_nothing : (left rest : List A) (after : List B) (x : A) → left ≡ x ∷ rest → f x ≡ []
         → GivenSoFar f key before all after left → GivenSoFar f key before all after rest
     given_nothing left rest after x is nothing so_far =
-        let P : List B → Type 0 = λ items. (it : B) → ¬ Twice items it in
         given_more left rest after after x is (sym (append-nil after) ∙ ap (λ items. after ++ items) (sym nothing))
-        (subst P (sym nothing) (λ it twice. twice)) so_far
+        (rw nothing (λ it twice. twice)) so_far
 
     -- what all that are left give was put behind
     given_each : (left : List A) (after : List B) → ((x : A) (it : B) → ¬ Twice (f x) it) → GivenSoFar f key before all after left
         → GivenSoFar f key before all (after ++ flat_map f left) []
-    given_each [] after once so_far =
-        let P : List B → Type 0 = λ items. GivenSoFar f key before all items [] in
-        subst P (sym (append-nil after)) so_far
+    given_each [] after once so_far = rw (append-nil after) so_far
     given_each (x ∷ left) after once so_far =
-        let P : List B → Type 0 = λ items. GivenSoFar f key before all items [] in
-        subst P (append_assoc after (f x) (flat_map f left))
-        (given_each left (after ++ f x) once (given_more (x ∷ left) left after (after ++ f x) x refl refl (once x) so_far))
+        rw (append_assoc after (f x) (flat_map f left)) at (given_each left (after ++ f x) once (given_more (x ∷ left) left after (after ++ f x) x refl refl (once x) so_far))
 
   -- where none is left, all that the items give was put behind, each once
   module _ (left : List A) (after : List B) (nothing : left ≡ []) (so_far : GivenSoFar f key before all after left) where
@@ -103,9 +99,7 @@ module _ {A B K : Type 0} (f : A → List B) (key : A → K) (before : List B) (
     given_all = so_far.added ∙ ap (λ items. before ++ flat_map f items) whole
 
     pub given_once : (it : B) → ¬ Twice (flat_map f all) it
-    given_once =
-        let P : List A → Type 0 = λ items. (it : B) → ¬ Twice (flat_map f items) it in
-        subst P whole so_far.once
+    given_once = rw whole at so_far.once
 
 -- what one more gives was put behind, and the others are left
 pub rest_more : {A B : Type 0} (f : A → List B) (all middle after : List B) (left rest : List A) (x : A) → left ≡ x ∷ rest

@@ -1,5 +1,5 @@
 -- Names of entity types and uids of actions, as keys of maps.
-use Rattle.std.proofs.Common.{◌≡◌, List, [], ◌∷◌, map, refl, subst, sym}
+use Rattle.std.proofs.Common.{◌≡◌, List, [], ◌∷◌, map, refl}
 use Rattle.std.specs.Cmp.{IsTotalOrder}
 use Rattle.std.specs.List.Sorted.{IsStrictlySortedBy}
 use Rattle.std.specs.Map.{keys_of}
@@ -43,9 +43,7 @@ module _ {K V P D : Type 0} (name : K → P) (plain : K × V → P × D) (keyed 
       → ((a b : K) → order a b ≡ plain_order (name a) (name b)) → (entries : List (K × V))
       → IsStrictlySortedBy order (keys_of entries) → (it : P) → ¬ Twice (map (λ (it : P × D). it.0) (map plain entries)) it
   keys_once order plain_order total same entries ordered it =
-      let S : List P → Type 0 = λ names. ¬ Twice names it in
-      subst S (sym (names_of_keys entries))
-      (Twice-sorted_by_name plain_order total (map name (keys_of entries)) it
+      rw (names_of_keys entries) (Twice-sorted_by_name plain_order total (map name (keys_of entries)) it
       (IsStrictlySortedBy-map order plain_order name same (keys_of entries) ordered))
 
 -- the names of entity types in order stand once

@@ -1,5 +1,5 @@
 -- Entity types that references resolve to, collected one after another.
-use Rattle.std.proofs.Common.{◌≡◌, ◌⊎◌, ◌↔◌, Bool, true, List, [], ◌∷◌, ◌++◌, map, cond, subst, sym, ap, refl, inl, inr, ⊎_elim, arith, Contains}
+use Rattle.std.proofs.Common.{◌≡◌, ◌⊎◌, ◌↔◌, Bool, true, List, [], ◌∷◌, ◌++◌, map, cond, subst, ap, refl, inl, inr, arith, Contains}
 use Rattle.std.proofs.lemmas.List.Elements.{Contains-append_cases, Contains-append_left, Contains-append_right}
 use Rattle.std.specs.List.{list_any}
 use Rattle.cedar_below.proofs.Lists.{Contains-cons, Contains-cons_cases, Contains-preimage}
@@ -45,20 +45,20 @@ module _ (old new : List EntityType) (key : EntityType)
       → Contains (map type_name old) name ⊎ (type_name key ≡ name)
   inserted_cases name among =
       let found = Contains-preimage type_name (old ++ key ∷ []) name ((alike_names name).0 among) in
-      let P : PlainName → Type 0 = λ it. Contains (map type_name old) it ⊎ (type_name key ≡ it) in
-      subst P found.2
-      (⊎_elim
-      (λ before. inl (Contains-image type_name old found.0 before))
-      (λ here. ⊎_elim (λ same. inr (ap type_name same)) (λ none. absurd (omega (arith, none.1)))
-      (Contains-cons_cases key [] found.0 here))
-      (Contains-append_cases old (key ∷ []) found.0 found.1))
+      rw (← found.2) (elim (Contains-append_cases old (key ∷ []) found.0 found.1) [
+        | inl before ↦ inl (Contains-image type_name old found.0 before)
+        | inr here ↦
+            elim (Contains-cons_cases key [] found.0 here) [
+              | inl same ↦ inr (ap type_name same)
+              | inr none ↦ absurd (omega (arith, none.1))
+            ]
+      ])
 
   pub inserted_kept : (name : PlainName) → Contains (map type_name old) name → Contains (map type_name new) name
   inserted_kept name among =
       let found = Contains-preimage type_name old name among in
-      let P : PlainName → Type 0 = Contains (map type_name (old ++ key ∷ [])) in
       (alike_names name).1
-      (subst P found.2 (Contains-image type_name (old ++ key ∷ []) found.0 (Contains-append_left old (key ∷ []) found.0 found.1)))
+      (rw found.2 at (Contains-image type_name (old ++ key ∷ []) found.0 (Contains-append_left old (key ∷ []) found.0 found.1)))
 
   pub inserted_new : Contains (map type_name new) (type_name key)
   inserted_new =
@@ -71,11 +71,8 @@ module _ (names : Names) (all : List ConditionalName) where
   pub named_none : (left : List ConditionalName) (types : List EntityType) → left ≡ all → types ≡ []
       → NamedSoFar names all (map type_name types) left
   named_none left types same empty =
-      let P : List ConditionalName → Type 0 = NamedSoFar names all (map type_name types) in
-      let Q : List EntityType → Type 0 = λ items. (name : PlainName) → Contains (map type_name items) name
-      → IsNamedBy names (map conditional_reference all) name in
-      subst P (sym same) (record {
-        sound = subst Q (sym empty) (λ name none. absurd (omega (arith, none.1)));
+      rw same (record {
+        sound = rw empty (λ name none. absurd (omega (arith, none.1)));
         collected = λ reference here. inr here;
         among = λ reference here. here;
       })
@@ -83,9 +80,7 @@ module _ (names : Names) (all : List ConditionalName) where
   module _ (left rest : List ConditionalName) (reference : ConditionalName) (is : left ≡ reference ∷ rest) where
     -- the next one is one of them
     pub named_here : (types : List PlainName) → NamedSoFar names all types left → Contains all reference
-    named_here types so_far =
-        let P : List ConditionalName → Type 0 = λ items. Contains items reference in
-        so_far.among reference (subst P (sym is) (Contains-cons reference rest reference (inl refl)))
+    named_here types so_far = so_far.among reference (rw is (Contains-cons reference rest reference (inl refl)))
 
     -- one more is collected
     pub named_more : (old new : List EntityType) (key : EntityType)
@@ -94,45 +89,44 @@ module _ (names : Names) (all : List ConditionalName) where
         → NamedSoFar names all (map type_name old) left → NamedSoFar names all (map type_name new) rest
     named_more old new key updates resolves unreserved so_far =
         let here = named_here (map type_name old) so_far in
-        let P : List ConditionalName → Type 0 = λ items. (each : ConditionalName) → Contains items each → Contains all each in
         let own : IsCollected names (map type_name new) reference =
         (type_name key, resolves, unreserved, inserted_new old new key updates) in
-        let Q : ConditionalName → Type 0 = IsCollected names (map type_name new) in
         let R : ConditionalName → List ConditionalName → Type 0 = λ each items. Contains items each in
         record {
-          sound = λ name among. ⊎_elim
-              (so_far.sound name)
-              (λ same. (let N : PlainName → Type 0 = ResolvesTo names (conditional_reference reference) in (
-                conditional_reference reference,
-                Contains-image conditional_reference all reference here,
-                subst N same resolves,
-              )))
-              (inserted_cases old new key updates name among);
-          collected = λ each among. ⊎_elim
-              (λ before. inl (before.0, before.1, before.2, inserted_kept old new key updates before.0 before.3))
-              (λ later. ⊎_elim (λ same. inl (subst Q same own)) inr
-              (Contains-cons_cases reference rest each (subst (R each) is later)))
-              (so_far.collected each among);
-          among = λ each later. subst P is so_far.among each (Contains-cons reference rest each (inr later));
+          sound = λ name among. elim (inserted_cases old new key updates name among) [
+            | inl left ↦ so_far.sound name left
+            | inr same ↦ (
+              conditional_reference reference,
+              Contains-image conditional_reference all reference here,
+              rw same at resolves,
+            )
+          ];
+          collected = λ each among. elim (so_far.collected each among) [
+            | inl before ↦ inl (before.0, before.1, before.2, inserted_kept old new key updates before.0 before.3)
+            | inr later ↦
+                elim (Contains-cons_cases reference rest each (subst (R each) is later)) [
+                  | inl same ↦ inl (subst (IsCollected names (map type_name new)) same own)
+                  | inr right ↦ inr right
+                ]
+          ];
+          among = λ each later. (rw is at so_far.among) each (Contains-cons reference rest each (inr later));
         }
 
   -- where none is left, each resolves to a name that is collected
   module _ (types : List PlainName) (left : List ConditionalName) (nothing : left ≡ []) (so_far : NamedSoFar names all types left) where
     each_collected : (reference : ConditionalName) → Contains all reference → IsCollected names types reference
     each_collected reference among =
-        let P : List ConditionalName → Type 0 = λ items. Contains items reference in
-        ⊎_elim
-        (λ sound. sound)
-        (λ still. let none : Contains [] reference = subst P nothing still in absurd (omega (arith, none.1)))
-        (so_far.collected reference among)
+        elim (so_far.collected reference among) [
+          | inl sound ↦ sound
+          | inr still ↦ let none : Contains [] reference = rw nothing at still in absurd (omega (arith, none.1))
+        ]
 
     pub all_resolved : (reference : Reference) → Contains (map conditional_reference all) reference
         → (name : PlainName) × ResolvesTo names reference name × ¬ IsReserved name
     all_resolved reference among =
         let found = Contains-preimage conditional_reference all reference among in
-        let P : Reference → Type 0 = λ it. (name : PlainName) × ResolvesTo names it name × ¬ IsReserved name in
         let own = each_collected found.0 found.1 in
-        subst P found.2 (own.0, own.1, own.2)
+        rw (← found.2) (own.0, own.1, own.2)
 
     pub all_named : (name : PlainName) → Contains types name ↔ IsNamedBy names (map conditional_reference all) name
     all_named name = (
@@ -140,7 +134,5 @@ module _ (names : Names) (all : List ConditionalName) where
       λ by.
           let found = Contains-preimage conditional_reference all by.0 by.1 in
           let own = each_collected found.0 found.1 in
-          let P : Reference → Type 0 = λ it. ResolvesTo names it own.0 in
-          let Q : PlainName → Type 0 = Contains types in
-          subst Q (IsFirst-same (IsDefined names by.0.kind) by.0.possibilities own.0 name (subst P found.2 own.1) by.2) own.3,
+          rw (IsFirst-same (IsDefined names by.0.kind) by.0.possibilities own.0 name (subst (λ it. ResolvesTo names it own.0) found.2 own.1) by.2) at own.3,
     )

@@ -1,5 +1,5 @@
 -- Sets of entity types, of uids and of references, by the plain data that these stand for.
-use Rattle.std.proofs.Common.{◌≡◌, ◌≢◌, subst, Bool, true, false, IsTrue, IfOk, Result, Ok, Err, cond, ◌||◌, List, [], ◌∷◌, ◌++◌, map, refl, sym, ap, ◌∙◌, All, AllPairs, Contains, arith}
+use Rattle.std.proofs.Common.{◌≡◌, ◌≢◌, Bool, true, false, IsTrue, IfOk, Result, Ok, Err, cond, ◌||◌, List, [], ◌∷◌, ◌++◌, map, refl, sym, ap, ◌∙◌, All, AllPairs, Contains, arith}
 use Rattle.std.proofs.lemmas.Bool.{false≢true}
 use Rattle.std.proofs.lemmas.Bool.Decides.{Decides-like}
 use Rattle.std.proofs.lemmas.List.Elements.{All-cons}
@@ -79,11 +79,9 @@ module _ {K B : Type 0} (eq : K → K → Bool) (f : K → B) (laws : IsEquivale
   within xs ys answers b among =
       let found = Contains-preimage f xs b among in
       let x = found.0 in
-      let P : B → Type 0 = Contains (map f ys) in
-      let Q : B → Type 0 = Contains (map f xs) in
       let searched : list_any (eq x) ys ≡ true =
-      sym (answers x) ∙ (list_any-items x xs).1 (subst Q (sym found.2) among) in
-      subst P found.2 ((list_any-items x ys).0 searched)
+      sym (answers x) ∙ (list_any-items x xs).1 (rw found.2 among) in
+      rw found.2 at ((list_any-items x ys).0 searched)
 
   -- where two lists answer alike, they stand for the same items
   pub SameItems-searches : (xs ys : List K) → AnswersAlike eq xs ys → SameItems (map f xs) (map f ys)

@@ -1,5 +1,5 @@
 -- Sets of what stands above nodes, as they are filled and taken out.
-use Rattle.std.proofs.Common.{◌≡◌, ◌≢◌, ◌⊎◌, ◌↔◌, ◌++◌, append_assoc, Bool, true, false, cond, List, [], ◌∷◌, Option, Some, None, map, ap, sym, subst, ◌∙◌, refl, inl, inr, ⊎_elim, Contains, IsSomeAnd, arith}
+use Rattle.std.proofs.Common.{◌≡◌, ◌≢◌, ◌⊎◌, ◌↔◌, ◌++◌, append_assoc, Bool, true, false, cond, List, [], ◌∷◌, Option, Some, None, map, ap, sym, subst, ◌∙◌, refl, inl, inr, Contains, IsSomeAnd, arith}
 use Rattle.std.proofs.lemmas.Bool.{false≢true, cond-true, cond-false}
 use Rattle.std.proofs.lemmas.List.{append-nil}
 use Rattle.std.proofs.lemmas.List.Elements.{Contains-append_cases, Contains-append_left, Contains-append_right}
@@ -21,19 +21,13 @@ module _ {K P : Type 0} (name : K → P) where
   -- a set that was there has what it had
   pub some_above : (before : Option (BTreeSet K)) (set : BTreeSet K) → before ≡ Some set
       → (it : P) → IsSomeAnd before (λ each. Contains (map name each.keys) it) ↔ Contains (map name set.keys) it
-  some_above before set is it =
-      let S : Option (BTreeSet K) → Type 0 =
-      λ o. IsSomeAnd o (λ each. Contains (map name each.keys) it) ↔ Contains (map name set.keys) it in
-      subst S (sym is) (λ among. among, λ among. among)
+  some_above before set is it = rw is (λ among. among, λ among. among)
 
   -- where there was none, an empty one has as much
   pub none_above : (before : Option (BTreeSet K)) (keys : List K) → before ≡ None → keys ≡ []
       → (it : P) → IsSomeAnd before (λ each. Contains (map name each.keys) it) ↔ Contains (map name keys) it
   none_above before keys is nothing it =
-      let S : Option (BTreeSet K) → Type 0 =
-      λ o. IsSomeAnd o (λ each. Contains (map name each.keys) it) ↔ Contains (map name keys) it in
-      let T : List K → Type 0 = λ items. Contains (map name items) it in
-      subst S (sym is) (λ none. absurd none, λ among. absurd (omega (arith, (subst T nothing among).1)))
+      rw is (λ none. absurd none, λ among. absurd (omega (arith, (rw nothing at among).1)))
 
 -- keys that tie exactly where they stand for the same
 module _ {K P : Type 0} (cmp : K → K → Ordering) (name : K → P) (tied : (a b : K) → (cmp a b ≡ Equal) ↔ (name a ≡ name b)) where
@@ -64,23 +58,18 @@ module _ {K P : Type 0} (cmp : K → K → Ordering) (name : K → P) (tied : (a
   inserted_key old new key updates it = (
     λ among.
         let found = Contains-preimage name new it among in
-        let S : P → Type 0 = λ each. Contains (map name old) each ⊎ Contains (name key ∷ []) each in
-        subst S found.2
-        (was (is_at (cmp key) found.0) found.0 refl
+        rw found.2 at (was (is_at (cmp key) found.0) found.0 refl
         (sym (updates found.0) ∙ (held new found.0).1 (Contains-image name new found.0 found.1))),
-    ⊎_elim
-        (λ before.
-        let found = Contains-preimage name old it before in
-        let S : P → Type 0 = Contains (map name new) in
-        subst S found.2
-        ((held new found.0).0 (updates found.0
-        ∙ (ap (cond (is_at (cmp key) found.0) true) ((held old found.0).1 (Contains-image name old found.0 found.1))
-        ∙ either (is_at (cmp key) found.0)))))
-        (λ one.
-        let S : P → Type 0 = Contains (map name new) in
-        subst S (Contains-single (name key) it one)
-        ((held new key).0 (updates key
-        ∙ cond-true (is_at (cmp key) key) true (list_any (is_at (cmp key)) old) ((key_tie key key).1 refl)))),
+    elim [
+      | inl before ↦
+          let found = Contains-preimage name old it before in
+          rw found.2 at ((held new found.0).0 (updates found.0
+          ∙ (ap (cond (is_at (cmp key) found.0) true) ((held old found.0).1 (Contains-image name old found.0 found.1))
+          ∙ either (is_at (cmp key) found.0))))
+      | inr one ↦
+          rw (Contains-single (name key) it one) at ((held new key).0 (updates key
+          ∙ cond-true (is_at (cmp key) key) true (list_any (is_at (cmp key)) old) ((key_tie key key).1 refl)))
+    ],
   )
     where
       either : (b : Bool) → cond b true true ≡ true
@@ -101,13 +90,14 @@ module _ {K P : Type 0} (cmp : K → K → Ordering) (name : K → P) (tied : (a
       → (it : P) → Contains (map name new) it ↔ (IsSomeAnd before (λ set. Contains (map name set.keys) it) ⊎ (upper ≡ it))
   one_more_above before old new copy upper were same updates it =
       let also = inserted_key old new copy updates it in (
-        λ among. ⊎_elim
-            (λ there. inl ((were it).1 there))
-            (λ one. inr (sym same ∙ Contains-single (name copy) it one))
-            (also.0 among),
-        ⊎_elim
-            (λ there. also.1 (inl ((were it).0 there)))
-            (λ one. also.1 (inr (Contains-cons (name copy) [] it (inl (same ∙ one))))),
+        λ among. elim (also.0 among) [
+          | inl there ↦ inl ((were it).1 there)
+          | inr one ↦ inr (sym same ∙ Contains-single (name copy) it one)
+        ],
+        elim [
+          | inl there ↦ also.1 (inl ((were it).0 there))
+          | inr one ↦ also.1 (inr (Contains-cons (name copy) [] it (inl (same ∙ one))))
+        ],
       )
 
   -- a set is put under a key
@@ -128,16 +118,15 @@ module _ {K P : Type 0} (cmp : K → K → Ordering) (name : K → P) (tied : (a
           let now : upper_set cmp after key ≡ Some set =
           updated key ∙ cond-true (is_at (cmp lower) key) (Some set) (upper_set cmp before key) tie in
           let were : upper_set cmp before lower ≡ upper_set cmp before key = sym (same_set before key lower same) in (
-            λ above. ⊎_elim (λ there. inl (subst S were there)) (λ one. inr (sym same, one)) ((has it).0 (subst S now above)),
+            λ above. elim ((has it).0 (subst S now above)) [ inl there ↦ inl (subst S were there) | inr one ↦ inr (sym same, one) ],
             λ either. subst S (sym now)
-                ((has it).1 (⊎_elim (λ there. inl (subst S (sym were) there)) (λ one. inr one.1) either)),
+                ((has it).1 (elim either [ inl there ↦ inl (subst S (sym were) there) | inr one ↦ inr one.1 ])),
           )
       by false apart =
           let now : upper_set cmp after key ≡ upper_set cmp before key =
           updated key ∙ cond-false (is_at (cmp lower) key) (Some set) (upper_set cmp before key) apart in (
             λ above. inl (subst S now above),
-            ⊎_elim (λ there. subst S (sym now) there)
-                (λ one. absurd (false≢true (sym apart ∙ (key_tie lower key).1 (sym one.0)))),
+            elim [ inl there ↦ subst S (sym now) there | inr one ↦ absurd (false≢true (sym apart ∙ (key_tie lower key).1 (sym one.0))) ],
           )
 
   -- what is under another key than the one that was taken out is still there
@@ -163,7 +152,7 @@ module _ {K P : Type 0} (cmp : K → K → Ordering) (name : K → P) (initial :
   below_none left same = record {
     done = [];
     split = sym same;
-    same = λ key above. (λ stands. inl stands, ⊎_elim (λ stands. stands) (λ none. absurd (omega (arith, none.1.1))));
+    same = λ key above. (λ stands. inl stands, elim [ inl stands ↦ stands | inr none ↦ absurd (omega (arith, none.1.1)) ]);
   }
 
   -- one more has
@@ -175,22 +164,27 @@ module _ {K P : Type 0} (cmp : K → K → Ordering) (name : K → P) (initial :
     done = so_far.done ++ lower ∷ [];
     split = so_far.split ∙ (ap (λ others. so_far.done ++ others) is ∙ sym (append_assoc so_far.done (lower ∷ []) rest));
     same = λ key above. (
-      λ stands. ⊎_elim
-          (λ before. ⊎_elim (λ first. inl first)
-          (λ those. inr (those.0, Contains-append_left so_far.done (lower ∷ []) (name key) those.1))
-          ((so_far.same key above).0 before))
-          (λ one. inr (
-            one.1,
-            Contains-append_right so_far.done (lower ∷ []) (name key)
-                (Contains-cons lower [] (name key) (inl one.0)),
-          ))
-          ((also key above).0 stands),
-      ⊎_elim
-          (λ first. (also key above).1 (inl ((so_far.same key above).1 (inl first))))
-          (λ those. ⊎_elim
-          (λ before. (also key above).1 (inl ((so_far.same key above).1 (inr (those.0, before)))))
-          (λ one. (also key above).1 (inr (Contains-single lower (name key) one, those.0)))
-          (Contains-append_cases so_far.done (lower ∷ []) (name key) those.1)),
+      λ stands. elim ((also key above).0 stands) [
+        | inl before ↦
+            elim ((so_far.same key above).0 before) [
+              | inl first ↦ inl first
+              | inr those ↦ inr (those.0, Contains-append_left so_far.done (lower ∷ []) (name key) those.1)
+            ]
+        | inr one ↦
+            inr (
+              one.1,
+              Contains-append_right so_far.done (lower ∷ []) (name key)
+                  (Contains-cons lower [] (name key) (inl one.0)),
+            )
+      ],
+      elim [
+        | inl first ↦ (also key above).1 (inl ((so_far.same key above).1 (inl first)))
+        | inr those ↦
+            elim (Contains-append_cases so_far.done (lower ∷ []) (name key) those.1) [
+              | inl before ↦ (also key above).1 (inl ((so_far.same key above).1 (inr (those.0, before))))
+              | inr one ↦ (also key above).1 (inr (Contains-single lower (name key) one, those.0))
+            ]
+      ],
     );
   }
 
@@ -199,29 +193,28 @@ module _ {K P : Type 0} (cmp : K → K → Ordering) (name : K → P) (initial :
       → (key : K) (above : P)
       → IsUpper cmp name uppers key above ↔ (IsUpper cmp name initial key above ⊎ ((upper ≡ above) × Contains all (name key)))
   below_all left uppers nothing so_far =
-      let S : List P → Type 0 = λ uids. (key : K) (above : P)
-      → IsUpper cmp name uppers key above ↔ (IsUpper cmp name initial key above ⊎ ((upper ≡ above) × Contains uids (name key))) in
-      subst S (sym (so_far.split ∙ (ap (λ others. so_far.done ++ others) nothing ∙ append-nil so_far.done))) so_far.same
+      rw (so_far.split ∙ (ap (λ others. so_far.done ++ others) nothing ∙ append-nil so_far.done)) so_far.same
 
 module _ {K V P : Type 0} (name : K → P) (Holds : V → Type 0) where
   -- among one more is a node of a name where another was, or it is the new one
   pub node_more : (done : List (K × V)) (key : K) (it : V) (named : P) → HasNode name Holds (done ++ (key, it) ∷ []) named
       ↔ (HasNode name Holds done named ⊎ ((name key ≡ named) × Holds it))
   node_more done key it named = (
-    λ of. ⊎_elim
-        (λ before. inl (of.0, before, of.2, of.3))
-        (λ last.
-        let same = Contains-single (key, it) of.0 last in
-        inr (ap (λ (entry : K × V). name entry.0) same ∙ of.2, subst Holds (sym (ap (λ (entry : K × V). entry.1) same)) of.3))
-        (Contains-append_cases done ((key, it) ∷ []) of.0 of.1),
-    ⊎_elim
-        (λ before. (before.0, Contains-append_left done ((key, it) ∷ []) before.0 before.1, before.2, before.3))
-        (λ last. (
-          (key, it),
-          Contains-append_right done ((key, it) ∷ []) (key, it) (Contains-cons (key, it) [] (key, it) (inl refl)),
-          last.0,
-          last.1,
-        )),
+    λ of. elim (Contains-append_cases done ((key, it) ∷ []) of.0 of.1) [
+      | inl before ↦ inl (of.0, before, of.2, of.3)
+      | inr last ↦
+          let same = Contains-single (key, it) of.0 last in
+          inr (ap (λ (entry : K × V). name entry.0) same ∙ of.2, subst Holds (sym (ap (λ (entry : K × V). entry.1) same)) of.3)
+    ],
+    elim [
+      | inl before ↦ (before.0, Contains-append_left done ((key, it) ∷ []) before.0 before.1, before.2, before.3)
+      | inr last ↦ (
+        (key, it),
+        Contains-append_right done ((key, it) ∷ []) (key, it) (Contains-cons (key, it) [] (key, it) (inl refl)),
+        last.0,
+        last.1,
+      )
+    ],
   )
 
   -- so it is where the nodes are shown as plain data
@@ -231,8 +224,7 @@ module _ {K V P : Type 0} (name : K → P) (Holds : V → Type 0) where
   node_plain {D = D} plain R keyed same nodes named = (
     λ of.
         let shown = plain of.0 in
-        let S : P → Type 0 = λ each. Contains (map plain nodes) (each, shown.1) in
-        (shown.1, subst S (keyed of.0 ∙ of.2) (Contains-image plain nodes of.0 of.1), (same of.0).0 of.3),
+        (shown.1, rw (keyed of.0 ∙ of.2) at (Contains-image plain nodes of.0 of.1), (same of.0).0 of.3),
     λ of.
         let found = Contains-preimage plain nodes (named, of.0) of.1 in (
           found.0,
@@ -256,11 +248,10 @@ module _ {K V P : Type 0} (cmp : K → K → Ordering) (name : K → P) (below :
   uppers_none left uppers same nothing = record {
     done = [];
     split = sym same;
-    same = λ key above.
-        let S : Option (BTreeSet K) → Type 0 = λ o. IsSomeAnd o (λ set. Contains (map name set.keys) above) in (
-          λ upper. absurd (subst S (ap (lookup (is_at (cmp key))) nothing) upper),
-          λ lists. absurd (omega (arith, lists.1.1)),
-        );
+    same = λ key above. (
+      λ upper. absurd (rw (ap (lookup (is_at (cmp key))) nothing) at upper),
+      λ lists. absurd (omega (arith, lists.1.1)),
+    );
   }
 
   -- one more does
@@ -274,10 +265,12 @@ module _ {K V P : Type 0} (cmp : K → K → Ordering) (name : K → P) (below :
     split = so_far.split ∙ (ap (λ others. so_far.done ++ others) is ∙ sym (append_assoc so_far.done ((upper, it) ∷ []) rest));
     same = λ key above. (
       λ stands. (node_more name (λ node. Contains (below node) (name key)) so_far.done upper it above).1
-          (⊎_elim (λ before. inl ((so_far.same key above).0 before)) (λ last. inr last) ((also key above).0 stands)),
+          (elim ((also key above).0 stands) [ inl before ↦ inl ((so_far.same key above).0 before) | inr last ↦ inr last ]),
       λ lists. (also key above).1
-          (⊎_elim (λ before. inl ((so_far.same key above).1 before)) (λ last. inr last)
-          ((node_more name (λ node. Contains (below node) (name key)) so_far.done upper it above).0 lists)),
+          (elim ((node_more name (λ node. Contains (below node) (name key)) so_far.done upper it above).0 lists) [
+            | inl before ↦ inl ((so_far.same key above).1 before)
+            | inr last ↦ inr last
+          ]),
     );
   }
 
@@ -286,6 +279,4 @@ module _ {K V P : Type 0} (cmp : K → K → Ordering) (name : K → P) (below :
       → UppersSoFar cmp name below all uppers left
       → (key : K) (above : P) → IsUpper cmp name uppers key above ↔ ListsBelow name below all (name key) above
   uppers_all left uppers nothing so_far =
-      let S : List (K × V) → Type 0 = λ items. (key : K) (above : P) → IsUpper cmp name uppers key above
-      ↔ ListsBelow name below items (name key) above in
-      subst S (sym (so_far.split ∙ (ap (λ others. so_far.done ++ others) nothing ∙ append-nil so_far.done))) so_far.same
+      rw (so_far.split ∙ (ap (λ others. so_far.done ++ others) nothing ∙ append-nil so_far.done)) so_far.same

@@ -1,5 +1,5 @@
 -- Answers of joins of types that aren't records.
-use Rattle.std.proofs.Common.{◌≡◌, ◌≢◌, ◌⊎◌, inl, inr, ⊎_elim, refl, sym, subst, ◌∙◌, [], ◌∷◌, List, Ok, Err, IfOk, arith}
+use Rattle.std.proofs.Common.{◌≡◌, ◌≢◌, ◌⊎◌, inl, inr, refl, sym, subst, ◌∙◌, [], ◌∷◌, List, Ok, Err, IfOk, arith}
 use Rattle.cedar_below.proofs.Lists.{Contains-cons}
 use Rattle.cedar_below.proofs.PlainNames.{name_cmp-total, name_cmp-Equal}
 use Rattle.cedar_below.specs.Lists.{Included}
@@ -46,7 +46,7 @@ first_is_upper mode a b below formed = given mode a b a (upper_is_join mode b a 
 any_truth : (mode : ValidationMode) (first second : BoolType) (bound : Ty) → first ≢ second
     → Below mode (truth first) bound → Below mode (truth second) bound → Below mode (truth AnyBool) bound
 any_truth mode first second (truth known) differ h k =
-    inl (⊎_elim (λ e. e) (λ same. ⊎_elim (λ e. e) (λ also. absurd (differ (same ∙ sym also))) k) h)
+    inl (elim h [ inl e ↦ e | inr same ↦ elim k [ inl e ↦ e | inr also ↦ absurd (differ (same ∙ sym also)) ] ])
 any_truth mode first second bound differ h k = elim h [ ]
 
 -- two different truth values have any
@@ -105,9 +105,10 @@ same_shape mode a b h = elim h [ ]
 -- types of unlike shapes have no own bound
 pub unlike_shapes : (mode : ValidationMode) (a b : Ty) → shape a ≢ nothing → shape b ≢ nothing → shape a ≢ shape b → ¬ HaveOwnBound mode a b
 unlike_shapes mode a b first second differ own =
-    ⊎_elim first
-    (λ e. ⊎_elim second (λ k. differ (e ∙ sym k)) (same_shape mode b own.0 own.1.0.1.0))
-    (same_shape mode a own.0 own.1.0.0)
+    elim (same_shape mode a own.0 own.1.0.0) [
+      | inl left ↦ first left
+      | inr e ↦ elim (same_shape mode b own.0 own.1.0.1.0) [ inl left ↦ second left | inr k ↦ differ (e ∙ sym k) ]
+    ]
 
 -- sets have an answer where their elements have
 pub sets_answered : (mode : ValidationMode) (a b : Ty) → IsAnswered mode a b → IsAnswered mode (set_of a) (set_of b)
@@ -122,7 +123,7 @@ sets_answered mode a b (Ok join, least, formed) =
 sets_answered mode a b (Err it, none, formed) = refused mode (set_of a) (set_of b) it no_bound none.1
   where
     no_bound : ¬ HaveOwnBound mode (set_of a) (set_of b)
-    no_bound (any_set, own) = ⊎_elim (λ e. absurd cc) (λ e. absurd cc) own.1
+    no_bound (any_set, own) = elim own.1 [ inl e ↦ absurd cc | inr e ↦ absurd cc ]
     no_bound (set_of element, own) = none.0 (element, ((own.0.0, (own.0.1.0, tt)), within_elements a b element own.1))
     no_bound (bound, own) = elim own.0.0 [ ]
 
@@ -133,10 +134,10 @@ decide_names = decide_same name_cmp name_cmp-Equal
 -- extension types have an answer
 pub extensions_answered : (mode : ValidationMode) (a b : PlainName) → IsName b → IsAnswered mode (extension_of a) (extension_of b)
 extensions_answered mode a b second =
-    ⊎_elim
-    (λ same. second_is_upper mode (extension_of a) (extension_of b) same second)
-    (λ differ. refused mode (extension_of a) (extension_of b) help.None (no_bound differ) refl)
-    (decide_names a b)
+    elim (decide_names a b) [
+      | inl same ↦ second_is_upper mode (extension_of a) (extension_of b) same second
+      | inr differ ↦ refused mode (extension_of a) (extension_of b) help.None (no_bound differ) refl
+    ]
   where
     no_bound : a ≢ b → ¬ HaveOwnBound mode (extension_of a) (extension_of b)
     no_bound differ (extension_of name, own) = differ (own.0.0 ∙ sym own.0.1.0)
@@ -153,28 +154,31 @@ pub unions_answered : (a b : List PlainName) → IsWellFormed (union_of a) → I
     → IsAnswered Permissive (union_of a) (union_of b)
 unions_answered a b first second =
     let both = merge name_cmp name_cmp-total name_cmp-Equal a b second.1 in
-    given Permissive (union_of a) (union_of b) (union_of both.all)
-    (((both.first, (both.second, tt)), tt), below both) (
+    given Permissive (union_of a) (union_of b) (union_of both.all) (((both.first, (both.second, tt)), tt), below both) (
       includes_some a both.all first.0 both.first,
       both.sorted_by_name,
-      (λ name among. ⊎_elim (first.2 name) (second.2 name) (both.only name among)),
+      (λ name among. elim (both.only name among) [ inl left ↦ first.2 name left | inr right ↦ second.2 name right ]),
     )
   where
     below : (both : Merged name_cmp a b) (bound : Ty) → IsOwnBound Permissive (union_of a) (union_of b) bound
         → Below Permissive (union_of both.all) bound
     below both any_entity own = tt
-    below both (union_of names) own = λ name among. ⊎_elim (own.0.0 name) (own.0.1.0 name) (both.only name among)
+    below both (union_of names) own = λ name among. elim (both.only name among) [
+      | inl left ↦ own.0.0 name left
+      | inr right ↦ own.0.1.0 name right
+    ]
     below both bound own = elim own.0.0 [ ]
 
 -- unions have an answer in strict mode
 pub strict_unions_answered : (a b : List PlainName) → IsWellFormed (union_of a) → IsWellFormed (union_of b)
     → IsAnswered Strict (union_of a) (union_of b)
 strict_unions_answered a b first second =
-    ⊎_elim
-    (λ both. second_is_upper Strict (union_of a) (union_of b)
-    (Included-same name_cmp name_cmp-total a b first.1 second.1 both.0 both.1) second)
-    (λ differ. refused Strict (union_of a) (union_of b) help.EntityType (no_bound differ) refl)
-    (decide_both (decide_included decide_names a b) (decide_included decide_names b a))
+    elim (decide_both (decide_included decide_names a b) (decide_included decide_names b a)) [
+      | inl both ↦
+          second_is_upper Strict (union_of a) (union_of b)
+          (Included-same name_cmp name_cmp-total a b first.1 second.1 both.0 both.1) second
+      | inr differ ↦ refused Strict (union_of a) (union_of b) help.EntityType (no_bound differ) refl
+    ]
   where
     no_bound : ¬ (Included a b × Included b a) → ¬ HaveOwnBound Strict (union_of a) (union_of b)
     no_bound differ (union_of names, own) =

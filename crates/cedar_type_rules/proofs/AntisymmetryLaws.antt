@@ -1,5 +1,5 @@
 -- Well-formed types that are below each other are the same.
-use Rattle.std.proofs.Common.{◌≡◌, inl, inr, ⊎_elim, Bool, true, false, refl, sym, ap, subst, ◌∙◌, List, [], ◌∷◌, Contains, arith}
+use Rattle.std.proofs.Common.{◌≡◌, inl, inr, Bool, true, false, refl, sym, ap, subst, ◌∙◌, List, [], ◌∷◌, Contains, arith}
 use Rattle.std.proofs.lemmas.List.Elements.{All-contains, All-from_recursion}
 use Rattle.std.specs.Cmp.{IsTotalOrder}
 use Rattle.std.specs.List.Sorted.{IsStrictlySortedBy}
@@ -39,16 +39,23 @@ Included-same {B = B} R total (x ∷ xs) (y ∷ ys) first second forth back =
     let above_second = λ (z : B) (among : Contains ys z). All-contains (λ z. R y z ≡ Less) ys z
     (All-from_recursion (λ z. R y z ≡ Less) ys second.0) among in
     let same : x ≡ y =
-    ⊎_elim (λ e. sym e) (λ there. ⊎_elim (λ e. e) (λ also. absurd
-    (apart R total x y (above_first y also) (above_second x there)))
-    (Contains-cons_cases x xs y (back y (Contains-cons y ys y (inl refl)))))
-    (Contains-cons_cases y ys x (forth x (Contains-cons x xs x (inl refl)))) in
+    elim (Contains-cons_cases y ys x (forth x (Contains-cons x xs x (inl refl)))) [
+      | inl e ↦ sym e
+      | inr there ↦
+          elim (Contains-cons_cases x xs y (back y (Contains-cons y ys y (inl refl)))) [
+            | inl e ↦ e
+            | inr also ↦ absurd (apart R total x y (above_first y also) (above_second x there))
+          ]
+    ] in
     let rest : xs ≡ ys =
     Included-same R total xs ys first.1 second.1
-    (λ z among. ⊎_elim (λ e. absurd (not_itself R total x z (same ∙ e) (above_first z among))) (λ there. there)
-    (Contains-cons_cases y ys z (forth z (Contains-cons x xs z (inr among)))))
-    (λ z among. ⊎_elim (λ e. absurd (not_itself R total y z (sym same ∙ e) (above_second z among))) (λ there. there)
-    (Contains-cons_cases x xs z (back z (Contains-cons y ys z (inr among))))) in
+    (λ z among. elim (Contains-cons_cases y ys z (forth z (Contains-cons x xs z (inr among)))) [
+      | inl e ↦ absurd (not_itself R total x z (same ∙ e) (above_first z among))
+      | inr there ↦ there
+    ]) (λ z among. elim (Contains-cons_cases x xs z (back z (Contains-cons y ys z (inr among)))) [
+      | inl e ↦ absurd (not_itself R total y z (sym same ∙ e) (above_second z among))
+      | inr there ↦ there
+    ]) in
     λ i. same i ∷ rest i
 
 -- records whose names are sorted without duplicates and that have each other's attributes are the same
@@ -63,15 +70,22 @@ Fields-same (field n r t front) (field k s u bs) first second forth back =
     let above_second = λ (m : Text) (q : Bool) (v : Ty) (has : HasField bs m q v). HasField-all
     (λ z. text_cmp k z ≡ Less) m bs q v has second.0 in
     let heads : (n ≡ k) × (r ≡ s) × (t ≡ u) =
-    ⊎_elim (λ e. (sym e.0, sym e.1, sym e.2)) (λ there. ⊎_elim (λ e. e)
-    (λ also. absurd (apart text_cmp text_cmp-total n k (above_first k s u also) (above_second n r t there)))
-    (back k s u (inl (refl, refl, refl)))) (forth n r t (inl (refl, refl, refl))) in
+    elim (forth n r t (inl (refl, refl, refl))) [
+      | inl e ↦ (sym e.0, sym e.1, sym e.2)
+      | inr there ↦
+          elim (back k s u (inl (refl, refl, refl))) [
+            | inl e ↦ e
+            | inr also ↦ absurd (apart text_cmp text_cmp-total n k (above_first k s u also) (above_second n r t there))
+          ]
+    ] in
     let rest : front ≡ bs =
-    Fields-same front bs first.1 second.1
-    (λ m q v has. ⊎_elim (λ e. absurd (not_itself text_cmp text_cmp-total n m (heads.0 ∙ e.0) (above_first m q v has)))
-    (λ there. there) (forth m q v (inr has)))
-    (λ m q v has. ⊎_elim (λ e. absurd (not_itself text_cmp text_cmp-total k m (sym heads.0 ∙ e.0)
-    (above_second m q v has))) (λ there. there) (back m q v (inr has))) in
+    Fields-same front bs first.1 second.1 (λ m q v has. elim (forth m q v (inr has)) [
+      | inl e ↦ absurd (not_itself text_cmp text_cmp-total n m (heads.0 ∙ e.0) (above_first m q v has))
+      | inr there ↦ there
+    ]) (λ m q v has. elim (back m q v (inr has)) [
+      | inl e ↦ absurd (not_itself text_cmp text_cmp-total k m (sym heads.0 ∙ e.0) (above_second m q v has))
+      | inr there ↦ there
+    ]) in
     λ i. field (heads.0 i) (heads.1 i) (heads.2 i) (rest i)
 
 -- flags that fit below each other are the same
@@ -104,7 +118,7 @@ mutual
   Below-same Permissive never (union_of b) first second h k = elim k [ ]
   Below-same mode never b first second h k = elim k [ ]
   Below-same mode (truth a) (truth b) first second h k =
-      ap truth (⊎_elim (λ any. ⊎_elim (λ also. also ∙ sym any) (λ same. sym same) k) (λ same. same) h)
+      ap truth (elim h [ inl any ↦ elim k [ inl also ↦ also ∙ sym any | inr same ↦ sym same ] | inr same ↦ same ])
   Below-same mode long long first second h k = refl
   Below-same mode text text first second h k = refl
   Below-same mode any_entity any_entity first second h k = refl

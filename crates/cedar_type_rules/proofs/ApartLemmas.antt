@@ -1,5 +1,5 @@
 -- Types that have nothing above both, and what a bound of two records says of a name.
-use Rattle.std.proofs.Common.{◌≡◌, ◌⊎◌, inl, inr, ⊎_elim, Bool, true, false, refl, sym, subst, ◌∙◌}
+use Rattle.std.proofs.Common.{◌≡◌, ◌⊎◌, inl, inr, Bool, true, false, refl, sym, subst, ◌∙◌}
 use Rattle.std.proofs.lemmas.Slice.Eq.{bytes_eq-Decides}
 use Rattle.std.specs.Str.{bytes_eq}
 use Rattle.cedar_below.specs.Text.{Text}
@@ -60,7 +60,7 @@ IsPair fields kept dropped ty other =
 pub IsPair-other : (fields : Fields) (kept dropped : Text) (ty other : Ty) → ¬ (kept ≡ dropped)
     → IsPair fields kept dropped ty other → HasOnly fields dropped other
 IsPair-other fields kept dropped ty other differ pair required of has =
-    ⊎_elim (λ same. absurd (differ same.0)) (λ same. same.1) (pair dropped required of has)
+    elim (pair dropped required of has) [ inl same ↦ absurd (differ same.0) | inr same ↦ same.1 ]
 
 -- attributes above a pair that don't have its second name are above its first attribute alone
 pub kept_below : (a all fields : Fields) (kept dropped : Text) (ty other : Ty) → IsPair a kept dropped ty other
@@ -71,9 +71,9 @@ kept_below a all end kept dropped ty other pair within none h = tt
 kept_below a all (field name required of rest) kept dropped ty other pair within none h =
     let here : HasField all name required of = within name required of (inl (refl, refl, refl)) in
     let own = HasBelow-of Permissive a all name required of h here in (
-      ⊎_elim
-          (λ same. (true, ty, inl (same.0, refl, refl), (λ _. refl), subst (λ t. Below Permissive t of) same.2 own.4))
-          (λ same. absurd (none required of (subst (λ n. HasField all n required of) (sym same.0) here)))
-          (pair name own.0 own.1 own.2),
+      elim (pair name own.0 own.1 own.2) [
+        | inl same ↦ (true, ty, inl (same.0, refl, refl), (λ _. refl), subst (λ t. Below Permissive t of) same.2 own.4)
+        | inr same ↦ absurd (none required of (subst (λ n. HasField all n required of) (sym same.0) here))
+      ],
       kept_below a all rest kept dropped ty other pair (λ n r t has. within n r t (inr has)) none h,
     )

@@ -4,7 +4,7 @@ use Rattle.std.specs.Bool.{Decides}
 use Rattle.std.specs.Hash.{le_bytes}
 use Rattle.std.specs.Ordering.{is_eq}
 use Rattle.std.specs.declared.cmp.Ordering.{Ordering}
-use Rattle.std.specs.declared.cmp.Ordering.TheVariants.{Less, Equal, Greater}
+use Rattle.std.specs.declared.cmp.Ordering.TheVariants.{Equal}
 use Rattle.std.proofs.lemmas.Bool.{false≢true}
 use Rattle.cedar_below.specs.FeedsVariant.{FeedsVariantFirst}
 use Rattle.cedar_type_rules.specs.CompareLaws.{ComparesBy}
@@ -23,9 +23,8 @@ use Rattle.cedar_type_rules.specs.declared.open_tag.OpenTag.TheVariants.{OpenAtt
 
 -- an order that is answered as equal is equal
 is_eq-Equal : (o : Ordering) → is_eq o ≡ true → o ≡ Equal
-is_eq-Equal Less e = absurd cc
 is_eq-Equal Equal e = refl
-is_eq-Equal Greater e = absurd cc
+is_eq-Equal _ e = absurd cc
 
 -- an order that agrees with equality ties exactly where two stand for the same
 pub ties_from : {A P : Type 0} (stands_for : A → P) (eq : A → A → Bool) (cmp : A → A → Ordering)
@@ -108,19 +107,13 @@ openness_compare = record {
 pub truths_feed : FeedsVariantFirst (λ (known : BoolType). known) (bool_hash.ghosts).hash_input
 unfolding le_bytes
 truths_feed AnyBool AnyBool same = refl
-truths_feed AnyBool True same = absurd cc
-truths_feed AnyBool False same = absurd cc
-truths_feed True AnyBool same = absurd cc
 truths_feed True True same = refl
-truths_feed True False same = absurd cc
-truths_feed False AnyBool same = absurd cc
-truths_feed False True same = absurd cc
 truths_feed False False same = refl
+truths_feed _ _ same = absurd cc
 
 -- openness is fed as its variant
 pub openness_feeds : FeedsVariantFirst (λ (openness : OpenTag). openness) (open_tag_hash.ghosts).hash_input
 unfolding le_bytes
 openness_feeds OpenAttributes OpenAttributes same = refl
-openness_feeds OpenAttributes ClosedAttributes same = absurd cc
-openness_feeds ClosedAttributes OpenAttributes same = absurd cc
 openness_feeds ClosedAttributes ClosedAttributes same = refl
+openness_feeds _ _ same = absurd cc

@@ -1,5 +1,5 @@
 -- Steps of a walk over two records that tells whether they are consistent.
-use Rattle.std.proofs.Common.{◌≡◌, ◌⊎◌, ◌↔◌, inl, inr, ⊎_elim, refl, sym, subst, Bool, false, List, [], ◌∷◌, ◌++◌, Contains, arith}
+use Rattle.std.proofs.Common.{◌≡◌, ◌⊎◌, ◌↔◌, inl, inr, refl, sym, subst, Bool, false, List, [], ◌∷◌, ◌++◌, Contains, arith}
 use Rattle.std.specs.List.{AllByRecursion}
 use Rattle.cedar_below.proofs.Lists.{Contains-cons, Contains-cons_cases}
 use Rattle.cedar_below.specs.CoreTy.{CoreTy, CoreFields, core_end, core_field, core_names}
@@ -23,11 +23,14 @@ HasCoreField-name : (core : CoreFields) (name : Text) (required : Bool) (of : Co
 HasCoreField-name core_end name required of has = absurd has
 HasCoreField-name (core_field other flag ty rest) name required of has =
     Contains-cons other (core_names rest) name
-    (⊎_elim (λ same. inl same.0) (λ there. inr (HasCoreField-name rest name required of there)) has)
+    (elim has [ inl same ↦ inl same.0 | inr there ↦ inr (HasCoreField-name rest name required of there) ])
 
 -- what isn't among some names isn't among them where another comes first
 not_cons : (first : Text) (names : List Text) (name : Text) → ¬ (first ≡ name) → ¬ Contains names name → ¬ Contains (first ∷ names) name
-not_cons first names name apart fresh among = ⊎_elim apart fresh (Contains-cons_cases first names name among)
+not_cons first names name apart fresh among = elim (Contains-cons_cases first names name among) [
+  | inl left ↦ apart left
+  | inr right ↦ fresh right
+]
 
 module _ (IsOpen IsCoreOpen : Type 0) where
   -- an attribute whose name the other record lacks may be missing there
@@ -38,10 +41,10 @@ module _ (IsOpen IsCoreOpen : Type 0) where
     λ parts. (
       ((λ flag of has. absurd (fresh (HasCoreField-name core name flag of has))), parts.1.0),
       (λ other flag has out.
-          ⊎_elim
-          (λ same. subst (λ r. (r ≡ false) ⊎ IsCoreOpen) same.1 parts.0)
-          (λ there. parts.1.1 other flag (has.0, there) out)
-          has.1),
+          elim has.1 [
+            | inl same ↦ subst (λ r. (r ≡ false) ⊎ IsCoreOpen) same.1 parts.0
+            | inr there ↦ parts.1.1 other flag (has.0, there) out
+          ]),
       (λ other flag has out. parts.1.2 other flag has (λ among. out (Contains-cons name (field_names rest) other (inr among)))),
     ),
     λ whole. (
@@ -61,10 +64,10 @@ module _ (IsOpen IsCoreOpen : Type 0) where
   with_one_more end name required of rest fresh all = tt
   with_one_more (field own flag ty fields) name required of rest fresh all = (
     λ r c has.
-        ⊎_elim
-        (λ same. absurd (fresh (Contains-cons own (field_names fields) name (inl (sym same.0)))))
-        (λ there. all.0 r c there)
-        has,
+        elim has [
+          | inl same ↦ absurd (fresh (Contains-cons own (field_names fields) name (inl (sym same.0))))
+          | inr there ↦ all.0 r c there
+        ],
     with_one_more fields name required of rest (λ among. fresh (Contains-cons own (field_names fields) name (inr among))) all.1,
   )
 
@@ -77,18 +80,17 @@ module _ (IsOpen IsCoreOpen : Type 0) where
 
   -- an attribute of the other record whose name the one lacks may be missing there
   pub consistent-other : (fields : Fields) (name : Text) (required : Bool) (of : CoreTy) (rest : CoreFields)
-      → ¬ Contains (field_names fields) name
-      → (((required ≡ false) ⊎ IsOpen) × AreConsistent fields rest IsOpen IsCoreOpen)
+      → ¬ Contains (field_names fields) name → (((required ≡ false) ⊎ IsOpen) × AreConsistent fields rest IsOpen IsCoreOpen)
       ↔ AreConsistent fields (core_field name required of rest) IsOpen IsCoreOpen
   consistent-other fields name required of rest fresh = (
     λ parts. (
       with_one_more fields name required of rest fresh parts.1.0,
       (λ other flag has out. parts.1.1 other flag has (λ among. out (Contains-cons name (core_names rest) other (inr among)))),
       (λ other flag has out.
-          ⊎_elim
-          (λ same. subst (λ r. (r ≡ false) ⊎ IsOpen) same.1 parts.0)
-          (λ there. parts.1.2 other flag (has.0, there) out)
-          has.1),
+          elim has.1 [
+            | inl same ↦ subst (λ r. (r ≡ false) ⊎ IsOpen) same.1 parts.0
+            | inr there ↦ parts.1.2 other flag (has.0, there) out
+          ]),
     ),
     λ whole. (
       whole.2 name required (of, inl (refl, refl, refl)) fresh,
@@ -110,22 +112,24 @@ module _ (IsOpen IsCoreOpen : Type 0) where
     λ parts. (
       (
         (λ r c has.
-            ⊎_elim
-            (λ same. subst (IsConsistent ty) same.2 parts.0)
-            (λ there. absurd (core_fresh (HasCoreField-name rest name r c there)))
-            has),
+            elim has [
+              | inl same ↦ subst (IsConsistent ty) same.2 parts.0
+              | inr there ↦ absurd (core_fresh (HasCoreField-name rest name r c there))
+            ]),
         with_one_more fields name flag of rest fresh parts.1.0,
       ),
       (λ other r has out.
-          ⊎_elim
-          (λ same. absurd (out (Contains-cons name (core_names rest) other (inl same.0))))
-          (λ there. parts.1.1 other r (has.0, there) (λ among. out (Contains-cons name (core_names rest) other (inr among))))
-          has.1),
+          elim has.1 [
+            | inl same ↦ absurd (out (Contains-cons name (core_names rest) other (inl same.0)))
+            | inr there ↦
+                parts.1.1 other r (has.0, there) (λ among. out (Contains-cons name (core_names rest) other (inr among)))
+          ]),
       (λ other r has out.
-          ⊎_elim
-          (λ same. absurd (out (Contains-cons name (field_names fields) other (inl same.0))))
-          (λ there. parts.1.2 other r (has.0, there) (λ among. out (Contains-cons name (field_names fields) other (inr among))))
-          has.1),
+          elim has.1 [
+            | inl same ↦ absurd (out (Contains-cons name (field_names fields) other (inl same.0)))
+            | inr there ↦
+                parts.1.2 other r (has.0, there) (λ among. out (Contains-cons name (field_names fields) other (inr among)))
+          ]),
     ),
     λ whole. (
       whole.0.0 flag of (inl (refl, refl, refl)),

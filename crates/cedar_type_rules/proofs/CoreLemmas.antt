@@ -1,5 +1,5 @@
 -- A type has no core type exactly where one that lacks it stands in it.
-use Rattle.std.proofs.Common.{◌≡◌, ◌⊎◌, inl, inr, ⊎_elim, refl, ap, Option, Some, None}
+use Rattle.std.proofs.Common.{◌≡◌, ◌⊎◌, inl, inr, refl, ap, Option, Some, None}
 use Rattle.std.specs.Option.{option_map, option_zip}
 use Rattle.cedar_below.specs.CoreTy.{core_set, core_record, core_entity, core_field}
 use Rattle.cedar_type_rules.specs.OpenTag.{is_open}
@@ -45,9 +45,11 @@ mutual
   lacked_fields : (fields : Fields) → core_fields fields ≡ None → StandsInFields LacksCore fields
   lacked_fields end e = absurd cc
   lacked_fields (field name required ty rest) e =
-      ⊎_elim (λ none. inl (lacked ty none)) (λ none. inr (lacked_fields rest none))
-      (unzipped (core_of ty) (core_fields rest) (unmapped (λ both. core_field name required both.0 both.1)
-      (option_zip (core_of ty) (core_fields rest)) e))
+      elim (unzipped (core_of ty) (core_fields rest) (unmapped (λ both. core_field name required both.0 both.1)
+      (option_zip (core_of ty) (core_fields rest)) e)) [
+        | inl none ↦ inl (lacked ty none)
+        | inr none ↦ inr (lacked_fields rest none)
+      ]
 
 mutual
   -- where one that lacks a core type stands in a type, it has none
@@ -66,9 +68,10 @@ mutual
   lacking_fields : (fields : Fields) → StandsInFields LacksCore fields → core_fields fields ≡ None
   lacking_fields end stands = elim stands [ ]
   lacking_fields (field name required ty rest) stands =
-      ap (option_map (λ both. core_field name required both.0 both.1))
-      (⊎_elim (λ here. zip-first (core_of ty) (core_fields rest) (lacking ty here))
-      (λ there. zip-second (core_of ty) (core_fields rest) (lacking_fields rest there)) stands)
+      ap (option_map (λ both. core_field name required both.0 both.1)) (elim stands [
+        | inl here ↦ zip-first (core_of ty) (core_fields rest) (lacking ty here)
+        | inr there ↦ zip-second (core_of ty) (core_fields rest) (lacking_fields rest there)
+      ])
 
 -- a type has no core type exactly where one that lacks it stands in it
 pub core_lacked : CoreIsLackedExactly

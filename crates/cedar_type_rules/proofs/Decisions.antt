@@ -1,5 +1,5 @@
 -- What can be decided of names and lists, and sorted lists without duplicates.
-use Rattle.std.proofs.Common.{◌≡◌, ◌⊎◌, ◌↔◌, inl, inr, ⊎_elim, Bool, true, false, refl, sym, ap, subst, ◌∙◌, ◌≤◌, length, List, [], ◌∷◌, Contains, arith}
+use Rattle.std.proofs.Common.{◌≡◌, ◌⊎◌, ◌↔◌, inl, inr, Bool, true, false, refl, sym, ap, subst, ◌∙◌, ◌≤◌, length, List, [], ◌∷◌, Contains, arith}
 use Rattle.std.proofs.lemmas.List.Elements.{All-contains, All-from_recursion}
 use Rattle.std.specs.Cmp.{IsTotalOrder}
 use Rattle.std.specs.List.{AllByRecursion}
@@ -41,22 +41,24 @@ decide_same R ties x y = from_order (R x y) refl
 pub decide_among : {B : Type 0} → ((x y : B) → IsDecided (x ≡ y)) → (xs : List B) (x : B) → IsDecided (Contains xs x)
 decide_among decide [] x = inr (λ among. omega (arith, among.1))
 decide_among decide (y ∷ ys) x =
-    ⊎_elim
-    (λ same. inl (Contains-cons y ys x (inl same)))
-    (λ differ. ⊎_elim
-    (λ there. inl (Contains-cons y ys x (inr there)))
-    (λ absent. inr (λ among. ⊎_elim differ absent (Contains-cons_cases y ys x among)))
-    (decide_among decide ys x))
-    (decide y x)
+    elim (decide y x) [
+      | inl same ↦ inl (Contains-cons y ys x (inl same))
+      | inr differ ↦
+          elim (decide_among decide ys x) [
+            | inl there ↦ inl (Contains-cons y ys x (inr there))
+            | inr absent ↦
+                inr (λ among. elim (Contains-cons_cases y ys x among) [ inl left ↦ differ left | inr right ↦ absent right ])
+          ]
+    ]
 
 -- values are included in others or not
 pub decide_included : {B : Type 0} → ((x y : B) → IsDecided (x ≡ y)) → (xs ys : List B) → IsDecided (Included xs ys)
 decide_included decide [] ys = inl (Included-none ys)
 decide_included decide (x ∷ xs) ys =
-    ⊎_elim
-    (λ both. inl (Included-cons x xs ys both.0 both.1))
-    (λ none. inr (λ within. none (Included-head x xs ys within, Included-tail x xs ys within)))
-    (decide_both (decide_among decide ys x) (decide_included decide xs ys))
+    elim (decide_both (decide_among decide ys x) (decide_included decide xs ys)) [
+      | inl both ↦ inl (Included-cons x xs ys both.0 both.1)
+      | inr none ↦ inr (λ within. none (Included-head x xs ys within, Included-tail x xs ys within))
+    ]
 
 -- what holds of each value of a list holds of all
 pub each_of : {B : Type 0} (P : B → Type 0) (xs : List B) → ((x : B) → Contains xs x → P x) → AllByRecursion P xs
@@ -98,8 +100,10 @@ insert_one {B = B} R total ties x (y ∷ ys) sorted_by_name = from_order (R x y)
       );
       first = Included-cons x [] (x ∷ y ∷ ys) (Contains-cons x (y ∷ ys) x (inl refl)) (Included-none (x ∷ y ∷ ys));
       second = λ z among. Contains-cons x (y ∷ ys) z (inr among);
-      only = λ z among. ⊎_elim (λ same. inl (Contains-cons x [] z (inl same))) (λ there. inr there)
-          (Contains-cons_cases x (y ∷ ys) z among);
+      only = λ z among. elim (Contains-cons_cases x (y ∷ ys) z among) [
+        | inl same ↦ inl (Contains-cons x [] z (inl same))
+        | inr there ↦ inr there
+      ];
     }
     from_order Equal e rest = record {
       all = y ∷ ys;
@@ -113,21 +117,23 @@ insert_one {B = B} R total ties x (y ∷ ys) sorted_by_name = from_order (R x y)
         record {
           all = y ∷ rest.all;
           sorted_by_name = (
-            each_of (λ z. R y z ≡ Less) rest.all
-                (λ z among. ⊎_elim
-                (λ new. ⊎_elim (λ same. subst (λ w. R y w ≡ Less) same below) (λ none. absurd (omega (arith, none.1)))
-                (Contains-cons_cases x [] z new))
-                (λ old. of_each (λ z. R y z ≡ Less) ys sorted_by_name.0 z old)
-                (rest.only z among)),
+            each_of (λ z. R y z ≡ Less) rest.all (λ z among. elim (rest.only z among) [
+              | inl new ↦
+                  elim (Contains-cons_cases x [] z new) [
+                    | inl same ↦ subst (λ w. R y w ≡ Less) same below
+                    | inr none ↦ absurd (omega (arith, none.1))
+                  ]
+              | inr old ↦ of_each (λ z. R y z ≡ Less) ys sorted_by_name.0 z old
+            ]),
             rest.sorted_by_name,
           );
           first = λ z among. Contains-cons y rest.all z (inr (rest.first z among));
           second = Included-cons y ys (y ∷ rest.all) (Contains-cons y rest.all y (inl refl))
               (λ z among. Contains-cons y rest.all z (inr (rest.second z among)));
-          only = λ z among. ⊎_elim
-              (λ same. inr (Contains-cons y ys z (inl same)))
-              (λ there. ⊎_elim (λ new. inl new) (λ old. inr (Contains-cons y ys z (inr old))) (rest.only z there))
-              (Contains-cons_cases y rest.all z among);
+          only = λ z among. elim (Contains-cons_cases y rest.all z among) [
+            | inl same ↦ inr (Contains-cons y ys z (inl same))
+            | inr there ↦ elim (rest.only z there) [ inl new ↦ inl new | inr old ↦ inr (Contains-cons y ys z (inr old)) ]
+          ];
         }
 
 -- lists are merged, where the second is sorted
@@ -143,11 +149,14 @@ merge R total ties (x ∷ xs) ys sorted_by_name =
       sorted_by_name = more.sorted_by_name;
       first = Included-cons x xs more.all (more.first x (Contains-cons x [] x (inl refl))) (λ z among. more.second z (rest.first z among));
       second = λ z among. more.second z (rest.second z among);
-      only = λ z among. ⊎_elim
-          (λ new. ⊎_elim (λ same. inl (Contains-cons x xs z (inl same))) (λ none. absurd (omega (arith, none.1)))
-          (Contains-cons_cases x [] z new))
-          (λ old. ⊎_elim (λ there. inl (Contains-cons x xs z (inr there))) (λ there. inr there) (rest.only z old))
-          (more.only z among);
+      only = λ z among. elim (more.only z among) [
+        | inl new ↦
+            elim (Contains-cons_cases x [] z new) [
+              | inl same ↦ inl (Contains-cons x xs z (inl same))
+              | inr none ↦ absurd (omega (arith, none.1))
+            ]
+        | inr old ↦ elim (rest.only z old) [ inl there ↦ inl (Contains-cons x xs z (inr there)) | inr there ↦ inr there ]
+      ];
     }
 
 -- values that are sorted and are among as many are all of them
@@ -159,32 +168,33 @@ all_among R total ties [] [] first second within = (omega arith, λ _. Included-
 all_among R total ties [] (y ∷ ys) first second within = (omega arith, λ e. absurd (omega (arith, e)))
 all_among R total ties (x ∷ xs) [] first second within = absurd (omega (arith, (Included-head x xs [] within).1))
 all_among {B = B} R total ties (x ∷ xs) (y ∷ ys) first second within =
-    ⊎_elim
-    (λ same.
-    (let rest = all_among R total ties xs ys first.1 second.1 (later same) in (
-      omega (arith, rest.0),
-      λ e. Included-cons y ys (x ∷ xs) (Contains-cons x xs y (inl (sym same)))
-          (λ z among. Contains-cons x xs z (inr (rest.1 (omega (arith, e)) z among))),
-    )))
-    (λ there.
-    (let rest = all_among R total ties (x ∷ xs) ys first second.1 (skipped there) in
-    (omega (arith, rest.0), λ e. absurd (omega (arith, rest.0, e)))))
-    (Contains-cons_cases y ys x (Included-head x xs (y ∷ ys) within))
+    elim (Contains-cons_cases y ys x (Included-head x xs (y ∷ ys) within)) [
+      | inl same ↦
+          let rest = all_among R total ties xs ys first.1 second.1 (later same) in (
+            omega (arith, rest.0),
+            λ e. Included-cons y ys (x ∷ xs) (Contains-cons x xs y (inl (sym same)))
+                (λ z among. Contains-cons x xs z (inr (rest.1 (omega (arith, e)) z among))),
+          )
+      | inr there ↦
+          let rest = all_among R total ties (x ∷ xs) ys first second.1 (skipped there) in
+          (omega (arith, rest.0), λ e. absurd (omega (arith, rest.0, e)))
+    ]
   where
     irreflexive : (z w : B) → z ≡ w → ¬ (R z w ≡ Less)
     irreflexive z w same less = let tied : R z w ≡ Equal = (ties z w).1 same in cc
 
     later : y ≡ x → Included xs ys
     later same z among =
-        ⊎_elim
-        (λ e. absurd (irreflexive x z (sym same ∙ e) (of_each (λ z. R x z ≡ Less) xs first.0 z among)))
-        (λ there. there)
-        (Contains-cons_cases y ys z (Included-tail x xs (y ∷ ys) within z among))
+        elim (Contains-cons_cases y ys z (Included-tail x xs (y ∷ ys) within z among)) [
+          | inl e ↦ absurd (irreflexive x z (sym same ∙ e) (of_each (λ z. R x z ≡ Less) xs first.0 z among))
+          | inr there ↦ there
+        ]
 
     skipped : Contains ys x → Included (x ∷ xs) ys
     skipped there = Included-cons x xs ys there
-        (λ z among. ⊎_elim
-        (λ e. absurd (irreflexive y z e (total.trans y x z (of_each (λ z. R y z ≡ Less) ys second.0 x there)
-        (of_each (λ z. R x z ≡ Less) xs first.0 z among))))
-        (λ there. there)
-        (Contains-cons_cases y ys z (Included-tail x xs (y ∷ ys) within z among)))
+        (λ z among. elim (Contains-cons_cases y ys z (Included-tail x xs (y ∷ ys) within z among)) [
+          | inl e ↦
+              absurd (irreflexive y z e (total.trans y x z (of_each (λ z. R y z ≡ Less) ys second.0 x there)
+              (of_each (λ z. R x z ≡ Less) xs first.0 z among)))
+          | inr there ↦ there
+        ])

@@ -21,5 +21,4 @@ disjoint-unions (union_of own) (union_of other) names others is also =
     let second : other ≡ others = cc in
     subst (λ each. AreDisjoint each others ↔ AreDisjoint own other) first
     (subst (λ each. AreDisjoint own each ↔ AreDisjoint own other) second (λ apart. apart, λ apart. apart))
-disjoint-unions (union_of own) b names others is also = absurd cc
-disjoint-unions a b names others is also = absurd cc
+disjoint-unions _ b names others is also = absurd cc

@@ -31,8 +31,7 @@ unequal a b below = sym (is_eq-slice_cmp a b) ∙ ap is_eq below
 -- a name below each of the names isn't among them
 field_at-below : (name : Text) (fields : Fields) → IsBelowEach name fields → field_at name fields ≡ None
 field_at-below name end below = refl
-field_at-below name (field other required ty rest) below =
-    rw (unequal name other below.0) (field_at-below name rest below.1)
+field_at-below name (field other required ty rest) below = rw (unequal name other below.0) (field_at-below name rest below.1)
 
 -- the first attribute is found under its name
 field_at-here : (name : Text) (required : Bool) (ty : Ty) (rest : Fields)

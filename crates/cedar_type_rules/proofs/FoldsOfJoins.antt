@@ -65,12 +65,10 @@ module _ {A : Type 0} (IsBelow : A → A → Type 0) (IsClean : A → Type 0) (I
       subst (IsLeastClean IsBelow IsClean (start ∷ [])) (sym is) (((laws.itself start, tt), clean), λ bound own. own.0.0)
   joined_is_least start (item ∷ rest) answer clean all (inl (join, right, more)) =
       let up = laws.above start item join right in
-      least-same (join ∷ rest) (start ∷ item ∷ rest) answer
-      (λ bound own. (
+      least-same (join ∷ rest) (start ∷ item ∷ rest) answer (λ bound own. (
         (laws.onwards start join bound up.0 own.0.0, (laws.onwards item join bound up.1 own.0.0, own.0.1)),
         own.1,
-      ))
-      (λ bound own. ((laws.least start item join bound right own.0.0 own.0.1.0 own.1, own.0.1.1), own.1))
+      )) (λ bound own. ((laws.least start item join bound right own.0.0 own.0.1.0 own.1, own.0.1.1), own.1))
       (joined_is_least join rest answer (laws.clean start item join right clean all.0) all.1 more)
   joined_is_least start (item ∷ rest) answer clean all (inr (given, right, is)) =
       subst (IsLeastClean IsBelow IsClean (start ∷ item ∷ rest)) (sym is)

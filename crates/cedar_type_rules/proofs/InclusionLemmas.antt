@@ -1,5 +1,5 @@
 -- Which names are listed, and what a look-up of a name says of it.
-use Rattle.std.proofs.Common.{◌≡◌, inl, inr, Bool, [], ◌∷◌, refl, sym, ap, subst, ◌∙◌, Option, Some, None, Contains, ⊎_elim, arith, Bor}
+use Rattle.std.proofs.Common.{◌≡◌, inl, inr, Bool, [], ◌∷◌, refl, sym, ap, subst, ◌∙◌, Option, Some, None, Contains, arith, Bor}
 use Rattle.std.proofs.lemmas.Slice.Eq.{bytes_eq-Decides}
 use Rattle.std.specs.Bool.{Decides}
 use Rattle.std.specs.Option.{is_some, option_map, option_copied}
@@ -17,8 +17,8 @@ field_at-Decides name (field other required ty rest) =
     let same = bytes_eq-Decides name other in
     let either = chosen (bytes_eq name other) (required, ty) (field_at name rest) (name ≡ other)
     (Contains (field_names rest) name) same (field_at-Decides name rest) in (
-      λ e. Contains-cons other (field_names rest) name (⊎_elim (λ s. inl (sym s)) (λ there. inr there) (either.0 e)),
-      λ among. either.1 (⊎_elim (λ s. inl (sym s)) (λ there. inr there) (Contains-cons_cases other (field_names rest) name among)),
+      λ e. Contains-cons other (field_names rest) name (elim (either.0 e) [ inl s ↦ inl (sym s) | inr there ↦ inr there ]),
+      λ among. either.1 (elim (Contains-cons_cases other (field_names rest) name among) [ inl s ↦ inl (sym s) | inr there ↦ inr there ]),
     )
 
 -- what is found is there, whatever is read of it
@@ -30,9 +30,8 @@ is_some-read f (Some x) = refl
 pub found-Decides : {A : Type 0} (f : A → Bool × Ty) (found : Option (Bor A)) (name : Text) (fields : Fields)
     → option_map f (option_copied found) ≡ field_at name fields → Decides (is_some found) (Contains (field_names fields) name)
 found-Decides f found name fields e =
-    let P : Bool → Type 0 = λ there. Decides there (Contains (field_names fields) name) in
-    subst P (sym (ap is_some e) ∙ is_some-read f found) (field_at-Decides name fields)
+    subst (λ there. Decides there (Contains (field_names fields) name)) (sym (ap is_some e) ∙ is_some-read f found) (field_at-Decides name fields)
 
 -- the only member of a list is the member
 pub Contains-only : {A : Type 0} (x y : A) → Contains (x ∷ []) y → x ≡ y
-Contains-only x y among = ⊎_elim (λ same. same) (λ there. absurd (omega (arith, there.1))) (Contains-cons_cases x [] y among)
+Contains-only x y among = elim (Contains-cons_cases x [] y among) [ inl same ↦ same | inr there ↦ absurd (omega (arith, there.1)) ]

@@ -1,5 +1,5 @@
 -- What follows for the least own bound of two types.
-use Rattle.std.proofs.Common.{inl, inr, ⊎_elim, refl, sym, subst, Ok, Err}
+use Rattle.std.proofs.Common.{inl, inr, refl, sym, subst, Ok, Err}
 use Rattle.cedar_below.specs.declared.validation_mode.ValidationMode.{ValidationMode}
 use Rattle.cedar_type_rules.proofs.AntisymmetryLaws.{Below-same}
 use Rattle.cedar_type_rules.proofs.OwnBoundLemmas.{LiesWithin-clean, IsClean-within, LiesWithin-more, LiesWithin-among}
@@ -17,7 +17,7 @@ clean_is_own mode a b bound clean = (clean.0, LiesWithin-clean (IsEither a b) bo
 pub own_is_clean : OwnBoundsOfCleanAreClean
 own_is_clean mode a b bound first second own =
     IsClean-within (IsEither a b) bound
-    (λ of either. ⊎_elim (λ e. subst IsClean (sym e) first) (λ e. subst IsClean (sym e) second) either) own.1
+    (λ of either. elim either [ inl e ↦ subst IsClean (sym e) first | inr e ↦ subst IsClean (sym e) second ]) own.1
 
 -- the upper of two types is their join
 pub upper_is_join : UpperTypesAreJoins
@@ -46,14 +46,13 @@ join_below_clean mode a b (Err given) right = (tt, λ bound clean. absurd (right
 pub join_least_clean : JoinsOfCleanAreLeastClean
 join_least_clean mode a b (Ok join) first second right =
     ((right.0.0, own_is_clean mode a b join first second right.0), λ bound clean. right.1 bound (clean_is_own mode a b bound clean))
-join_least_clean mode a b (Err given) first second right =
-    λ bound clean. right.0 (bound, clean_is_own mode a b bound clean)
+join_least_clean mode a b (Err given) first second right = λ bound clean. right.0 (bound, clean_is_own mode a b bound clean)
 
 -- an own bound of two types is one of the same types swapped
 own_swapped : (mode : ValidationMode) (a b bound : Ty) → IsOwnBound mode a b bound → IsOwnBound mode b a bound
 own_swapped mode a b bound own = (
   (own.0.1.0, (own.0.0, tt)),
-  LiesWithin-more (IsEither a b) (IsEither b a) bound (λ of either. ⊎_elim (λ e. inr e) (λ e. inl e) either) own.1,
+  LiesWithin-more (IsEither a b) (IsEither b a) bound (λ of either. elim either [ inl e ↦ inr e | inr e ↦ inl e ]) own.1,
 )
 
 -- swapped types have the same joins

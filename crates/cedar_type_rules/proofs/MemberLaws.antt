@@ -1,5 +1,5 @@
 -- What has a type has each type above it.
-use Rattle.std.proofs.Common.{◌≡◌, ◌⊎◌, inl, inr, ⊎_elim, Bool, true, false, refl, sym, subst, ◌∙◌, Option, Some, None, Contains}
+use Rattle.std.proofs.Common.{◌≡◌, ◌⊎◌, inl, inr, Bool, true, false, refl, sym, subst, ◌∙◌, Option, Some, None, Contains}
 use Rattle.cedar_below.specs.Fits.{EntryFits, NamesListed}
 use Rattle.cedar_below.specs.PlainName.{PlainName}
 use Rattle.cedar_below.specs.Text.{Text}
@@ -19,8 +19,7 @@ use Rattle.cedar_type_rules.specs.declared.open_tag.OpenTag.TheVariants.{OpenAtt
 -- what holds of each value holds of it in a weaker form
 pub EachTree-weaker : (P Q : Tree → Type 0) (values : Trees) → ((value : Tree) → P value → Q value) → EachTree P values → EachTree Q values
 EachTree-weaker P Q no_tree weaker each = tt
-EachTree-weaker P Q (tree first rest) weaker each =
-    (weaker first each.0, EachTree-weaker P Q rest weaker each.1)
+EachTree-weaker P Q (tree first rest) weaker each = (weaker first each.0, EachTree-weaker P Q rest weaker each.1)
 
 -- what is as it has to be is so in a weaker form
 pub EntryFits-weaker : (P Q : Tree → Type 0) (own required : Bool) (found : Option Tree)
@@ -37,7 +36,7 @@ FlagsBelow-missing Permissive own false fits missing = refl
 -- a truth value as known is so as less is known
 pub HasTruth-above : (value : Bool) (a b : BoolType) → HasTruth value a → (b ≡ bool_type.AnyBool) ⊎ (a ≡ b) → HasTruth value b
 HasTruth-above value a b has below =
-    ⊎_elim (λ any. subst (HasTruth value) (sym any) tt) (λ same. subst (HasTruth value) same has) below
+    elim below [ inl any ↦ subst (HasTruth value) (sym any) tt | inr same ↦ subst (HasTruth value) same has ]
 
 -- a record whose attributes are listed lists them in a record type above
 pub NamesListed-above : (mode : ValidationMode) (openness upper_openness : OpenTag) (values : Entries)
@@ -77,8 +76,7 @@ mutual
   HasBy-above calls (uid_value uid) Permissive (union_of a) any_entity h k = tt
   HasBy-above calls (uid_value uid) Permissive (union_of a) (union_of b) h k = k uid.ty h
   HasBy-above calls (uid_value uid) Permissive (union_of a) b h k = elim k [ ]
-  HasBy-above calls (uid_value uid) Strict (union_of a) (union_of b) h k =
-      subst (λ names. Contains names uid.ty) k h
+  HasBy-above calls (uid_value uid) Strict (union_of a) (union_of b) h k = subst (λ names. Contains names uid.ty) k h
   HasBy-above calls (uid_value uid) Strict (union_of a) b h k = elim k [ ]
   HasBy-above calls (set_value values) mode any_set any_set h k = tt
   HasBy-above calls (set_value values) mode any_set b h k = elim k [ ]
@@ -102,7 +100,6 @@ mutual
       let own = k.0 in (
         EntryFits-weaker (λ value. HasBy calls value own.1) (λ value. HasBy calls value ty) own.0 required
             (entry_at name values) (λ value has. HasBy-above calls value mode own.1 ty has own.4)
-            (FlagsBelow-missing mode own.0 required own.3)
-            (HasFieldsBy-of calls values a name own.0 own.1 h own.2),
+            (FlagsBelow-missing mode own.0 required own.3) (HasFieldsBy-of calls values a name own.0 own.1 h own.2),
         HasFieldsBy-above calls values mode a rest h k.1,
       )

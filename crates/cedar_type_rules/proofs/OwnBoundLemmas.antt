@@ -24,8 +24,7 @@ mutual
 pub AreClean-of : (fields : Fields) (name : Text) (required : Bool) (ty : Ty) → AreClean fields → HasField fields name required ty → IsClean ty
 AreClean-of end name required ty clean has = absurd has
 AreClean-of (field other flag of rest) name required ty clean (inl same) = subst IsClean same.2 clean.0
-AreClean-of (field other flag of rest) name required ty clean (inr there) =
-    AreClean-of rest name required ty clean.1 there
+AreClean-of (field other flag of rest) name required ty clean (inr there) = AreClean-of rest name required ty clean.1 there
 
 mutual
   -- what lies within clean types is clean

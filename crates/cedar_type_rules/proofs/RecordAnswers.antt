@@ -1,5 +1,5 @@
 -- Answers of joins of records.
-use Rattle.std.proofs.Common.{◌≡◌, ◌↔◌, inl, inr, ⊎_elim, Bool, true, false, ◌&&◌, IsTrue, refl, sym, subst, ◌∙◌, Ok, Err}
+use Rattle.std.proofs.Common.{◌≡◌, ◌↔◌, inl, inr, Bool, true, false, ◌&&◌, IsTrue, refl, sym, subst, ◌∙◌, Ok, Err}
 use Rattle.std.specs.List.{AllByRecursion}
 use Rattle.std.specs.List.Sorted.{IsStrictlySortedBy}
 use Rattle.std.specs.declared.cmp.Ordering.TheVariants.{Less}
@@ -74,8 +74,7 @@ pub joined_sorted_by_name : (mode : ValidationMode) (flags : Bool → Bool → B
     → IsSortedByName (field name flag of fj)
 unfolding IsStrictlySortedBy
 joined_sorted_by_name mode flags name required flag ty of rest fb fj sorted_by_name own each = (
-  all_names (λ n. text_cmp name n ≡ Less) fj
-      (λ n r t has. (let it = each n r t has in
+  all_names (λ n. text_cmp name n ≡ Less) fj (λ n r t has. (let it = each n r t has in
       of_each (λ n. text_cmp name n ≡ Less) (field_names rest) sorted_by_name.0 n (HasField-name rest n it.first_flag it.first it.in_first))),
   own,
 )
@@ -123,11 +122,12 @@ drop_one name required ty rest fb before none = record {
   sorted_by_name = before.sorted_by_name;
   formed = before.formed;
   sound = λ n r t has. in_more Permissive BothRequire rest fb name required ty n r t (before.sound n r t has);
-  complete = λ n ra rb a b has also own. ⊎_elim
-      (λ same. absurd (none rb b (subst (λ m. HasField fb m rb b) (sym same.0) also)
-      (subst (λ z. HaveOwnBound Permissive z b) (sym same.2) own)))
-      (λ there. before.complete n ra rb a b there also own)
-      has;
+  complete = λ n ra rb a b has also own. elim has [
+    | inl same ↦
+        absurd (none rb b (subst (λ m. HasField fb m rb b) (sym same.0) also)
+        (subst (λ z. HaveOwnBound Permissive z b) (sym same.2) own))
+    | inr there ↦ before.complete n ra rb a b there also own
+  ];
 }
 
 -- an attribute with a join is kept
@@ -139,26 +139,26 @@ keep_one name required flag ty of join rest fb sorted_by_name before has least f
   sorted_by_name = joined_sorted_by_name Permissive BothRequire name required
       (required && flag) ty join rest fb before.fields sorted_by_name before.sorted_by_name before.sound;
   formed = (formed, before.formed);
-  sound = λ n r t there. ⊎_elim
-      (λ same. subst (λ m. IsJoined Permissive BothRequire (field name required ty rest) fb m r t) same.0
-      (subst (λ q. IsJoined Permissive BothRequire (field name required ty rest) fb name q t) same.1
-      (subst (IsJoined Permissive BothRequire (field name required ty rest) fb name (required && flag)) same.2
-      (record {
-        first_flag = required;
-        second_flag = flag;
-        first = ty;
-        second = of;
-        in_first = inl (refl, refl, refl);
-        in_second = has;
-        least = least;
-        flag = both_require required flag;
-      }))))
-      (λ old. in_more Permissive BothRequire rest fb name required ty n r t (before.sound n r t old))
-      there;
-  complete = λ n ra rb a b own also bound. ⊎_elim
-      (λ same. (required && flag, join, inl (same.0, refl, refl)))
-      (λ there. (let found = before.complete n ra rb a b there also bound in (found.0, found.1, inr found.2)))
-      own;
+  sound = λ n r t there. elim there [
+    | inl same ↦
+        subst (λ m. IsJoined Permissive BothRequire (field name required ty rest) fb m r t) same.0
+        (subst (λ q. IsJoined Permissive BothRequire (field name required ty rest) fb name q t) same.1
+        (subst (IsJoined Permissive BothRequire (field name required ty rest) fb name (required && flag)) same.2 (record {
+          first_flag = required;
+          second_flag = flag;
+          first = ty;
+          second = of;
+          in_first = inl (refl, refl, refl);
+          in_second = has;
+          least = least;
+          flag = both_require required flag;
+        })))
+    | inr old ↦ in_more Permissive BothRequire rest fb name required ty n r t (before.sound n r t old)
+  ];
+  complete = λ n ra rb a b own also bound. elim own [
+    | inl same ↦ (required && flag, join, inl (same.0, refl, refl))
+    | inr there ↦ let found = before.complete n ra rb a b there also bound in (found.0, found.1, inr found.2)
+  ];
 }
 
 -- the attributes of a permissive join
@@ -166,10 +166,11 @@ permissive_join : (fa fb : Fields) → IsSortedByName fa → IsSortedByName fb �
 permissive_join end fb sorted_by_name second answers = no_permissive fb
 permissive_join (field name required ty rest) fb sorted_by_name second answers =
     let before = permissive_join rest fb (rest_sorted_by_name name required ty rest sorted_by_name) second answers.1 in
-    ⊎_elim
-    (λ there. (let found = HasField-named fb name there in by_answer before found.0 found.1 found.2 (answers.0 found.0 found.1 found.2)))
-    (λ absent. drop_one name required ty rest fb before (λ rb b has own. absent (HasField-name fb name rb b has)))
-    (decide_among decide_texts (field_names fb) name)
+    elim (decide_among decide_texts (field_names fb) name) [
+      | inl there ↦
+          let found = HasField-named fb name there in by_answer before found.0 found.1 found.2 (answers.0 found.0 found.1 found.2)
+      | inr absent ↦ drop_one name required ty rest fb before (λ rb b has own. absent (HasField-name fb name rb b has))
+    ]
   where
     by_answer : PermissiveJoin rest fb → (flag : Bool) (of : Ty) → HasField fb name flag of
         → IsAnswered Permissive ty of → PermissiveJoin (field name required ty rest) fb
@@ -204,16 +205,14 @@ permissive_own fa fb ta tb openness it h k names also = (
     (
       h,
       names,
-      FieldsBelow-from Permissive fa it.fields
-          (λ n r t has. (let part = it.sound n r t has in
+      FieldsBelow-from Permissive fa it.fields (λ n r t has. (let part = it.sound n r t has in
           (part.first_flag, part.first, part.in_first, (λ needed. (part.flag.0 needed).0), part.least.0.0.0))),
     ),
     (
       (
         k,
         also,
-        FieldsBelow-from Permissive fb it.fields
-            (λ n r t has. (let part = it.sound n r t has in
+        FieldsBelow-from Permissive fb it.fields (λ n r t has. (let part = it.sound n r t has in
             (part.second_flag, part.second, part.in_second, (λ needed. (part.flag.0 needed).1), part.least.0.0.1.0))),
       ),
       tt,
@@ -228,8 +227,7 @@ permissive_own fa fb ta tb openness it h k names also = (
 permissive_fields : (fa fb fc : Fields) (ta tb tc : OpenTag) (it : PermissiveJoin fa fb) → IsSortedByName fa
     → IsSortedByName fb → IsOwnBound Permissive (record_of fa ta) (record_of fb tb) (record_of fc tc) → FieldsBelow Permissive it.fields fc
 permissive_fields fa fb fc ta tb tc it first second own =
-    FieldsBelow-from Permissive it.fields fc
-    (λ n r t has.
+    FieldsBelow-from Permissive it.fields fc (λ n r t has.
     (let one = HasBelow-of Permissive fa fc n r t own.0.0.2 has in
     let other = HasBelow-of Permissive fb fc n r t own.0.1.0.2 has in
     let bound : IsOwnBound Permissive one.1 other.1 t = (
@@ -320,11 +318,13 @@ permissive_records_answered fa fb ta tb first second texts answers =
     (let found = HasField-named it.fields name among in
     let part = it.sound name found.0 found.1 found.2 in
     texts name (HasField-name fa name part.first_flag part.first part.in_first)) in
-    ⊎_elim
-    (λ all. given Permissive (record_of fa ta) (record_of fb tb) (record_of it.fields ClosedAttributes)
-    (permissive_closed fa fb ta tb it first second all) (it.sorted_by_name, it.formed, names))
-    (λ none. given Permissive (record_of fa ta) (record_of fb tb) (record_of it.fields OpenAttributes)
-    (permissive_open fa fb ta tb it first second none) (it.sorted_by_name, it.formed, names))
-    (decide_both (decide_both (decide_closed ta) (decide_closed tb))
+    elim (decide_both (decide_both (decide_closed ta) (decide_closed tb))
     (decide_both (decide_included decide_texts (field_names fa) (field_names it.fields))
-    (decide_included decide_texts (field_names fb) (field_names it.fields))))
+    (decide_included decide_texts (field_names fb) (field_names it.fields)))) [
+      | inl all ↦
+          given Permissive (record_of fa ta) (record_of fb tb) (record_of it.fields ClosedAttributes)
+          (permissive_closed fa fb ta tb it first second all) (it.sorted_by_name, it.formed, names)
+      | inr none ↦
+          given Permissive (record_of fa ta) (record_of fb tb) (record_of it.fields OpenAttributes)
+          (permissive_open fa fb ta tb it first second none) (it.sorted_by_name, it.formed, names)
+    ]

@@ -14,8 +14,7 @@ use Rattle.cedar_type_rules.specs.Clean.{IsClean}
 use Rattle.cedar_type_rules.specs.Help.{IsHelp}
 use Rattle.cedar_type_rules.specs.JoinAnswer.{JoinAnswer, IsLeastAnswer, IsReduceAnswer}
 use Rattle.cedar_type_rules.specs.OwnBound.{HaveOwnBound}
-use Rattle.cedar_type_rules.specs.ReduceLaws.{EmptyIsReducedToNever, CleanAreReducedToLeastClean, CleanAreReducedInAnyOrder}
-use Rattle.cedar_type_rules.specs.ReduceLaws.{ReductionsAreUnique, ReductionsAreWellFormed, RefusalsAreOfTheFirst}
+use Rattle.cedar_type_rules.specs.ReduceLaws.{EmptyIsReducedToNever, CleanAreReducedToLeastClean, CleanAreReducedInAnyOrder, ReductionsAreUnique, ReductionsAreWellFormed, RefusalsAreOfTheFirst}
 use Rattle.cedar_type_rules.specs.Ty.{Ty, never}
 use Rattle.cedar_type_rules.specs.WellFormed.{IsWellFormed}
 use Rattle.cedar_type_rules.specs.declared.join_error.LubHelp.{LubHelp}
@@ -36,8 +35,7 @@ reduce_from mode start [] answer clean all is =
     (((Below-itself mode start, tt), clean), λ bound own. own.0.0)
 reduce_from mode start (ty ∷ rest) answer clean all (inl (join, right, formed, more)) =
     let join_clean = own_is_clean mode start ty join clean all.0 right.0 in
-    IsLeastAnswer-same mode (IsCleanBound mode (join ∷ rest)) (IsCleanBound mode (start ∷ ty ∷ rest)) answer
-    (λ bound own. (
+    IsLeastAnswer-same mode (IsCleanBound mode (join ∷ rest)) (IsCleanBound mode (start ∷ ty ∷ rest)) answer (λ bound own. (
       (
         Below-trans mode start join bound right.0.0.0 own.0.0,
         (Below-trans mode ty join bound right.0.0.1.0 own.0.0, own.0.1),
@@ -59,11 +57,9 @@ reduce_least_clean mode tys answer all reduced =
 -- what types are reduced to from a well-formed start is well formed
 formed_from : (mode : ValidationMode) (start : Ty) (tys : List Ty) (answer : JoinAnswer) → IsWellFormed start
     → IsReduceAnswer mode start tys answer → IfOk answer IsWellFormed
-formed_from mode start [] answer formed is =
-    let P : JoinAnswer → Type 0 = λ each. IfOk each IsWellFormed in subst P (sym is) formed
+formed_from mode start [] answer formed is = rw is formed
 formed_from mode start (ty ∷ rest) answer formed (inl (join, right, joined, more)) = formed_from mode join rest answer joined more
-formed_from mode start (ty ∷ rest) answer formed (inr (given, right, is)) =
-    let P : JoinAnswer → Type 0 = λ each. IfOk each IsWellFormed in subst P (sym is) tt
+formed_from mode start (ty ∷ rest) answer formed (inr (given, right, is)) = rw is tt
 
 -- what types are reduced to is well formed
 pub reduced_formed : ReductionsAreWellFormed
@@ -75,8 +71,7 @@ unique_from : (mode : ValidationMode) (start : Ty) (tys : List Ty) (join : Ty) (
 unique_from mode start [] join answer first second = second ∙ sym first
 unique_from mode start (ty ∷ rest) join answer (inl (one, right, formed, more)) (inl (other, also, joined, others)) =
     let same = join_unique mode start ty other one joined formed also right in
-    let P : Ty → Type 0 = λ from. IsReduceAnswer mode from rest answer in
-    unique_from mode one rest join answer more (subst P same others)
+    unique_from mode one rest join answer more (rw same at others)
 unique_from mode start (ty ∷ rest) join answer (inl (one, right, formed, more)) (inr (given, none, is)) =
     absurd (none.0 (one, right.0))
 unique_from mode start (ty ∷ rest) join answer (inr (given, none, is)) second = absurd cc
@@ -92,16 +87,13 @@ refused_from : (mode : ValidationMode) (start : Ty) (before after : List Ty) (jo
     → (given : LubHelp) × IsHelp mode join ty given × (answer ≡ Err given)
 refused_from mode start [] after join ty answer is none (inl (other, right, formed, more)) =
     let same : start ≡ join = cc in
-    let P : Ty → Type 0 = λ from. HaveOwnBound mode from ty in
-    absurd (none (subst P same (other, right.0)))
+    absurd (none (rw (← same) (other, right.0)))
 refused_from mode start [] after join ty answer is none (inr (given, right, refused)) =
     let same : start ≡ join = cc in
-    let P : Ty → Type 0 = λ from. IsHelp mode from ty given in
-    (given, subst P same right.1, refused)
+    (given, rw same at right.1, refused)
 refused_from mode start (first ∷ before) after join ty answer (inl (one, right, formed, more)) none (inl (other, also, joined, others)) =
     let same = join_unique mode start first other one joined formed also right in
-    let P : Ty → Type 0 = λ from. IsReduceAnswer mode from (before ++ ty ∷ after) answer in
-    refused_from mode one before after join ty answer more none (subst P same others)
+    refused_from mode one before after join ty answer more none (rw same at others)
 refused_from mode start (first ∷ before) after join ty answer (inl (one, right, formed, more)) none (inr (given, apart, is)) =
     absurd (apart.0 (one, right.0))
 refused_from mode start (first ∷ before) after join ty answer (inr (given, right, is)) none second = absurd cc
@@ -138,7 +130,6 @@ same_answer mode tys others join (Err given) forth back first second formed also
 -- what clean types are reduced to doesn't depend on their order
 pub reduce_any_order : CleanAreReducedInAnyOrder
 reduce_any_order mode tys others join answer all forth back reduced also =
-    same_answer mode tys others join answer forth back
-    (reduce_least_clean mode tys (Ok join) all reduced)
+    same_answer mode tys others join answer forth back (reduce_least_clean mode tys (Ok join) all reduced)
     (reduce_least_clean mode others answer (AllByRecursion-included IsClean tys others back all) also)
     (reduced_formed mode tys (Ok join) reduced) (reduced_formed mode others answer also)

@@ -1,5 +1,5 @@
 -- Values of inhabited types, and of records with a chosen attribute.
-use Rattle.std.proofs.Common.{◌≡◌, ◌≢◌, inl, inr, ⊎_elim, Bool, true, false, refl, sym, subst, ◌∙◌, ℕ, suc, ◌+◌, ◌≤◌, pos, length, List, [], ◌∷◌, Option, Some, None, Contains, arith}
+use Rattle.std.proofs.Common.{◌≡◌, ◌≢◌, inl, inr, Bool, true, false, refl, sym, subst, ◌∙◌, ℕ, suc, ◌+◌, ◌≤◌, pos, length, List, [], ◌∷◌, Option, Some, None, Contains, arith}
 use Rattle.std.proofs.lemmas.Slice.Eq.{bytes_eq-Decides}
 use Rattle.std.proofs.Math.Facts.{sfits_lit}
 use Rattle.std.specs.Str.{bytes_eq}
@@ -69,10 +69,11 @@ absent_entry n (entry name value rest) absent =
 pub entry_named : (n : Text) (values : Entries) (value : Tree) → entry_at n values ≡ Some value → Contains (entry_names values) n
 entry_named n no_entry value e = absurd cc
 entry_named n (entry name first rest) value e =
-    ⊎_elim
-    (λ same. Contains-cons name (entry_names rest) n (inl (sym same)))
-    (λ differ. Contains-cons name (entry_names rest) n (inr (entry_named n rest value (sym (entry_there n name first rest differ) ∙ e))))
-    (decide_texts n name)
+    elim (decide_texts n name) [
+      | inl same ↦ Contains-cons name (entry_names rest) n (inl (sym same))
+      | inr differ ↦
+          Contains-cons name (entry_names rest) n (inr (entry_named n rest value (sym (entry_there n name first rest differ) ∙ e)))
+    ]
 
 -- how long the texts of a list are together
 abbrev total : {B : Type 0} → (B → Text) → List B → ℕ
@@ -83,10 +84,10 @@ total f (x ∷ xs) = length (f x) + total f xs
 within_total : {B : Type 0} (f : B → Text) (xs : List B) (x : B) → Contains xs x → length (f x) ≤ total f xs
 within_total f [] x among = absurd (omega (arith, among.1))
 within_total f (y ∷ ys) x among =
-    ⊎_elim
-    (λ same. subst (λ z. length (f z) ≤ length (f y) + total f ys) same (omega arith))
-    (λ there. (let less = within_total f ys x there in omega (arith, less)))
-    (Contains-cons_cases y ys x among)
+    elim (Contains-cons_cases y ys x among) [
+      | inl same ↦ subst (λ z. length (f z) ≤ length (f y) + total f ys) same (omega arith)
+      | inr there ↦ let less = within_total f ys x there in omega (arith, less)
+    ]
 
 -- a text that is in neither of two lists
 pub fresh_text : (names others : List Text) → (n : Text) × ¬ Contains names n × ¬ Contains others n × IsText n
@@ -122,10 +123,10 @@ zero_is_value = sfits_lit tt
 below_isn't : (name : Text) (fields : Fields) → IsBelowEach name fields → ¬ Contains (field_names fields) name
 below_isn't name end below among = omega (arith, among.1)
 below_isn't name (field other required ty rest) below among =
-    ⊎_elim
-    (λ same. (let tied : Less ≡ Equal = sym below.0 ∙ (text_cmp-Equal name other).1 (sym same) in cc))
-    (below_isn't name rest below.1)
-    (Contains-cons_cases other (field_names rest) name among)
+    elim (Contains-cons_cases other (field_names rest) name among) [
+      | inl same ↦ let tied : Less ≡ Equal = sym below.0 ∙ (text_cmp-Equal name other).1 (sym same) in cc
+      | inr right ↦ below_isn't name rest below.1 right
+    ]
 
 -- a name isn't one of those after it, where they are sorted
 pub first_absent : (name : Text) (required : Bool) (ty : Ty) (rest : Fields) → IsSortedByName (field name required ty rest)
@@ -166,7 +167,7 @@ leave_out extensions name without required ty rest same before = record {
   listed = λ n among. Contains-cons name (field_names rest) n (inr (before.listed n among));
   absent = before.absent;
   valid = before.valid;
-  has = λ n r t has differ. ⊎_elim (λ here. absurd (differ (sym here.0 ∙ same))) (λ there. before.has n r t there differ) has;
+  has = λ n r t has differ. elim has [ inl here ↦ absurd (differ (sym here.0 ∙ same)) | inr there ↦ before.has n r t there differ ];
 }
 
 -- an attribute of another name gets a value
@@ -177,20 +178,26 @@ put_in extensions name without required ty rest value sorted_by_name named diffe
   values = entry name value before.values;
   listed = Included-cons name (entry_names before.values) (name ∷ field_names rest) (Contains-cons name (field_names rest) name (inl refl))
       (λ n among. Contains-cons name (field_names rest) n (inr (before.listed n among)));
-  absent = λ among. ⊎_elim differ before.absent (Contains-cons_cases name (entry_names before.values) without among);
+  absent = λ among. elim (Contains-cons_cases name (entry_names before.values) without among) [
+    | inl left ↦ differ left
+    | inr right ↦ before.absent right
+  ];
   valid = (named, real, before.valid, (λ among. first_absent name required ty rest sorted_by_name (before.listed name among)));
-  has = λ n r t has apart. ⊎_elim
-      (λ same. (let first : HasField (field name required ty rest) n required ty = inl (sym same, refl, refl) in (
-        value,
-        entry_here n name value before.values same,
-        subst (Has extensions value) (HasField-once (field name required ty rest) n required r ty t sorted_by_name first has).1 holds,
-      )))
-      (λ other. ⊎_elim
-      (λ here. absurd (other (sym here.0)))
-      (λ there. (let found = before.has n r t there apart in
-      (found.0, entry_there n name value before.values other ∙ found.1, found.2)))
-      has)
-      (decide_texts n name);
+  has = λ n r t has apart. elim (decide_texts n name) [
+    | inl same ↦
+        let first : HasField (field name required ty rest) n required ty = inl (sym same, refl, refl) in (
+          value,
+          entry_here n name value before.values same,
+          subst (Has extensions value) (HasField-once (field name required ty rest) n required r ty t sorted_by_name first has).1 holds,
+        )
+    | inr other ↦
+        elim has [
+          | inl here ↦ absurd (other (sym here.0))
+          | inr there ↦
+              let found = before.has n r t there apart in
+              (found.0, entry_there n name value before.values other ∙ found.1, found.2)
+        ]
+  ];
 }
 
 mutual
@@ -214,8 +221,7 @@ mutual
         it.valid,
         (
           only_listed openness it.values fields it.listed,
-          HasFields-from (Gives extensions) it.values fields
-              (λ n r t has. (let found =
+          HasFields-from (Gives extensions) it.values fields (λ n r t has. (let found =
               it.has n r t has (λ same. fresh.1 (subst (Contains (field_names fields)) same (HasField-name fields n r t has))) in
               fits_some (λ value. Has extensions value t) r (entry_at n it.values) found.0 found.1 found.2)),
         ),
@@ -236,8 +242,9 @@ mutual
       let before = sample extensions rest without (rest_sorted_by_name name required ty rest sorted_by_name) formed.1
       (λ n among. texts n (Contains-cons name (field_names rest) n (inr among))) lives.1 in
       let value = inhabitant extensions ty formed.0 lives.0 in
-      ⊎_elim
-      (λ same. leave_out extensions name without required ty rest same before)
-      (λ differ. put_in extensions name without required ty rest value.0 sorted_by_name
-      (texts name (Contains-cons name (field_names rest) name (inl refl))) differ value.1 value.2 before)
-      (decide_texts name without)
+      elim (decide_texts name without) [
+        | inl same ↦ leave_out extensions name without required ty rest same before
+        | inr differ ↦
+            put_in extensions name without required ty rest value.0 sorted_by_name
+            (texts name (Contains-cons name (field_names rest) name (inl refl))) differ value.1 value.2 before
+      ]

@@ -4,7 +4,7 @@ use Rattle.std.specs.BTreeMap.{is_at}
 use Rattle.std.specs.Map.{lookup}
 use Rattle.std.specs.Ordering.{is_eq}
 use Rattle.std.specs.declared.cmp.Ordering.{Ordering}
-use Rattle.std.specs.declared.cmp.Ordering.TheVariants.{Less, Equal, Greater}
+use Rattle.std.specs.declared.cmp.Ordering.TheVariants.{Equal}
 use Rattle.cedar_below.proofs.PlainNames.{name_cmp-Equal}
 use Rattle.cedar_below.proofs.ValueLemmas.{IsName-plain_name}
 use Rattle.cedar_below.specs.IsValue.{IsName}
@@ -14,14 +14,13 @@ use Rattle.cedar_below.specs.Tree.{Tree, call_value, no_tree}
 use Rattle.cedar_below.specs.declared.extension.Extensions.{Extensions}
 use Rattle.cedar_below.specs.declared.name.Name.{Name}
 use Rattle.cedar_type_rules.specs.Stated.{IsInhabited, AreInhabited, IsInhabitedWith, AreInhabitedWith, IsStated, IsStatedWith}
-use Rattle.cedar_type_rules.specs.Ty.{Ty, never, truth, long, text, any_entity, union_of, any_set, set_of, record_of, extension_of, Fields, end, field}
+use Rattle.cedar_type_rules.specs.Ty.{Ty, never, set_of, record_of, extension_of, Fields, end, field}
 
 -- a name that ties with what a name stands for isn't reserved
 tied_name : (sought : PlainName) (key : Name) (answer : Ordering) → name_cmp sought (plain_name key) ≡ answer
     → is_eq answer ≡ true → IsName sought
-tied_name sought key Less is tied = absurd cc
 tied_name sought key Equal is tied = subst IsName (sym ((name_cmp-Equal sought (plain_name key)).0 is)) (IsName-plain_name key)
-tied_name sought key Greater is tied = absurd cc
+tied_name sought key _ is tied = absurd cc
 
 -- a name at which something is found isn't reserved, if that is so of what is found further on
 chosen_name : {X : Type 0} (sought : PlainName) (key : Name) (first value : X) (others : Option X) (b : Bool)

@@ -1,5 +1,5 @@
 -- A strict join is below each own bound in permissive mode.
-use Rattle.std.proofs.Common.{◌≡◌, ⊎_elim, refl, sym, subst, ◌∙◌}
+use Rattle.std.proofs.Common.{◌≡◌, refl, sym, subst, ◌∙◌, inl, inr}
 use Rattle.cedar_below.specs.Lists.{Included}
 use Rattle.cedar_below.specs.declared.validation_mode.ValidationMode.TheVariants.{Strict, Permissive}
 use Rattle.cedar_type_rules.proofs.AgreeLaws.{Below-permissive, AreWellFormed-of, HasField-once}
@@ -104,8 +104,7 @@ tag_below openness ClosedAttributes closed = closed refl
 tags_below : (fa fb fj : Fields) (ta tb tj upper : OpenTag) → IsLeastOwnBound Strict (record_of fa ta) (record_of fb tb)
     (record_of fj tj) → OpennessBelow ta upper → OpennessBelow tb upper → OpennessBelow tj upper
 tags_below fa fb fj ta tb tj upper least h k =
-    tag_below tj upper
-    (λ e. (least.1 (record_of fj ClosedAttributes) (
+    tag_below tj upper (λ e. (least.1 (record_of fj ClosedAttributes) (
       (
         (subst (OpennessBelow ta) e h, least.0.0.0.1, least.0.0.0.2),
         ((subst (OpennessBelow tb) e k, least.0.0.1.0.1, least.0.0.1.0.2), tt),
@@ -128,7 +127,7 @@ mutual
   strict_below (set_of c) never b join first second third least own = never_first b join (set_of c) least own.0.1.0
   strict_below (set_of c) (set_of a) never join first second third least own = never_second (set_of a) join (set_of c) least own.0.0
   strict_below (set_of c) (set_of a) (set_of b) any_set first second third least own =
-      ⊎_elim (λ e. absurd cc) (λ e. absurd cc) least.0.1
+      elim least.0.1 [ inl e ↦ absurd cc | inr e ↦ absurd cc ]
   strict_below (set_of c) (set_of a) (set_of b) (set_of join) first second third least own =
       strict_below c a b join first second third (least_element a b join least)
       ((own.0.0, (own.0.1.0, tt)), within_elements a b c own.1)

@@ -1,5 +1,5 @@
 -- Answers of joins of records in strict mode.
-use Rattle.std.proofs.Common.{◌≡◌, ◌⊎◌, inl, inr, ⊎_elim, Bool, refl, sym, subst, ◌∙◌, ℕ, length, Ok, Err, Contains, nat_eq, eqb-true, true, false}
+use Rattle.std.proofs.Common.{◌≡◌, ◌⊎◌, inl, inr, Bool, refl, sym, subst, ◌∙◌, ℕ, length, Ok, Err, Contains, nat_eq, eqb-true, true, false}
 use Rattle.std.proofs.lemmas.Bool.{eqb-false}
 use Rattle.cedar_below.proofs.Texts.{text_cmp-total, text_cmp-Equal}
 use Rattle.cedar_below.specs.Lists.{Included}
@@ -61,49 +61,53 @@ keep_strict name required ty of join rest fb sorted_by_name before has least for
   sorted_by_name = joined_sorted_by_name Strict SameFlags name required required ty join rest fb before.fields sorted_by_name
       before.sorted_by_name before.sound;
   formed = (formed, before.formed);
-  sound = λ n r t there. ⊎_elim
-      (λ same. subst (λ m. IsJoined Strict SameFlags (field name required ty rest) fb m r t) same.0
-      (subst (λ q. IsJoined Strict SameFlags (field name required ty rest) fb name q t) same.1
-      (subst (IsJoined Strict SameFlags (field name required ty rest) fb name required) same.2
-      (record {
-        first_flag = required;
-        second_flag = required;
-        first = ty;
-        second = of;
-        in_first = inl (refl, refl, refl);
-        in_second = has;
-        least = least;
-        flag = (refl, refl);
-      }))))
-      (λ old. in_more Strict SameFlags rest fb name required ty n r t (before.sound n r t old))
-      there;
-  complete = λ n r t own. ⊎_elim
-      (λ same. HasField-name (field name required join before.fields) n required join (inl (same.0, refl, refl)))
-      (λ there. (let found = HasField-named before.fields n (before.complete n r t there) in
-      HasField-name (field name required join before.fields) n found.0 found.1 (inr found.2)))
-      own;
+  sound = λ n r t there. elim there [
+    | inl same ↦
+        subst (λ m. IsJoined Strict SameFlags (field name required ty rest) fb m r t) same.0
+        (subst (λ q. IsJoined Strict SameFlags (field name required ty rest) fb name q t) same.1
+        (subst (IsJoined Strict SameFlags (field name required ty rest) fb name required) same.2 (record {
+          first_flag = required;
+          second_flag = required;
+          first = ty;
+          second = of;
+          in_first = inl (refl, refl, refl);
+          in_second = has;
+          least = least;
+          flag = (refl, refl);
+        })))
+    | inr old ↦ in_more Strict SameFlags rest fb name required ty n r t (before.sound n r t old)
+  ];
+  complete = λ n r t own. elim own [
+    | inl same ↦ HasField-name (field name required join before.fields) n required join (inl (same.0, refl, refl))
+    | inr there ↦
+        let found = HasField-named before.fields n (before.complete n r t there) in
+        HasField-name (field name required join before.fields) n found.0 found.1 (inr found.2)
+  ];
 }
 
 -- a strict join is found, or a help
 try_strict : (fa fb : Fields) → IsSortedByName fa → AreAnswered Strict fa fb → IsTried fa fb
 try_strict end fb sorted_by_name answers = inl (no_strict fb)
 try_strict (field name required ty rest) fb sorted_by_name answers =
-    ⊎_elim
-    (λ before. ⊎_elim
-    (λ there. (let found = HasField-named fb name there in by_answer before found.0 found.1 found.2 (answers.0 found.0 found.1 found.2)))
-    (λ absent. inr (help.RecordWidth, inl (absent, refl)))
-    (decide_among decide_texts (field_names fb) name))
-    (λ found. inr (found.0, inr (inr found.1)))
-    (try_strict rest fb (rest_sorted_by_name name required ty rest sorted_by_name) answers.1)
+    elim (try_strict rest fb (rest_sorted_by_name name required ty rest sorted_by_name) answers.1) [
+      | inl before ↦
+          elim (decide_among decide_texts (field_names fb) name) [
+            | inl there ↦
+                let found = HasField-named fb name there in by_answer before found.0 found.1 found.2 (answers.0 found.0 found.1 found.2)
+            | inr absent ↦ inr (help.RecordWidth, inl (absent, refl))
+          ]
+      | inr found ↦ inr (found.0, inr (inr found.1))
+    ]
   where
     by_answer : StrictJoin rest fb → (flag : Bool) (of : Ty) → HasField fb name flag of → IsAnswered Strict ty of
         → IsTried (field name required ty rest) fb
     by_answer before flag of has (Ok join, least, formed) =
-        ⊎_elim
-        (λ same. inl (keep_strict name required ty of join rest fb sorted_by_name before
-        (subst (λ q. HasField fb name q of) (sym same) has) least formed))
-        (λ differ. inr (help.AttributeQualifier, inr (inl (flag, of, has, inl ((join, least.0), differ, refl)))))
-        (decide_flags required flag)
+        elim (decide_flags required flag) [
+          | inl same ↦
+              inl (keep_strict name required ty of join rest fb sorted_by_name before
+              (subst (λ q. HasField fb name q of) (sym same) has) least formed)
+          | inr differ ↦ inr (help.AttributeQualifier, inr (inl (flag, of, has, inl ((join, least.0), differ, refl))))
+        ]
     by_answer before flag of has (Err it, none, formed) = inr (it, inr (inl (flag, of, has, inr none)))
 
 -- where a help is found at a name of two records, they have no own bound
@@ -125,10 +129,7 @@ help_refuses (field name required ty rest) fa fb ta tb it first second within (i
       within_both fa fb ta tb name required flag ty of found.1 first second mine has
           (FieldsLieWithin-of (IsEither (record_of fa ta) (record_of fb tb)) fc name found.0 found.1 own.1 found.2),
     ) in
-    ⊎_elim
-    (λ flags. flags.1 (sym same.0 ∙ one.3 ∙ sym other.3 ∙ alike.0))
-    (λ none. none.0 (found.1, bound))
-    either
+    elim either [ inl flags ↦ flags.1 (sym same.0 ∙ one.3 ∙ sym other.3 ∙ alike.0) | inr none ↦ none.0 (found.1, bound) ]
 help_refuses (field name required ty rest) fa fb ta tb it first second within (inr (inr later)) own =
     help_refuses rest fa fb ta tb it first second (λ n r t has. within n r t (inr has)) later own
 help_refuses (field name required ty rest) fa fb ta tb it first second within found (bound, own) = elim own.0.0 [ ]
@@ -168,8 +169,7 @@ strict_least fa fb ta tb it first second names = (
         (
           second_below ta tb,
           (λ n among. kept n (names n among)),
-          FieldsBelow-from Strict fb it.fields
-              (λ n r t has. (let part = it.sound n r t has in
+          FieldsBelow-from Strict fb it.fields (λ n r t has. (let part = it.sound n r t has in
               (part.second_flag, part.second, part.in_second, part.flag.1, part.least.0.0.1.0))),
         ),
         tt,
@@ -192,8 +192,7 @@ strict_least fa fb ta tb it first second names = (
       (λ n among. (let found = HasField-named it.fields n among in
           let part = it.sound n found.0 found.1 found.2 in
           own.0.0.1 n (HasField-name fa n part.first_flag part.first part.in_first))),
-      FieldsBelow-from Strict it.fields fc
-          (λ n r t has.
+      FieldsBelow-from Strict it.fields fc (λ n r t has.
           (let one = HasBelow-of Strict fa fc n r t own.0.0.2 has in
           let other = HasBelow-of Strict fb fc n r t own.0.1.0.2 has in
           let found = HasField-named it.fields n (it.complete n one.0 one.1 one.2) in
@@ -235,27 +234,29 @@ decide_lengths m n = from_test (nat_eq m n) refl
 pub strict_records_answered : (fa fb : Fields) (ta tb : OpenTag) → IsSortedByName fa → IsSortedByName fb
     → AreTexts (field_names fa) → AreAnswered Strict fa fb → IsAnswered Strict (record_of fa ta) (record_of fb tb)
 strict_records_answered fa fb ta tb first second texts answers =
-    ⊎_elim
-    (λ like. ⊎_elim
-    (λ it. given Strict (record_of fa ta) (record_of fb tb) (record_of it.fields (either_open ta tb))
-    (strict_least fa fb ta tb it first second
-    ((all_among text_cmp text_cmp-total text_cmp-Equal (field_names fa) (field_names fb) first second
-    (λ n among. (let found = HasField-named fa n among in
-    let kept = HasField-named it.fields n (it.complete n found.0 found.1 found.2) in
-    let part = it.sound n kept.0 kept.1 kept.2 in
-    HasField-name fb n part.second_flag part.second part.in_second))).1 like)) (
-      it.sorted_by_name,
-      it.formed,
-      (λ name among.
-          (let found = HasField-named it.fields name among in
-          let part = it.sound name found.0 found.1 found.2 in
-          texts name (HasField-name fa name part.first_flag part.first part.in_first))),
-    ))
-    (λ found. refused Strict (record_of fa ta) (record_of fb tb) found.0
-    (help_refuses fa fa fb ta tb found.0 first second (λ n r t has. has) found.1)
-    (inr (like, found.1)))
-    (try_strict fa fb first answers))
-    (λ unlike. refused Strict (record_of fa ta) (record_of fb tb) help.RecordWidth
-    (λ own. unlike (λ i. length (same_names fa fb ta tb first second own i)))
-    (inl (unlike, refl)))
-    (decide_lengths (length (field_names fa)) (length (field_names fb)))
+    elim (decide_lengths (length (field_names fa)) (length (field_names fb))) [
+      | inl like ↦
+          elim (try_strict fa fb first answers) [
+            | inl it ↦
+                given Strict (record_of fa ta) (record_of fb tb) (record_of it.fields (either_open ta tb))
+                (strict_least fa fb ta tb it first second
+                ((all_among text_cmp text_cmp-total text_cmp-Equal (field_names fa) (field_names fb) first second
+                (λ n among. (let found = HasField-named fa n among in
+                let kept = HasField-named it.fields n (it.complete n found.0 found.1 found.2) in
+                let part = it.sound n kept.0 kept.1 kept.2 in
+                HasField-name fb n part.second_flag part.second part.in_second))).1 like)) (
+                  it.sorted_by_name,
+                  it.formed,
+                  (λ name among.
+                      (let found = HasField-named it.fields name among in
+                      let part = it.sound name found.0 found.1 found.2 in
+                      texts name (HasField-name fa name part.first_flag part.first part.in_first))),
+                )
+            | inr found ↦
+                refused Strict (record_of fa ta) (record_of fb tb) found.0
+                (help_refuses fa fa fb ta tb found.0 first second (λ n r t has. has) found.1) (inr (like, found.1))
+          ]
+      | inr unlike ↦
+          refused Strict (record_of fa ta) (record_of fb tb) help.RecordWidth
+          (λ own. unlike (λ i. length (same_names fa fb ta tb first second own i))) (inl (unlike, refl))
+    ]

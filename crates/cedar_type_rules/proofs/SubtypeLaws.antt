@@ -1,5 +1,5 @@
 -- Subtyping is reflexive and transitive.
-use Rattle.std.proofs.Common.{inl, inr, ⊎_elim, Bool, refl, sym, subst, ◌∙◌, Contains, arith}
+use Rattle.std.proofs.Common.{inl, inr, Bool, refl, sym, subst, ◌∙◌, Contains, arith}
 use Rattle.cedar_below.proofs.Inclusion.{Included-none, Included-cons}
 use Rattle.cedar_below.proofs.Lists.{Contains-cons, Contains-cons_cases}
 use Rattle.cedar_below.specs.Lists.{Included}
@@ -60,8 +60,7 @@ mutual
   Below-itself mode (record_of fields openness) = (
     OpennessBelow-itself openness,
     NamesBelow-itself mode openness fields,
-    FieldsBelow-within mode fields fields
-        (λ name required ty has. has),
+    FieldsBelow-within mode fields fields (λ name required ty has. has),
   )
   Below-itself mode (extension_of name) = refl
 
@@ -80,8 +79,7 @@ pub HasBelow-of : (mode : ValidationMode) (lower upper : Fields) (name : Text) (
 HasBelow-of mode lower end name required ty below has = absurd has
 HasBelow-of mode lower (field other flag of rest) name required ty below (inl same) =
     let found = below.0 in
-    let P : Text → Type 0 = λ n. HasField lower n found.0 found.1 in
-    (found.0, found.1, subst P same.0 found.2, subst (FlagsBelow mode found.0) same.1 found.3, subst (Below mode found.1) same.2 found.4)
+    (found.0, found.1, rw same.0 at found.2, subst (FlagsBelow mode found.0) same.1 found.3, subst (Below mode found.1) same.2 found.4)
 HasBelow-of mode lower (field other flag of rest) name required ty below (inr there) =
     HasBelow-of mode lower rest name required ty below.1 there
 
@@ -98,8 +96,12 @@ pub HasField-named : (fields : Fields) (name : Text) → Contains (field_names f
     × (ty : Ty) × HasField fields name required ty
 HasField-named end name among = absurd (omega (arith, among.1))
 HasField-named (field other flag of rest) name among =
-    ⊎_elim (λ same. (flag, of, inl (same, refl, refl))) (λ there. (let found = HasField-named rest name there in
-    (found.0, found.1, inr found.2))) (Contains-cons_cases other (field_names rest) name among)
+    elim (Contains-cons_cases other (field_names rest) name among) [
+      | inl same ↦ (flag, of, inl (same, refl, refl))
+      | inr there ↦
+          let found = HasField-named rest name there in
+          (found.0, found.1, inr found.2)
+    ]
 
 -- the names of an upper record are among those of a lower one
 pub FieldsBelow-names : (mode : ValidationMode) (lower upper : Fields) → FieldsBelow mode lower upper
@@ -126,7 +128,7 @@ mutual
   pub Below-trans : (mode : ValidationMode) (a b c : Ty) → Below mode a b → Below mode b c → Below mode a c
   Below-trans mode never b c h k = tt
   Below-trans mode (truth a) (truth b) (truth c) h k =
-      ⊎_elim (λ any. inl any) (λ same. ⊎_elim (λ any. inl (sym same ∙ any)) (λ also. inr (also ∙ same)) h) k
+      elim k [ inl any ↦ inl any | inr same ↦ elim h [ inl any ↦ inl (sym same ∙ any) | inr also ↦ inr (also ∙ same) ] ]
   Below-trans mode (truth a) (truth b) c h k = elim k [ ]
   Below-trans mode long long c h k = k
   Below-trans mode text text c h k = k

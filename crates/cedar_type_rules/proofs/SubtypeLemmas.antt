@@ -24,8 +24,7 @@ pointwise-map_Decides f test same [] (y ∷ ys) = (λ e. absurd cc, λ e. absurd
 pointwise-map_Decides f test same (x ∷ xs) [] = (λ e. absurd cc, λ e. absurd cc)
 pointwise-map_Decides f test same (x ∷ xs) (y ∷ ys) =
     Decides-like
-    _
-    (λ both i. both.0 i ∷ both.1 i)
+    _ (λ both i. both.0 i ∷ both.1 i)
     (λ (e : f x ∷ map f xs ≡ f y ∷ map f ys). let first : f x ≡ f y = cc in let rest : map f xs ≡ map f ys = cc in (first, rest))
     (Decides-and _ _ (same x y) (pointwise-map_Decides f test same xs ys))
 

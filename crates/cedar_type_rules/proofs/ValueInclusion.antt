@@ -1,6 +1,6 @@
 -- Inclusion of values of inhabited types is told by their parts, and permissive subtyping is
 -- inclusion of values and of names.
-use Rattle.std.proofs.Common.{◌≡◌, ◌≢◌, inl, inr, ⊎_elim, Bool, true, false, refl, sym, subst, ◌∙◌, pos, [], Some, None, Contains, IsTrue}
+use Rattle.std.proofs.Common.{◌≡◌, ◌≢◌, inl, inr, Bool, true, false, refl, sym, subst, ◌∙◌, pos, [], Some, None, Contains, IsTrue}
 use Rattle.cedar_below.proofs.Inclusion.{Included-cons}
 use Rattle.cedar_below.proofs.Lists.{Contains-cons}
 use Rattle.cedar_below.specs.CoreTy.{core_extension}
@@ -51,10 +51,6 @@ other_value extensions ty = (truth_value true, tt, λ has. elim has [ ])
 elements_included : (extensions : Extensions) (a b : Ty) → ValuesIncluded extensions (set_of a) (set_of b) → ValuesIncluded extensions a b
 elements_included extensions a b within value real has = (within (set_value (tree value no_tree)) (real, tt) (has, tt)).0
 
--- a name of a record isn't one that the record doesn't have
-name_differs : (fields : Fields) (n m : Text) (r : Bool) (t : Ty) → ¬ Contains (field_names fields) m → HasField fields n r t → n ≢ m
-name_differs fields n m r t absent has same = absent (subst (Contains (field_names fields)) same (HasField-name fields n r t has))
-
 -- what is known of two records, of which the first has no more values
 record Inclusion (extensions : Extensions) (fa fb : Fields) (ta tb : OpenTag) : Type 0 where
   first : IsSortedByName fa
@@ -76,14 +72,15 @@ with_value : (extensions : Extensions) (fa : Fields) (ta : OpenTag) (n : Text) (
     → Has extensions (map_value (entry n value it.values)) (record_of fa ta)
 with_value extensions fa ta n value it sorted_by_name fits listed = (
   listed,
-  HasFields-from (Gives extensions) (entry n value it.values) fa
-      (λ m r t has. ⊎_elim
-      (λ same. fits_some (λ v. Has extensions v t) r (entry_at m (entry n value it.values)) value (entry_here m n value it.values same)
-      (fits r t (subst (λ k. HasField fa k r t) same has)))
-      (λ differ. (let found = it.has m r t has differ in
-      fits_some (λ v. Has extensions v t) r (entry_at m (entry n value it.values)) found.0
-      (entry_there m n value it.values differ ∙ found.1) found.2))
-      (decide_texts m n)),
+  HasFields-from (Gives extensions) (entry n value it.values) fa (λ m r t has. elim (decide_texts m n) [
+    | inl same ↦
+        fits_some (λ v. Has extensions v t) r (entry_at m (entry n value it.values)) value (entry_here m n value it.values same)
+        (fits r t (subst (λ k. HasField fa k r t) same has))
+    | inr differ ↦
+        let found = it.has m r t has differ in
+        fits_some (λ v. Has extensions v t) r (entry_at m (entry n value it.values)) found.0
+        (entry_there m n value it.values differ ∙ found.1) found.2
+  ]),
 )
 
 -- the names of a sample with a further value are listed if that one is
@@ -111,14 +108,15 @@ lacking_value : (extensions : Extensions) (fa : Fields) (ta : OpenTag) (n : Text
     → ((r : Bool) (t : Ty) → HasField fa n r t → r ≡ false) → Has extensions (map_value it.values) (record_of fa ta)
 lacking_value extensions fa ta n it optional = (
   only_listed ta it.values fa it.listed,
-  HasFields-from (Gives extensions) it.values fa
-      (λ m r t has. ⊎_elim
-      (λ same. subst (EntryFits (λ v. Has extensions v t) r)
-      (sym (subst (λ k. entry_at k it.values ≡ None) (sym same) (absent_entry n it.values it.absent)))
-      (optional r t (subst (λ k. HasField fa k r t) same has)))
-      (λ differ. (let found = it.has m r t has differ in fits_some (λ v. Has extensions v t) r
-      (entry_at m it.values) found.0 found.1 found.2))
-      (decide_texts m n)),
+  HasFields-from (Gives extensions) it.values fa (λ m r t has. elim (decide_texts m n) [
+    | inl same ↦
+        subst (EntryFits (λ v. Has extensions v t) r)
+        (sym (subst (λ k. entry_at k it.values ≡ None) (sym same) (absent_entry n it.values it.absent)))
+        (optional r t (subst (λ k. HasField fa k r t) same has))
+    | inr differ ↦
+        let found = it.has m r t has differ in fits_some (λ v. Has extensions v t) r
+        (entry_at m it.values) found.0 found.1 found.2
+  ]),
 )
 
 -- an inhabited record has a value
@@ -151,13 +149,13 @@ flags_included extensions fa fb ta tb n false rb a b known has also needed =
 required_listed : (extensions : Extensions) (fa fb : Fields) (ta tb : OpenTag) (n : Text) (b : Ty)
     → Inclusion extensions fa fb ta tb → HasField fb n true b → Contains (field_names fa) n
 required_listed extensions fa fb ta tb n b known also =
-    ⊎_elim
-    (λ among. among)
-    (λ absent.
-    (let none : true ≡ false = optional_too extensions fa fb ta tb n true b known
-    (λ r t has. absurd (absent (HasField-name fa n r t has))) also in
-    absurd cc))
-    (decide_among decide_texts (field_names fa) n)
+    elim (decide_among decide_texts (field_names fa) n) [
+      | inl among ↦ among
+      | inr absent ↦
+          let none : true ≡ false = optional_too extensions fa fb ta tb n true b known
+          (λ r t has. absurd (absent (HasField-name fa n r t has))) also in
+          absurd cc
+    ]
 
 -- the names of the first record are those of a closed second
 closed_names : (extensions : Extensions) (fa fb : Fields) (ta : OpenTag)
@@ -228,8 +226,7 @@ never_there extensions fa fb OpenAttributes tb n rb b known also absent =
     let whole = with_value extensions fa OpenAttributes n other.0 it known.first
     (λ r t there. absurd (absent (HasField-name fa n r t there))) tt in
     absurd (other.2 (some_fits (λ v. Has extensions v b) rb (entry_at n (entry n other.0 it.values)) other.0
-    (entry_here n n other.0 it.values refl)
-    (HasFieldsBy-of (Gives extensions) (entry n other.0 it.values) fb n rb b
+    (entry_here n n other.0 it.values refl) (HasFieldsBy-of (Gives extensions) (entry n other.0 it.values) fb n rb b
     (known.within (map_value (entry n other.0 it.values))
     (sample_is_value extensions fa n other.0 it (known.others n rb b also) other.1) whole).1 also)))
 
@@ -269,8 +266,7 @@ mutual
       let known : Inclusion extensions fa fb ta tb = record {
         first = formed.0;
         formed = formed.1;
-        texts =
-            formed.2;
+        texts = formed.2;
         others = λ n r t has. other.2 n (HasField-name fb n r t has);
         lives = lives;
         within = within;
@@ -293,18 +289,19 @@ mutual
   fields_included extensions end fa fb ta tb known within formed = tt
   fields_included extensions (field name required ty rest) fa fb ta tb known within formed =
       let there = within name required ty (inl (refl, refl, refl)) in (
-        ⊎_elim
-            (λ among. (let own = HasField-named fa name among in inl (
-              own.0,
-              own.1,
-              own.2,
-              flags_included extensions fa fb ta tb name own.0 required own.1 ty known own.2 there,
-              included_by_parts extensions ty own.1 (AreWellFormed-of fa name own.0 own.1 known.formed own.2) formed.0
-                  (AreInhabited-of extensions fa name own.0 own.1 known.lives own.2)
-                  (attributes_included extensions fa fb ta tb name own.0 required own.1 ty known own.2 there),
-            )))
-            (λ absent. inr (never_there extensions fa fb ta tb name required ty known there absent))
-            (decide_among decide_texts (field_names fa) name),
+        elim (decide_among decide_texts (field_names fa) name) [
+          | inl among ↦
+              let own = HasField-named fa name among in inl (
+                own.0,
+                own.1,
+                own.2,
+                flags_included extensions fa fb ta tb name own.0 required own.1 ty known own.2 there,
+                included_by_parts extensions ty own.1 (AreWellFormed-of fa name own.0 own.1 known.formed own.2) formed.0
+                    (AreInhabited-of extensions fa name own.0 own.1 known.lives own.2)
+                    (attributes_included extensions fa fb ta tb name own.0 required own.1 ty known own.2 there),
+              )
+          | inr absent ↦ inr (never_there extensions fa fb ta tb name required ty known there absent)
+        ],
         fields_included extensions rest fa fb ta tb known (λ n r t has. within n r t (inr has)) formed.1,
       )
 
@@ -330,10 +327,11 @@ mutual
       → Included (field_names fb) (field_names fa) → FieldsListNames fa part → FieldsBelow Permissive fa part
   fields_parts_below end fa ta fb within h names lists = tt
   fields_parts_below (field name required ty rest) fa ta fb within h names lists = (
-    ⊎_elim
-        (λ own. (own.0, own.1, own.2, own.3, parts_below ty own.1 own.4 (lists.0 own.0 own.1 own.2)))
-        (λ never. absurd (never.1 (names name (HasField-name fb name required ty (within name required ty (inl (refl, refl, refl)))))))
-        h.0,
+    elim h.0 [
+      | inl own ↦ (own.0, own.1, own.2, own.3, parts_below ty own.1 own.4 (lists.0 own.0 own.1 own.2))
+      | inr none ↦
+          absurd (none.1 (names name (HasField-name fb name required ty (within name required ty (inl (refl, refl, refl))))))
+    ],
     fields_parts_below rest fa ta fb (λ n r t has. within n r t (inr has)) h.1 names lists.1,
   )
 
@@ -404,13 +402,13 @@ mutual
       → FieldsIncluded openness a b → HasFieldsBy calls values b
   HasFieldsBy-included calls values openness a end listed h k = tt
   HasFieldsBy-included calls values openness a (field name required ty rest) listed h k = (
-    ⊎_elim
-        (λ own. EntryFits-weaker (λ value. HasBy calls value own.1) (λ value. HasBy calls value ty) own.0 required
-        (entry_at name values) (λ value has. HasBy-included calls value own.1 ty has own.4)
-        (FlagsBelow-missing Permissive own.0 required own.3)
-        (HasFieldsBy-of calls values a name own.0 own.1 h own.2))
-        (λ missing. fits_missing (λ value. HasBy calls value ty) openness a name required values listed missing)
-        k.0,
+    elim k.0 [
+      | inl own ↦
+          EntryFits-weaker (λ value. HasBy calls value own.1) (λ value. HasBy calls value ty) own.0 required
+          (entry_at name values) (λ value has. HasBy-included calls value own.1 ty has own.4)
+          (FlagsBelow-missing Permissive own.0 required own.3) (HasFieldsBy-of calls values a name own.0 own.1 h own.2)
+      | inr missing ↦ fits_missing (λ value. HasBy calls value ty) openness a name required values listed missing
+    ],
     HasFieldsBy-included calls values openness a rest listed h k.1,
   )
 
@@ -451,8 +449,7 @@ mutual
       let known : Inclusion extensions fa fb ta tb = record {
         first = formed.0;
         formed = formed.1;
-        texts =
-            formed.2;
+        texts = formed.2;
         others = λ n r t has. other.2 n (HasField-name fb n r t has);
         lives = lives;
         within = within;

@@ -1,5 +1,5 @@
 -- What a least own bound of two records is at a name, and of two sets at their elements.
-use Rattle.std.proofs.Common.{◌≡◌, ◌⊎◌, inl, inr, ⊎_elim, Bool, true, false, refl, sym, subst, ◌∙◌, if◌then◌else◌, ◌∷◌}
+use Rattle.std.proofs.Common.{◌≡◌, ◌⊎◌, inl, inr, Bool, true, false, refl, sym, subst, ◌∙◌, if◌then◌else◌, ◌∷◌}
 use Rattle.std.proofs.lemmas.Slice.Eq.{bytes_eq-Decides}
 use Rattle.std.specs.Str.{bytes_eq}
 use Rattle.cedar_below.specs.Lists.{Included}
@@ -47,34 +47,36 @@ pub within_both : (fa fb : Fields) (ta tb : OpenTag) (name : Text) (ra rb : Bool
     → LiesWithin (IsNamedIn (IsEither (record_of fa ta) (record_of fb tb)) name) ty → LiesWithin (IsEither a b) ty
 within_both fa fb ta tb name ra rb a b ty first second has also =
     LiesWithin-more (IsNamedIn (IsEither (record_of fa ta) (record_of fb tb)) name) (IsEither a b) ty
-    (λ of named. ⊎_elim
-    (λ e. inl (let same : named.0 ≡ fa = cc in
-    (HasField-once fa name named.2 ra of a first (subst (λ f. HasField f name named.2 of) same named.4) has).1))
-    (λ e. inr (let same : named.0 ≡ fb = cc in
-    (HasField-once fb name named.2 rb of b second (subst (λ f. HasField f name named.2 of) same named.4) also).1))
-    named.3)
+    (λ of named. elim named.3 [
+      | inl e ↦
+          inl (let same : named.0 ≡ fa = cc in
+          (HasField-once fa name named.2 ra of a first (subst (λ f. HasField f name named.2 of) same named.4) has).1)
+      | inr e ↦
+          inr (let same : named.0 ≡ fb = cc in
+          (HasField-once fb name named.2 rb of b second (subst (λ f. HasField f name named.2 of) same named.4) also).1)
+    ])
 
 -- what lies within the two types that two records have at a name lies within their types of that name
 pub within_named : (fa fb : Fields) (ta tb : OpenTag) (name : Text) (ra rb : Bool) (a b ty : Ty) → HasField fa name ra a
     → HasField fb name rb b → LiesWithin (IsEither a b) ty → LiesWithin (IsNamedIn (IsEither (record_of fa ta) (record_of fb tb)) name) ty
 within_named fa fb ta tb name ra rb a b ty has also =
     LiesWithin-more (IsEither a b) (IsNamedIn (IsEither (record_of fa ta) (record_of fb tb)) name) ty
-    (λ of either. ⊎_elim
-    (λ e. (fa, ta, ra, inl refl, subst (HasField fa name ra) (sym e) has))
-    (λ e. (fb, tb, rb, inr refl, subst (HasField fb name rb) (sym e) also))
-    either)
+    (λ of either. elim either [
+      | inl e ↦ (fa, ta, ra, inl refl, subst (HasField fa name ra) (sym e) has)
+      | inr e ↦ (fb, tb, rb, inr refl, subst (HasField fb name rb) (sym e) also)
+    ])
 
 -- what lies within two sets lies within their elements
 pub within_elements : (a b ty : Ty) → LiesWithin (IsElementOf (IsEither (set_of a) (set_of b))) ty → LiesWithin (IsEither a b) ty
 within_elements a b ty =
     LiesWithin-more (IsElementOf (IsEither (set_of a) (set_of b))) (IsEither a b) ty
-    (λ of either. ⊎_elim (λ e. inl (let same : of ≡ a = cc in same)) (λ e. inr (let same : of ≡ b = cc in same)) either)
+    (λ of either. elim either [ inl e ↦ inl (let same : of ≡ a = cc in same) | inr e ↦ inr (let same : of ≡ b = cc in same) ])
 
 -- what lies within two types lies within the elements of their sets
 pub within_sets : (a b ty : Ty) → LiesWithin (IsEither a b) ty → LiesWithin (IsElementOf (IsEither (set_of a) (set_of b))) ty
 within_sets a b ty =
     LiesWithin-more (IsEither a b) (IsElementOf (IsEither (set_of a) (set_of b))) ty
-    (λ of either. ⊎_elim (λ e. inl (λ i. set_of (e i))) (λ e. inr (λ i. set_of (e i))) either)
+    (λ of either. elim either [ inl e ↦ inl (λ i. set_of (e i)) | inr e ↦ inr (λ i. set_of (e i)) ])
 
 -- the attributes with another type at a name
 abbrev pub replaced : Text → Ty → Fields → Fields
@@ -100,7 +102,7 @@ replaced_has name ty end n r t has = absurd has
 replaced_has name ty (field other flag of rest) n r t (inl same) =
     replaced_first (bytes_eq name other) name other n flag r ty of t rest (bytes_eq-Decides name other).0 same.0 same.1 same.2
 replaced_has name ty (field other flag of rest) n r t (inr there) =
-    ⊎_elim (λ new. inl (new.0, new.1, (new.2.0, inr new.2.1))) (λ old. inr (inr old)) (replaced_has name ty rest n r t there)
+    elim (replaced_has name ty rest n r t there) [ inl new ↦ inl (new.0, new.1, (new.2.0, inr new.2.1)) | inr old ↦ inr (inr old) ]
 
 -- the new type stands in the place of an old one of that name
 pub has_replaced : (name : Text) (ty : Ty) (fields : Fields) (r : Bool) (own : Ty) → HasField fields name r own
@@ -114,14 +116,13 @@ has_replaced name ty (field other flag of rest) r own (inr there) = inr (has_rep
 replaced_above : (fa fj : Fields) (name : Text) (ra : Bool) (a ty : Ty) → IsSortedByName fa → HasField fa name ra a
     → Below Strict a ty → FieldsBelow Strict fa fj → FieldsBelow Strict fa (replaced name ty fj)
 replaced_above fa fj name ra a ty sorted_by_name has below h =
-    FieldsBelow-from Strict fa (replaced name ty fj)
-    (λ n r t there. ⊎_elim
-    (λ new.
-    (let own = HasBelow-of Strict fa fj n r new.2.0 h new.2.1 in
-    let same : own.1 ≡ a = (HasField-once fa n own.0 ra own.1 a sorted_by_name own.2 (subst (λ m. HasField fa m ra a) new.0 has)).1 in
-    (own.0, own.1, own.2, own.3, subst (λ z. Below Strict z t) (sym same) (subst (Below Strict a) new.1 below))))
-    (λ old. HasBelow-of Strict fa fj n r t h old)
-    (replaced_has name ty fj n r t there))
+    FieldsBelow-from Strict fa (replaced name ty fj) (λ n r t there. elim (replaced_has name ty fj n r t there) [
+      | inl new ↦
+          let own = HasBelow-of Strict fa fj n r new.2.0 h new.2.1 in
+          let same : own.1 ≡ a = (HasField-once fa n own.0 ra own.1 a sorted_by_name own.2 (subst (λ m. HasField fa m ra a) new.0 has)).1 in
+          (own.0, own.1, own.2, own.3, subst (λ z. Below Strict z t) (sym same) (subst (Below Strict a) new.1 below))
+      | inr old ↦ HasBelow-of Strict fa fj n r t h old
+    ])
 
 -- the type at a name of a least own bound of two records is the least own bound of the types there, in strict mode
 pub least_at_name : (fa fb fj : Fields) (ta tb tj : OpenTag) (name : Text) (ra rb rj : Bool) (a b join : Ty)
@@ -154,11 +155,12 @@ least_at_name fa fb fj ta tb tj name ra rb rj a b join first second third has al
         ((least.0.0.1.0.0, other_names_same bound, replaced_above fb fj name rb b bound second also own.0.1.0 least.0.0.1.0.2), tt),
       ),
       FieldsLieWithin-from (IsEither (record_of fa ta) (record_of fb tb)) (replaced name bound fj)
-          (λ n r t placed. ⊎_elim
-          (λ new. subst (λ m. LiesWithin (IsNamedIn (IsEither (record_of fa ta) (record_of fb tb)) m) t) new.0
-          (within_named fa fb ta tb name ra rb a b t has also (subst (LiesWithin (IsEither a b)) new.1 own.1)))
-          (λ old. FieldsLieWithin-of (IsEither (record_of fa ta) (record_of fb tb)) fj n r t least.0.1 old)
-          (replaced_has name bound fj n r t placed)),
+          (λ n r t placed. elim (replaced_has name bound fj n r t placed) [
+            | inl new ↦
+                subst (λ m. LiesWithin (IsNamedIn (IsEither (record_of fa ta) (record_of fb tb)) m) t) new.0
+                (within_named fa fb ta tb name ra rb a b t has also (subst (LiesWithin (IsEither a b)) new.1 own.1))
+            | inr old ↦ FieldsLieWithin-of (IsEither (record_of fa ta) (record_of fb tb)) fj n r t least.0.1 old
+          ]),
     )
 
     below : (bound : Ty) → IsOwnBound Strict a b bound → Below Strict join bound

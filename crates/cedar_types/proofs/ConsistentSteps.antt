@@ -141,8 +141,7 @@ module _ {own : List (String Global × AttributeType)} {IsOpen IsCoreOpen Whole 
         below_all text_cmp text_cmp-total (string_bytes pair.0) (core_text item) less (map core_text rest)
             (others-above (core_text item) (map core_text rest) step.so_far.ahead.up),
       )))
-      front
-      (taken-all (λ pair. text_cmp (string_bytes pair.0) (core_text item) ≡ Less) own at (place - at)
+      front (taken-all (λ pair. text_cmp (string_bytes pair.0) (core_text item) ≡ Less) own at (place - at)
       (λ i d low high. step.passed i d low (omega (arith, step.on, high))))
 
   -- what is passed may be missing, and what is left is consistent, exactly where the whole is
@@ -154,9 +153,7 @@ module _ {own : List (String Global × AttributeType)} {IsOpen IsCoreOpen Whole 
       ∙ map-append plain_entry front (drop place own) in
       let both = consistent-front IsOpen IsCoreOpen (plain_attributes front) (plain_attributes (drop place own))
       (core_fields_from (map core_entry (item ∷ rest))) front_fresh in
-      let P : List (Text × (Bool × Ty)) → Type 0 = λ items.
-      AreConsistent (fields_from items) (core_fields_from (map core_entry (item ∷ rest))) IsOpen IsCoreOpen in
-      (λ parts. step.so_far.decides.0 (subst P (sym split) (both.0 parts)), λ whole. both.1 (subst P split (step.so_far.decides.1 whole)))
+      (λ parts. step.so_far.decides.0 (rw split (both.0 parts)), λ whole. both.1 (rw split at (step.so_far.decides.1 whole)))
 
   -- where what is passed may not be missing, the whole isn't consistent
   pub passed-fails : may ≡ false → Decides false Whole
@@ -218,12 +215,10 @@ module _ {own : List (String Global × AttributeType)} {IsOpen IsCoreOpen Whole 
           let fresh : ¬ Contains (field_names (fields_from (plain_attributes (drop place own)))) (core_text item) =
           subst (λ names. ¬ Contains names (core_text item)) (sym (field_names-entries (drop place own)))
           (λ among. missed text_of text_cmp text_cmp-total own step.up (core_text item) place before step.stays
-          (λ at_place. absurd (let there = tells.1 at_place in cc))
-          (seen-from text_of own place (core_text item) among)) in
+          (λ at_place. absurd (let there = tells.1 at_place in cc)) (seen-from text_of own place (core_text item) among)) in
           let both = consistent-other IsOpen IsCoreOpen (fields_from (plain_attributes (drop place own))) (core_text item)
           (core_attribute_of item.1).0 (core_attribute_of item.1).1 (core_fields_from (map core_entry rest)) fresh in
-          let Q : Bool → Type 0 = λ flag. (((flag ≡ false) ⊎ IsOpen) × AreLeft IsOpen IsCoreOpen (drop place own) rest) ↔ Whole in
-          subst Q (flag_of item.1) (λ parts. left.0 (both.0 parts), λ all. both.1 (left.1 all))
+          rw (← (flag_of item.1)) (λ parts. left.0 (both.0 parts), λ all. both.1 (left.1 all))
 
       -- where it may not be missing, the whole isn't consistent
       pub alone-fails : b ≡ false → Decides false Whole
@@ -243,10 +238,7 @@ pub consistent-last : (own : List (String Global × AttributeType)) (IsOpen IsCo
     → AllByRecursion (MayBeMissing IsOpen IsCoreOpen) (plain_attributes (take (length own - at) (drop at own))) ↔ Whole
 consistent-last own IsOpen IsCoreOpen Whole at so_far =
     let both = consistent-left IsOpen IsCoreOpen (plain_attributes (drop at own)) in
-    let P : List (String Global × AttributeType) → Type 0 = λ pairs.
-    AllByRecursion (MayBeMissing IsOpen IsCoreOpen) (plain_attributes pairs) ↔ Whole in
-    subst P (sym (take_all (length own - at) (drop at own) (omega (arith, length-drop at own))))
-    (λ all. so_far.decides.0 (both.0 all), λ whole. both.1 (so_far.decides.1 whole))
+    rw (take_all (length own - at) (drop at own) (omega (arith, length-drop at own))) (λ all. so_far.decides.0 (both.0 all), λ whole. both.1 (so_far.decides.1 whole))
 
 -- the type of the attribute of a pair
 abbrev pub attribute_type : String Global × AttributeType → «Type»

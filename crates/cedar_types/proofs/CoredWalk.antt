@@ -44,9 +44,7 @@ above-keys : (name : Text) (key : String Global) (made : List (String Global × 
     → AllByRecursion (λ other. text_cmp name other ≡ Greater) (map (λ entry. string_bytes entry.0) made)
     → AllByRecursion (λ other. string_cmp key other ≡ Greater) (keys_of made)
 above-keys name key [] same all = tt
-above-keys name key (first ∷ rest) same all =
-    let P : Text → Type 0 = λ text. text_cmp text (string_bytes first.0) ≡ Greater in
-    (subst P (sym same) all.0, above-keys name key rest same all.1)
+above-keys name key (first ∷ rest) same all = (rw same all.0, above-keys name key rest same all.1)
 
 module _ (all : List (String Global × AttributeType)) (item : String Global × AttributeType)
     (rest : List (String Global × AttributeType)) (made : List (String Global × CoreAttributeType))
@@ -55,11 +53,9 @@ module _ (all : List (String Global × AttributeType)) (item : String Global × 
   pub cored-fault : (given : CoreTypeFault) → IsCoreFault (ty_of (out-AttributeType item.1).attr_type.value) given
       → IsFieldsFault (fields_from (plain_attributes all)) given
   cored-fault given stands =
-      let P : List (Text × (Bool × Ty)) → Type 0 = λ items. IsFieldsFault (fields_from items) given in
       let at : IsCoreFault (attribute_of item.1).1 given =
       subst (λ ty. IsCoreFault ty given) (sym (ap (λ both. both.1) (attribute_of-parts item.1))) stands in
-      subst P (sym (ap plain_attributes so_far.split ∙ map-append plain_entry so_far.done (item ∷ rest)))
-      (fault-middle (map plain_entry so_far.done) (plain_entry item) (map plain_entry rest) given at)
+      rw (ap plain_attributes so_far.split ∙ map-append plain_entry so_far.done (item ∷ rest)) (fault-middle (map plain_entry so_far.done) (plain_entry item) (map plain_entry rest) given at)
 
   -- the names that are done are those that are made
   done_names : entry_texts so_far.done ≡ map (λ entry. string_bytes entry.0) made
@@ -73,12 +69,10 @@ module _ (all : List (String Global × AttributeType)) (item : String Global × 
       → AllByRecursion (λ other. string_cmp key other ≡ Greater) (keys_of made)
   next-above up key same =
       let text : String Global × AttributeType → Text = λ entry. string_bytes entry.0 in
-      let P : List Text → Type 0 = IsStrictlySortedBy text_cmp in
-      let Q : List Text → Type 0 = AllByRecursion (λ other. text_cmp (string_bytes item.0) other ≡ Greater) in
-      let sorted : P (entry_texts so_far.done ++ string_bytes item.0 ∷ entry_texts rest) =
-      subst P (ap entry_texts so_far.split ∙ map-append text so_far.done (item ∷ rest)) up in
+      let sorted =
+      rw (ap entry_texts so_far.split ∙ map-append text so_far.done (item ∷ rest)) at up in
       above-keys (string_bytes item.0) key made same
-      (subst Q done_names (above_front text_cmp-total (entry_texts so_far.done) (string_bytes item.0) (entry_texts rest) sorted))
+      (rw done_names at (above_front text_cmp-total (entry_texts so_far.done) (string_bytes item.0) (entry_texts rest) sorted))
 
   -- one more is done, and goes to the end of the map
   pub cored-next : AreSortedByName all → (key : String Global) (attribute : CoreAttributeType) → string_bytes key ≡ string_bytes item.0
@@ -86,7 +80,6 @@ module _ (all : List (String Global × AttributeType)) (item : String Global × 
       → core_of (ty_of (out-AttributeType item.1).attr_type.value) ≡ Some (core_ty_of attribute.attr_type)
       → CoredSoFar all rest (insert_entry string_cmp made key attribute)
   cored-next up key attribute same flag core =
-      let P : List (String Global × CoreAttributeType) → Type 0 = CoredSoFar all rest in
       let own = attribute_of-parts item.1 in
       let other = core_attribute_of-parts attribute in
       let one : IsCored (plain_entry item) (core_entry (key, attribute)) = (
@@ -94,7 +87,7 @@ module _ (all : List (String Global × AttributeType)) (item : String Global × 
         ap (λ both. both.0) own ∙ (sym flag ∙ ap (λ both. both.0) (sym other)),
         ap (λ both. core_of both.1) own ∙ (core ∙ ap (λ both. Some both.1) (sym other)),
       ) in
-      subst P (sym (insert_entry-end string_cmp made key attribute (next-above up key same))) (record {
+      rw (insert_entry-end string_cmp made key attribute (next-above up key same)) (record {
         done = so_far.done ++ item ∷ [];
         split = so_far.split ∙ sym (append_assoc so_far.done (item ∷ []) rest);
         turn =

@@ -53,10 +53,6 @@ pub record IsPast {V : Type 0} (name : Text) (all left : List (String Global × 
   pub keeps : (other : Text) → text_cmp other name ≢ Less → value_at other left ≡ value_at other all
 
 module _ {V : Type 0} (name : Text) (all : List (String Global × V)) where
-  -- at first nothing is passed
-  pub IsPast-first : AreSortedByName all → IsPast name all all
-  IsPast-first up = record { ascend = up; keeps = λ other from. refl }
-
   module _ (x : String Global × V) (rest : List (String Global × V)) (past : IsPast name all (x ∷ rest)) where
     -- a lesser name is passed
     pub IsPast-next : text_cmp (string_bytes x.0) name ≡ Less → IsPast name all rest

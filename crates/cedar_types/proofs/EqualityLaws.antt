@@ -1,5 +1,5 @@
 -- Types are equal exactly where they stand for the same plain type.
-use Rattle.std.proofs.Common.{◌≡◌, ◌&&◌, Bool, true, false, Some, None, List, [], ◌∷◌, Global, map, refl, ap, sym, subst, ◌∙◌, string_bytes, ℕ, nat_eq, arith}
+use Rattle.std.proofs.Common.{◌≡◌, ◌&&◌, Bool, true, false, Some, None, List, [], ◌∷◌, Global, map, refl, ap, sym, ◌∙◌, string_bytes, ℕ, nat_eq, arith}
 use Rattle.std.proofs.lemmas.Bool.Decides.{Decides-and, Decides-like}
 use Rattle.std.specs.Bool.{Decides}
 use Rattle.std.specs.Cmp.Lexicographic.{pointwise}
@@ -102,16 +102,12 @@ type_told : (x : layer.Type-F «Type» AttributeType Attributes) (y : Told) → 
 type_told x y is b =
     let z = out-Type b in
     let rolled : Decides ((type_eq.ghosts).eq (roll-Type (parts y)) (roll-Type z)) (folded_layer (parts y) ≡ folded_layer z) =
-    (let D : Bool → Type 0 = λ answer. Decides answer (folded_layer (parts y) ≡ folded_layer z) in
-    subst D (sym (type_eq.Laws.is (roll-Type (parts y)) (roll-Type z))) (layers-Decides y z)) in
+    (rw (type_eq.Laws.is (roll-Type (parts y)) (roll-Type z)) (layers-Decides y z)) in
     let whole : Decides ((type_eq.ghosts).eq (roll-Type (parts y)) (roll-Type z)) (ty_of (roll-Type (parts y)) ≡ ty_of (roll-Type z)) =
     (let first = fold-roll-Type Ty (Bool × Ty) Fields type_step attribute_step attributes_step (parts y) in
     let second = fold-roll-Type Ty (Bool × Ty) Fields type_step attribute_step attributes_step z in
     Decides-like _ (λ e. first ∙ (e ∙ sym second)) (λ e. sym first ∙ (e ∙ second)) rolled) in
-    let P : layer.Type-F «Type» AttributeType Attributes → Type 0 =
-    λ each. Decides ((type_eq.ghosts).eq (roll-Type each) b) (ty_of (roll-Type each) ≡ ty_of b) in
-    let Q : «Type» → Type 0 = λ each. Decides ((type_eq.ghosts).eq (roll-Type (parts y)) each) (ty_of (roll-Type (parts y)) ≡ ty_of each) in
-    subst P is (subst Q (roll-out-Type b) whole)
+    rw (roll-out-Type b, is) at whole
 
 -- an attribute whose type is told apart
 abbrev pub ToldAttribute : Type 0
@@ -136,15 +132,11 @@ attribute_told x y is b =
     (flags-Decides y.is_required (out-AttributeType b).is_required) in
     let D : Bool → Type 0 = λ answer. Decides answer (attribute_of a ≡ attribute_of b) in
     let whole : D ((attribute_type_eq.ghosts).eq a b) =
-    subst D (sym (attribute_type_eq.Laws.is a b))
-    (Decides-like _
+    rw (attribute_type_eq.Laws.is a b) (Decides-like _
     (λ both. attribute_of-parts a ∙ ((λ i. (both.1 i, both.0 i)) ∙ sym (attribute_of-parts b)))
     (λ e. let same = sym (attribute_of-parts a) ∙ (e ∙ attribute_of-parts b) in (ap (λ pair. pair.1) same, ap (λ pair. pair.0) same))
     parts_told) in
-    let P : layer.AttributeType-F «Type» AttributeType Attributes → Type 0 =
-    λ each. Decides ((attribute_type_eq.ghosts).eq (roll-AttributeType each) b)
-    (attribute_of (roll-AttributeType each) ≡ attribute_of b) in
-    subst P is whole
+    rw (← is) whole
 
 -- attributes whose types are told apart
 abbrev ToldAttributes : Type 0
@@ -182,8 +174,7 @@ entries-Decides [] [] = (λ _. refl, λ _. refl)
 entries-Decides [] (y ∷ ys) = none (λ e. cc)
 entries-Decides (x ∷ xs) [] = none (λ e. cc)
 entries-Decides (x ∷ xs) (y ∷ ys) =
-    Decides-like _
-    (λ all i. field (all.0.0 i) (all.0.1 i).0 (all.0.1 i).1 (all.1 i))
+    Decides-like _ (λ all i. field (all.0.0 i) (all.0.1 i).0 (all.0.1 i).1 (all.1 i))
     (λ e. ((ap first_name e, ap first_attribute e), ap rest_fields e))
     (Decides-and _ _ (Decides-and _ _ (text_eq-Decides (string_bytes x.0) (string_bytes y.0)) (x.1.1 y.1)) (entries-Decides xs ys))
 
@@ -197,9 +188,7 @@ rolled-Decides : (y : ToldAttributes) (z : layer.Attributes-F «Type» Attribute
     → Decides (attributes_eq.Laws.unfolded (roll-Attributes (attributes_parts y)) (roll-Attributes z))
     (fields_from (map plain_entry (attributes_parts y).attrs.value.entries.items) ≡ fields_from (map plain_entry z.attrs.value.entries.items))
 rolled-Decides y z =
-    let D : Bool → Type 0 = λ answer. Decides answer (fields_from (map plain_entry (attributes_parts y).attrs.value.entries.items)
-    ≡ fields_from (map plain_entry z.attrs.value.entries.items)) in
-    subst D (sym (compares_entries (attributes_parts y) z)) (entries-Decides y.attrs.value.entries.items z.attrs.value.entries.items)
+    rw (compares_entries (attributes_parts y) z) (entries-Decides y.attrs.value.entries.items z.attrs.value.entries.items)
 
 -- attributes whose types are told apart are
 attributes_told : (x : layer.Attributes-F «Type» AttributeType Attributes) (y : ToldAttributes) → attributes_parts y ≡ x
@@ -211,12 +200,8 @@ attributes_told x y is b =
     let first = fields_of-rolled (attributes_parts y) in
     let second = fields_of-rolled z in
     let whole : D ((attributes_eq.ghosts).eq a (roll-Attributes z)) =
-    subst D (sym (attributes_eq.Laws.is a (roll-Attributes z)))
-    (Decides-like _ (λ e. first ∙ (e ∙ sym second)) (λ e. sym first ∙ (e ∙ second)) (rolled-Decides y z)) in
-    let P : layer.Attributes-F «Type» AttributeType Attributes → Type 0 =
-    λ each. Decides ((attributes_eq.ghosts).eq (roll-Attributes each) b) (fields_of (roll-Attributes each) ≡ fields_of b) in
-    let Q : Attributes → Type 0 = λ each. Decides ((attributes_eq.ghosts).eq a each) (fields_of a ≡ fields_of each) in
-    subst P is (subst Q (roll-out-Attributes b) whole)
+    rw (attributes_eq.Laws.is a (roll-Attributes z)) (Decides-like _ (λ e. first ∙ (e ∙ sym second)) (λ e. sym first ∙ (e ∙ second)) (rolled-Decides y z)) in
+    rw (roll-out-Attributes b, is) at whole
 
 -- types are told apart
 pub types-Decides : (a : «Type») → IsTold a

@@ -1,5 +1,5 @@
 -- What the attributes of a record stand for, as their pairs are gone over, looked up and made.
-use Rattle.std.proofs.Common.{◌≡◌, Bool, true, false, refl, sym, ap, subst, ◌∙◌, map, length, Result, Ok, Err, IfOk, List, [], ◌∷◌, Option, Some, None, cond, string_bytes, if◌then◌else◌}
+use Rattle.std.proofs.Common.{◌≡◌, Bool, true, false, refl, sym, ap, ◌∙◌, map, length, Result, Ok, Err, IfOk, List, [], ◌∷◌, Option, Some, None, cond, string_bytes, if◌then◌else◌}
 use Rattle.std.proofs.lemmas.List.{length-map}
 use Rattle.std.proofs.lemmas.Map.Text.{is_eq-slice_cmp}
 use Rattle.std.specs.Cmp.Lexicographic.{nat_list_eq_equiv}
@@ -107,7 +107,5 @@ IfOk-sorted_by_name (Err error) = tt
 -- attributes that are made of no pairs are none
 pub IfOk-none : {E : Type 0} (items : List (String Global × AttributeType)) (answer : Result Attributes E) → items ≡ []
     → IfOk answer (λ all. HoldsLast (plain_attributes items) (fields_of all)) → IfOk answer (λ all. fields_of all ≡ end)
-IfOk-none items (Ok all) none holds =
-    let P : List (String Global × AttributeType) → Type 0 = λ given. HoldsLast (plain_attributes given) (fields_of all) in
-    HoldsLast-none (fields_of all) (subst P none holds)
+IfOk-none items (Ok all) none holds = HoldsLast-none (fields_of all) (rw none at holds)
 IfOk-none items (Err error) none holds = tt

@@ -1,6 +1,5 @@
 -- Steps of the walks that join two records.
-use Rattle.std.proofs.Common.{◌↔◌, ◌≡◌, ◌⊎◌, ◌&&◌, ◌++◌, ℕ, Bool, refl, List, [], ◌∷◌, length, get_or, ap, sym, subst, ◌∙◌, inl, inr}
-use Rattle.std.proofs.Common.{string_bytes, arith, Contains, map, Err, Option, Some, None, true, false, cond, IfSome}
+use Rattle.std.proofs.Common.{◌↔◌, ◌≡◌, ◌⊎◌, ◌&&◌, ◌++◌, ℕ, Bool, refl, List, [], ◌∷◌, length, get_or, ap, sym, subst, ◌∙◌, inl, inr, string_bytes, arith, Contains, map, Err, Option, Some, None, true, false, cond, IfSome}
 use Rattle.std.proofs.lemmas.List.{append-nil, length-map}
 use Rattle.std.specs.Bool.{Decides}
 use Rattle.std.specs.List.{AllByRecursion}
@@ -14,8 +13,7 @@ use Rattle.cedar_below.specs.Text.{Text, text_cmp}
 use Rattle.cedar_below.specs.declared.validation_mode.ValidationMode.TheVariants.{Strict, Permissive}
 use Rattle.cedar_type_rules.proofs.AgreeLaws.{HasField-once}
 use Rattle.cedar_type_rules.proofs.Decisions.{all_among}
-use Rattle.cedar_type_rules.proofs.RecordAnswers.{PermissiveJoin, NothingDropped, no_permissive, drop_one, keep_one, permissive_names}
-use Rattle.cedar_type_rules.proofs.RecordAnswers.{permissive_second, permissive_closed, permissive_open}
+use Rattle.cedar_type_rules.proofs.RecordAnswers.{PermissiveJoin, NothingDropped, no_permissive, drop_one, keep_one, permissive_names, permissive_second, permissive_closed, permissive_open}
 use Rattle.cedar_type_rules.proofs.StrictRecordAnswers.{StrictJoin, no_strict, keep_strict, help_refuses, strict_least, same_names}
 use Rattle.cedar_type_rules.proofs.SubtypeLaws.{HasField-name, HasField-named}
 use Rattle.cedar_type_rules.proofs.SubtypeLemmas.{HasField-found}
@@ -34,8 +32,7 @@ use Rattle.cedar_type_rules.specs.declared.join_error.LubHelp.TheVariants as hel
 use Rattle.cedar_type_rules.specs.declared.open_tag.OpenTag.{OpenTag}
 use Rattle.cedar_type_rules.specs.declared.open_tag.OpenTag.TheVariants.{OpenAttributes, ClosedAttributes}
 use Rattle.cedar_types.specs.Layers.{IsSortedByName-fields, field_names-entries, field_names-pairs, fields_of-pairs, pairs_of}
-use Rattle.cedar_types.proofs.FieldLemmas.{field_at-pairs}
-use Rattle.cedar_types.proofs.FieldLemmas.{length-fields}
+use Rattle.cedar_types.proofs.FieldLemmas.{field_at-pairs, length-fields}
 use Rattle.cedar_types.proofs.EqualityLaws.{attribute_of-parts}
 use Rattle.cedar_types.specs.WellFormedTypes.{IsWellFormed-type}
 use Rattle.cedar_name_map.proofs.RisingLemmas.{Ahead, AllBelow, Included-back, Included-length, Ahead-first, Ahead-next, Ahead-sought, missed}
@@ -119,8 +116,7 @@ module _ (b : Attributes) (at place : ℕ) (item : String Global × AttributeTyp
   lacks_name : ¬ IsAt (pairs_of b) place (string_bytes item.0) → ¬ Contains (field_names (fields_of b)) (string_bytes item.0)
   lacks_name wrong among =
       missed text_of text_cmp text_cmp-total (pairs_of b) (out-Attributes b).attrs.value.sorted_by_name (string_bytes item.0)
-      place all_below sought.stays wrong
-      (subst (λ names. Contains names (string_bytes item.0)) (field_names-pairs b) among)
+      place all_below sought.stays wrong (subst (λ names. Contains names (string_bytes item.0)) (field_names-pairs b) among)
 
   -- where it is, the record has the attribute there
   has_there : (d : String Global × AttributeType) → IsAt (pairs_of b) place (string_bytes item.0)
@@ -128,8 +124,7 @@ module _ (b : Attributes) (at place : ℕ) (item : String Global × AttributeTyp
       (attribute_of (get_or (pairs_of b) place d).1).1
   has_there d here =
       HasField-found (string_bytes item.0) (fields_of b) (attribute_of (get_or (pairs_of b) place d).1)
-      (field_at-pairs (string_bytes item.0) b
-      ∙ ap (option_map attribute_of)
+      (field_at-pairs (string_bytes item.0) b ∙ ap (option_map attribute_of)
       (value_at-place (pairs_of b) (out-Attributes b).attrs.value.sorted_by_name (string_bytes item.0) place d here.0 (here.1 d)))
 
 -- a walk that goes on to a place for the next attribute of the one record, and tells whether its name is there in the other
@@ -151,10 +146,7 @@ pub permissive-first : (a b : Attributes) → PermissiveSoFar a b 0 (pairs_of a)
 permissive-first a b = record {
   unplaced = tt;
   ahead = Ahead-first text_of text_of text_cmp text_cmp-total (pairs_of b) (pairs_of a) (out-Attributes a).attrs.value.sorted_by_name;
-  whole = λ tail.
-      let P : Fields → Type 0 = λ fields. (it : PermissiveJoin fields (fields_of b)) → it.fields ≡ fields_from tail
-      → (all : PermissiveJoin (fields_of a) (fields_of b)) × (all.fields ≡ fields_from tail) in
-      subst P (fields_of-pairs a) (λ it is. (it, is));
+  whole = λ tail. rw (← (fields_of-pairs a)) (λ it is. (it, is));
 }
 
 -- at last the pairs are the join
@@ -183,8 +175,7 @@ module _ {a b : Attributes} {at place : ℕ} {item : String Global × AttributeT
   pub permissive-missed : found ≡ false → PermissiveSoFar a b place rest joined
   permissive-missed apart =
       permissive-drop (λ rb of has own. lacks_name b at place item rest step.so_far.ahead step.sought
-      (λ wrong. absurd (let there = step.here.1 wrong in cc))
-      (HasField-name (fields_of b) (string_bytes item.0) rb of has))
+      (λ wrong. absurd (let there = step.here.1 wrong in cc)) (HasField-name (fields_of b) (string_bytes item.0) rb of has))
 
   -- a name whose types don't join is dropped
   pub permissive-refused : (d : String Global × AttributeType) → found ≡ true
@@ -196,8 +187,7 @@ module _ {a b : Attributes} {at place : ℕ} {item : String Global × AttributeT
       (has_there b at place item rest step.so_far.ahead step.sought d (step.here.0 met))).1 own))
 
   -- a name whose types join is kept
-  pub permissive-kept : (d one : String Global × AttributeType) → found ≡ true
-      → string_bytes one.0 ≡ string_bytes item.0
+  pub permissive-kept : (d one : String Global × AttributeType) → found ≡ true → string_bytes one.0 ≡ string_bytes item.0
       → IsLeastOwnBound Permissive (attribute_ty item.1) (attribute_ty (get_or (pairs_of b) place d).1) (attribute_ty one.1)
       → (attribute_of one.1).0 ≡ ((attribute_of item.1).0 && (attribute_of (get_or (pairs_of b) place d).1).0)
       → attribute_loc one.1 ≡ None → PermissiveSoFar a b place rest (joined ++ one ∷ [])
@@ -270,14 +260,10 @@ module _ (a b : Attributes) (ta tb : OpenTag) (joined : Pairs) (all : Permissive
   pub permissive-least : (openness : OpenTag) → (openness ≡ ClosedAttributes) ↔ IsWhole
       → IsLeastOwnBound Permissive (record_of (fields_of a) ta) (record_of (fields_of b) tb) (record_of (fields_at joined) openness)
   permissive-least OpenAttributes closed =
-      let P : Fields → Type 0 = λ fields. IsLeastOwnBound Permissive (record_of (fields_of a) ta) (record_of (fields_of b) tb)
-      (record_of fields OpenAttributes) in
-      subst P is (permissive_open (fields_of a) (fields_of b) ta tb all (IsSortedByName-fields a) (IsSortedByName-fields b)
+      rw is at (permissive_open (fields_of a) (fields_of b) ta tb all (IsSortedByName-fields a) (IsSortedByName-fields b)
       (λ none. let wrong : OpenAttributes ≡ ClosedAttributes = closed.1 (all_counted none) in absurd cc))
   permissive-least ClosedAttributes closed =
-      let P : Fields → Type 0 = λ fields. IsLeastOwnBound Permissive (record_of (fields_of a) ta) (record_of (fields_of b) tb)
-      (record_of fields ClosedAttributes) in
-      subst P is (permissive_closed (fields_of a) (fields_of b) ta tb all (IsSortedByName-fields a) (IsSortedByName-fields b)
+      rw is at (permissive_closed (fields_of a) (fields_of b) ta tb all (IsSortedByName-fields a) (IsSortedByName-fields b)
       (nothing_dropped (closed.0 refl)))
 
 -- a walk of a strict join: with the join of what is left behind them, the pairs so far are the join of the whole, and a
@@ -294,10 +280,7 @@ pub strict-first : (a b : Attributes) → StrictSoFar a b 0 (pairs_of a) []
 strict-first a b = record {
   unplaced = tt;
   ahead = Ahead-first text_of text_of text_cmp text_cmp-total (pairs_of b) (pairs_of a) (out-Attributes a).attrs.value.sorted_by_name;
-  whole = λ tail.
-      let P : Fields → Type 0 = λ fields. (it : StrictJoin fields (fields_of b)) → it.fields ≡ fields_from tail
-      → (all : StrictJoin (fields_of a) (fields_of b)) × (all.fields ≡ fields_from tail) in
-      subst P (fields_of-pairs a) (λ it is. (it, is));
+  whole = λ tail. rw (← (fields_of-pairs a)) (λ it is. (it, is));
   helped = λ given found. subst (λ fields. IsHelpAtName fields (fields_of b) given) (sym (fields_of-pairs a)) found;
 }
 
@@ -331,8 +314,7 @@ module _ {a b : Attributes} {at place : ℕ} {item : String Global × AttributeT
       step.so_far.helped given (inr (inl (other.0, other.1, has_there b at place item rest step.so_far.ahead step.sought d (step.here.0 met), right)))
 
   -- a name whose types join and whose flags are the same is kept
-  pub strict-kept : (d one : String Global × AttributeType) → found ≡ true
-      → string_bytes one.0 ≡ string_bytes item.0
+  pub strict-kept : (d one : String Global × AttributeType) → found ≡ true → string_bytes one.0 ≡ string_bytes item.0
       → IsLeastOwnBound Strict (attribute_ty item.1) (attribute_ty (get_or (pairs_of b) place d).1) (attribute_ty one.1)
       → (attribute_of item.1).0 ≡ (attribute_of one.1).0 → (attribute_of (get_or (pairs_of b) place d).1).0 ≡ (attribute_of one.1).0
       → attribute_loc one.1 ≡ None → StrictSoFar a b place rest (joined ++ one ∷ [])
@@ -363,12 +345,9 @@ module _ (a b : Attributes) (ta tb : OpenTag) (same : length (pairs_of a) ≡ le
   pub strict-least : (joined : Pairs) (all : StrictJoin (fields_of a) (fields_of b)) → all.fields ≡ fields_at joined
       → IsLeastOwnBound Strict (record_of (fields_of a) ta) (record_of (fields_of b) tb) (record_of (fields_at joined) (either_open ta tb))
   strict-least joined all is =
-      let P : Fields → Type 0 = λ fields. IsLeastOwnBound Strict (record_of (fields_of a) ta) (record_of (fields_of b) tb)
-      (record_of fields (either_open ta tb)) in
-      subst P is (strict_least (fields_of a) (fields_of b) ta tb all (IsSortedByName-fields a) (IsSortedByName-fields b)
+      rw is at (strict_least (fields_of a) (fields_of b) ta tb all (IsSortedByName-fields a) (IsSortedByName-fields b)
       ((all_among text_cmp text_cmp-total text_cmp-Equal (field_names (fields_of a)) (field_names (fields_of b))
-      (IsSortedByName-fields a) (IsSortedByName-fields b)
-      (λ n among. (let found = HasField-named (fields_of a) n among in
+      (IsSortedByName-fields a) (IsSortedByName-fields b) (λ n among. (let found = HasField-named (fields_of a) n among in
       let kept = HasField-named all.fields n (all.complete n found.0 found.1 found.2) in
       let part = all.sound n kept.0 kept.1 kept.2 in
       HasField-name (fields_of b) n part.second_flag part.second part.in_second))).1 same_counts))

@@ -1,5 +1,5 @@
 -- Joins of types that aren't records: the upper of two, unions, and sets.
-use Rattle.std.proofs.Common.{◌≡◌, inl, inr, ⊎_elim, refl, sym, ap, subst, ◌∙◌, Bool, false, List, Result, Err}
+use Rattle.std.proofs.Common.{◌≡◌, inl, inr, refl, sym, ap, subst, ◌∙◌, Bool, false, List, Result, Err}
 use mathlib.Core.Bool.{beq}
 use Rattle.cedar_below.specs.PlainName.{PlainName}
 use Rattle.cedar_below.specs.declared.validation_mode.ValidationMode.{ValidationMode}
@@ -27,7 +27,10 @@ unions_join a b all union =
   where
     below : (bound : Ty) → IsOwnBound Permissive (union_of a) (union_of b) bound → Below Permissive (union_of all) bound
     below any_entity own = tt
-    below (union_of names) own = λ name among. ⊎_elim (own.0.0 name) (own.0.1.0 name) ((union name).0 among)
+    below (union_of names) own = λ name among. elim ((union name).0 among) [
+      | inl left ↦ own.0.0 name left
+      | inr right ↦ own.0.1.0 name right
+    ]
     below bound own = elim own.0.0 [ ]
 
 -- whether what is held is below is whether the types are
@@ -40,7 +43,7 @@ pub upper_joins : (mode : ValidationMode) (a b : Ty) (it upper : «Type») → i
     → IsLeastOwnBound mode a b (ty_of it) × IsLeastOwnBound mode b a (ty_of it)
 upper_joins mode a b it upper same is below =
     let P : Ty → Type 0 = λ ty. IsLeastOwnBound mode a b ty × IsLeastOwnBound mode b a ty in
-    subst (λ (each : «Type»). P (ty_of each)) (sym same) (subst P (sym is) (upper_is_join mode a b below))
+    subst (λ (each : «Type»). P (ty_of each)) (sym same) (rw is (upper_is_join mode a b below))
 
 -- the set of the elements' join is the join of two sets
 pub sets_join : (mode : ValidationMode) (a b join : Ty) → IsLeastOwnBound mode a b join
@@ -54,7 +57,7 @@ sets_join mode a b join least = (((least.0.0.0, (least.0.0.1.0, tt)), within_set
 
 -- sets have no own bound where their elements have none
 sets_have_none : (mode : ValidationMode) (a b : Ty) → ¬ HaveOwnBound mode a b → ¬ HaveOwnBound mode (set_of a) (set_of b)
-sets_have_none mode a b none (any_set, own) = ⊎_elim (λ e. absurd cc) (λ e. absurd cc) own.1
+sets_have_none mode a b none (any_set, own) = elim own.1 [ inl e ↦ absurd cc | inr e ↦ absurd cc ]
 sets_have_none mode a b none (set_of element, own) =
     none (element, ((own.0.0, (own.0.1.0, tt)), within_elements a b element own.1))
 sets_have_none mode a b none (bound, own) = elim own.0.0 [ ]

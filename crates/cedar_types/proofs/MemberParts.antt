@@ -71,8 +71,7 @@ pub ElementsSoFar-more : (extensions : Extensions) (ty : Ty) (values : List Rest
     → IsMembershipFor extensions (tree_of x) ty b → ElementsSoFar extensions ty (trees_of values)
     (trees_of (drop i values)) so_far → ElementsSoFar extensions ty (trees_of values) (trees_of (drop (i + 1) values)) next
 ElementsSoFar-more extensions ty values i x so_far b next below is both right before =
-    let P : List RestrictedExpr → Type 0 = λ rest. ElementsSoFar extensions ty (trees_of values) (trees_of rest) so_far in
-    IsMembershipSoFar-more so_far b next _ _ _ _ _ _ _ _ _ both (subst P (drop-at values i x below is) before) right
+    IsMembershipSoFar-more so_far b next _ _ _ _ _ _ _ _ _ both (rw (drop-at values i x below is) at before) right
 
 -- an answer is right of whether what is found at a name is as it has to be
 abbrev pub IsMembershipForEntry : Extensions → Option Tree → Bool × Ty → Answer → Type 0
@@ -96,8 +95,7 @@ pub IsMembershipForEntry-Some : (extensions : Extensions) (name : Text)
     → IsMembershipFor extensions (tree_of value.now) attribute.1 answer
     → IsMembershipForEntry extensions (entry_at name (entries_of values)) attribute answer
 IsMembershipForEntry-Some extensions name values attribute got value answer found is right =
-    let Q : Option Tree → Type 0 = λ at. IsMembershipForEntry extensions at attribute answer in
-    subst Q (sym (entry_at-entries name values.entries ∙ ap (option_map tree_of) (sym found ∙ ap option_copied is))) right
+    rw (entry_at-entries name values.entries ∙ ap (option_map tree_of) (sym found ∙ ap option_copied is)) right
 
 -- an answer where nothing is found at a name
 pub IsMembershipForEntry-None : (extensions : Extensions) (name : Text)
@@ -105,10 +103,7 @@ pub IsMembershipForEntry-None : (extensions : Extensions) (name : Text)
     (answer : Answer) → option_copied got ≡ get_by_text values name → got ≡ None → answer ≡ Ok (not attribute.0)
     → IsMembershipForEntry extensions (entry_at name (entries_of values)) attribute answer
 IsMembershipForEntry-None extensions name values attribute got answer found is missing =
-    let Q : Option Tree → Type 0 = λ at. IsMembershipForEntry extensions at attribute answer in
-    let R : Answer → Type 0 = IsMembershipForEntry extensions None attribute in
-    subst Q (sym (entry_at-entries name values.entries ∙ ap (option_map tree_of) (sym found ∙ ap option_copied is)))
-    (subst R (sym missing) (IsMembership-test (not attribute.0) _ _ (not-Decides attribute.0 (not attribute.0) refl)))
+    rw (entry_at-entries name values.entries ∙ ap (option_map tree_of) (sym found ∙ ap option_copied is), missing) (IsMembership-test (not attribute.0) _ _ (not-Decides attribute.0 (not attribute.0) refl))
 
 -- an attribute stands for its flag and what its type stands for
 pub attribute_of-parts : (attribute : AttributeType) → attribute_of attribute
@@ -134,8 +129,7 @@ ty_of-record attrs openness =
 -- an entity type stands for what its kind does
 pub ty_of-entity : (of : EntityKind) → ty_of (type.Entity of) ≡ kind_ty of
 ty_of-entity of =
-    ap ty_of (sym (type.rolls-Entity of))
-    ∙ (let e : ty_of (roll-Type (layer.Entity of)) ≡ kind_ty of =
+    ap ty_of (sym (type.rolls-Entity of)) ∙ (let e : ty_of (roll-Type (layer.Entity of)) ≡ kind_ty of =
     fold-roll-Type Ty (Bool × Ty) Fields type_step attribute_step attributes_step (layer.Entity of) in
     e)
 

@@ -1,5 +1,5 @@
 -- Answers of membership, brought together one after another.
-use Rattle.std.proofs.Common.{◌≡◌, ◌↔◌, ◌⊎◌, inl, inr, Bool, true, false, Ok, Err, refl, sym, subst, IfErr, ⊎_elim, Option, Some, None, IsSome}
+use Rattle.std.proofs.Common.{◌≡◌, ◌↔◌, ◌⊎◌, inl, inr, Bool, true, false, Ok, Err, refl, sym, subst, IfErr, Option, Some, None, IsSome}
 use Rattle.std.specs.Bool.{Decides}
 use Rattle.cedar_below.specs.Name.{plain_name}
 use Rattle.cedar_below.specs.PlainName.{PlainName}
@@ -60,9 +60,7 @@ IsMembershipSoFar-none H U M = record {
 -- what holds of the one error of an answer
 IfErr-of : (answer : Answer) (P : ExtensionFunctionLookupError → Type 0) (error : ExtensionFunctionLookupError)
     → answer ≡ Err error → IfErr answer P → P error
-IfErr-of answer P error is holds =
-    let Q : Answer → Type 0 = λ given. IfErr given P in
-    subst Q is holds
+IfErr-of answer P error is holds = rw is at holds
 
 -- an answer that holds in a weaker form
 IfErr-weaker : (answer : Answer) (P Q : ExtensionFunctionLookupError → Type 0)
@@ -78,12 +76,14 @@ pub IsMembershipSoFar-more : (so_far b next : Answer) (H K U V : Type 0) (M N : 
 IsMembershipSoFar-more so_far b next H K U V M N Whole MayWhole Meeting both before right = record {
   yes = λ e k. (let parts = both.yes.0 e in before.yes parts.0 (right.yes.0 parts.1, k));
   parts = λ whole. (let parts = before.parts whole in (both.yes.1 (parts.0, right.yes.1 parts.1.0), parts.1.1));
-  no = λ e may. ⊎_elim (λ first. before.no first may) (λ second. right.no.0 second (before.may may).0) (both.no.0 e);
+  no = λ e may. elim (both.no.0 e) [ inl first ↦ before.no first may | inr second ↦ right.no.0 second (before.may may).0 ];
   may = λ may. (before.may may).1;
   undecided = λ open_still never v. open_still
       (both.no.1 (inr (right.no.1 (λ u. before.undecided (λ first. open_still (both.no.1 (inl first))) never (u, v)))));
-  fault = IfErr-weaker next _ _ (λ error either. ⊎_elim (λ first. IfErr-of so_far _ error first before.fault)
-      (λ second. before.meets (plain_name error.name.now) (inl (IfErr-of b _ error second right.fault))) either) both.fault;
+  fault = IfErr-weaker next _ _ (λ error either. elim either [
+    | inl first ↦ IfErr-of so_far _ error first before.fault
+    | inr second ↦ before.meets (plain_name error.name.now) (inl (IfErr-of b _ error second right.fault))
+  ]) both.fault;
   meets = λ unknown n. before.meets unknown (inr n);
 }
 
@@ -97,9 +97,8 @@ IsMembershipSoFar-all so_far M Whole MayWhole Meeting before = record {
 }
   where
     decided : (answer : Answer) → ¬ ¬ (answer ≡ Ok false) → answer ≡ Ok false
-    decided (Ok true) open_still = absurd (open_still (λ e. cc))
     decided (Ok false) open_still = refl
-    decided (Err error) open_still = absurd (open_still (λ e. cc))
+    decided _ open_still = absurd (open_still (λ e. cc))
 
 -- where a part answers no, the answer of the whole is no
 pub IsMembershipSoFar-stops : (so_far : Answer) (H U : Type 0) (M : PlainName → Type 0) (Whole MayWhole : Type 0)
@@ -114,8 +113,7 @@ IsMembershipSoFar-stops so_far H U M Whole MayWhole Meeting is before = record {
 -- a known call: its test decides whether it gives the value, and it has a function
 pub IsMembership-known : (extensions : Extensions) (name : PlainName) (args : Trees) (ty : PlainName)
     (function : ExtensionFunction) (b : Bool) → function_named extensions name ≡ Some function
-    → Decides b ((result_type function ≡ Some (core_extension ty))
-    × ArgumentsFit extensions args (argument_types function))
+    → Decides b ((result_type function ≡ Some (core_extension ty)) × ArgumentsFit extensions args (argument_types function))
     → IsMembership (Ok b) (Gives extensions name args ty) (MayGive extensions name args ty)
     (λ unknown. (name ≡ unknown) × IsUnknown extensions unknown)
 IsMembership-known extensions name args ty function b known decides =
@@ -127,7 +125,10 @@ IsMembership-known extensions name args ty function b known decides =
     ) in
     let may : Decides b (MayGive extensions name args ty) = (
       λ e. inl (given.0 e),
-      λ either. ⊎_elim given.1 (λ unknown. absurd (let found : function_named extensions name ≡ None = unknown in cc)) either,
+      λ either. elim either [
+        | inl left ↦ given.1 left
+        | inr unknown ↦ absurd (let found : function_named extensions name ≡ None = unknown in cc)
+      ],
     ) in
     let right = IsMembership-test b (Gives extensions name args ty) (λ unknown. (name ≡ unknown) × IsUnknown extensions unknown) given in
     let right_may = IsMembership-test b (MayGive extensions name args ty) (λ unknown. (name ≡ unknown)
@@ -140,10 +141,7 @@ pub IsMembership-unknown : (extensions : Extensions) (name : PlainName) (args : 
     → function_named extensions name ≡ None → IsMembership answer (Gives extensions name args ty)
     (MayGive extensions name args ty) (λ unknown. (name ≡ unknown) × IsUnknown extensions unknown)
 IsMembership-unknown extensions name args ty answer error is same none =
-    let P : Answer → Type 0 = λ given. IsMembership given (Gives extensions name args ty)
-    (MayGive extensions name args ty) (λ unknown. (name ≡ unknown) × IsUnknown extensions unknown) in
-    subst P (sym is)
-    (record {
+    rw is (record {
       yes = (λ e. absurd cc, λ gives. absurd (let found = gives.1 in cc));
       no = (λ e. absurd cc, λ never. absurd (never (inr none)));
       fault = (sym same, subst (IsUnknown extensions) (sym same) none);

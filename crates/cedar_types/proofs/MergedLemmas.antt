@@ -1,5 +1,5 @@
 -- Entity types of two lists that are put together in order, without repeats.
-use Rattle.std.proofs.Common.{Bor, Bool, true, false, cond, ◌+◌, ◌<◌, length, ap, ◌≡◌, ◌≢◌, inl, inr, List, [], ◌∷◌, ◌++◌, map, Contains, sym, subst, ◌∙◌, refl, arith}
+use Rattle.std.proofs.Common.{Bor, Bool, true, false, cond, ◌+◌, ◌<◌, length, ap, ◌≡◌, ◌≢◌, inl, inr, List, [], ◌∷◌, ◌++◌, map, Contains, sym, ◌∙◌, refl, arith}
 use Rattle.std.proofs.lemmas.List.Elements.{Contains-append_left, Contains-append_right, Contains-append_cases}
 use Rattle.std.proofs.lemmas.List.Filters.{dedup_is}
 use Rattle.std.proofs.lemmas.List.Kept.{Any-dedup, Contains-from_dedup, IsStrictlySortedBy-dedup}
@@ -26,9 +26,7 @@ use Rattle.cedar_types.proofs.UnionLemmas.{Contains-names}
 -- the name of one of some entity types is among their names
 Contains-name : (types : List EntityType) (ty : EntityType) (name : PlainName) → type_name ty ≡ name → Contains types ty
     → Contains (map type_name types) name
-Contains-name types ty name same among =
-    let P : PlainName → Type 0 = Contains (map type_name types) in
-    subst P same (Contains-names types among.0 ty among.1 (sym among.2))
+Contains-name types ty name same among = rw same at (Contains-names types among.0 ty among.1 (sym among.2))
 
 -- where each of some entity types is among others, so are their names
 Contains-names_among : (types others : List EntityType) → ((ty : EntityType) → Contains types ty → Contains others ty)
@@ -66,11 +64,9 @@ IsUnionOf-distinct types others sorted permutation name =
           let right = λ (ty : EntityType) (inside : Contains others ty). moved ty (Contains-append_right types others ty inside) in
           Contains-distinct
           sorted
-          name
-          (elim there [
+          name (elim there [
             | inl first ↦ Contains-names_among types sorted left name first
-            | inr second ↦
-                Contains-names_among others sorted right name second
+            | inr second ↦ Contains-names_among others sorted right name second
           ]),
     )
 
@@ -113,8 +109,7 @@ names_of_distinct : (sorted all : List (Bor EntityType)) (names : List PlainName
     → IsFiltered (DiffersFromLast same_type) [] sorted all → names ≡ map (λ ty. type_name ty.now) all
     → names ≡ map type_name (distinct (referred sorted))
 names_of_distinct sorted all names filtered are =
-    are
-    ∙ (sym (map-map type_name (λ ty. ty.now) all)
+    are ∙ (sym (map-map type_name (λ ty. ty.now) all)
     ∙ (ap (λ refs. map type_name (referred refs)) (dedup_is _ _ _ filtered) ∙ ap (map type_name) (referred-distinct sorted)))
 
 -- entity types that are referred to in order without repeats have names that are sorted without duplicates
@@ -123,10 +118,7 @@ pub IsStrictlySortedBy-distinct : (sorted all : List (Bor EntityType)) (names : 
     → IsFiltered (DiffersFromLast same_type) [] sorted all → names ≡ map (λ ty. type_name ty.now) all
     → IsStrictlySortedBy name_cmp names
 IsStrictlySortedBy-distinct sorted all names order filtered are =
-    let P : List PlainName → Type 0 = IsStrictlySortedBy name_cmp in
-    subst P
-    (sym (names_of_distinct sorted all names filtered are))
-    (IsStrictlySortedBy-map ((entity_type_ord.ghosts).cmp) name_cmp type_name entity_type_ord-name_cmp (distinct (referred sorted))
+    rw (names_of_distinct sorted all names filtered are) (IsStrictlySortedBy-map ((entity_type_ord.ghosts).cmp) name_cmp type_name entity_type_ord-name_cmp (distinct (referred sorted))
     (IsStrictlySortedBy-dedup entity_type_ord.Laws.total-law entity_type_ord.Laws.matches_eq-law (referred sorted)
     (IsSorted-referred sorted order)))
 
@@ -143,8 +135,4 @@ pub IsUnionOf-merged : (types others : List EntityType) (both sorted all : List 
     → referred both ≡ types ++ others → IsPermutation both sorted → IsFiltered (DiffersFromLast same_type) [] sorted all
     → names ≡ map (λ ty. type_name ty.now) all → IsUnionOf (map type_name types) (map type_name others) names
 IsUnionOf-merged types others both sorted all names together permutation filtered are =
-    let P : List EntityType → Type 0 = λ them. IsPermutation them (referred sorted) in
-    let Q : List PlainName → Type 0 = IsUnionOf (map type_name types) (map type_name others) in
-    subst Q
-    (sym (names_of_distinct sorted all names filtered are))
-    (IsUnionOf-distinct types others (referred sorted) (subst P together (IsPermutation-map (λ ty. ty.now) both sorted permutation)))
+    rw (names_of_distinct sorted all names filtered are) (IsUnionOf-distinct types others (referred sorted) (rw together at (IsPermutation-map (λ ty. ty.now) both sorted permutation)))

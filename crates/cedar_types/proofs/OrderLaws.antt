@@ -1,5 +1,5 @@
 -- Types, attributes and their parts are ordered as what they stand for.
-use Rattle.std.proofs.Common.{◌≡◌, ◌≢◌, Bool, Some, None, List, [], ◌∷◌, Global, map, refl, sym, subst, ◌∙◌, string_bytes, arith}
+use Rattle.std.proofs.Common.{◌≡◌, ◌≢◌, Bool, Some, None, List, [], ◌∷◌, Global, map, refl, sym, ◌∙◌, string_bytes, arith}
 use Rattle.std.specs.Cmp.Lexicographic.{slice_cmp}
 use Rattle.std.specs.Ordering.{bool_cmp, nat_cmp, ordering_then}
 use Rattle.std.specs.declared.cmp.Ordering.{Ordering}
@@ -94,11 +94,7 @@ type_placed x y is b =
     let second = fold-roll-Type Ty (Bool × Ty) Fields type_step attribute_step attributes_step z in
     let whole : (type_ord.ghosts).cmp (roll-Type (parts y)) (roll-Type z) ≡ ty_cmp (ty_of (roll-Type (parts y))) (ty_of (roll-Type z)) =
     type_ord.Laws.is (roll-Type (parts y)) (roll-Type z) ∙ (layers-placed y z ∙ (λ i. ty_cmp (sym first i) (sym second i))) in
-    let P : layer.Type-F «Type» AttributeType Attributes → Type 0 =
-    λ each. (type_ord.ghosts).cmp (roll-Type each) b ≡ ty_cmp (ty_of (roll-Type each)) (ty_of b) in
-    let Q : «Type» → Type 0 = λ each. (type_ord.ghosts).cmp (roll-Type (parts y)) each
-    ≡ ty_cmp (ty_of (roll-Type (parts y))) (ty_of each) in
-    subst P is (subst Q (roll-out-Type b) whole)
+    rw (roll-out-Type b, is) at whole
 
 -- an attribute whose type is ordered as what it stands for
 abbrev PlacedAttribute : Type 0
@@ -120,10 +116,7 @@ attribute_placed x y is b =
     attribute_type_ord.Laws.is a b
     ∙ ((λ i. ordering_then (y.attr_type.value.1 other.attr_type.value i) (bool_cmp y.is_required other.is_required))
     ∙ (λ i. attribute_cmp (sym (attribute_of-parts a) i) (sym (attribute_of-parts b) i))) in
-    let P : layer.AttributeType-F «Type» AttributeType Attributes → Type 0 =
-    λ each. (attribute_type_ord.ghosts).cmp (roll-AttributeType each) b
-    ≡ attribute_cmp (attribute_of (roll-AttributeType each)) (attribute_of b) in
-    subst P is whole
+    rw (← is) whole
 
 -- attributes whose types are ordered as what they stand for
 abbrev PlacedAttributes : Type 0
@@ -161,14 +154,10 @@ attributes_placed x y is b =
     let z = out-Attributes b in
     let a = roll-Attributes (attributes_parts y) in
     let whole : (attributes_ord.ghosts).cmp a (roll-Attributes z) ≡ fields_cmp (fields_of a) (fields_of (roll-Attributes z)) =
-    attributes_ord.Laws.is a (roll-Attributes z)
-    ∙ (compares_entries (attributes_parts y) z
+    attributes_ord.Laws.is a (roll-Attributes z) ∙ (compares_entries (attributes_parts y) z
     ∙ (entries-placed y.attrs.value.entries.items z.attrs.value.entries.items
     ∙ (λ i. fields_cmp (sym (fields_of-rolled (attributes_parts y)) i) (sym (fields_of-rolled z) i)))) in
-    let P : layer.Attributes-F «Type» AttributeType Attributes → Type 0 =
-    λ each. (attributes_ord.ghosts).cmp (roll-Attributes each) b ≡ fields_cmp (fields_of (roll-Attributes each)) (fields_of b) in
-    let Q : Attributes → Type 0 = λ each. (attributes_ord.ghosts).cmp a each ≡ fields_cmp (fields_of a) (fields_of each) in
-    subst P is (subst Q (roll-out-Attributes b) whole)
+    rw (roll-out-Attributes b, is) at whole
 
 -- comparisons of types agree
 pub types_compare : ComparesBy ty_of ty_cmp (type_eq.ghosts).eq (type_ord.ghosts).cmp (type_hash.ghosts).hash_input

@@ -1,11 +1,10 @@
 -- Types that are folded by joins.
-use Rattle.std.proofs.Common.{◌≢◌, Result, IsOkAnd}
+use Rattle.std.proofs.Common.{◌≢◌, Result, IsOkAnd, ◌≡◌, refl, ap, sym, ◌∙◌, Bool, List, map, Ok, Err}
 use Rattle.std.specs.List.{AllByRecursion}
 use Rattle.cedar_below.specs.Lists.{Included}
 use Rattle.cedar_type_rules.proofs.ReduceLemmas.{reduce_any_order}
 use Rattle.cedar_type_rules.specs.Clean.{IsClean}
 use Rattle.cedar_types.specs.WellFormedTypes.{IsWellFormed-type}
-use Rattle.std.proofs.Common.{◌≡◌, refl, ap, sym, subst, ◌∙◌, Bool, List, map, Ok, Err}
 use Rattle.std.specs.Result.{result_map_both}
 use Rattle.cedar_below.specs.declared.validation_mode.ValidationMode.{ValidationMode}
 use Rattle.cedar_type_rules.proofs.JoinsOf.{answers_by, joined_reduced}
@@ -22,8 +21,7 @@ use Rattle.cedar_types.specs.declared.types.Type.TheVariants as type
 -- `Never` stands for the plain one
 pub ty_of-never : ty_of type.Never ≡ never
 ty_of-never =
-    ap ty_of (sym type.rolls-Never)
-    ∙ (let e : ty_of (roll-Type layer.Never) ≡ never =
+    ap ty_of (sym type.rolls-Never) ∙ (let e : ty_of (roll-Type layer.Never) ≡ never =
     fold-roll-Type Ty (Bool × Ty) Fields type_step attribute_step attributes_step layer.Never in
     e)
 
@@ -34,8 +32,7 @@ pub types-reduced : (mode : ValidationMode) (start : «Type») (all : List «Typ
 types-reduced mode start all result is =
     answers_by ty_of (IsFoldOfJoins (AnswersJoinOf ty_of mode) start all) (IsReduceAnswer mode never (map ty_of all)) result
     (λ answer right.
-    let P : Ty → Type 0 = λ from. IsReduceAnswer mode from (map ty_of all) (result_map_both ty_of (λ given. given) answer) in
-    subst P (ap ty_of is ∙ ty_of-never) (joined_reduced ty_of IsWellFormed-type mode start all answer right))
+    rw (ap ty_of is ∙ ty_of-never) at (joined_reduced ty_of IsWellFormed-type mode start all answer right))
 
 -- what clean types are reduced to is what they are in another order, memory aside
 pub reduced_in_any_order : (mode : ValidationMode) (types others : List «Type») (join : «Type») (answer : Result «Type» JoinError)

@@ -1,5 +1,5 @@
 -- Steps of the walks that tell whether types are inhabited by samples, and require all attributes.
-use Rattle.std.proofs.Common.{◌≡◌, ◌↔◌, ◌∙◌, ⊎_elim, inl, inr, false, List, [], ◌∷◌, sym, ap, subst, Global, Contains, arith, Option, None, Some, Bor, IfSome, IsTrue, refl}
+use Rattle.std.proofs.Common.{◌≡◌, ◌↔◌, ◌∙◌, inl, inr, false, List, [], ◌∷◌, sym, ap, subst, Global, Contains, arith, Option, None, Some, Bor, IfSome, IsTrue, refl}
 use Rattle.std.specs.Bool.{Decides}
 use Rattle.std.specs.Option.{is_some}
 use Rattle.std.specs.declared.string.String.{String}
@@ -61,28 +61,15 @@ abbrev pub IsSampledLeft : Extensions → List Value → Ty → List Value → T
 IsSampledLeft extensions samples ty rest =
     (sample : Tree) → Contains (value_trees samples) sample → Has extensions sample ty → Contains (value_trees rest) sample
 
--- past one that hasn't the type it is among those after it
-pub sampled-next : (extensions : Extensions) (samples rest : List Value) (ty : Ty) (first : Value)
-    → IsSampledLeft extensions samples ty (first ∷ rest) → ¬ Has extensions (value_tree first) ty
-    → IsSampledLeft extensions samples ty rest
-sampled-next extensions samples rest ty first left lacks sample among has =
-    let P : Tree → Type 0 = λ value. Has extensions value ty in
-    ⊎_elim (λ same. absurd (lacks (subst P (sym same) has))) (λ there. there)
-    (Contains-cons_cases (value_tree first) (value_trees rest) sample (left sample among has))
-
--- where none is left, there is none
-pub sampled-none : (extensions : Extensions) (samples rest : List Value) (ty : Ty) → rest ≡ []
-    → IsSampledLeft extensions samples ty rest → ¬ IsSampled extensions (value_trees samples) ty
-sampled-none extensions samples rest ty none left (sample, among, has) =
-    let P : List Value → Type 0 = λ values. Contains (value_trees values) sample in
-    let there = subst P none (left sample among has) in omega (arith, there.1)
-
 -- what a member gives is among what the members give
 image_among : (samples : List Value) (sample : Value) → Contains samples sample → Contains (value_trees samples) (value_tree sample)
 image_among [] sample among = absurd (omega (arith, among.1))
 image_among (first ∷ rest) sample among =
     Contains-cons (value_tree first) (value_trees rest) (value_tree sample)
-    (⊎_elim (λ same. inl (ap value_tree same)) (λ there. inr (image_among rest sample there)) (Contains-cons_cases first rest sample among))
+    (elim (Contains-cons_cases first rest sample among) [
+      | inl same ↦ inl (ap value_tree same)
+      | inr there ↦ inr (image_among rest sample there)
+    ])
 
 -- whether one is found decides whether there is one
 pub sampled-Decides : (extensions : Extensions) (samples : List Value) (ty : Ty) (found : Option (Bor Value))

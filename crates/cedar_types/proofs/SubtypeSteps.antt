@@ -1,5 +1,5 @@
 -- Steps of the walk that tells whether one record is below another.
-use Rattle.std.proofs.Common.{◌↔◌, ◌≡◌, ◌≢◌, ◌<◌, ◌≤◌, ℕ, Bool, true, false, refl, List, length, get_or, Some, None, ap, sym, subst, ◌∙◌, string_bytes, ◌∷◌, arith, nat_eq, Contains}
+use Rattle.std.proofs.Common.{◌↔◌, ◌≡◌, ◌≢◌, ◌<◌, ◌≤◌, ℕ, Bool, true, false, refl, List, length, get_or, Some, None, ap, subst, ◌∙◌, string_bytes, ◌∷◌, arith, nat_eq, Contains}
 use Rattle.std.proofs.lemmas.Bool.Decides.{Decides-eqb}
 use Rattle.std.specs.Bool.{Decides}
 use Rattle.std.specs.Option.{option_map}
@@ -42,11 +42,10 @@ WalkedBelow mode lower upper at rest =
 
 -- at first all is left
 pub WalkedBelow-first : (mode : ValidationMode) (lower upper : Attributes) → WalkedBelow mode lower upper 0 (pairs_of upper)
-WalkedBelow-first mode lower upper =
-    let P : Fields → Type 0 = λ fields. FieldsBelow mode (fields_of lower) fields ↔ FieldsBelow mode (fields_of lower) (fields_of upper) in (
-      subst P (fields_of-pairs upper) (λ h. h, λ h. h),
-      Ahead-first text_of text_of text_cmp text_cmp-total (pairs_of lower) (pairs_of upper) (out-Attributes upper).attrs.value.sorted_by_name,
-    )
+WalkedBelow-first mode lower upper = (
+  rw (← (fields_of-pairs upper)) (λ h. h, λ h. h),
+  Ahead-first text_of text_of text_cmp text_cmp-total (pairs_of lower) (pairs_of upper) (out-Attributes upper).attrs.value.sorted_by_name,
+)
 
 -- what a walk on to a name knows: it passes only names below, and comes to one that isn't
 pub record Sought (lower : Attributes) (at place : ℕ) (name : Text) : Type 0 where
@@ -85,9 +84,7 @@ module _ (attrs : Attributes) (at place : ℕ) (name : String Global) (rest : Li
   pub sought-name : (b : Bool) → Decides b (IsAt (pairs_of attrs) place (string_bytes name))
       → Decides b (Contains (field_names (fields_of attrs)) (string_bytes name))
   sought-name b decides =
-      let P : List Text → Type 0 = λ names. Decides b (Contains names (string_bytes name)) in
-      subst P (sym (field_names-pairs attrs))
-      (sought-Decides text_of string_bytes text_cmp text_cmp-total (pairs_of attrs) (out-Attributes attrs).attrs.value.sorted_by_name
+      rw (field_names-pairs attrs) (sought-Decides text_of string_bytes text_cmp text_cmp-total (pairs_of attrs) (out-Attributes attrs).attrs.value.sorted_by_name
       at place name rest ahead sought.passed sought.stays b decides)
 
   -- the walk over names goes on from the place
@@ -106,8 +103,7 @@ module _ (mode : ValidationMode) (lower upper : Attributes) (at place : ℕ) (it
   found_at : (d : String Global × AttributeType) → place < length (pairs_of lower) → text_at (pairs_of lower) place d ≡ string_bytes item.0
       → field_at (string_bytes item.0) (fields_of lower) ≡ Some (attribute_of (get_or (pairs_of lower) place d).1)
   found_at d within is =
-      field_at-pairs (string_bytes item.0) lower
-      ∙ ap (option_map attribute_of)
+      field_at-pairs (string_bytes item.0) lower ∙ ap (option_map attribute_of)
       (value_at-place (pairs_of lower) (out-Attributes lower).attrs.value.sorted_by_name (string_bytes item.0) place d within is)
 
   -- whether the attribute at the place is below decides whether the lower has one below
@@ -123,8 +119,7 @@ module _ (mode : ValidationMode) (lower upper : Attributes) (at place : ℕ) (it
   pub WalkedBelow-missed : ¬ IsAt (pairs_of lower) place (string_bytes item.0) → Decides false (FieldsBelow mode (fields_of lower) (fields_of upper))
   WalkedBelow-missed missed =
       let none : field_at (string_bytes item.0) (fields_of lower) ≡ None =
-      field_at-pairs (string_bytes item.0) lower
-      ∙ ap (option_map attribute_of)
+      field_at-pairs (string_bytes item.0) lower ∙ ap (option_map attribute_of)
       (value_at-missed (pairs_of lower) (out-Attributes lower).attrs.value.sorted_by_name (string_bytes item.0) place
       all_below sought.stays missed) in
       part_fails walked.0
@@ -161,8 +156,7 @@ pub NamesBelow-strict : (mode : ValidationMode) (openness : OpenTag) (lower uppe
     → IsSortedByName lower → IsSortedByName upper → Decides as_many (length (field_names lower) ≡ length (field_names upper))
     → FieldsBelow mode lower upper → Decides as_many (NamesBelow mode openness lower upper)
 NamesBelow-strict mode openness lower upper as_many is first second decides =
-    let P : ValidationMode → Type 0 = λ each. FieldsBelow each lower upper → Decides as_many (NamesBelow each openness lower upper) in
-    subst P (sym is) (λ below. let counts = Included-counts Strict lower upper first second below in
+    rw is (λ below. let counts = Included-counts Strict lower upper first second below in
     (λ e. counts.0 (decides.0 e), λ all. decides.1 (counts.1 all)))
 
 -- and below a closed record too
@@ -171,10 +165,8 @@ pub NamesBelow-closed : (mode : ValidationMode) (openness : OpenTag) (lower uppe
     → Decides as_many (length (field_names lower) ≡ length (field_names upper))
     → FieldsBelow mode lower upper → Decides as_many (NamesBelow mode openness lower upper)
 NamesBelow-closed mode openness lower upper as_many is closed first second decides =
-    let P : ValidationMode → Type 0 = λ each. FieldsBelow each lower upper → Decides as_many (NamesBelow each openness lower upper) in
-    let Q : OpenTag → Type 0 = λ each. Decides as_many (NamesBelow Permissive each lower upper) in
-    subst P (sym is) (λ below. let counts = Included-counts Permissive lower upper first second below in
-    subst Q (sym closed) (λ e. counts.0 (decides.0 e), λ all. decides.1 (counts.1 all)))
+    rw is (λ below. let counts = Included-counts Permissive lower upper first second below in
+    rw closed (λ e. counts.0 (decides.0 e), λ all. decides.1 (counts.1 all)))
 
 -- whether the lists that two records hold are of one length tells whether they have as many names
 pub counts-Decides : (lower upper : Attributes) (own other : Pairs) → own ≡ pairs_of lower → other ≡ pairs_of upper

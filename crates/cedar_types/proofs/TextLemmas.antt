@@ -25,8 +25,7 @@ names_text-first first (next ∷ others) =
 
 -- an attribute as it is printed, with a comma behind it
 abbrev pub entry_text : String Global × AttributeType → Text
-entry_text entry =
-    string_bytes entry.0 ++ mark_text (attribute_of entry.1).0 ++ ty_text (attribute_of entry.1).1 ++ codes ","
+entry_text entry = string_bytes entry.0 ++ mark_text (attribute_of entry.1).0 ++ ty_text (attribute_of entry.1).1 ++ codes ","
 
 -- attributes are printed one after another
 fields_text-entries : (entries : List (String Global × AttributeType))

@@ -1,5 +1,5 @@
 -- Halving, and places, among the entity types of unions, which rise by their names.
-use Rattle.std.proofs.Common.{◌≡◌, ◌<◌, ◌+◌, ℕ, ⊎_elim, Bool, refl, sym, ap, subst, ◌∙◌, List, [], ◌∷◌, length, map, Contains, get_or, arith, Result, Ok, Err}
+use Rattle.std.proofs.Common.{◌≡◌, ◌<◌, ◌+◌, ℕ, Bool, refl, sym, ap, ◌∙◌, List, [], ◌∷◌, length, map, Contains, get_or, arith, Result, Ok, Err, inl, inr}
 use Rattle.std.proofs.lemmas.Bool.{cases_lt, false≢true}
 use Rattle.std.proofs.lemmas.List.{get_or_default}
 use Rattle.std.proofs.lemmas.List.Sorted.{searchable_from_sorted}
@@ -32,11 +32,10 @@ module _ (types : List EntityType) (up : IsStrictlySortedBy name_cmp (map type_n
   pub searched-Decides : (r : Result ℕ ℕ) → IsSearchInRange r (length types)
       → IsBinarySearchResult (λ y. (entity_type_ord.ghosts).cmp y ty) types r
       → Decides (is_ok r) (Contains (map type_name types) (type_name ty))
-  searched-Decides (Ok k) range holds =
-      let P : PlainName → Type 0 = Contains (map type_name types) in (
-        λ _. subst P ((entity_type_ord-Equal (get_or types k ty) ty).0 (holds ty)) (Contains-seen_at type_name types k ty range),
-        λ _. refl,
-      )
+  searched-Decides (Ok k) range holds = (
+    λ _. rw ((entity_type_ord-Equal (get_or types k ty) ty).0 (holds ty)) at (Contains-seen_at type_name types k ty range),
+    λ _. refl,
+  )
   searched-Decides (Err i) range gap = (
     λ e. absurd (false≢true e),
     λ among.
@@ -45,10 +44,10 @@ module _ (types : List EntityType) (up : IsStrictlySortedBy name_cmp (map type_n
         let parts = gap (searchable_from_sorted entity_type_ord.Laws.total-law (λ y. y) types ty sorted) in
         let equal : (entity_type_ord.ghosts).cmp (get_or types k x) ty ≡ Equal =
         (entity_type_ord-Equal (get_or types k x) ty).1 (ap type_name inside.2 ∙ same) in
-        ⊎_elim
-        (λ low. let less = parts.0 k x (omega arith) low in absurd cc)
-        (λ high. let greater = parts.1 k x high inside.1 in absurd cc)
-        (cases_lt k i),
+        elim (cases_lt k i) [
+          | inl low ↦ let less = parts.0 k x (omega arith) low in absurd cc
+          | inr high ↦ let greater = parts.1 k x high inside.1 in absurd cc
+        ],
   )
 
 -- a name is at a place

@@ -1,5 +1,5 @@
 -- Calls of functions whose signatures are known.
-use Rattle.std.proofs.Common.{List, [], refl, sym, subst}
+use Rattle.std.proofs.Common.{List, [], refl}
 use Rattle.cedar_below.proofs.TreeLemmas.{ArgumentsFit-no_types}
 use Rattle.cedar_below.specs.CoreTy.{CoreTy}
 use Rattle.cedar_below.specs.Fits.{ArgumentsFit, Gives}
@@ -13,5 +13,4 @@ use Rattle.rule_examples.specs.TakesText.{TakesText}
 pub Gives-text : (extensions : Extensions) (name ty : PlainName) (word : Text) (rest : Trees)
     → TakesText extensions name ty → Gives extensions name (tree (text_value word) rest) ty
 Gives-text extensions name ty word rest takes =
-    let P : List CoreTy → Type 0 = ArgumentsFit extensions (tree (text_value word) rest) in
-    (takes.0, takes.1, takes.2, subst P (sym takes.3) (tt, ArgumentsFit-no_types extensions [] rest refl))
+    (takes.0, takes.1, takes.2, rw takes.3 (tt, ArgumentsFit-no_types extensions [] rest refl))

@@ -1,5 +1,5 @@
 -- Helps and reductions of sample types.
-use Rattle.std.proofs.Common.{◌≡◌, ◌<◌, ℕ, zero, suc, inl, inr, ⊎_elim, Bool, true, false, refl, sym, subst, ◌∙◌, [], ◌∷◌, Ok, Err, Contains, codes, slice_index, arith}
+use Rattle.std.proofs.Common.{◌≡◌, ◌<◌, ℕ, zero, suc, inl, inr, Bool, true, false, refl, sym, subst, ◌∙◌, [], ◌∷◌, Ok, Err, Contains, codes, slice_index, arith}
 use Rattle.std.proofs.lemmas.Str.{IsUtf8-from_ascii}
 use Rattle.std.specs.List.Sorted.{IsStrictlySortedBy}
 use Rattle.cedar_below.proofs.Lists.{Contains-cons, Contains-cons_cases}
@@ -68,14 +68,12 @@ helps-types = (
   records_join-strict,
   inr (
     refl,
-    inr (inr (inr
-        (inl (
-          true,
-          text,
-          inr (inl (refl, refl, refl)),
-          inr
-              ((λ own. AreApart-truth_text Strict False own.0 own.1.0.0 own.1.0.1.0), refl),
-        )))),
+    inr (inr (inr (inl (
+      true,
+      text,
+      inr (inl (refl, refl, refl)),
+      inr ((λ own. AreApart-truth_text Strict False own.0 own.1.0.0 own.1.0.1.0), refl),
+    )))),
   ),
 )
 
@@ -102,8 +100,10 @@ reduce-last mode =
 -- the name `y` is a text
 y_is_text : (name : Text) → Contains (codes "y" ∷ []) name → IsText name
 y_is_text name among =
-    ⊎_elim (λ same. subst IsText same (IsUtf8-from_ascii (codes "y") below_128)) (λ none. absurd (omega (arith, none.1)))
-    (Contains-cons_cases (codes "y") [] name among)
+    elim (Contains-cons_cases (codes "y") [] name among) [
+      | inl same ↦ subst IsText same (IsUtf8-from_ascii (codes "y") below_128)
+      | inr none ↦ absurd (omega (arith, none.1))
+    ]
   where
     below_128 : (i : ℕ) → slice_index (codes "y") i < 128
     below_128 zero = omega arith
@@ -131,9 +131,8 @@ unlike_types (record_of fields openness, own) =
     let found = HasField-named fields name (own.0.0.1 name (among_itself name)) in
     let first = HasBelow-of Strict (field name true long end) fields name found.0 found.1 own.0.0.2 found.2 in
     let second = HasBelow-of Strict (field name true text end) fields name found.0 found.1 own.0.1.0.2 found.2 in
-    let P : Ty → Type 0 = λ ty. Below Strict ty found.1 in
-    numbers_or_texts found.1 (subst P (sym (type_of name true first.0 long first.1 first.2)) first.4)
-    (subst P (sym (type_of name true second.0 text second.1 second.2)) second.4)
+    numbers_or_texts found.1 (rw (type_of name true first.0 long first.1 first.2) first.4)
+    (rw (type_of name true second.0 text second.1 second.2) second.4)
 unlike_types (bound, own) = elim own.0.0 [ ]
 
 -- the help at the only name of both
@@ -142,8 +141,7 @@ only_help given (inl (unlike, is)) = absurd (unlike refl)
 only_help given (inr (same, inl (lacked, is))) = absurd (lacked (among_itself (codes "y")))
 only_help given (inr (same, inr (inl (flag, of, inl has, inl (joined, flags, is))))) = absurd (flags has.1)
 only_help given (inr (same, inr (inl (flag, of, inl has, inr (apart, is))))) =
-    let P : Ty → Type 0 = λ ty. IsHelp Strict long ty given in
-    subst P (sym has.2) is
+    subst (λ ty. IsHelp Strict long ty given) (sym has.2) is
 only_help given (inr (same, inr (inl (flag, of, inr none, which)))) = elim none [ ]
 only_help given (inr (same, inr (inr none))) = elim none [ ]
 

@@ -1,5 +1,5 @@
 -- Joins of sample types.
-use Rattle.std.proofs.Common.{◌≡◌, inl, inr, ⊎_elim, true, refl, sym, ap, ◌∙◌, [], ◌∷◌, List, Contains, codes}
+use Rattle.std.proofs.Common.{◌≡◌, inl, inr, true, refl, sym, ap, ◌∙◌, [], ◌∷◌, List, Contains, codes}
 use Rattle.cedar_below.proofs.Inclusion.{Included-none, Included-cons, Included-head}
 use Rattle.cedar_below.proofs.Lists.{Contains-cons}
 use Rattle.cedar_below.specs.Lists.{Included}
@@ -48,7 +48,7 @@ entities_join-strict (bound, own) = elim own.0.0 [ ]
 
 -- no type is above truth values and whole numbers, so that their sets have no own bound
 pub sets_join-apart : (mode : ValidationMode) → ¬ HaveOwnBound mode set_of_truths set_of_longs
-sets_join-apart mode (any_set, own) = ⊎_elim (λ e. absurd cc) (λ e. absurd cc) own.1
+sets_join-apart mode (any_set, own) = elim own.1 [ inl e ↦ absurd cc | inr e ↦ absurd cc ]
 sets_join-apart mode (set_of element, own) = AreApart-truth_long mode _ element own.0.0 own.0.1.0
 sets_join-apart mode (bound, own) = elim own.0.0 [ ]
 

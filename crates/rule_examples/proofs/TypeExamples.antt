@@ -1,5 +1,5 @@
 -- Inclusion, consistency and disjointness of sample types.
-use Rattle.std.proofs.Common.{inl, inr, ⊎_elim, true, false, refl, [], ◌∷◌, codes, arith}
+use Rattle.std.proofs.Common.{inl, inr, true, false, refl, [], ◌∷◌, codes, arith}
 use Rattle.cedar_below.proofs.Inclusion.{Included-none}
 use Rattle.cedar_below.proofs.Lists.{Contains-cons}
 use Rattle.cedar_below.specs.CoreTy.{core_record, core_end}
@@ -25,8 +25,10 @@ inclusion-unlisted lists = omega (arith, (lists.0 (codes "y") (Contains-cons (co
 -- a required attribute isn't lacking in a closed core type
 pub consistent-required : ¬ IsConsistent required_y (core_record core_end false)
 consistent-required consistent =
-    ⊎_elim (λ e. absurd cc) (λ e. absurd cc)
-    (consistent.1 (codes "y") true (long, inl (refl, refl, refl)) (λ among. omega (arith, among.1)))
+    elim (consistent.1 (codes "y") true (long, inl (refl, refl, refl)) (λ among. omega (arith, among.1))) [
+      | inl e ↦ absurd cc
+      | inr e ↦ absurd cc
+    ]
 
 -- a type is no union without the entity types that it has
 pub disjoint-common : ¬ AreDisjointTypes foo_entity foo_or_bar

@@ -1,52 +1,43 @@
-use Rattle.std.proofs.Common.{Bool, not, ◌==◌, ◌∙◌, ◌≡◌, ◌↔◌, List, map, ap, sym, subst, string_bytes}
+use Rattle.std.proofs.Common.{Bool, not, ◌==◌, ◌∙◌, List, ap, sym, subst, string_bytes}
 use Rattle.std.specs.Bool.{Decides}
-use Rattle.std.specs.declared.alloc.Global.{Global}
-use Rattle.std.specs.declared.string.String.{String}
-use Rattle.cedar_below.specs.CoreSchemaType.{core_ty_of, core_attribute_of, core_fields_of}
-use Rattle.cedar_below.specs.CoreTy.{CoreTy, core_fields_from}
-use Rattle.cedar_below.specs.Fits.{Fits, FieldsFit, EntryFits}
+use Rattle.cedar_below.specs.CoreSchemaType.{core_ty_of, core_attribute_of}
+use Rattle.cedar_below.specs.CoreTy.{CoreTy}
+use Rattle.cedar_below.specs.Fits.{Fits, EntryFits}
 use Rattle.cedar_below.specs.RestrictedExpr.{tree_of, trees_of, entries_of}
 use Rattle.cedar_below.specs.Name.{plain_name}
-use Rattle.cedar_below.specs.Tree.{Tree, set_value, map_value, call_value, no_tree, EachTree, entry_at}
+use Rattle.cedar_below.specs.Tree.{Tree, set_value, map_value, call_value, EachTree, entry_at}
 use Rattle.cedar_below.specs.declared.core_schema_type.CoreSchemaType.{CoreSchemaType}
-use Rattle.cedar_below.specs.declared.core_schema_type.CoreAttributeType.{CoreAttributeType}
 use Rattle.cedar_below.specs.declared.value.RestrictedExpr.{RestrictedExpr}
 use Rattle.cedar_below.proofs.Inclusion.{rest_alone, part_fails}
 use Rattle.cedar_below.proofs.TreeLemmas.{EntryFits-Some, EntryFits-None, not-Decides, tree_of-set, tree_of-record, tree_of-call, core_ty_of-set, core_ty_of-empty_set, core_ty_of-extension, core_ty_of-record, core_attribute_of-parts, no_tree-Decides, drop-at}
 use Rattle.cedar_below.proofs.+fits.Goals as goal
 use Rattle.cedar_below.proofs.+fits.Goals.{fits::fields_fit-in-Some-get, fits::fields_fit-in-None-get}
 
+-- an element that doesn't fit decides that not all do
 pub fits::all_fit-returns-then-not-fits : goal.fits::all_fit-returns-then-not-fits
 fits::all_fit-returns-then-not-fits t c =
-    let P : Tree → Type 0 = λ value. Fits c.args.extensions.now value (core_ty_of c.args.ty.now) in
-    let Q : List RestrictedExpr → Type 0 = λ values. EachTree P (trees_of values) ↔ EachTree P (trees_of c.args.values.now) in
-    let so_far = subst Q (drop-at c.args.values.now c.loop-value.value-index c.value-item.result c.loop-value-test.true
-    c.value-item.is) c.loop-value.invariant in
+    let so_far = rw (drop-at c.args.values.now c.loop-value.value-index c.value-item.result c.loop-value-test.true
+    c.value-item.is) at c.loop-value.invariant in
     part_fails so_far (λ fits. absurd (let there = c.fits.ensures.1 fits in cc))
 
+-- past one that fits the rest decides
 pub fits::all_fit-loop-value-preserved : goal.fits::all_fit-loop-value-preserved
 fits::all_fit-loop-value-preserved t c =
-    let P : Tree → Type 0 = λ value. Fits c.args.extensions.now value (core_ty_of c.args.ty.now) in
-    let Q : List RestrictedExpr → Type 0 = λ values. EachTree P (trees_of values) ↔ EachTree P (trees_of c.args.values.now) in
-    let so_far = subst Q (drop-at c.args.values.now c.loop-value.value-index c.value-item.result c.loop-value-test.true
-    c.value-item.is) c.loop-value.invariant in
+    let so_far = rw (drop-at c.args.values.now c.loop-value.value-index c.value-item.result c.loop-value-test.true
+    c.value-item.is) at c.loop-value.invariant in
     rest_alone so_far (c.fits.ensures.0 c.if-not-fits.false)
 
+-- an attribute whose entry doesn't fit decides that not all do
 pub fits::fields_fit-returns-then-not-fits : goal.fits::fields_fit-returns-then-not-fits
 fits::fields_fit-returns-then-not-fits t c =
     let values = entries_of c.args.values.now in
-    let Q : List (String Global × CoreAttributeType) → Type 0 =
-    λ entries. FieldsFit c.args.extensions.now values (core_fields_from
-    (map (λ entry. (string_bytes entry.0, core_attribute_of entry.1)) entries))
-    ↔ FieldsFit c.args.extensions.now values (core_fields_of c.args.attrs.now) in
-    let so_far = subst Q c.in-Some.ensures.steps c.loop-name.invariant in
+    let so_far = rw c.in-Some.ensures.steps at c.loop-name.invariant in
     let attribute = core_attribute_of c.in-Some.attribute.now in
     let parts = core_attribute_of-parts c.in-Some.attribute.now in
     let P : Tree → Type 0 = λ value. Fits c.args.extensions.now value attribute.1 in
     let R : Bool → Type 0 = λ fits. Decides fits (EntryFits P attribute.0 (entry_at (string_bytes c.in-Some.name.now) values)) in
     let decides : R c.match-get.fits = elim c.match-get.branch [
-      | fits::fields_fit-in-Some-get w ↦ subst R (sym w.fits-is)
-          (EntryFits-Some P attribute.0 _ c.args.values.now c.get.result w.in-Some-get.value _ c.get.ensures.value
+      | fits::fields_fit-in-Some-get w ↦ rw w.fits-is (EntryFits-Some P attribute.0 _ c.args.values.now c.get.result w.in-Some-get.value _ c.get.ensures.value
           w.in-Some-get.is (subst (λ ty. Decides w.fits-fits.result
           (Fits c.args.extensions.now (tree_of w.in-Some-get.value.now) ty))
           (ap (λ (p : Bool × CoreTy). p.1) (sym parts)) w.fits-fits.ensures))
@@ -56,21 +47,17 @@ fits::fields_fit-returns-then-not-fits t c =
     ] in
     part_fails so_far (λ fits. absurd (let there = decides.1 fits in cc))
 
+-- past one whose entry fits the rest decides
 pub fits::fields_fit-loop-name-preserved : goal.fits::fields_fit-loop-name-preserved
 fits::fields_fit-loop-name-preserved t c =
     let values = entries_of c.args.values.now in
-    let Q : List (String Global × CoreAttributeType) → Type 0 =
-    λ entries. FieldsFit c.args.extensions.now values (core_fields_from
-    (map (λ entry. (string_bytes entry.0, core_attribute_of entry.1)) entries))
-    ↔ FieldsFit c.args.extensions.now values (core_fields_of c.args.attrs.now) in
-    let so_far = subst Q c.in-Some.ensures.steps c.loop-name.invariant in
+    let so_far = rw c.in-Some.ensures.steps at c.loop-name.invariant in
     let attribute = core_attribute_of c.in-Some.attribute.now in
     let parts = core_attribute_of-parts c.in-Some.attribute.now in
     let P : Tree → Type 0 = λ value. Fits c.args.extensions.now value attribute.1 in
     let R : Bool → Type 0 = λ fits. Decides fits (EntryFits P attribute.0 (entry_at (string_bytes c.in-Some.name.now) values)) in
     let decides : R c.match-get.fits = elim c.match-get.branch [
-      | fits::fields_fit-in-Some-get w ↦ subst R (sym w.fits-is)
-          (EntryFits-Some P attribute.0 _ c.args.values.now c.get.result w.in-Some-get.value _ c.get.ensures.value
+      | fits::fields_fit-in-Some-get w ↦ rw w.fits-is (EntryFits-Some P attribute.0 _ c.args.values.now c.get.result w.in-Some-get.value _ c.get.ensures.value
           w.in-Some-get.is (subst (λ ty. Decides w.fits-fits.result
           (Fits c.args.extensions.now (tree_of w.in-Some-get.value.now) ty))
           (ap (λ (p : Bool × CoreTy). p.1) (sym parts)) w.fits-fits.ensures))
@@ -80,15 +67,16 @@ fits::fields_fit-loop-name-preserved t c =
     ] in
     rest_alone so_far (decides.0 c.if-not-fits.false)
 
+-- a set fits the empty one exactly if it has no elements
 pub value::RestrictedExpr::fits-returns-in-Set-EmptySet : goal.value::RestrictedExpr::fits-returns-in-Set-EmptySet
 value::RestrictedExpr::fits-returns-in-Set-EmptySet t c =
     let values = c.in-Set-EmptySet.values in
     let P : Tree → CoreTy → Type 0 = λ value ty. Decides c.is_empty.result (Fits c.args.extensions.now value ty) in
-    let Q : Bool → Type 0 = λ empty. Decides empty (trees_of values.items ≡ no_tree) in
     subst (λ value. P value (core_ty_of c.args.ty.now)) (sym (ap tree_of c.in-Set-EmptySet.is-0 ∙ tree_of-set values))
     (subst (P (set_value (trees_of values.items))) (sym (ap core_ty_of c.in-Set-EmptySet.is-1 ∙ core_ty_of-empty_set))
-    (subst Q (sym (c.is_empty.ensures ∙ ap (λ n. n == 0) values.ok.0)) (no_tree-Decides values.items)))
+    (rw (c.is_empty.ensures ∙ ap (λ n. n == 0) values.ok.0) (no_tree-Decides values.items)))
 
+-- a set fits another exactly if each of its elements fits
 pub value::RestrictedExpr::fits-returns-in-Set-Set : goal.value::RestrictedExpr::fits-returns-in-Set-Set
 value::RestrictedExpr::fits-returns-in-Set-Set t c =
     let values = c.in-Set-Set.values in
@@ -101,6 +89,7 @@ value::RestrictedExpr::fits-returns-in-Set-Set t c =
     (subst (λ items. Q items element.value) c.deref.ensures.value
     (subst (Q c.deref.result.now) c.deref-in-Set-Set.ensures c.all_fit.ensures)))
 
+-- where all names are listed, a record fits exactly if its entries do
 pub value::RestrictedExpr::fits-returns-then-names_listed : goal.value::RestrictedExpr::fits-returns-then-names_listed
 value::RestrictedExpr::fits-returns-then-names_listed t c =
     let values = c.in-Record-Record.values in
@@ -111,6 +100,7 @@ value::RestrictedExpr::fits-returns-then-names_listed t c =
     ∙ core_ty_of-record attrs c.in-Record-Record.open_attrs))
     (λ e. (c.names_listed.ensures.0 c.if-names_listed.true, c.fields_fit.ensures.0 e), λ both. c.fields_fit.ensures.1 both.1))
 
+-- where one isn't, it doesn't fit
 pub value::RestrictedExpr::fits-returns-else-names_listed : goal.value::RestrictedExpr::fits-returns-else-names_listed
 value::RestrictedExpr::fits-returns-else-names_listed t c =
     let values = c.in-Record-Record.values in
@@ -118,9 +108,9 @@ value::RestrictedExpr::fits-returns-else-names_listed t c =
     let P : Tree → CoreTy → Type 0 = λ value ty. Decides c.names_listed.result (Fits c.args.extensions.now value ty) in
     subst (λ value. P value (core_ty_of c.args.ty.now)) (sym (ap tree_of c.in-Record-Record.is-0 ∙ tree_of-record values))
     (subst (P (map_value (entries_of values))) (sym (ap core_ty_of c.in-Record-Record.is-1
-    ∙ core_ty_of-record attrs c.in-Record-Record.open_attrs))
-    (λ e. absurd cc, λ both. c.names_listed.ensures.1 both.0))
+    ∙ core_ty_of-record attrs c.in-Record-Record.open_attrs)) (λ e. absurd cc, λ both. c.names_listed.ensures.1 both.0))
 
+-- a call fits an extension type exactly if it returns it
 pub value::RestrictedExpr::fits-returns-in-ExtensionCall-Extension : goal.value::RestrictedExpr::fits-returns-in-ExtensionCall-Extension
 value::RestrictedExpr::fits-returns-in-ExtensionCall-Extension t c =
     let function = c.in-ExtensionCall-Extension.function in

@@ -1,4 +1,4 @@
-use Rattle.std.proofs.Common.{List, refl, subst, ap, ◌∙◌, Global}
+use Rattle.std.proofs.Common.{List, refl, ap, ◌∙◌, Global}
 use Rattle.std.proofs.Math.ListN.{drop_of_length-le}
 use Rattle.std.specs.declared.string.String.{String}
 use Rattle.cedar_below.proofs.TreeLemmas.{drop-at}
@@ -14,23 +14,20 @@ clean::are_clean-loop-attribute-init t c =
 pub clean::are_clean-returns-then-not-is_without_any_set :
     goal.clean::are_clean-returns-then-not-is_without_any_set
 clean::are_clean-returns-then-not-is_without_any_set t c =
-    let P : List (String Global × AttributeType) → Type 0 = IsCleanLeft c.args.attrs.now in
-    let left = subst P (drop-at _ c.loop-attribute.attribute-index c.loop-attribute-item.result c.loop-attribute-test.true
-    c.loop-attribute-item.is) c.loop-attribute.invariant in
+    let left = rw (drop-at _ c.loop-attribute.attribute-index c.loop-attribute-item.result c.loop-attribute-test.true
+    c.loop-attribute-item.is) at c.loop-attribute.invariant in
     clean-fails c.args.attrs.now c.loop-attribute-item.result _ left c.deref-in-loop-attribute.result.now
     c.deref-in-loop-attribute.ensures
     (λ clean. let there = c.is_without_any_set.ensures.1 clean in let none = c.if-not-is_without_any_set.true in absurd cc)
 
 pub clean::are_clean-loop-attribute-preserved : goal.clean::are_clean-loop-attribute-preserved
 clean::are_clean-loop-attribute-preserved t c =
-    let P : List (String Global × AttributeType) → Type 0 = IsCleanLeft c.args.attrs.now in
-    let left = subst P (drop-at _ c.loop-attribute.attribute-index c.loop-attribute-item.result c.loop-attribute-test.true
-    c.loop-attribute-item.is) c.loop-attribute.invariant in
+    let left = rw (drop-at _ c.loop-attribute.attribute-index c.loop-attribute-item.result c.loop-attribute-test.true
+    c.loop-attribute-item.is) at c.loop-attribute.invariant in
     clean-next c.args.attrs.now c.loop-attribute-item.result _ left c.deref-in-loop-attribute.result.now
     c.deref-in-loop-attribute.ensures (c.is_without_any_set.ensures.0 c.if-not-is_without_any_set.false)
 
 pub clean::are_clean-returns : goal.clean::are_clean-returns
 clean::are_clean-returns t c =
-    let P : List (String Global × AttributeType) → Type 0 = IsCleanLeft c.args.attrs.now in
-    let left = subst P (drop_of_length-le c.as_slice-attribute-items.result.now c.loop-attribute-test.false) c.loop-attribute.invariant in
+    let left = rw (drop_of_length-le c.as_slice-attribute-items.result.now c.loop-attribute-test.false) at c.loop-attribute.invariant in
     (λ _. left.0 tt, λ _. refl)

@@ -8,16 +8,14 @@ use Rattle.cedar_type_rules.specs.Consistent.{IsConsistent}
 use Rattle.cedar_type_rules.specs.Ty.{Ty, record_of}
 use Rattle.cedar_type_rules.specs.declared.open_tag.OpenTag.TheVariants.{OpenAttributes}
 use Rattle.cedar_below.specs.declared.core_schema_type.CoreAttributeType.{CoreAttributeType}
-use Rattle.cedar_types.proofs.ConsistentSteps.{ConsistentSoFar, ConsistentStep, consistent-first, step_of, passed-fails}
-use Rattle.cedar_types.proofs.ConsistentSteps.{met-fails, met-next, alone-fails, alone-next, consistent-last, attribute_type, met_test}
+use Rattle.cedar_types.proofs.ConsistentSteps.{ConsistentSoFar, ConsistentStep, consistent-first, step_of, passed-fails, met-fails, met-next, alone-fails, alone-next, consistent-last, attribute_type, met_test}
 use Rattle.cedar_types.proofs.SubtypeSteps.{Sought-held, IsAt, IsAt-held}
 use Rattle.cedar_types.proofs.MemberParts.{ty_of-record}
 use Rattle.cedar_type_rules.specs.declared.open_tag.OpenTag.{OpenTag}
 use Rattle.cedar_types.specs.declared.attributes.Attributes.{Attributes}
 use Rattle.cedar_types.specs.Meaning.{ty_of, fields_of, attribute_of}
 use Rattle.cedar_types.proofs.+consistent.Goals as goal
-use Rattle.cedar_types.proofs.+consistent.Goals.{consistent::records_fit-After-may_lack_all, consistent::records_fit-After-is_at}
-use Rattle.cedar_types.proofs.+consistent.Goals.{consistent::records_fit-After-is_consistent_with}
+use Rattle.cedar_types.proofs.+consistent.Goals.{consistent::records_fit-After-may_lack_all, consistent::records_fit-After-is_at, consistent::records_fit-After-is_consistent_with}
 
 pub types::Type::is_consistent_with-returns-in-Record-Record :
     goal.types::Type::is_consistent_with-returns-in-Record-Record
@@ -51,10 +49,9 @@ step t c =
     let O = c.args.openness ≡ OpenAttributes in
     let C = c.args.core_is_open ≡ true in
     let W = AreFit c.args.attrs.now c.args.core.now c.args.openness c.args.core_is_open in
-    let P : List (String Global × CoreAttributeType) → Type 0 = ConsistentSoFar own O C W c.loop-name.at in
     step_of c.args.attrs.now own O C W c.loop-name.at c.seek-place.result (c.in-Some.name.now, c.in-Some.other.now) c.next.new.self
     c.may_lack_all.result (c.as_slice-own.ensures ∙ ap (λ all. all.entries.items) c.deref.ensures)
-    (subst P c.in-Some.ensures.steps c.loop-name.invariant) c.seek-place.ensures.from
+    (rw c.in-Some.ensures.steps at c.loop-name.invariant) c.seek-place.ensures.from
     (Sought-held c.args.attrs.now c.loop-name.at c.seek-place.result c.deref-in-loop-name.result.now _ (string_bytes c.in-Some.name.now)
     c.deref-in-loop-name.ensures c.deref-in-loop-name-2.ensures c.seek-place.ensures.passed c.seek-place.ensures.stays)
     c.may_lack_all.ensures
@@ -121,6 +118,5 @@ consistent::records_fit-returns t c =
     let O = c.args.openness ≡ OpenAttributes in
     let C = c.args.core_is_open ≡ true in
     let W = AreFit c.args.attrs.now c.args.core.now c.args.openness c.args.core_is_open in
-    let P : List (String Global × CoreAttributeType) → Type 0 = ConsistentSoFar own O C W c.loop-name.at in
-    let last = consistent-last own O C W c.loop-name.at (subst P c.in-None.ensures.steps.0 c.loop-name.invariant) in
+    let last = consistent-last own O C W c.loop-name.at (rw c.in-None.ensures.steps.0 at c.loop-name.invariant) in
     (λ e. last.0 (c.may_lack_all-2.ensures.0 e), λ whole. c.may_lack_all-2.ensures.1 (last.1 whole))

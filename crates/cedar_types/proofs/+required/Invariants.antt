@@ -4,5 +4,4 @@ use Rattle.cedar_types.proofs.StatedSteps.{TellsLeft}
 use Rattle.cedar_types.proofs.+required.Given as goal
 
 abbrev pub invariant-stated::require_all-loop-attribute : goal.invariant-stated::require_all-loop-attribute
-invariant-stated::require_all-loop-attribute l =
-    TellsLeft FieldsRequireAll l.attrs (drop l.attribute-index l.attribute-items)
+invariant-stated::require_all-loop-attribute l = TellsLeft FieldsRequireAll l.attrs (drop l.attribute-index l.attribute-items)

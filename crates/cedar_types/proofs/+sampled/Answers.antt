@@ -14,35 +14,35 @@ use Rattle.cedar_types.specs.Samples.{value_trees}
 use Rattle.cedar_types.specs.declared.attributes.AttributeType.{AttributeType}
 use Rattle.cedar_types.proofs.+sampled.Goals as goal
 
+-- at first all attributes are left
 pub stated::are_sampled-loop-attribute-init : goal.stated::are_sampled-loop-attribute-init
 stated::are_sampled-loop-attribute-init t c =
     left-first (AreInhabitedWith c.args.extensions.now (value_trees c.args.samples.now)) c.args.attrs.now
     c.as_slice-attribute-items.result.now (c.as_slice-attribute-items.ensures ∙ ap (λ all. all.entries.items) c.deref.ensures)
 
+-- an attribute whose type has no sample fails
 pub stated::are_sampled-returns-then-not-is_inhabited_with :
     goal.stated::are_sampled-returns-then-not-is_inhabited_with
 stated::are_sampled-returns-then-not-is_inhabited_with t c =
     let Lives = IsInhabitedWith c.args.extensions.now (value_trees c.args.samples.now) in
-    let P : List (String Global × AttributeType) → Type 0 =
-    TellsLeft (AreInhabitedWith c.args.extensions.now (value_trees c.args.samples.now)) c.args.attrs.now in
-    let left = subst P (drop-at _ c.loop-attribute.attribute-index c.loop-attribute-item.result c.loop-attribute-test.true
-    c.loop-attribute-item.is) c.loop-attribute.invariant in
+    let left = rw (drop-at _ c.loop-attribute.attribute-index c.loop-attribute-item.result c.loop-attribute-test.true
+    c.loop-attribute-item.is) at c.loop-attribute.invariant in
     left-fails left
     (λ lives. let there = c.is_inhabited_with.ensures.1 (subst Lives (sym (type_same c.loop-attribute-item.result.1
     c.deref-in-loop-attribute.result.now c.deref-in-loop-attribute.ensures)) lives) in
     let none = c.if-not-is_inhabited_with.true in absurd cc)
 
+-- past one that has a sample the rest decides
 pub stated::are_sampled-loop-attribute-preserved : goal.stated::are_sampled-loop-attribute-preserved
 stated::are_sampled-loop-attribute-preserved t c =
     let Lives = IsInhabitedWith c.args.extensions.now (value_trees c.args.samples.now) in
-    let P : List (String Global × AttributeType) → Type 0 =
-    TellsLeft (AreInhabitedWith c.args.extensions.now (value_trees c.args.samples.now)) c.args.attrs.now in
-    let left = subst P (drop-at _ c.loop-attribute.attribute-index c.loop-attribute-item.result c.loop-attribute-test.true
-    c.loop-attribute-item.is) c.loop-attribute.invariant in
+    let left = rw (drop-at _ c.loop-attribute.attribute-index c.loop-attribute-item.result c.loop-attribute-test.true
+    c.loop-attribute-item.is) at c.loop-attribute.invariant in
     left-next left
     (subst Lives (type_same c.loop-attribute-item.result.1 c.deref-in-loop-attribute.result.now c.deref-in-loop-attribute.ensures)
     (c.is_inhabited_with.ensures.0 c.if-not-is_inhabited_with.false))
 
+-- an extension type has a sample exactly if one of the samples is of it
 pub types::Type::is_inhabited_with-returns-in-ExtensionType :
     goal.types::Type::is_inhabited_with-returns-in-ExtensionType
 types::Type::is_inhabited_with-returns-in-ExtensionType t c =
@@ -52,15 +52,11 @@ types::Type::is_inhabited_with-returns-in-ExtensionType t c =
     let is : ty_of c.args.self.now ≡ ty = ap ty_of c.in-ExtensionType.is ∙ ty_of-extension c.in-ExtensionType.name in
     let found = sampled-Decides extensions samples (ty_of c.args.self.now) c.sample_among.result
     c.sample_among.ensures.among c.sample_among.ensures.has c.sample_among.ensures.none in
-    let P : Ty → Type 0 = λ of. Decides (is_some c.sample_among.result) (IsSampled extensions (value_trees samples) of) in
-    let there : Decides (is_some c.sample_among.result) (IsInhabitedWith extensions (value_trees samples) ty) = subst P is found in
-    let Q : Ty → Type 0 = λ of. Decides (is_some c.sample_among.result) (IsInhabitedWith extensions (value_trees samples) of) in
-    let R : Bool → Type 0 = λ b. Decides b (IsInhabitedWith extensions (value_trees samples) (ty_of c.args.self.now)) in
-    subst R (sym c.is_some.ensures) (subst Q (sym is) there)
+    let there : Decides (is_some c.sample_among.result) (IsInhabitedWith extensions (value_trees samples) ty) = rw is at found in
+    rw (c.is_some.ensures, is) there
 
+-- where none is left, all have samples
 pub stated::are_sampled-returns : goal.stated::are_sampled-returns
 stated::are_sampled-returns t c =
-    let P : List (String Global × AttributeType) → Type 0 =
-    TellsLeft (AreInhabitedWith c.args.extensions.now (value_trees c.args.samples.now)) c.args.attrs.now in
-    let left = subst P (drop_of_length-le c.as_slice-attribute-items.result.now c.loop-attribute-test.false) c.loop-attribute.invariant in
+    let left = rw (drop_of_length-le c.as_slice-attribute-items.result.now c.loop-attribute-test.false) at c.loop-attribute.invariant in
     (λ _. left.0 tt, λ _. refl)

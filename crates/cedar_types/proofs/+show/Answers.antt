@@ -16,6 +16,5 @@ attributes::AttributesDisplay::fmt-returns-clause-writes g t c plain ok =
     let same : flat_map entry_text (take c.loop-name.name-index items) ≡ fields_text (fields_of c.args.self.now) =
     ap (flat_map entry_text) (take_all c.loop-name.name-index items c.loop-name-test.false)
     ∙ sym (fields_text-pairs c.args.self.now items (c.as_slice-name-items.ensures ∙ ap (λ all. all.entries.items) c.deref.ensures)) in
-    has_written_of_eq _ _ _ _ _
-    (ap (λ text. codes "{" ++ text ++ codes "}") same)
+    has_written_of_eq _ _ _ _ _ (ap (λ text. codes "{" ++ text ++ codes "}") same)
     (has_written_append _ _ _ _ _ _ (has_written_append _ _ _ _ _ _ before written) behind)

@@ -6,18 +6,19 @@ use Rattle.cedar_types.proofs.SubtypeSteps.{WalkedBelow, WalkedBelow-first, Walk
 use Rattle.cedar_types.specs.declared.attributes.AttributeType.{AttributeType}
 use Rattle.cedar_types.proofs.+subtype.Goals as goal
 
+-- at first all attributes of the upper record are left
 pub subtype::fields_fit-loop-name-init : goal.subtype::fields_fit-loop-name-init
 subtype::fields_fit-loop-name-init t c =
     let same = c.as_slice-name-items.ensures ∙ ap (λ all. all.entries.items) c.deref-2.ensures in
     subst (λ rest. WalkedBelow c.args.mode c.args.lower.now c.args.upper.now 0 rest) (sym same)
     (WalkedBelow-first c.args.mode c.args.lower.now c.args.upper.now)
 
+-- an attribute that the lower record lacks fails
 pub subtype::fields_fit-returns-then-not-is_at : goal.subtype::fields_fit-returns-then-not-is_at
 subtype::fields_fit-returns-then-not-is_at t c =
     let lower = c.args.lower.now in
     let item = c.loop-name-item.result in
-    let P : List (String Global × AttributeType) → Type 0 = WalkedBelow c.args.mode lower c.args.upper.now c.loop-name.at in
-    let walked = subst P (drop-at _ c.loop-name.name-index item c.loop-name-test.true c.loop-name-item.is) c.loop-name.invariant in
+    let walked = rw (drop-at _ c.loop-name.name-index item c.loop-name-test.true c.loop-name-item.is) at c.loop-name.invariant in
     let sought = Sought-held lower c.loop-name.at c.seek-at.result c.deref-in-loop-name.result.now _ (string_bytes item.0)
     c.deref-in-loop-name.ensures c.deref-in-loop-name-2.ensures c.seek-at.ensures.passed c.seek-at.ensures.stays in
     let here = IsAt-held lower c.seek-at.result c.deref-in-loop-name-3.result.now _ (string_bytes item.0) c.is_at.result
@@ -25,13 +26,13 @@ subtype::fields_fit-returns-then-not-is_at t c =
     WalkedBelow-missed c.args.mode lower c.args.upper.now c.loop-name.at c.seek-at.result item _ walked sought
     (λ is. absurd (let there = here.1 is in let none = c.if-not-is_at.true in cc))
 
+-- so does one that doesn't lie below
 pub subtype::fields_fit-returns-then-not-attribute_fits :
     goal.subtype::fields_fit-returns-then-not-attribute_fits
 subtype::fields_fit-returns-then-not-attribute_fits t c =
     let lower = c.args.lower.now in
     let item = c.loop-name-item.result in
-    let P : List (String Global × AttributeType) → Type 0 = WalkedBelow c.args.mode lower c.args.upper.now c.loop-name.at in
-    let walked = subst P (drop-at _ c.loop-name.name-index item c.loop-name-test.true c.loop-name-item.is) c.loop-name.invariant in
+    let walked = rw (drop-at _ c.loop-name.name-index item c.loop-name-test.true c.loop-name-item.is) at c.loop-name.invariant in
     let sought = Sought-held lower c.loop-name.at c.seek-at.result c.deref-in-loop-name.result.now _ (string_bytes item.0)
     c.deref-in-loop-name.ensures c.deref-in-loop-name-2.ensures c.seek-at.ensures.passed c.seek-at.ensures.stays in
     let here = IsAt-held lower c.seek-at.result c.deref-in-loop-name-3.result.now _ (string_bytes item.0) c.is_at.result
@@ -41,12 +42,12 @@ subtype::fields_fit-returns-then-not-attribute_fits t c =
     (AttributeBelow-held c.args.mode lower c.as_slice-own.result.now c.seek-at.result c.index-own-at.result item _ c.attribute_fits.result
     (c.as_slice-own.ensures ∙ ap (λ all. all.entries.items) c.deref.ensures) c.if-not-attribute_fits.true c.attribute_fits.ensures)
 
+-- past one that lies below the rest decides
 pub subtype::fields_fit-loop-name-preserved : goal.subtype::fields_fit-loop-name-preserved
 subtype::fields_fit-loop-name-preserved t c =
     let lower = c.args.lower.now in
     let item = c.loop-name-item.result in
-    let P : List (String Global × AttributeType) → Type 0 = WalkedBelow c.args.mode lower c.args.upper.now c.loop-name.at in
-    let walked = subst P (drop-at _ c.loop-name.name-index item c.loop-name-test.true c.loop-name-item.is) c.loop-name.invariant in
+    let walked = rw (drop-at _ c.loop-name.name-index item c.loop-name-test.true c.loop-name-item.is) at c.loop-name.invariant in
     let sought = Sought-held lower c.loop-name.at c.seek-at.result c.deref-in-loop-name.result.now _ (string_bytes item.0)
     c.deref-in-loop-name.ensures c.deref-in-loop-name-2.ensures c.seek-at.ensures.passed c.seek-at.ensures.stays in
     let here = IsAt-held lower c.seek-at.result c.deref-in-loop-name-3.result.now _ (string_bytes item.0) c.is_at.result

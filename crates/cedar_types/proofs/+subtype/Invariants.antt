@@ -15,5 +15,4 @@ abbrev pub decreases-types::Type::is_subtype : goal.decreases-types::Type::is_su
 decreases-types::Type::is_subtype l = size-Type l.b.now
 
 abbrev pub invariant-subtype::fields_fit-loop-name : goal.invariant-subtype::fields_fit-loop-name
-invariant-subtype::fields_fit-loop-name l =
-    WalkedBelow l.mode l.lower l.upper l.at (drop l.name-index l.name-items)
+invariant-subtype::fields_fit-loop-name l = WalkedBelow l.mode l.lower l.upper l.at (drop l.name-index l.name-items)

@@ -1,4 +1,4 @@
-use Rattle.std.proofs.Common.{◌≡◌, Result, refl, subst}
+use Rattle.std.proofs.Common.{◌≡◌, Result, refl}
 use Rattle.std.proofs.lemmas.Fn.{says_at}
 use Rattle.std.proofs.lemmas.Result.{IfOk-at_ok}
 use Rattle.std.specs.Fn.{FnReturnsAt}
@@ -7,12 +7,14 @@ use Rattle.cedar_below.specs.declared.memory.Memory.{Memory}
 use Rattle.cedar_below.proofs.EntryLemmas.{copied_all, copied_more, copied_none}
 use Rattle.cedar_below.proofs.copying.copied_entries.Goals as goal
 
+-- at first nothing is copied, and all entries are left
 pub loop-key-init : goal.loop-key-init
 loop-key-init g c =
     copied_none g.K.Ord.cmp g.met.K.Ord.total (FnReturnsAt g.F.Fn c.args.copy_key) (FnReturnsAt g.G.Fn c.args.copy_value)
     c.args.entries.now.entries c.in_ok-copies.copies.entries c.into_iter-key-iterator.result
     c.into_iter-key-iterator.ensures.into_iter_gives.0 c.in_ok-copies.ensures.0 c.into_iter-key-iterator.ensures.into_iter_gives.5
 
+-- the copy of an entry whose key is new is put in
 pub loop-key-preserved-in_ok-insert : goal.loop-key-preserved-in_ok-insert
 loop-key-preserved-in_ok-insert g c =
     let key = c.in-Some.key.now in
@@ -25,9 +27,10 @@ loop-key-preserved-in_ok-insert g c =
     copied_more g.K.Ord.cmp g.met.K.Ord.total (FnReturnsAt g.F.Fn c.args.copy_key) (FnReturnsAt g.G.Fn c.args.copy_value)
     c.args.entries.now.entries c.loop-key.copies.entries c.insert.new.self.entries c.loop-key.key-iterator c.next.new.self
     key c.in_ok-copy_key.field-0 value c.in_ok-copy_value.field-0 c.in-Some.ensures.steps ties
-    (subst Keys c.in_ok-copy_key.was of_key) (subst Values c.in_ok-copy_value.was of_value) c.in_ok-insert.ensures.entries
+    (rw c.in_ok-copy_key.was at of_key) (rw c.in_ok-copy_value.was at of_value) c.in_ok-insert.ensures.entries
     c.loop-key.invariant
 
+-- so it is with one whose key was there
 pub loop-key-preserved : goal.loop-key-preserved
 loop-key-preserved g c =
     let key = c.in-Some.key.now in
@@ -40,9 +43,10 @@ loop-key-preserved g c =
     copied_more g.K.Ord.cmp g.met.K.Ord.total (FnReturnsAt g.F.Fn c.args.copy_key) (FnReturnsAt g.G.Fn c.args.copy_value)
     c.args.entries.now.entries c.loop-key.copies.entries c.insert.new.self.entries c.loop-key.key-iterator c.next.new.self
     key c.in_ok-copy_key.field-0 value c.in_ok-copy_value.field-0 c.in-Some.ensures.steps ties
-    (subst Keys c.in_ok-copy_key.was of_key) (subst Values c.in_ok-copy_value.was of_value) c.in_ok-insert.ensures.entries
+    (rw c.in_ok-copy_key.was at of_key) (rw c.in_ok-copy_value.was at of_value) c.in_ok-insert.ensures.entries
     c.loop-key.invariant
 
+-- where no entry is left, all are copied
 pub returns : goal.returns
 returns g c =
     copied_all g.K.Ord.cmp g.met.K.Ord.total (FnReturnsAt g.F.Fn c.args.copy_key) (FnReturnsAt g.G.Fn c.args.copy_value)

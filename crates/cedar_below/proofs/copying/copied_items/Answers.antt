@@ -1,9 +1,7 @@
-use Rattle.std.proofs.Common.{◌++◌, ◌∷◌, [], List, Ok, Result, ap, refl, subst, sym, take, ◌∙◌}
+use Rattle.std.proofs.Common.{◌++◌, ◌∷◌, [], Ok, ap, refl, sym, take, ◌∙◌}
 use Rattle.std.proofs.lemmas.Fn.{says_at}
 use Rattle.std.proofs.lemmas.List.{take_more}
 use Rattle.std.specs.Fn.{FnReturnsAt}
-use Rattle.cedar_below.specs.Lists.{HoldsPairwise}
-use Rattle.cedar_below.specs.declared.memory.Memory.{Memory}
 use Rattle.cedar_below.proofs.TurnLemmas.{turn_more}
 use Rattle.cedar_below.proofs.copying.copied_items.Goals as goal
 
@@ -13,10 +11,5 @@ loop-item-preserved g c =
     let i = c.loop-item.item-index in
     let item = c.item-item.result in
     let IsCopy : g.row.V.Denot → g.row.V.Denot → Type 0 = λ one other. FnReturnsAt g.F.Fn c.args.copy one (Ok other) in
-    let Gives : Result g.row.V.Denot Memory → Type 0 = FnReturnsAt g.F.Fn c.args.copy item in
-    let copied : IsCopy item c.in_ok-copy.field-0 = subst Gives c.in_ok-copy.was (says_at g.F.Fn c.copy.ensures refl) in
-    let All : List g.row.V.Denot → Type 0 = λ taken. HoldsPairwise IsCopy taken c.push.new.self.items in
-    let Made : List g.row.V.Denot → Type 0 = HoldsPairwise IsCopy (take i items ++ item ∷ []) in
-    subst All (ap (λ one. take i items ++ one ∷ []) c.item-item.is ∙ sym (take_more items i item c.loop-item-test.true))
-    (subst Made (sym c.in_ok-push.ensures.items)
-    (turn_more IsCopy (take i items) c.loop-item.copies.items item c.in_ok-copy.field-0 c.loop-item.invariant copied))
+    let copied : IsCopy item c.in_ok-copy.field-0 = rw c.in_ok-copy.was at (says_at g.F.Fn c.copy.ensures refl) in
+    rw (← c.in_ok-push.ensures.items, ap (λ one. take i items ++ one ∷ []) c.item-item.is ∙ sym (take_more items i item c.loop-item-test.true)) at (turn_more IsCopy (take i items) c.loop-item.copies.items item c.in_ok-copy.field-0 c.loop-item.invariant copied)

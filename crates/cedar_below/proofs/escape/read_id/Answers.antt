@@ -1,14 +1,15 @@
-use Rattle.std.proofs.Common.{rules, ◌≡◌, ◌≢◌, ◌+◌, ◌∷◌, ◌++◌, ◌<◌, [], List, ℕ, Some, None, arith, chars, map, map-id, length, take, get_or, string_bytes, refl, sym, ap, ◌∙◌, subst}
+use Rattle.std.proofs.Common.{rules, ◌≡◌, ◌+◌, Some, chars, map-id, string_bytes, sym, ap, ◌∙◌, subst}
 use Rattle.std.proofs.lemmas.Iterator.{YieldsList-from_chars}
 use Rattle.std.proofs.lemmas.Iterator.Consumers.{YieldsList-end, YieldsList-so_far, YieldsList-turn}
 use Rattle.std.proofs.lemmas.Str.{IsUtf8-string_bytes}
 use Rattle.std.specs.Char.{len_utf8}
-use Rattle.cedar_below.specs.Escapes.{escape_then, last_whole}
+use Rattle.cedar_below.specs.Escapes.{escape_then}
 use Rattle.cedar_below.specs.declared.escape.Escape.TheVariants.{Closed}
 use Rattle.cedar_below.proofs.EscapeReading.{HasReadId, HasReadId-like, HasReadId-more, HasReadId-whole, characters_by, closed_id, counted_within, stops_at_char, stops_at_id_end}
 use Rattle.cedar_below.proofs.escape.read_id.Goals as goal
 use Rattle.cedar_below.proofs.escape.read_id.Goals.{in-Some-whole+in_ok-push, in_default}
 
+-- the reading stops at the first character that can't follow
 pub returns-in-None-then-clause-fault : goal.returns-in-None-then-clause-fault
 returns-in-None-then-clause-fault c =
     let road = YieldsList-from_chars c.args.text.now c.utf8.text cc in
@@ -18,6 +19,7 @@ returns-in-None-then-clause-fault c =
     stops_at_char c.args.text.now c.loop-c.escape (string_bytes c.loop-c.id) c.loop-c.at c.loop-c.yielded split.0 c.in-Some.c c.utf8.text
     (IsUtf8-string_bytes c.loop-c.id) split.1 c.loop-c.invariant (sym c.then.ensures ∙ c.in-None-then.is)
 
+-- the place stays within the text
 pub overflow_add-at : goal.overflow_add-at
 overflow_add-at c =
     let road = YieldsList-from_chars c.args.text.now c.utf8.text cc in
@@ -28,6 +30,7 @@ overflow_add-at c =
     let within = counted_within c.args.text.now c.loop-c.yielded split.0 c.in-Some.c c.loop-c.at c.utf8.text split.1 c.loop-c.invariant.count in
     search (rules, within, value)
 
+-- a character ends an escape or goes on with it
 pub loop-c-preserved : goal.loop-c-preserved
 loop-c-preserved c =
     let goes : escape_then c.loop-c.escape c.in-Some.c ≡ Some c.in-Some-then.next = sym c.then.ensures ∙ c.in-Some-then.is in
@@ -41,6 +44,7 @@ loop-c-preserved c =
           c.loop-c.invariant goes (sym c.whole.ensures ∙ w.in_default.is))
     ]
 
+-- a text that ends with its quote is an id
 pub returns-in-Closed-clause-id : goal.returns-in-Closed-clause-id
 returns-in-Closed-clause-id c =
     let road = YieldsList-from_chars c.args.text.now c.utf8.text cc in
@@ -50,6 +54,7 @@ returns-in-Closed-clause-id c =
     (subst (HasReadId Closed (string_bytes c.loop-c.id) c.loop-c.at) all
     (subst (λ escape. HasReadId escape (string_bytes c.loop-c.id) c.loop-c.at c.loop-c.yielded) c.in-Closed.is c.loop-c.invariant))
 
+-- one that ends before it stops at its end
 pub returns-in_default-escape : goal.returns-in_default-escape
 returns-in_default-escape c =
     let road = YieldsList-from_chars c.args.text.now c.utf8.text cc in

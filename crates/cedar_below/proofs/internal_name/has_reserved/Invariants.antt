@@ -4,5 +4,4 @@ use Rattle.cedar_below.specs.Identifier.{reserved_word}
 use Rattle.cedar_below.proofs.internal_name.has_reserved.Given as goal
 
 abbrev pub invariant-loop-part : goal.invariant-loop-part
-invariant-loop-part l =
-    (k : ℕ) → k < l.part-index → ¬ (get_or (map id_text l.path) k reserved_word ≡ reserved_word)
+invariant-loop-part l = (k : ℕ) → k < l.part-index → ¬ (get_or (map id_text l.path) k reserved_word ≡ reserved_word)

@@ -9,5 +9,4 @@ returns-then-are_fit c =
     )
 
 pub returns-else-are_fit : goal.returns-else-are_fit
-returns-else-are_fit c =
-    (λ fit. absurd cc, λ whole. c.are_fit.ensures.1 ((TypeNamesFit-parts c.args.names.now).1 whole).0)
+returns-else-are_fit c = (λ fit. absurd cc, λ whole. c.are_fit.ensures.1 ((TypeNamesFit-parts c.args.names.now).1 whole).0)

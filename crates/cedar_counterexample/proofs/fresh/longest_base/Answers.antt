@@ -1,4 +1,4 @@
-use Rattle.std.proofs.Common.{◌≡◌, ◌≤◌, List, ap, subst, ◌∙◌, map, length, arith}
+use Rattle.std.proofs.Common.{◌≡◌, ◌≤◌, List, ap, ◌∙◌, map, length, arith}
 use Rattle.std.proofs.lemmas.Grind.{common_steps}
 use Rattle.cedar_below.specs.EntityType.{type_name}
 use Rattle.cedar_below.specs.PlainName.{PlainName}
@@ -13,10 +13,8 @@ loop-ty-preserved c =
     let all = lub_names c.args.lub.now in
     let text : c.as_str.result.now ≡ name.base =
     c.as_str.ensures.text ∙ (c.basename.ensures ∙ ap (λ (n : PlainName). n.base) c.name.ensures.name) in
-    let P : List EntityType → Type 0 = λ types.
-    LongestSoFar (λ (n : PlainName). n.base) all (map type_name types) c.loop-ty.longest in
     let len = ap length text in
     let longer : c.loop-ty.longest ≤ c.max-longest.result = grind (arith, common_steps, c.max-longest.ensures) in
     let long : length name.base ≤ c.max-longest.result = grind (arith, common_steps, c.max-longest.ensures, len) in
     longest_next (λ (n : PlainName). n.base) all _ name c.loop-ty.longest c.max-longest.result longer long
-    (subst P c.in-Some.ensures.steps c.loop-ty.invariant)
+    (rw c.in-Some.ensures.steps at c.loop-ty.invariant)

@@ -1,4 +1,4 @@
-use Rattle.std.proofs.Common.{◌≡◌, string_bytes, subst, suc, sym, ◌∙◌}
+use Rattle.std.proofs.Common.{◌≡◌, string_bytes, suc, ◌∙◌}
 use Rattle.std.proofs.lemmas.Bool.{false≢true}
 use Rattle.cedar_below.proofs.ValueLemmas.{IsName-stretch, stretch}
 use Rattle.cedar_below.specs.Identifier.{IsIdentifier}
@@ -10,5 +10,4 @@ pub unreachable-requires : goal.unreachable-requires
 unreachable-requires c =
     let text : string_bytes c.in_ok-underscores.field-0 ≡ stretch (suc c.args.count) =
     c.in_ok-underscores.ensures ∙ underscores-stretch c.args.count in
-    let P : Text → Type 0 = IsIdentifier in
-    false≢true (c.in_default.ensures.valid.1 (subst P (sym text) (IsName-stretch c.args.count).0))
+    false≢true (c.in_default.ensures.valid.1 (rw text (IsName-stretch c.args.count).0))

@@ -1,4 +1,4 @@
-use Rattle.std.proofs.Common.{None, Option, Some, refl, subst}
+use Rattle.std.proofs.Common.{None, Option, Some, refl}
 use Rattle.std.specs.Option.{option_map}
 use Rattle.cedar_type_rules.proofs.StatedLemmas.{IsInhabited-with}
 use Rattle.cedar_type_rules.proofs.ValueInclusion.{inclusion_by_parts}
@@ -24,8 +24,7 @@ returns-in_ok-attributes-in-Some-clause-none c =
     let extensions = c.args.extensions.now in
     let a = record_of (fields_of c.args.a.now) c.args.openness in
     let b = record_of (fields_of c.args.b.now) c.args.upper_openness in
-    let F : Option Start → Type 0 = λ found. IsOutsideAnswer extensions a b (option_map record_found found) in
-    let found : F (Some c.in-Some.start) = subst F c.in-Some.is c.in_ok-start.ensures in
+    let found = rw c.in-Some.is at c.in_ok-start.ensures in
     (λ none. absurd cc, λ within. absurd (separated_outside extensions a b (record_found c.in-Some.start).value found.0 within))
 
 pub returns-in-None-clause-none : goal.returns-in-None-clause-none
@@ -33,8 +32,7 @@ returns-in-None-clause-none c =
     let extensions = c.args.extensions.now in
     let a = record_of (fields_of c.args.a.now) c.args.openness in
     let b = record_of (fields_of c.args.b.now) c.args.upper_openness in
-    let F : Option Start → Type 0 = λ found. IsOutsideAnswer extensions a b (option_map record_found found) in
-    let found : F None = subst F c.in-None.is c.in_ok-start.ensures in
+    let found = rw c.in-None.is at c.in_ok-start.ensures in
     let lives = IsInhabited-with extensions (value_trees c.args.samples.now) a c.requires in (
       λ _. (inclusion_by_parts a b (formed c.args.a.now c.args.openness) (formed c.args.b.now c.args.upper_openness) extensions lives).0 found,
       λ _. refl,

@@ -1,4 +1,4 @@
-use Rattle.std.proofs.Common.{None, Option, refl, subst}
+use Rattle.std.proofs.Common.{None, Option, refl}
 use Rattle.std.specs.Option.{option_map}
 use Rattle.cedar_type_rules.proofs.StatedLemmas.{IsInhabited-with}
 use Rattle.cedar_type_rules.proofs.ValueInclusion.{inclusion_by_parts}
@@ -14,8 +14,7 @@ returns-in-None-clause-none c =
     let extensions = c.args.extensions.now in
     let a = ty_of c.args.a.now in
     let b = ty_of c.args.b.now in
-    let F : Option Found → Type 0 = λ found. IsOutsideAnswer extensions a b (option_map found_of found) in
-    let found : F None = subst F c.in-None.is c.in_ok-found.ensures in
+    let found = rw c.in-None.is at c.in_ok-found.ensures in
     let lives = IsInhabited-with extensions (value_trees c.args.samples.now) a c.requires in (
       λ _. (inclusion_by_parts a b (IsWellFormed-type c.args.a.now) (IsWellFormed-type c.args.b.now) extensions lives).0 found,
       λ _. refl,

@@ -1,4 +1,4 @@
-use Rattle.std.proofs.Common.{ap, subst, sym, ◌∙◌}
+use Rattle.std.proofs.Common.{ap, ◌∙◌}
 use Rattle.cedar_below.specs.Tree.{entries_from, entry_at}
 use Rattle.cedar_below.proofs.ValueCopies.{AreReal, Pairs, entries_real, plain_pairs, real_entries, texts_sorted}
 use Rattle.cedar_counterexample.proofs.PutLemmas.{found_put, real_put}
@@ -11,9 +11,8 @@ returns-clause-put c =
     let old = c.args.values.now.entries in
     let new = c.insert.new.self.entries in
     let is = c.in_ok-_old.ensures.entries in
-    let P : Pairs → Type 0 = AreReal in
     record {
       found = λ other. ap (λ (pairs : Pairs). entry_at other (entries_from (plain_pairs pairs))) is ∙ found_put key value other old;
       real = λ real one. entries_real new (texts_sorted new c.insert.ensures.ordered)
-          (subst P (sym is) (real_put key value old (real_entries old real) one));
+          (rw is (real_put key value old (real_entries old real) one));
     }

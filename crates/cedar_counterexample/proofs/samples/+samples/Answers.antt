@@ -23,9 +23,7 @@ use Rattle.cedar_types.specs.declared.attributes.AttributeType.{AttributeType}
 use Rattle.cedar_counterexample.proofs.samples.+samples.Goals as goal
 use Rattle.cedar_counterexample.proofs.samples.+samples.Goals.{fill-else-attribute-via-then-attribute+else-not-contains_key, fill-else-attribute-via-else-attribute}
 
-abbrev Items : Type 0
-Items = List (String Global × AttributeType)
-
+-- the type of an attribute is smaller than the record's, and inhabited
 pub fill-sample_of-requires : goal.fill-sample_of-requires
 fill-sample_of-requires t c =
     let extensions = c.args.search.now.extensions.now in
@@ -33,17 +31,15 @@ fill-sample_of-requires t c =
     let all = fields_of c.args.attrs.now in
     let name = string_bytes c.in-Some.name.now in
     let attribute = attribute_of c.in-Some.attribute.now in
-    let P : Items → Type 0 = λ items. FillingSoFar extensions all (entries_of c.args.start) (fields_from (plain_attributes items))
-    (entries_of c.loop-name.values) in
-    let so_far = subst P c.in-Some.ensures.steps c.loop-name.invariant in
+    let so_far = rw c.in-Some.ensures.steps at c.loop-name.invariant in
     let same = type_same c.in-Some.attribute.now c.deref.result.now c.deref.ensures in
     let has = so_far.within name attribute.0 attribute.1 (inl (refl, refl, refl)) in
-    let R : Ty → Type 0 = λ ty. ty_size ty < fields_size all in
-    let less = subst R (sym same) (attribute_smaller all name attribute.0 attribute.1 has) in (
+    let less = rw (← same) at (attribute_smaller all name attribute.0 attribute.1 has) in (
       omega (arith, less, c.decreases),
       subst (IsInhabitedWith extensions samples) (sym same) (AreInhabitedWith-of extensions samples all name attribute.0 attribute.1 c.requires has),
     )
 
+-- a sample stands under the name of a required attribute that was missing
 pub fill-loop-name-preserved-then-not-contains_key :
     goal.fill-loop-name-preserved-then-not-contains_key
 fill-loop-name-preserved-then-not-contains_key t c =
@@ -55,17 +51,14 @@ fill-loop-name-preserved-then-not-contains_key t c =
     let name = string_bytes c.in-Some.name.now in
     let attribute = attribute_of c.in-Some.attribute.now in
     let value = tree_of c.in_ok-sample.sample in
-    let P : Items → Type 0 = λ items. FillingSoFar extensions all start (fields_from (plain_attributes items)) now in
-    let so_far = subst P c.in-Some.ensures.steps c.loop-name.invariant in
+    let so_far = rw c.in-Some.ensures.steps at c.loop-name.invariant in
     let same = type_same c.in-Some.attribute.now c.deref.result.now c.deref.ensures in
     let needed = flag_same c.in-Some.attribute.now ∙ c.if-attribute.true in
-    let Q : Ty → Type 0 = λ ty. IsValueOf extensions ty value in
-    let R : Text → Type 0 = λ text. IsPut text value now new in
-    let S : Text → Type 0 = λ text. entry_at text now ≡ None in
-    let none = subst S c.as_str.ensures.value (missing_entry c.as_str.result.now c.loop-name.values (sym c.if-not-contains_key.ensures)) in
+    let none = rw c.as_str.ensures.value at (missing_entry c.as_str.result.now c.loop-name.values (sym c.if-not-contains_key.ensures)) in
     filling_put extensions all start name attribute.0 attribute.1 _ now so_far value new needed none
-    (subst R c.in_ok-clone.ensures.cases c.in_ok-put.ensures.put) (subst Q same c.in_ok-sample.ensures)
+    (rw c.in_ok-clone.ensures.cases at c.in_ok-put.ensures.put) (rw same at c.in_ok-sample.ensures)
 
+-- an attribute that is there, or may be missing, stays as it is
 pub fill-loop-name-preserved : goal.fill-loop-name-preserved
 fill-loop-name-preserved t c =
     let extensions = c.args.search.now.extensions.now in
@@ -74,25 +67,24 @@ fill-loop-name-preserved t c =
     let now = entries_of c.loop-name.values in
     let name = string_bytes c.in-Some.name.now in
     let attribute = attribute_of c.in-Some.attribute.now in
-    let P : Items → Type 0 = λ items. FillingSoFar extensions all start (fields_from (plain_attributes items)) now in
-    let so_far = subst P c.in-Some.ensures.steps c.loop-name.invariant in
-    let S : Text → Type 0 = λ text. (value : Tree) × (entry_at text now ≡ Some value) in
+    let so_far = rw c.in-Some.ensures.steps at c.loop-name.invariant in
     let there : attribute.0 ≡ true → (value : Tree) × (entry_at name now ≡ Some value) = elim c.else-attribute.branch [
       | fill-else-attribute-via-then-attribute+else-not-contains_key w ↦
-          λ _. subst S w.as_str.ensures.value (present_entry w.as_str.result.now c.loop-name.values (sym w.if-not-contains_key.ensures))
+          λ _. rw w.as_str.ensures.value at (present_entry w.as_str.result.now c.loop-name.values (sym w.if-not-contains_key.ensures))
       | fill-else-attribute-via-else-attribute w ↦
           λ needed. absurd (let optional = flag_same c.in-Some.attribute.now ∙ w.if-attribute.false in
           let wrong : true ≡ false = sym needed ∙ optional in cc)
     ] in
     filling_there extensions all start name attribute.0 attribute.1 _ now so_far there
 
+-- the uid of an entity is a sample of its type
 pub sample_of-returns-in-Entity : goal.sample_of-returns-in-Entity
 sample_of-returns-in-Entity t c =
     let extensions = c.args.search.now.extensions.now in
     IfOk-weaker c.sample_entity.result _ (λ sample. IsValueOf extensions (ty_of c.args.ty.now) (tree_of sample))
-    (λ sample each. let P : Ty → Type 0 = λ ty. IsValueOf extensions ty (tree_of sample) in
-    subst P (sym (ap ty_of c.in-Entity.is ∙ ty_of-entity c.in-Entity.kind)) (each extensions)) c.sample_entity.ensures
+    (λ sample each. rw (ap ty_of c.in-Entity.is ∙ ty_of-entity c.in-Entity.kind) (each extensions)) c.sample_entity.ensures
 
+-- what is filled up from no entries is a sample of the record
 pub sample_of-returns-in_ok-values-in-Record : goal.sample_of-returns-in_ok-values-in-Record
 sample_of-returns-in_ok-values-in-Record t c =
     let extensions = c.args.search.now.extensions.now in
@@ -100,9 +92,6 @@ sample_of-returns-in_ok-values-in-Record t c =
     let fields = fields_of c.in-Record.attrs in
     let openness = c.in-Record.open_attributes in
     let sample = record_sample extensions fields openness (entries_of c.new-in-Record.result) (entries_of values)
-    (IsSortedByName-fields c.in-Record.attrs)
-    (no_entries c.new-in-Record.result c.new-in-Record.ensures.empty)
+    (IsSortedByName-fields c.in-Record.attrs) (no_entries c.new-in-Record.result c.new-in-Record.ensures.empty)
     c.in_ok-values-in-Record.ensures in
-    let P : Ty → Type 0 = λ ty. IsValueOf extensions ty (map_value (entries_of values)) in
-    let Q : Tree → Type 0 = λ tree. IsValueOf extensions (ty_of c.args.ty.now) tree in
-    subst Q (sym (tree_of-record values)) (subst P (sym (ap ty_of c.in-Record.is ∙ ty_of-record c.in-Record.attrs openness)) sample)
+    rw (tree_of-record values, ap ty_of c.in-Record.is ∙ ty_of-record c.in-Record.attrs openness) sample

@@ -17,17 +17,14 @@ IsOf name kind = HasUid (record { ty = name; eid = [] }) (kind_ty kind)
 pub returns-in_ok-type_of_length-in-AnyEntity : goal.returns-in_ok-type_of_length-in-AnyEntity
 returns-in_ok-type_of_length-in-AnyEntity c =
     let ty = c.in_ok-type_of_length-in-AnyEntity.field-0 in
-    let P : EntityKind → Type 0 = IsOf (type_name ty) in
-    λ extensions. entity_sample extensions c.args.kind.now ty (type_name ty) _ c.entity_of.ensures refl (subst P (sym c.in-AnyEntity.is) tt)
+    λ extensions. entity_sample extensions c.args.kind.now ty (type_name ty) _ c.entity_of.ensures refl (rw c.in-AnyEntity.is tt)
 
 pub returns-in_ok-clone-in-Some : goal.returns-in_ok-clone-in-Some
 returns-in_ok-clone-in-Some c =
     let ty = c.in-Some.ty.now in
     let lub = c.in-Entity.lub in
-    let P : EntityKind → Type 0 = IsOf (type_name ty) in
-    let Q : List PlainName → Type 0 = λ names. Contains names (type_name ty) in
     let names : type_name ty ∷ map type_name (iter_rest c.next.new.self) ≡ lub_names lub =
     ap (map type_name) (sym c.in-Some.ensures.steps) ∙ c.iter.ensures.names in
-    let among = subst Q names (Contains-cons (type_name ty) _ (type_name ty) (inl refl)) in
+    let among = subst (λ names. Contains names (type_name ty)) names (Contains-cons (type_name ty) _ (type_name ty) (inl refl)) in
     λ extensions. entity_sample extensions c.args.kind.now c.in_ok-clone-in-Some.field-0 (type_name ty) _ c.entity_of-in-Some.ensures
-    c.in_ok-clone-in-Some.ensures.name (subst P (sym c.in-Entity.is) among)
+    c.in_ok-clone-in-Some.ensures.name (rw c.in-Entity.is among)

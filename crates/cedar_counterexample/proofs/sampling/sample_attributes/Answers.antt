@@ -1,4 +1,4 @@
-use Rattle.std.proofs.Common.{subst, sym}
+use Rattle.std.proofs.Common.{sym}
 use Rattle.std.proofs.lemmas.Result.{IfOk-weaker}
 use Rattle.cedar_below.proofs.ValueCopies.{no_entries}
 use Rattle.cedar_below.specs.RestrictedExpr.{entries_of}
@@ -21,4 +21,4 @@ returns-clause-has c =
     (no_entries c.new.result c.new.ensures.empty) c.in_ok-values.ensures in
     let P : Entries → Type 0 = λ values. (openness : OpenTag) → Has extensions (map_value values) (record_of fields openness) in
     IfOk-weaker c.named_values.result _ (λ values. P (value_entries values))
-    (λ values same. subst P (sym same) (λ openness. (sample openness).1)) c.named_values.ensures
+    (λ values same. rw same (λ openness. (sample openness).1)) c.named_values.ensures

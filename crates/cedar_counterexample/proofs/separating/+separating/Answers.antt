@@ -32,9 +32,7 @@ use Rattle.cedar_types.specs.declared.attributes.AttributeType.{AttributeType}
 use Rattle.cedar_counterexample.proofs.separating.+separating.Goals as goal
 use Rattle.cedar_counterexample.proofs.separating.+separating.Goals.{separating_field-else-attribute-via-then-attribute+else-not-own, separating_field-else-attribute-via-else-attribute}
 
-abbrev Items : Type 0
-Items = List (String Global × AttributeType)
-
+-- an attribute that the one record lacks is left out or put in
 pub separating_field-returns-in_default : goal.separating_field-returns-in_default
 separating_field-returns-in_default t c =
     let extensions = c.args.search.now.extensions.now in
@@ -42,12 +40,12 @@ separating_field-returns-in_default t c =
     let name = string_bytes c.args.name.now in
     let attribute = attribute_of c.args.attribute.now in
     let found = found-Decides attribute_of c.get_attr.result c.deref.result.now lower c.get_attr.ensures.attribute in
-    let R : Text → Type 0 = λ text. ¬ Contains (field_names lower) text in
-    let absent = subst R c.deref.ensures (λ among. false≢true (sym (ap is_some c.in_default.is) ∙ found.1 among)) in
+    let absent = subst (λ text. ¬ Contains (field_names lower) text) c.deref.ensures (λ among. false≢true (sym (ap is_some c.in_default.is) ∙ found.1 among)) in
     IfOk-weaker c.start_without.result _
     (λ start. IsFieldStart extensions lower c.args.openness name attribute.0 attribute.1 (option_map start_of start))
     (λ start each. each extensions lower absent) c.start_without.ensures
 
+-- the type of the attribute is smaller than the record's, and the one record's is inhabited
 pub separating_field-separating_expr-requires :
     goal.separating_field-separating_expr-requires
 separating_field-separating_expr-requires t c =
@@ -55,13 +53,13 @@ separating_field-separating_expr-requires t c =
     let lower = fields_of c.args.lower.now in
     let own = attribute_of c.in-Some.own.now in
     let has = HasField-found c.deref.result.now lower own (sym c.in-Some.ensures.attribute) in
-    let P : Ty → Type 0 = λ ty. ty_size ty < ty_size (attribute_of c.args.attribute.now).1 + 1 in
-    let less = subst P (sym (type_same c.args.attribute.now c.deref-3.result.now c.deref-3.ensures)) (omega arith) in (
+    let less = subst (λ ty. ty_size ty < ty_size (attribute_of c.args.attribute.now).1 + 1) (sym (type_same c.args.attribute.now c.deref-3.result.now c.deref-3.ensures)) (omega arith) in (
       omega (arith, less, c.decreases),
       subst (IsInhabitedWith c.args.search.now.extensions.now samples) (sym (type_same c.in-Some.own.now c.deref-2.result.now c.deref-2.ensures))
           (AreInhabitedWith-of c.args.search.now.extensions.now samples lower c.deref.result.now own.0 own.1 c.requires has),
     )
 
+-- an attribute that only the other requires is left out
 pub separating_field-returns-then-not-own : goal.separating_field-returns-then-not-own
 separating_field-returns-then-not-own t c = λ upper upper_openness also.
     let extensions = c.args.search.now.extensions.now in
@@ -69,16 +67,14 @@ separating_field-returns-then-not-own t c = λ upper upper_openness also.
     let name = string_bytes c.args.name.now in
     let attribute = attribute_of c.args.attribute.now in
     let own = attribute_of c.in-Some.own.now in
-    let H : Text → Type 0 = λ text. HasField lower text own.0 own.1 in
-    let has = subst H c.deref.ensures (HasField-found c.deref.result.now lower own (sym c.in-Some.ensures.attribute)) in
+    let has = rw c.deref.ensures at (HasField-found c.deref.result.now lower own (sym c.in-Some.ensures.attribute)) in
     let optional = flag_same c.in-Some.own.now ∙ c.if-not-own.true in
-    let Q : PlainStart → Type 0 = IsStart extensions lower c.args.openness upper upper_openness in
-    subst Q (sym c.in_ok-start_of_none.ensures)
-    (missing_start extensions lower upper c.args.openness upper_openness name attribute.0 attribute.1
+    rw c.in_ok-start_of_none.ensures (missing_start extensions lower upper c.args.openness upper_openness name attribute.0 attribute.1
     (λ ty there. (let same = (HasField-once lower name own.0 true own.1 ty (IsSortedByName-fields c.args.lower.now) has there).0 in
     let wrong : true ≡ false = sym same ∙ optional in absurd cc))
     (flag_same c.args.attribute.now ∙ c.if-attribute.true) also)
 
+-- a value that is outside the attribute's type stands under its name
 pub separating_field-returns-in_ok-start_with-in-Some-found : goal.separating_field-returns-in_ok-start_with-in-Some-found
 separating_field-returns-in_ok-start_with-in-Some-found t c = λ upper upper_openness also.
     let extensions = c.args.search.now.extensions.now in
@@ -86,36 +82,23 @@ separating_field-returns-in_ok-start_with-in-Some-found t c = λ upper upper_ope
     let name = string_bytes c.args.name.now in
     let attribute = attribute_of c.args.attribute.now in
     let own = attribute_of c.in-Some.own.now in
-    let H : Text → Type 0 = λ text. HasField lower text own.0 own.1 in
-    let has = subst H c.deref.ensures (HasField-found c.deref.result.now lower own (sym c.in-Some.ensures.attribute)) in
+    let has = rw c.deref.ensures at (HasField-found c.deref.result.now lower own (sym c.in-Some.ensures.attribute)) in
     let it = found_of c.in-Some-found.found in
-    let F : Option Found → Type 0 = λ found. IsOutsideAnswer extensions (ty_of c.deref-2.result.now)
-    (ty_of c.deref-3.result.now) (option_map found_of found) in
-    let found : F (Some c.in-Some-found.found) = subst F c.in-Some-found.is c.in_ok-found.ensures in
-    let A : Ty → Type 0 = λ ty. IsOutsideAnswer extensions ty (ty_of c.deref-3.result.now) (Some it) in
-    let B : Ty → Type 0 = λ ty. IsOutsideAnswer extensions own.1 ty (Some it) in
-    let answer = subst B (type_same c.args.attribute.now c.deref-3.result.now c.deref-3.ensures)
-    (subst A (type_same c.in-Some.own.now c.deref-2.result.now c.deref-2.ensures) found) in
-    let Q : PlainStart → Type 0 = IsStart extensions lower c.args.openness upper upper_openness in
-    subst Q (sym c.in_ok-start_with-in-Some-found.ensures)
-    (attribute_start extensions lower upper c.args.openness upper_openness name own.0 attribute.0 own.1 attribute.1 it
+    let found = rw c.in-Some-found.is at c.in_ok-found.ensures in
+    let answer = rw (type_same c.in-Some.own.now c.deref-2.result.now c.deref-2.ensures, type_same c.args.attribute.now c.deref-3.result.now c.deref-3.ensures) at found in
+    rw c.in_ok-start_with-in-Some-found.ensures (attribute_start extensions lower upper c.args.openness upper_openness name own.0 attribute.0 own.1 attribute.1 it
     (IsSortedByName-fields c.args.lower.now) (IsUtf8-string_bytes c.args.name.now) has also answer.0 answer.1)
 
+-- where no value is outside, the attribute's values are included
 pub separating_field-returns-in-None : goal.separating_field-returns-in-None
 separating_field-returns-in-None t c =
     let extensions = c.args.search.now.extensions.now in
     let lower = fields_of c.args.lower.now in
     let attribute = attribute_of c.args.attribute.now in
     let own = attribute_of c.in-Some.own.now in
-    let H : Text → Type 0 = λ text. HasField lower text own.0 own.1 in
-    let has = subst H c.deref.ensures (HasField-found c.deref.result.now lower own (sym c.in-Some.ensures.attribute)) in
-    let F : Option Found → Type 0 = λ found. IsOutsideAnswer extensions (ty_of c.deref-2.result.now)
-    (ty_of c.deref-3.result.now) (option_map found_of found) in
-    let found : F None = subst F c.in-None.is c.in_ok-found.ensures in
-    let A : Ty → Type 0 = λ ty. IncludedByParts ty (ty_of c.deref-3.result.now) in
-    let B : Ty → Type 0 = λ ty. IncludedByParts own.1 ty in
-    let parts = subst B (type_same c.args.attribute.now c.deref-3.result.now c.deref-3.ensures)
-    (subst A (type_same c.in-Some.own.now c.deref-2.result.now c.deref-2.ensures) found) in
+    let has = rw c.deref.ensures at (HasField-found c.deref.result.now lower own (sym c.in-Some.ensures.attribute)) in
+    let found = rw c.in-None.is at c.in_ok-found.ensures in
+    let parts = rw (type_same c.in-Some.own.now c.deref-2.result.now c.deref-2.ensures, type_same c.args.attribute.now c.deref-3.result.now c.deref-3.ensures) at found in
     let flags : attribute.0 ≡ true → own.0 ≡ true = elim c.else-attribute.branch [
       | separating_field-else-attribute-via-then-attribute+else-not-own w ↦ λ _. flag_same c.in-Some.own.now ∙ w.if-not-own.false
       | separating_field-else-attribute-via-else-attribute w ↦
@@ -124,6 +107,7 @@ separating_field-returns-in-None t c =
     ] in
     (inl (own.0, own.1, has, flags, parts), tt)
 
+-- each attribute is smaller than its record
 pub separating_attribute-separating_field-requires :
     goal.separating_attribute-separating_field-requires
 separating_attribute-separating_field-requires t c =
@@ -131,12 +115,12 @@ separating_attribute-separating_field-requires t c =
     let upper = fields_of c.args.upper.now in
     let name = string_bytes c.in-Some.name.now in
     let attribute = attribute_of c.in-Some.attribute.now in
-    let P : Items → Type 0 = λ items. CounterexampleSoFar lower c.args.openness upper (fields_from (plain_attributes items)) in
-    let so_far = subst P c.in-Some.ensures.steps c.loop-name.invariant in
+    let so_far = rw c.in-Some.ensures.steps at c.loop-name.invariant in
     let less = attribute_smaller upper name attribute.0 attribute.1
     (so_far.within name attribute.0 attribute.1 (inl (refl, refl, refl))) in
     (omega (arith, less, c.decreases), c.requires)
 
+-- the start that one attribute gives is the record's
 pub separating_attribute-returns-in-Some-found : goal.separating_attribute-returns-in-Some-found
 separating_attribute-returns-in-Some-found t c = λ upper_openness.
     let extensions = c.args.search.now.extensions.now in
@@ -144,12 +128,11 @@ separating_attribute-returns-in-Some-found t c = λ upper_openness.
     let upper = fields_of c.args.upper.now in
     let name = string_bytes c.in-Some.name.now in
     let attribute = attribute_of c.in-Some.attribute.now in
-    let P : Items → Type 0 = λ items. CounterexampleSoFar lower c.args.openness upper (fields_from (plain_attributes items)) in
-    let so_far = subst P c.in-Some.ensures.steps c.loop-name.invariant in
-    let F : Option _ → Type 0 = λ found. IsFieldStart extensions lower c.args.openness name attribute.0 attribute.1 (option_map start_of found) in
-    let found : F (Some c.in-Some-found.start) = subst F c.in-Some-found.is c.in_ok-found.ensures in
+    let so_far = rw c.in-Some.ensures.steps at c.loop-name.invariant in
+    let found = rw c.in-Some-found.is at c.in_ok-found.ensures in
     found upper upper_openness (so_far.within name attribute.0 attribute.1 (inl (refl, refl, refl)))
 
+-- past an attribute whose values are included the rest decides
 pub separating_attribute-loop-name-preserved : goal.separating_attribute-loop-name-preserved
 separating_attribute-loop-name-preserved t c =
     let extensions = c.args.search.now.extensions.now in
@@ -157,19 +140,18 @@ separating_attribute-loop-name-preserved t c =
     let upper = fields_of c.args.upper.now in
     let name = string_bytes c.in-Some.name.now in
     let attribute = attribute_of c.in-Some.attribute.now in
-    let P : Items → Type 0 = λ items. CounterexampleSoFar lower c.args.openness upper (fields_from (plain_attributes items)) in
-    let F : Option _ → Type 0 = λ found. IsFieldStart extensions lower c.args.openness name attribute.0 attribute.1 (option_map start_of found) in
-    let found : F None = subst F c.in_default.is c.in_ok-found.ensures in
-    separating_next lower c.args.openness upper name attribute.0 attribute.1 _ (subst P c.in-Some.ensures.steps c.loop-name.invariant) found
+    let found = rw c.in_default.is at c.in_ok-found.ensures in
+    separating_next lower c.args.openness upper name attribute.0 attribute.1 _ (rw c.in-Some.ensures.steps at c.loop-name.invariant) found
 
+-- the start that an attribute gives serves whether the record is open or closed
 pub separating_start-returns-in-Some : goal.separating_start-returns-in-Some
 separating_start-returns-in-Some t c =
     let lower = fields_of c.args.lower.now in
     let upper = fields_of c.args.upper.now in
-    let F : Option _ → Type 0 = λ found. IsAttributeStart c.args.search.now.extensions.now lower c.args.openness upper (option_map start_of found) in
-    let found : F (Some c.in-Some.start) = subst F c.in-Some.is c.in_ok-found.ensures in
+    let found = rw c.in-Some.is at c.in_ok-found.ensures in
     found c.args.upper_openness
 
+-- else the names decide, where the other record is closed
 pub separating_start-returns-in-ClosedAttributes : goal.separating_start-returns-in-ClosedAttributes
 separating_start-returns-in-ClosedAttributes t c =
     let extensions = c.args.search.now.extensions.now in
@@ -177,30 +159,28 @@ separating_start-returns-in-ClosedAttributes t c =
     let upper = fields_of c.args.upper.now in
     IfOk-weaker c.separating_names.result _
     (λ found. IsRecordStart extensions lower c.args.openness upper c.args.upper_openness (option_map start_of found))
-    (λ found it. let P : OpenTag → Type 0 = λ tag. IsRecordStart extensions lower c.args.openness upper tag (option_map start_of found) in
-    subst P (sym c.in-ClosedAttributes.is) it) c.separating_names.ensures
+    (λ found it. rw c.in-ClosedAttributes.is it) c.separating_names.ensures
 
+-- a start that is filled up separates the two records
 pub separating_values-returns-in_ok-values-in-Some : goal.separating_values-returns-in_ok-values-in-Some
 separating_values-returns-in_ok-values-in-Some t c =
     let extensions = c.args.search.now.extensions.now in
     let lower = fields_of c.args.lower.now in
     let upper = fields_of c.args.upper.now in
-    let F : Option Start → Type 0 = λ found. IsRecordStart extensions lower c.args.openness upper c.args.upper_openness
-    (option_map start_of found) in
-    let begun : F (Some c.in-Some.start) = subst F c.in-Some.is c.in_ok-start.ensures in
+    let begun = rw c.in-Some.is at c.in_ok-start.ensures in
     start_separates extensions lower upper c.args.openness c.args.upper_openness (start_of c.in-Some.start)
     (entries_of c.in_ok-values-in-Some.values) (IsSortedByName-fields c.args.lower.now) begun c.in_ok-values-in-Some.ensures
 
+-- the entries that were found make the record
 pub separating_record-returns-in-Some : goal.separating_record-returns-in-Some
 separating_record-returns-in-Some t c =
     let extensions = c.args.search.now.extensions.now in
     let a = record_of (fields_of c.args.lower.now) c.args.openness in
     let b = record_of (fields_of c.args.upper.now) c.args.upper_openness in
-    let F : Option Start → Type 0 = λ found. IsOutsideAnswer extensions a b (option_map record_found found) in
-    let found : F (Some c.in-Some.start) = subst F c.in-Some.is c.in_ok-start.ensures in
-    let V : Tree → Type 0 = IsCounterexample extensions a b in
-    (subst V (sym (tree_of-record c.in-Some.start.values)) found.0, found.1)
+    let found = rw c.in-Some.is at c.in_ok-start.ensures in
+    (rw (tree_of-record c.in-Some.start.values) found.0, found.1)
 
+-- where the kinds differ, the leaves were compared
 pub separating_expr-returns-in_ok-found-in_default : goal.separating_expr-returns-in_ok-found-in_default
 separating_expr-returns-in_ok-found-in_default t c =
     c.found_here.ensures c.args.search.now.extensions.now (ty_of c.args.a.now) (ty_of c.args.b.now) c.in_ok-found-in_default.ensures

@@ -29,5 +29,4 @@ decreases-separating_expr l = ty_size (ty_of l.b.now)
 
 abbrev pub invariant-separating_attribute-loop-name : goal.invariant-separating_attribute-loop-name
 invariant-separating_attribute-loop-name l =
-    CounterexampleSoFar (fields_of l.lower) l.openness (fields_of l.upper)
-    (fields_from (plain_attributes l.name-iterator))
+    CounterexampleSoFar (fields_of l.lower) l.openness (fields_of l.upper) (fields_from (plain_attributes l.name-iterator))

@@ -5,5 +5,4 @@ use Rattle.cedar_counterexample.proofs.StartLemmas.{NamesSoFar}
 use Rattle.cedar_counterexample.proofs.separating.separating_names.Given as goal
 
 abbrev pub invariant-loop-name : goal.invariant-loop-name
-invariant-loop-name l =
-    NamesSoFar (fields_of l.lower) (fields_of l.upper) (fields_from (plain_attributes l.name-iterator))
+invariant-loop-name l = NamesSoFar (fields_of l.lower) (fields_of l.upper) (fields_from (plain_attributes l.name-iterator))

@@ -1,4 +1,4 @@
-use Rattle.std.proofs.Common.{inr, [], string_bytes, subst, sym, ◌∙◌}
+use Rattle.std.proofs.Common.{inr, [], string_bytes, subst, ◌∙◌}
 use Rattle.std.proofs.lemmas.Str.{IsUtf8-string_bytes}
 use Rattle.cedar_below.specs.RestrictedExpr.{tree_of}
 use Rattle.cedar_type_rules.proofs.SubtypeLaws.{HasField-name}
@@ -15,9 +15,7 @@ pub returns-then-attribute : goal.returns-then-attribute
 returns-then-attribute c = λ extensions lower absent upper upper_openness also.
     let name = string_bytes c.args.name.now in
     let attribute = attribute_of c.args.attribute.now in
-    let Q : PlainStart → Type 0 = IsStart extensions lower c.args.openness upper upper_openness in
-    subst Q (sym c.in_ok-start_of_none.ensures)
-    (missing_start extensions lower upper c.args.openness upper_openness name attribute.0 attribute.1
+    rw c.in_ok-start_of_none.ensures (missing_start extensions lower upper c.args.openness upper_openness name attribute.0 attribute.1
     (λ own has. absent (HasField-name lower name _ own has)) (flag_same c.args.attribute.now ∙ c.if-attribute.true) also)
 
 pub returns-in_ok-start_at-in-OpenAttributes : goal.returns-in_ok-start_at-in-OpenAttributes
@@ -28,11 +26,8 @@ returns-in_ok-start_at-in-OpenAttributes c = λ extensions lower absent upper up
     let same = type_same c.args.attribute.now c.deref.result.now c.deref.ensures in
     let lacks : ¬ Has extensions value attribute.1 = subst (λ ty. ¬ Has extensions value ty) same (c.other_value-value.ensures.lacks extensions) in
     let start = start_through name (record { value = value; steps = [] }) in
-    let Q : PlainStart → Type 0 = IsStart extensions lower c.args.openness upper upper_openness in
-    let R : OpenTag → Type 0 = λ openness. IsStart extensions lower openness upper upper_openness start in
-    subst Q (sym c.in_ok-start_at-in-OpenAttributes.ensures) (subst R (sym c.in-OpenAttributes.is)
-    (other_start extensions lower upper upper_openness name attribute.0 attribute.1 value
-    (IsUtf8-string_bytes c.args.name.now) absent also c.other_value-value.ensures.real lacks))
+    rw (c.in_ok-start_at-in-OpenAttributes.ensures, c.in-OpenAttributes.is) (other_start extensions lower upper upper_openness name attribute.0 attribute.1 value
+    (IsUtf8-string_bytes c.args.name.now) absent also c.other_value-value.ensures.real lacks)
 
 pub returns-in-ClosedAttributes : goal.returns-in-ClosedAttributes
 returns-in-ClosedAttributes c = λ extensions lower absent.

@@ -1,4 +1,4 @@
-use Rattle.std.proofs.Common.{[], refl, subst, sym}
+use Rattle.std.proofs.Common.{[], refl}
 use Rattle.cedar_below.specs.EntityType.{type_name}
 use Rattle.cedar_below.specs.PlainName.{PlainName}
 use Rattle.cedar_type_rules.specs.Has.{HasUid}
@@ -15,21 +15,19 @@ pub returns-in_ok-fresh_type-in-AnyEntity-Entity :
     goal.returns-in_ok-fresh_type-in-AnyEntity-Entity
 returns-in_ok-fresh_type-in-AnyEntity-Entity c =
     let ty = c.in_ok-fresh_type-in-AnyEntity-Entity.field-0 in
-    let P : EntityKind → Type 0 = IsOf (type_name ty) in
     λ extensions. (
-      entity_sample extensions c.args.lower.now ty (type_name ty) _ c.entity_of.ensures refl (subst P (sym c.in-AnyEntity-Entity.is-0) tt),
+      entity_sample extensions c.args.lower.now ty (type_name ty) _ c.entity_of.ensures refl (rw c.in-AnyEntity-Entity.is-0 tt),
       entity_apart extensions c.args.upper.now ty (type_name ty) _ c.entity_of.ensures refl
-          (λ has. c.in_ok-fresh_type-in-AnyEntity-Entity.ensures (subst P c.in-AnyEntity-Entity.is-1 has)),
+          (λ has. c.in_ok-fresh_type-in-AnyEntity-Entity.ensures (rw c.in-AnyEntity-Entity.is-1 at has)),
     )
 
 pub returns-in_ok-clone-in-Some : goal.returns-in_ok-clone-in-Some
 returns-in_ok-clone-in-Some c =
     let copy = c.in_ok-clone-in-Some.field-0 in
     let name = type_name c.in-Some.ty.now in
-    let P : EntityKind → Type 0 = IsOf name in
     λ extensions. (
       entity_sample extensions c.args.lower.now copy name _ c.entity_of-in-Some.ensures c.in_ok-clone-in-Some.ensures.name
-          (subst P (sym c.in-Entity-Entity.is-0) c.in-Some.ensures.has),
+          (rw c.in-Entity-Entity.is-0 c.in-Some.ensures.has),
       entity_apart extensions c.args.upper.now copy name _ c.entity_of-in-Some.ensures c.in_ok-clone-in-Some.ensures.name
-          (λ has. c.in-Some.ensures.lacks (subst P c.in-Entity-Entity.is-1 has)),
+          (λ has. c.in-Some.ensures.lacks (rw c.in-Entity-Entity.is-1 at has)),
     )

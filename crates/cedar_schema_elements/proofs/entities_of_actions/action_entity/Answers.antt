@@ -1,4 +1,4 @@
-use Rattle.std.proofs.Common.{◌↔◌, List, map, ap, sym, subst, ◌∙◌, Contains}
+use Rattle.std.proofs.Common.{◌↔◌, List, map, ap, sym, ◌∙◌, Contains}
 use Rattle.std.specs.BTreeSet.{BTreeSet}
 use Rattle.cedar_below.proofs.Uids.{entity_uid_ord-Equal}
 use Rattle.cedar_below.specs.EntityUID.{uid_of}
@@ -16,21 +16,19 @@ pub returns-clause-entity : goal.returns-clause-entity
 returns-clause-entity c =
     let before = c.args.uppers.now in
     let uid = c.args.uid.now in
-    let P : List PlainUid → Type 0 = λ uids. (above : PlainUid) → Contains uids above ↔ IsUpper cmp uid_of before uid above in
     let Q : BTreeSet EntityUID → Type 0 = λ set. (above : PlainUid) → IsUpper cmp uid_of before uid above ↔ Contains (map uid_of set.keys) above in
     let stands : Q c.match-remove.ancestors =
     elim c.match-remove.branch [
-      | in-Some w ↦ subst Q (sym w.ancestors-is) (some_above uid_of (upper_set cmp before uid) _ (sym c.remove.ensures.value ∙ w.in-Some.is))
+      | in-Some w ↦ rw w.ancestors-is (some_above uid_of (upper_set cmp before uid) _ (sym c.remove.ensures.value ∙ w.in-Some.is))
       | in-None w ↦
-          subst Q (sym w.ancestors-is)
-          (none_above uid_of (upper_set cmp before uid) w.new-ancestors.result.keys (sym c.remove.ensures.value ∙ w.in-None.is)
+          rw w.ancestors-is (none_above uid_of (upper_set cmp before uid) w.new-ancestors.result.keys (sym c.remove.ensures.value ∙ w.in-None.is)
           w.new-ancestors.ensures.empty)
     ] in
     record {
       uid = c.new-3.ensures.uid ∙ c.in_ok-clone.ensures.uid;
       attributes = ap named_values c.new-3.ensures.attrs ∙ no_values c.new.result c.new.ensures.empty;
       tags = ap named_values c.new-3.ensures.tags ∙ no_values c.new-2.result c.new-2.ensures.empty;
-      ancestors = subst P (sym c.new-3.ensures.ancestors) (λ above. ((stands above).1, (stands above).0));
+      ancestors = rw c.new-3.ensures.ancestors (λ above. ((stands above).1, (stands above).0));
     }
 
 pub returns-clause-others : goal.returns-clause-others

@@ -12,6 +12,7 @@ use Rattle.cedar_fragments.specs.HeldNames.{held_names}
 use Rattle.cedar_names.specs.ConditionalName.{conditional_reference}
 use Rattle.cedar_schema_elements.proofs.qualified.named_types.Goals as goal
 
+-- a reference that names nothing is the fault
 pub returns-in_err-name-clause-fault : goal.returns-in_err-name-clause-fault
 returns-in_err-name-clause-fault c =
     let names = held_names c.args.all_defs.now in
@@ -24,6 +25,7 @@ returns-in_err-name-clause-fault c =
     let p = err_from_is_err_and c.from_residual.result c.from_residual.ensures.1 in
     rw (p.1, p.2) (refused_unresolvable names P (λ parent. ⊥) P _ refused)
 
+-- so is one that names a reserved name
 pub returns-in-Err-clause-fault : goal.returns-in-Err-clause-fault
 returns-in-Err-clause-fault c =
     let names = held_names c.args.all_defs.now in
@@ -38,22 +40,23 @@ returns-in-Err-clause-fault c =
       subst IsReserved same refused.1,
     )
 
+-- what the next reference names is put in
 pub loop-reference-preserved : goal.loop-reference-preserved
 loop-reference-preserved c =
     let names = held_names c.args.all_defs.now in
     let reference = c.in-Some.reference in
     let named = sym c.in-Ok.ensures.name in
-    let P : PlainName → Type 0 = ResolvesTo names (conditional_reference reference) in
-    let Q : PlainName → Type 0 = λ name. ¬ IsReserved name in
     named_more names c.args.references.keys _ _ reference c.in-Some.ensures.steps c.loop-reference.types.keys c.insert.new.self.keys
-    c.in-Ok.ty c.in_ok-insert.ensures.updates.0 (subst P named c.in_ok-name.ensures.resolved)
-    (subst Q named c.in-Ok.ensures.unreserved) c.loop-reference.invariant
+    c.in-Ok.ty c.in_ok-insert.ensures.updates.0 (rw named at c.in_ok-name.ensures.resolved)
+    (subst (λ name. ¬ IsReserved name) named c.in-Ok.ensures.unreserved) c.loop-reference.invariant
 
+-- where none is left, all names are in
 pub returns-clause-types : goal.returns-clause-types
 returns-clause-types c =
     all_named (held_names c.args.all_defs.now) c.args.references.keys (map type_name c.loop-reference.types.keys) _
     c.in-None.ensures.steps.0 c.loop-reference.invariant
 
+-- and each of them is what a reference names
 pub returns-clause-resolved : goal.returns-clause-resolved
 returns-clause-resolved c =
     all_resolved (held_names c.args.all_defs.now) c.args.references.keys (map type_name c.loop-reference.types.keys) _

@@ -13,6 +13,7 @@ use Rattle.cedar_schema_elements.specs.RequestEnv.{owned_environment, shared_nam
 use Rattle.cedar_types.specs.Meaning.{ty_of}
 use Rattle.cedar_schema_elements.proofs.request_environments.environments.Goals as goal
 
+-- at first no environment is given, and all actions are left
 pub loop-uid-init : goal.loop-uid-init
 loop-uid-init c =
     given_none environments_under under [] (map plain_action_entry c.args.actions.now.entries) _ _
@@ -20,6 +21,7 @@ loop-uid-init c =
     (ap (map owned_environment) c.new-environments.ensures.items)
     (uids_once c.args.actions.now.entries c.into_iter-uid-iterator.ensures.into_iter_gives.5)
 
+-- an action that is defined gives each pair of its principals and resources
 pub loop-uid-preserved-in-Some-context : goal.loop-uid-preserved-in-Some-context
 loop-uid-preserved-in-Some-context c =
     let uid = uid_of c.in-Some.uid.now in
@@ -39,6 +41,7 @@ loop-uid-preserved-in-Some-context c =
     (subst P (sym all) (pairs_once uid context (kind_principals kind) (kind_resources kind) c.principals.ensures.once
     c.in_ok-requests.ensures.once)) c.loop-uid.invariant
 
+-- an action that isn't defined gives none
 pub loop-uid-preserved : goal.loop-uid-preserved
 loop-uid-preserved c =
     let uid = uid_of c.in-Some.uid.now in
@@ -49,6 +52,7 @@ loop-uid-preserved c =
     (without_context uid kind c.in_default.ensures.ty)
     c.loop-uid.invariant
 
+-- where no action is left, the environments of all are given, each once
 pub returns : goal.returns
 returns c =
     let actions = map plain_action_entry c.args.actions.now.entries in

@@ -11,17 +11,11 @@ use Rattle.cedar_type_rules.specs.OpenTag.{either_open}
 use Rattle.cedar_type_rules.specs.OwnBound.{IsLeastOwnBound}
 use Rattle.cedar_type_rules.specs.Ty.{record_of, set_of}
 use Rattle.cedar_types.specs.Layers.{pairs_of}
-use Rattle.cedar_types.proofs.JoinSteps.{JoinStep, unplaced-at}
-use Rattle.cedar_types.proofs.JoinSteps.{Pairs, fields_at, names_sorted, PermissiveSoFar, permissive-first, permissive-last}
-use Rattle.cedar_types.proofs.JoinSteps.{permissive-missed, permissive-refused, permissive-kept, permissive-least, StrictSoFar}
-use Rattle.cedar_types.proofs.JoinSteps.{strict-first, strict-last, strict-missed, strict-kept, strict-least, strict-refusal, strict-errs}
-use Rattle.cedar_types.proofs.JoinSteps.{strict-unlike, dropped_have_none}
+use Rattle.cedar_types.proofs.JoinSteps.{JoinStep, unplaced-at, Pairs, fields_at, names_sorted, PermissiveSoFar, permissive-first, permissive-last, permissive-missed, permissive-refused, permissive-kept, permissive-least, StrictSoFar, strict-first, strict-last, strict-missed, strict-kept, strict-least, strict-refusal, strict-errs, strict-unlike, dropped_have_none}
 use Rattle.cedar_types.proofs.KindJoins.{held_below, upper_joins, sets_join, sets_refused_at, flags_refused}
 use Rattle.cedar_types.proofs.MemberParts.{ty_of-set}
 use Rattle.cedar_types.proofs.SubtypeSteps.{Sought-held, IsAt-held}
-use Rattle.cedar_types.proofs.TypeKinds.{place_of, unlike_refused, unlike-Bool, unlike-Entity, unlike-Set, unlike-Record, unlike-other}
-use Rattle.cedar_types.proofs.TypeKinds.{place-Bool, place-Entity, place-Set, place-Record, place-not-Bool, place-not-Entity}
-use Rattle.cedar_types.proofs.TypeKinds.{place-not-Set, place-not-Record}
+use Rattle.cedar_types.proofs.TypeKinds.{place_of, unlike_refused, unlike-Bool, unlike-Entity, unlike-Set, unlike-Record, unlike-other, place-Bool, place-Entity, place-Set, place-Record, place-not-Bool, place-not-Entity, place-not-Set, place-not-Record}
 use Rattle.cedar_types.specs.AttributeJoin.{attribute_ty, IsPermissiveAttribute, IsStrictAttribute}
 use Rattle.cedar_types.specs.Located.{Located}
 use Rattle.cedar_types.specs.Meaning.{ty_of, fields_of, attribute_of, attribute_loc}
@@ -29,16 +23,7 @@ use Rattle.cedar_types.specs.declared.attributes.AttributeType.{AttributeType}
 use Rattle.cedar_types.specs.declared.types.Type.{«Type»}
 use Rattle.cedar_types.specs.declared.types.Type.TheVariants as type
 use Rattle.cedar_types.proofs.join.+join.Goals as goal
-use Rattle.cedar_types.proofs.join.+join.Goals.{join_apart-In-Some-Some, permissive_record-After-as_slice-others}
-use Rattle.cedar_types.proofs.join.+join.Goals.{permissive_record-After-is_at, permissive_record-After-loop-name}
-use Rattle.cedar_types.proofs.join.+join.Goals.{strict_record-After-as_slice-others, strict_record-Else-own-others}
-use Rattle.cedar_types.proofs.join.+join.Goals.{strict_record-After-is_at, strict_record-After-loop-name}
-use Rattle.cedar_types.proofs.join.+join.Goals.{join_apart-in_default-via-in-Bool+in_default}
-use Rattle.cedar_types.proofs.join.+join.Goals.{join_apart-in_default-via-in-Entity+in_default}
-use Rattle.cedar_types.proofs.join.+join.Goals.{join_apart-in_default-via-in-Set+in_default}
-use Rattle.cedar_types.proofs.join.+join.Goals.{join_apart-in_default-via-in-Record+in_default, join_apart-in_default-via-in_default}
-use Rattle.cedar_types.proofs.join.+join.Goals.{permissive_record-then-is_at+in_ok-join+in-Some+in_ok-push_named}
-use Rattle.cedar_types.proofs.join.+join.Goals.{permissive_record-then-is_at+in_ok-join+in_default, permissive_record-else-is_at}
+use Rattle.cedar_types.proofs.join.+join.Goals.{join_apart-In-Some-Some, permissive_record-After-as_slice-others, permissive_record-After-is_at, permissive_record-After-loop-name, strict_record-After-as_slice-others, strict_record-Else-own-others, strict_record-After-is_at, strict_record-After-loop-name, join_apart-in_default-via-in-Bool+in_default, join_apart-in_default-via-in-Entity+in_default, join_apart-in_default-via-in-Set+in_default, join_apart-in_default-via-in-Record+in_default, join_apart-in_default-via-in_default, permissive_record-then-is_at+in_ok-join+in-Some+in_ok-push_named, permissive_record-then-is_at+in_ok-join+in_default, permissive_record-else-is_at}
 
 -- what two sets with elements stand for
 both_sets : (t : _) (c : join_apart-In-Some-Some t)
@@ -67,8 +52,7 @@ pub join_apart-returns-in_default-clause-join : goal.join_apart-returns-in_defau
 join_apart-returns-in_default-clause-join t c =
     let a = c.args.a.now in
     let b = c.args.b.now in
-    unlike_refused c.args.mode (ty_of a) (ty_of b) c.requires.first c.requires.second
-    (elim c.in_default.branch [
+    unlike_refused c.args.mode (ty_of a) (ty_of b) c.requires.first c.requires.second (elim c.in_default.branch [
       | join_apart-in_default-via-in-Bool+in_default w ↦ unlike-Bool (place_of a) (place_of b)
           (place-Bool a w.in_default.field-0-0 w.in_default.is-0) (place-not-Bool b w.in_default.not-Bool-1)
       | join_apart-in_default-via-in-Entity+in_default w ↦ unlike-Entity (place_of a) (place_of b)
@@ -113,9 +97,8 @@ permissive_step : (t : _) (c : permissive_record-After-is_at t)
 permissive_step t c =
     let b = c.args.b.now in
     let item = c.loop-name-item.result in
-    let P : Pairs → Type 0 = λ left. PermissiveSoFar c.args.a.now b c.loop-name.at left c.loop-name.joined.items in
     record {
-      so_far = subst P (drop-at _ c.loop-name.name-index item c.loop-name-test.true c.loop-name-item.is) c.loop-name.invariant;
+      so_far = rw (drop-at _ c.loop-name.name-index item c.loop-name-test.true c.loop-name-item.is) at c.loop-name.invariant;
       sought = Sought-held b c.loop-name.at c.seek-at.result c.deref-in-loop-name.result.now _ (string_bytes item.0)
           c.deref-in-loop-name.ensures c.deref-in-loop-name-2.ensures c.seek-at.ensures.passed c.seek-at.ensures.stays;
       here = IsAt-held b c.seek-at.result c.deref-in-loop-name-3.result.now _ (string_bytes item.0) c.is_at.result
@@ -126,9 +109,8 @@ permissive_step t c =
 permissive_joined : (t : _) (c : permissive_record-After-loop-name t)
     → (all : PermissiveJoin (fields_of c.args.a.now) (fields_of c.args.b.now)) × (all.fields ≡ fields_at c.loop-name.joined.items)
 permissive_joined t c =
-    let P : Pairs → Type 0 = λ left. PermissiveSoFar c.args.a.now c.args.b.now c.loop-name.at left c.loop-name.joined.items in
     permissive-last c.args.a.now c.args.b.now c.loop-name.at c.loop-name.joined.items
-    (subst P (drop_of_length-le c.as_slice-own.result.now c.loop-name-test.false) c.loop-name.invariant)
+    (rw (drop_of_length-le c.as_slice-own.result.now c.loop-name-test.false) at c.loop-name.invariant)
 
 pub permissive_record-loop-name-init : goal.permissive_record-loop-name-init
 permissive_record-loop-name-init t c =
@@ -147,7 +129,6 @@ permissive_record-loop-name-preserved t c =
     let place = c.seek-at.result in
     let step = permissive_step t past.After-is_at in
     let others = (permissive_pairs t past.After-as_slice-others).1 in
-    let R : Pairs → Type 0 = PermissiveSoFar c.args.a.now b place (drop (c.loop-name.name-index + 1) c.as_slice-own.result.now) in
     elim c.if-is_at.branch [
       | permissive_record-then-is_at+in_ok-join+in-Some+in_ok-push_named w ↦ (
           let more = w.in_ok-push_named.ensures in
@@ -156,20 +137,15 @@ permissive_record-loop-name-preserved t c =
           IsPermissiveAttribute (attribute_of item.1) (attribute_of (get_or all place one).1) found in
           let right : Q (pairs_of b) (Some w.in-Some.join) =
           subst (Q (pairs_of b)) w.in-Some.is (subst (λ (all : Pairs). Q all w.in_ok-join.field-0) others w.in_ok-join.ensures.join) in
-          subst R (sym (ap (λ v. v.items) w.joined-is ∙ more.2))
-          (permissive-kept step one (more.0, w.in-Some.join) w.if-is_at.true more.1 right.0 right.1
-          (let S : Option AttributeType → Type 0 = λ found. IfSome found (λ join. attribute_loc join ≡ None) in
-          subst S w.in-Some.is w.in_ok-join.ensures.loc))
+          rw (ap (λ v. v.items) w.joined-is ∙ more.2) (permissive-kept step one (more.0, w.in-Some.join) w.if-is_at.true more.1 right.0 right.1
+          (rw w.in-Some.is at w.in_ok-join.ensures.loc))
           )
       | permissive_record-then-is_at+in_ok-join+in_default w ↦ (
           let one = w.index-others-at.result in
-          let Q : Pairs → Type 0 = λ all. IsPermissiveAttribute (attribute_of item.1) (attribute_of (get_or all place one).1) w.in_ok-join.field-0 in
-          let none = dropped_have_none (attribute_of item.1) (attribute_of (get_or (pairs_of b) place one).1) w.in_ok-join.field-0 (subst Q others w.in_ok-join.ensures.join) w.in_default.not-Some in
-          subst R (sym (ap (λ v. v.items) w.joined-is))
-          (permissive-refused step one w.if-is_at.true none)
+          let none = dropped_have_none (attribute_of item.1) (attribute_of (get_or (pairs_of b) place one).1) w.in_ok-join.field-0 (rw others at w.in_ok-join.ensures.join) w.in_default.not-Some in
+          rw (ap (λ v. v.items) w.joined-is) (permissive-refused step one w.if-is_at.true none)
           )
-      | permissive_record-else-is_at w ↦ subst R (sym (ap (λ v. v.items) w.joined-is))
-          (permissive-missed step w.if-is_at.false)
+      | permissive_record-else-is_at w ↦ rw (ap (λ v. v.items) w.joined-is) (permissive-missed step w.if-is_at.false)
     ]
 
 pub permissive_record-from_sorted_by_name-requires : goal.permissive_record-from_sorted_by_name-requires
@@ -235,9 +211,8 @@ strict_step : (t : _) (c : strict_record-After-is_at t)
 strict_step t c =
     let b = c.args.b.now in
     let item = c.loop-name-item.result in
-    let P : Pairs → Type 0 = λ left. StrictSoFar c.args.a.now b c.loop-name.at left c.loop-name.joined.items in
     record {
-      so_far = subst P (drop-at _ c.loop-name.name-index item c.loop-name-test.true c.loop-name-item.is) c.loop-name.invariant;
+      so_far = rw (drop-at _ c.loop-name.name-index item c.loop-name-test.true c.loop-name-item.is) at c.loop-name.invariant;
       sought = Sought-held b c.loop-name.at c.seek-at.result c.deref-in-loop-name.result.now _ (string_bytes item.0)
           c.deref-in-loop-name.ensures c.deref-in-loop-name-2.ensures c.seek-at.ensures.passed c.seek-at.ensures.stays;
       here = IsAt-held b c.seek-at.result c.deref-in-loop-name-3.result.now _ (string_bytes item.0) c.is_at.result
@@ -248,9 +223,8 @@ strict_step t c =
 strict_joined : (t : _) (c : strict_record-After-loop-name t)
     → (all : StrictJoin (fields_of c.args.a.now) (fields_of c.args.b.now)) × (all.fields ≡ fields_at c.loop-name.joined.items)
 strict_joined t c =
-    let P : Pairs → Type 0 = λ left. StrictSoFar c.args.a.now c.args.b.now c.loop-name.at left c.loop-name.joined.items in
     strict-last c.args.a.now c.args.b.now c.loop-name.at c.loop-name.joined.items
-    (subst P (drop_of_length-le c.as_slice-own.result.now c.loop-name-test.false) c.loop-name.invariant)
+    (rw (drop_of_length-le c.as_slice-own.result.now c.loop-name-test.false) at c.loop-name.invariant)
 
 pub strict_record-returns-then-own-others-clause-join : goal.strict_record-returns-then-own-others-clause-join
 strict_record-returns-then-own-others-clause-join t c =
@@ -296,11 +270,7 @@ strict_record-loop-name-preserved t c =
     let step = strict_step t past.After-is_at in
     let others = (strict_pairs t past.After-as_slice-others).1 in
     let one = c.index-others-at.result in
-    let Q : Pairs → Type 0 = λ all.
-    IsLeastOwnBound Strict (attribute_ty item.1) (attribute_ty (get_or all place one).1) (attribute_ty c.in_ok-join.join)
-    × ((attribute_of item.1).0 ≡ (attribute_of c.in_ok-join.join).0)
-    × ((attribute_of (get_or all place one).1).0 ≡ (attribute_of c.in_ok-join.join).0) in
-    let right = subst Q others c.in_ok-join.ensures.join in
+    let right = rw others at c.in_ok-join.ensures.join in
     let more = c.in_ok-push_named.ensures in
     let R : Pairs → Type 0 = StrictSoFar c.args.a.now c.args.b.now place (drop (c.loop-name.name-index + 1) c.as_slice-own.result.now) in
     subst R (sym {A = Pairs} more.2)

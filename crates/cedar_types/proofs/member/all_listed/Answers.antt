@@ -1,4 +1,4 @@
-use Rattle.std.proofs.Common.{refl, ◌↔◌, List, ap, sym, subst, ◌∙◌, string_bytes, map}
+use Rattle.std.proofs.Common.{refl, ◌↔◌, List, ap, sym, ◌∙◌, string_bytes, map}
 use Rattle.std.proofs.lemmas.Simd.{map-map}
 use Rattle.std.specs.List.Sorted.{IsStrictlySortedBy}
 use Rattle.std.specs.String.{string_cmp}
@@ -20,29 +20,24 @@ use Rattle.cedar_name_map.proofs.SearchLemmas.{text_of}
 use Rattle.cedar_types.proofs.SubtypeSteps.{IsAt-held, Sought-held, sought-name, sought-on}
 use Rattle.cedar_types.proofs.member.all_listed.Goals as goal
 
+-- at first the names are those of the entries
 pub loop-name-init : goal.loop-name-init
 loop-name-init c =
     let listed = field_names (fields_of c.args.attrs.now) in
-    let keys = c.into_iter-name-iterator.ensures.into_iter_gives ∙ c.keys-name-items.ensures.rest in
-    let P : List Text → Type 0 = λ names. Included names listed ↔ Included (entry_names (entries_of c.args.values.now)) listed in
-    let Q : List (String Global) → Type 0 = λ names. IsStrictlySortedBy text_cmp (map string_bytes names) in (
-      subst P
-          (entry_names-entries c.args.values.now.entries
-          ∙ (sym (map-map string_bytes (λ entry. entry.0) c.args.values.now.entries) ∙ ap (map string_bytes) (sym keys)))
-          (λ h. h, λ h. h),
+    let keys = c.into_iter-name-iterator.ensures.into_iter_gives ∙ c.keys-name-items.ensures.rest in (
+      rw (← (entry_names-entries c.args.values.now.entries
+          ∙ (sym (map-map string_bytes (λ entry. entry.0) c.args.values.now.entries) ∙ ap (map string_bytes) (sym keys)))) (λ h. h, λ h. h),
       Ahead-first text_of string_bytes text_cmp text_cmp-total (pairs_of c.args.attrs.now) c.into_iter-name-iterator.result
-          (subst Q (sym keys) (IsStrictlySortedBy-map string_cmp text_cmp string_bytes (λ a b. refl) _ c.keys-name-items.ensures.ordered)),
+          (rw keys (IsStrictlySortedBy-map string_cmp text_cmp string_bytes (λ a b. refl) _ c.keys-name-items.ensures.ordered)),
     )
 
+-- a name that isn't listed fails
 pub returns-then-not-is_at : goal.returns-then-not-is_at
 returns-then-not-is_at c =
     let attrs = c.args.attrs.now in
     let name = c.in-Some.name.now in
     let listed = field_names (fields_of attrs) in
-    let P : List (String Global) → Type 0 = λ names.
-    (Included (map string_bytes names) listed ↔ Included (entry_names (entries_of c.args.values.now)) listed)
-    × Ahead text_of string_bytes text_cmp (pairs_of attrs) c.loop-name.at names in
-    let so_far = subst P c.in-Some.ensures.steps c.loop-name.invariant in
+    let so_far = rw c.in-Some.ensures.steps at c.loop-name.invariant in
     let sought = Sought-held attrs c.loop-name.at c.seek-at.result c.deref.result.now _ (string_bytes name)
     c.deref.ensures c.deref-in-loop-name.ensures c.seek-at.ensures.passed c.seek-at.ensures.stays in
     let here = IsAt-held attrs c.seek-at.result c.deref-in-loop-name-2.result.now _ (string_bytes name) c.is_at.result
@@ -52,15 +47,13 @@ returns-then-not-is_at c =
       λ all. absurd (let found = there.1 (Included-head _ _ _ (so_far.0.1 all)) in let none = c.if-not-is_at.true in cc),
     )
 
+-- past a name that is listed the rest decides
 pub loop-name-preserved : goal.loop-name-preserved
 loop-name-preserved c =
     let attrs = c.args.attrs.now in
     let name = c.in-Some.name.now in
     let listed = field_names (fields_of attrs) in
-    let P : List (String Global) → Type 0 = λ names.
-    (Included (map string_bytes names) listed ↔ Included (entry_names (entries_of c.args.values.now)) listed)
-    × Ahead text_of string_bytes text_cmp (pairs_of attrs) c.loop-name.at names in
-    let so_far = subst P c.in-Some.ensures.steps c.loop-name.invariant in
+    let so_far = rw c.in-Some.ensures.steps at c.loop-name.invariant in
     let sought = Sought-held attrs c.loop-name.at c.seek-at.result c.deref.result.now _ (string_bytes name)
     c.deref.ensures c.deref-in-loop-name.ensures c.seek-at.ensures.passed c.seek-at.ensures.stays in
     let here = IsAt-held attrs c.seek-at.result c.deref-in-loop-name-2.result.now _ (string_bytes name) c.is_at.result

@@ -1,4 +1,4 @@
-use Rattle.std.proofs.Common.{◌↔◌, List, subst, map, refl}
+use Rattle.std.proofs.Common.{◌↔◌, List, map, refl}
 use Rattle.std.specs.Slice.Iter.{iter_rest}
 use Rattle.cedar_below.proofs.PlainNames.{name_cmp-total}
 use Rattle.cedar_below.specs.EntityType.{type_name}
@@ -11,24 +11,20 @@ use Rattle.cedar_name_map.proofs.RisingLemmas.{Ahead, sought-Decides, sought-nex
 use Rattle.cedar_types.proofs.UnionSteps.{Included-empty}
 use Rattle.cedar_types.proofs.subtype.is_included.Goals as goal
 
+-- a type that the upper union lacks is against it
 pub returns-then-not-is_at : goal.returns-then-not-is_at
 returns-then-not-is_at c =
     let upper = c.args.upper.now in
-    let P : List EntityType → Type 0 = λ types.
-    (Included (map type_name types) (lub_names upper) ↔ Included (lub_names c.args.lower.now) (lub_names upper))
-    × Ahead type_name type_name name_cmp (lub_types upper) c.loop-ty.at types in
-    let so_far = subst P c.in-Some.ensures.steps c.loop-ty.invariant in
+    let so_far = rw c.in-Some.ensures.steps at c.loop-ty.invariant in
     let there = sought-Decides type_name type_name name_cmp name_cmp-total (lub_types upper) upper.sorted_by_name c.loop-ty.at c.seek-at.result c.in-Some.ty.now _ so_far.1
     c.seek-at.ensures.passed c.seek-at.ensures.stays c.is_at.result c.is_at.ensures in
     (λ wrong. absurd cc, λ all. absurd (let found = there.1 (Included-head _ _ _ (so_far.0.1 all)) in let none = c.if-not-is_at.true in cc))
 
+-- past a type of both the rest decides
 pub loop-ty-preserved : goal.loop-ty-preserved
 loop-ty-preserved c =
     let upper = c.args.upper.now in
-    let P : List EntityType → Type 0 = λ types.
-    (Included (map type_name types) (lub_names upper) ↔ Included (lub_names c.args.lower.now) (lub_names upper))
-    × Ahead type_name type_name name_cmp (lub_types upper) c.loop-ty.at types in
-    let so_far = subst P c.in-Some.ensures.steps c.loop-ty.invariant in
+    let so_far = rw c.in-Some.ensures.steps at c.loop-ty.invariant in
     let there = sought-Decides type_name type_name name_cmp name_cmp-total (lub_types upper) upper.sorted_by_name c.loop-ty.at c.seek-at.result c.in-Some.ty.now _ so_far.1
     c.seek-at.ensures.passed c.seek-at.ensures.stays c.is_at.result c.is_at.ensures in (
       Included-step _ _ _ so_far.0 (there.0 c.if-not-is_at.false),
@@ -36,6 +32,7 @@ loop-ty-preserved c =
           c.seek-at.ensures.passed c.seek-at.ensures.stays,
     )
 
+-- where none is left, all are included
 pub returns : goal.returns
 returns c =
     let upper = lub_names c.args.upper.now in

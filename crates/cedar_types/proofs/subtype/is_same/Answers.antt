@@ -1,4 +1,4 @@
-use Rattle.std.proofs.Common.{Bool, ◌≡◌, subst, sym}
+use Rattle.std.proofs.Common.{Bool, ◌≡◌}
 use Rattle.std.specs.Bool.{Decides}
 use Rattle.cedar_below.proofs.Names.{entity_type_eq-same}
 use Rattle.cedar_below.specs.EntityType.{type_name}
@@ -8,6 +8,5 @@ use Rattle.cedar_types.proofs.subtype.is_same.Goals as goal
 
 pub returns : goal.returns
 returns c =
-    let P : Bool → Type 0 = λ same. Decides same (lub_names c.args.lower.now ≡ lub_names c.args.upper.now) in
-    subst P (sym c.eq.ensures) (pointwise-map_Decides type_name _ entity_type_eq-same c.args.lower.now.lub_elements.value.items
+    rw c.eq.ensures (pointwise-map_Decides type_name _ entity_type_eq-same c.args.lower.now.lub_elements.value.items
     c.args.upper.now.lub_elements.value.items)

@@ -11,9 +11,8 @@ use Rattle.cedar_types.proofs.theorems.entity_kinds_feed_their_variant.Goals as 
 kinds_feed : FeedsVariantFirst is_of_union (kind_hash.ghosts).hash_input
 unfolding le_bytes
 kinds_feed kind.AnyEntity kind.AnyEntity same = refl
-kinds_feed kind.AnyEntity (kind.Entity b) same = absurd cc
-kinds_feed (kind.Entity a) kind.AnyEntity same = absurd cc
 kinds_feed (kind.Entity a) (kind.Entity b) same = refl
+kinds_feed _ _ same = absurd cc
 
 pub returns : goal.returns
 returns c = kinds_feed

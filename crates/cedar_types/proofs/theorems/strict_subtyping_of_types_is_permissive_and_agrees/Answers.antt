@@ -4,5 +4,4 @@ use Rattle.cedar_types.specs.WellFormedTypes.{IsWellFormed-type}
 use Rattle.cedar_types.proofs.theorems.strict_subtyping_of_types_is_permissive_and_agrees.Goals as goal
 
 pub returns : goal.returns
-returns c =
-    Below-strict-both (ty_of c.args.a.now) (ty_of c.args.b.now) (IsWellFormed-type c.args.a.now)
+returns c = Below-strict-both (ty_of c.args.a.now) (ty_of c.args.b.now) (IsWellFormed-type c.args.a.now)

@@ -1,4 +1,4 @@
-use Rattle.std.proofs.Common.{◌≡◌, refl, ℕ, sym, ap, ◌∙◌, subst}
+use Rattle.std.proofs.Common.{◌≡◌, refl, ℕ, sym, ap, ◌∙◌}
 use Rattle.std.proofs.lemmas.Option.{same_Some}
 use Rattle.std.specs.Prelude.{slice_get, Some, List, Bool}
 use Rattle.std.specs.Hash.{le_bytes}
@@ -46,17 +46,14 @@ begins (layer.ExtensionType name) = refl
 -- a type feeds the number of its variant first
 type_feeds : (x : «Type») → slice_get ((type_hash.ghosts).hash_input x) 0 ≡ Some (fed (out-Type x))
 type_feeds x =
-    let P : «Type» → Type 0 = λ each. slice_get ((type_hash.ghosts).hash_input each) 0 ≡ Some (fed (out-Type x)) in
     let y = out-Type x in
-    subst P (roll-out-Type x) (ap (λ writes. slice_get writes 0) (type_hash.Laws.is (roll-Type y) (roll-Type y)) ∙ layer_feeds y)
+    rw (roll-out-Type x) at (ap (λ writes. slice_get writes 0) (type_hash.Laws.is (roll-Type y) (roll-Type y)) ∙ layer_feeds y)
 
 -- the kind of the type is the variant of its layer
 kind_of : (x : «Type») → kind_rank (ty_of x) ≡ layer_shape (out-Type x)
 kind_of x =
     let y = out-Type x in
-    let P : «Type» → Type 0 = λ each. kind_rank (ty_of each) ≡ layer_shape y in
-    subst P (roll-out-Type x)
-    (ap kind_rank (fold-roll-Type Ty (Bool × Ty) Fields type_step attribute_step attributes_step y) ∙ shape-folded_layer y)
+    rw (roll-out-Type x) at (ap kind_rank (fold-roll-Type Ty (Bool × Ty) Fields type_step attribute_step attributes_step y) ∙ shape-folded_layer y)
 
 -- types that feed the same first are of the same variant
 types_feed : FeedsVariantFirst (λ (ty : «Type»). kind_rank (ty_of ty)) (type_hash.ghosts).hash_input

@@ -10,6 +10,7 @@ use Rattle.declaration_examples.specs.Samples.{sample_namespace, within_sample}
 use Rattle.declaration_examples.specs.WrittenSamples.{action_named, action_within, type_entry, with_attribute}
 use Rattle.declaration_examples.proofs.converted_back.names_that_name_others.Goals as goal
 
+-- the bare name of a type names the one of the namespace, which is another
 pub returns-clause-type_name : goal.returns-clause-type_name
 returns-clause-type_name c writable =
     let ty = union_of (alias_name action_word ∷ []) in
@@ -24,6 +25,7 @@ returns-clause-type_name c writable =
     let path : codes "N" ∷ [] ≡ [] = ap (λ (name : PlainName). name.path) same in
     cc
 
+-- so it is with the bare uid of an action
 pub returns-clause-uid : goal.returns-clause-uid
 returns-clause-uid c writable =
     let same : action_within (codes "b") ≡ action_named (codes "b") =

@@ -1,4 +1,4 @@
-use Rattle.std.proofs.Common.{◌≡◌, ◌⊎◌, ◌++◌, List, [], ◌∷◌, None, Some, ap, codes, length, refl, inl, inr, ⊎_elim, subst, sym, ◌∙◌, arith, Contains}
+use Rattle.std.proofs.Common.{◌≡◌, ◌⊎◌, ◌++◌, List, [], ◌∷◌, None, Some, ap, codes, length, refl, inl, inr, subst, sym, ◌∙◌, arith, Contains}
 use Rattle.std.proofs.lemmas.List.Sorted.{IsPermutation-refl}
 use Rattle.cedar_below.proofs.Lists.{Contains-cons, Contains-cons_cases}
 use Rattle.cedar_below.specs.PlainName.{PlainName}
@@ -30,15 +30,15 @@ listed : (lower upper : PlainName) → ListsDescendant sample_schema lower upper
 unfolding group user
 listed lower upper lists =
     let P : PlainName × SchemaEntityType → Type 0 = λ it. Contains it.1.descendants lower in
-    ⊎_elim
-    (λ first. (
-      Contains-single (within_sample (codes "User")) lower (subst P (sym first) lists.2),
-      ap (λ (it : PlainName × SchemaEntityType). it.0) first,
-    ))
-    (λ later.
-    let same = Contains-single user (upper, lists.0) later in
-    let none = subst P (sym same) lists.2 in absurd (omega (arith, none.1)))
-    (Contains-cons_cases group (user ∷ []) (upper, lists.0) lists.1)
+    elim (Contains-cons_cases group (user ∷ []) (upper, lists.0) lists.1) [
+      | inl first ↦ (
+        Contains-single (within_sample (codes "User")) lower (subst P (sym first) lists.2),
+        ap (λ (it : PlainName × SchemaEntityType). it.0) first,
+      )
+      | inr later ↦
+          let same = Contains-single user (upper, lists.0) later in
+          let none = subst P (sym same) lists.2 in absurd (omega (arith, none.1))
+    ]
 
 pub returns : goal.returns
 unfolding group user
@@ -107,8 +107,7 @@ returns c =
           above = λ reference. (
             λ among. absurd (omega (arith, among.1)),
             λ of.
-                let P : PlainUid × SchemaAction → Type 0 = λ it. Contains it.1.descendants (action_named (codes "view")) in
-                let none = subst P (sym (Contains-single view (of.0, of.1.0) of.1.1)) of.1.2 in absurd (omega (arith, none.1)),
+                let none = subst (λ it. Contains it.1.descendants (action_named (codes "view"))) (sym (Contains-single view (of.0, of.1.0) of.1.1)) of.1.2 in absurd (omega (arith, none.1)),
           );
           kind = (
             λ reference. (

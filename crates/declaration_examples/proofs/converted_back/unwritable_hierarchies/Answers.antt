@@ -9,12 +9,14 @@ use Rattle.cedar_declarations.specs.PlainSchema.{external_action}
 use Rattle.declaration_examples.specs.WrittenSamples.{action_named, plain_kind}
 use Rattle.declaration_examples.proofs.converted_back.unwritable_hierarchies.Goals as goal
 
+-- `User` isn't the type of actions: the names differ in length
 pub returns-clause-action_type : goal.returns-clause-action_type
 returns-clause-action_type c writable =
     let same = writable.action_types (record { ty = alias_name (codes "User"); eid = codes "b" }) (0, omega arith, refl) in
     let count : 4 ≡ 6 = ap length same in
     omega (arith, count)
 
+-- what is below the group is no entity type that is there
 pub returns-clause-missing : goal.returns-clause-missing
 returns-clause-missing c writable =
     let there = writable.entity_types_below (alias_name (codes "U")) (alias_name (codes "Group")) (
@@ -26,6 +28,7 @@ returns-clause-missing c writable =
     let count : 5 ≡ 1 = ap (λ (name : PlainName). length name.base) same in
     omega (arith, count)
 
+-- an enumerated type is below none
 pub returns-clause-enumerated : goal.returns-clause-enumerated
 returns-clause-enumerated c writable =
     writable.none_enumerated (alias_name (codes "U")) (alias_name (codes "Group")) (
@@ -35,6 +38,7 @@ returns-clause-enumerated c writable =
     )
     (record { name = alias_name (codes "U"); kind = enumerated_kind (codes "u" ∷ []); descendants = [] }, (1, omega arith, refl), tt)
 
+-- what is below the action is no action that is there
 pub returns-clause-missing_action : goal.returns-clause-missing_action
 returns-clause-missing_action c writable =
     let there = writable.actions_below (action_named (codes "c")) (action_named (codes "b")) (

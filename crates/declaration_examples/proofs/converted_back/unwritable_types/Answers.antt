@@ -1,4 +1,4 @@
-use Rattle.std.proofs.Common.{[], true, false, Option, Some, None, IsSome, codes, refl, inl, subst, arith}
+use Rattle.std.proofs.Common.{[], true, false, Option, Some, None, IsSome, codes, refl, inl, arith}
 use Rattle.std.proofs.lemmas.Bool.{false≢true}
 use Rattle.std.specs.Option.{option_map, option_zip}
 use Rattle.cedar_declarations.specs.Bag.{alias_name}
@@ -11,11 +11,7 @@ use Rattle.declaration_examples.proofs.converted_back.unwritable_types.Goals as 
 
 pub returns-clause-attribute : goal.returns-clause-attribute
 returns-clause-attribute c ty none writable =
-    let P : Option Expr → Type 0 = λ expr. IsSome
-    (option_map (λ members. record_expr members false)
-    (option_map (λ both. member (codes "a") true both.0 both.1) (option_zip expr (Some no_member)))) in
-    false≢true (subst P (none None)
-    (writable.types None (record_of (field (codes "a") true ty end) ClosedAttributes)
+    false≢true (rw (none None) at (writable.types None (record_of (field (codes "a") true ty end) ClosedAttributes)
     (inl (type_entry (alias_name (codes "U")) (with_attribute ty) [], (0, omega arith, refl), refl, inl refl))))
 
 pub returns-clause-open_type : goal.returns-clause-open_type

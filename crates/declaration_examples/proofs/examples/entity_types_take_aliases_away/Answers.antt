@@ -1,4 +1,4 @@
-use Rattle.std.proofs.Common.{◌++◌, sym, None, refl, inl, inr, ⊎_elim, arith, codes}
+use Rattle.std.proofs.Common.{◌++◌, sym, None, refl, inl, inr, arith, codes}
 use Rattle.std.proofs.lemmas.Bool.{false≢true}
 use Rattle.std.proofs.lemmas.List.Elements.{Contains-append_right, Contains-append_cases}
 use Rattle.cedar_below.specs.declared.extension.Extensions.{Extensions}
@@ -18,13 +18,14 @@ use Rattle.declaration_examples.proofs.examples.entity_types_take_aliases_away.G
 no_alias : (extensions : Extensions) (body : Expr) → ¬ IsCommon (definitions alias_bag extensions) CommonOrEntity
     (alias_name (codes "String")) body
 no_alias extensions body common =
-    ⊎_elim
-    (λ here. ⊎_elim
-    (λ declared. omega (arith, declared.1))
-    (λ built_in. built_in_path extensions (alias_name (codes "String")) body built_in refl)
-    (Contains-append_cases (declared_common alias_bag) (built_ins extensions) (alias_name (codes "String"), body) here))
-    (λ alias. false≢true (sym (alias_of alias_bag extensions (alias_name (codes "String")) body alias).2))
-    (common_cases alias_bag extensions (alias_name (codes "String"), body) common.1)
+    elim (common_cases alias_bag extensions (alias_name (codes "String"), body) common.1) [
+      | inl here ↦
+          elim (Contains-append_cases (declared_common alias_bag) (built_ins extensions) (alias_name (codes "String"), body) here) [
+            | inl declared ↦ omega (arith, declared.1)
+            | inr built_in ↦ built_in_path extensions (alias_name (codes "String")) body built_in refl
+          ]
+      | inr alias ↦ false≢true (sym (alias_of alias_bag extensions (alias_name (codes "String")) body alias).2)
+    ]
 
 pub returns-clause-entity : goal.returns-clause-entity
 returns-clause-entity c extensions =

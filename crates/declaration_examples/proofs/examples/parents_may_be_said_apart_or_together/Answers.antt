@@ -1,4 +1,4 @@
-use Rattle.std.proofs.Common.{◌≡◌, zero, suc, List, [], ◌∷◌, ap, sym, subst, refl, arith, codes, Contains}
+use Rattle.std.proofs.Common.{◌≡◌, zero, suc, List, [], ◌∷◌, ap, refl, arith, codes, Contains}
 use Rattle.cedar_below.specs.PlainName.{PlainName}
 use Rattle.cedar_names.specs.Declaration.{Declaration, Body, entity_type, action}
 use Rattle.cedar_names.specs.EntityBody.{EntityBody, external}
@@ -38,19 +38,16 @@ parents_of : (name : PlainName) (body : EntityBody) (reference : Reference) (par
     → ◌≡◌ {A = PlainName × EntityBody} (alias_name (codes "U"), external parents) (name, body) → Contains (entity_parents body) reference
     → (alias_name (codes "U") ≡ name) × Contains parents reference
 parents_of name body reference parents is parent =
-    let P : EntityBody → Type 0 = λ each. Contains (entity_parents each) reference in
-    (ap (λ (each : PlainName × EntityBody). each.0) is, subst P (sym (ap (λ (each : PlainName × EntityBody). each.1) is)) parent)
+    (ap (λ (each : PlainName × EntityBody). each.0) is, rw (← (ap (λ (each : PlainName × EntityBody). each.1) is)) at parent)
 
 -- a parent that is said apart is said together
 parent_together : (name : PlainName) (reference : Reference) → IsParent apart_bag name reference → IsParent together_bag name reference
 parent_together name reference (body, (zero, below, is), parent) =
     let found = parents_of name body reference (to_a ∷ []) is parent in
-    let P : PlainName → Type 0 = λ each. IsParent together_bag each reference in
-    subst P found.0 (external (to_b ∷ to_a ∷ []), (0, omega arith, refl), a_in_both reference found.1)
+    rw (← found.0) (external (to_b ∷ to_a ∷ []), (0, omega arith, refl), a_in_both reference found.1)
 parent_together name reference (body, (suc zero, below, is), parent) =
     let found = parents_of name body reference (to_b ∷ []) is parent in
-    let P : PlainName → Type 0 = λ each. IsParent together_bag each reference in
-    subst P found.0 (external (to_b ∷ to_a ∷ []), (0, omega arith, refl), b_in_both reference found.1)
+    rw (← found.0) (external (to_b ∷ to_a ∷ []), (0, omega arith, refl), b_in_both reference found.1)
 parent_together name reference (body, (suc (suc k), below, is), parent) = absurd (omega (arith, below))
 
 -- one of both is said apart
@@ -63,8 +60,7 @@ one_apart reference (suc (suc k), below, is) = absurd (omega (arith, below))
 parent_apart : (name : PlainName) (reference : Reference) → IsParent together_bag name reference → IsParent apart_bag name reference
 parent_apart name reference (body, (zero, below, is), parent) =
     let found = parents_of name body reference (to_b ∷ to_a ∷ []) is parent in
-    let P : PlainName → Type 0 = λ each. IsParent apart_bag each reference in
-    subst P found.0 (one_apart reference found.1)
+    rw found.0 at (one_apart reference found.1)
 parent_apart name reference (body, (suc k, below, is), parent) = absurd (omega (arith, below))
 
 -- neither declares an action

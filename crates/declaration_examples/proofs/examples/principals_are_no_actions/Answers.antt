@@ -1,4 +1,4 @@
-use Rattle.std.proofs.Common.{◌≡◌, zero, suc, [], ◌∷◌, refl, subst, inl, inr, arith, Contains, codes}
+use Rattle.std.proofs.Common.{◌≡◌, zero, suc, [], ◌∷◌, refl, inl, inr, arith, Contains, codes}
 use Rattle.cedar_below.specs.PlainName.{PlainName, IsActionType, action_word}
 use Rattle.cedar_below.specs.declared.extension.Extensions.{Extensions}
 use Rattle.cedar_names.specs.Reference.{Reference}
@@ -32,5 +32,5 @@ only_action name (suc k, below, is) = absurd (omega (arith, below))
 pub returns : goal.returns
 returns c extensions = (
   λ none. cc,
-  λ name among. let P : PlainName → Type 0 = IsNamed extensions in subst P (only_action name among) (action_named extensions),
+  λ name among. rw (← (only_action name among)) (action_named extensions),
 )

@@ -12,8 +12,7 @@ returns-clause-known c Permissive =
     (tt, (λ name among. among), ((true, truth bool_type.True, inl (refl, refl, refl), (λ needed. needed), inl refl), tt))
 
 pub returns-clause-optional : goal.returns-clause-optional
-returns-clause-optional c =
-    (tt, (λ name among. among), ((true, long, inl (refl, refl, refl), (λ needed. refl), tt), tt))
+returns-clause-optional c = (tt, (λ name among. among), ((true, long, inl (refl, refl, refl), (λ needed. refl), tt), tt))
 
 pub returns-clause-no_fewer_names : goal.returns-clause-no_fewer_names
 returns-clause-no_fewer_names c Strict h = Included-in_none (codes "a") [] h.1

@@ -1,4 +1,4 @@
-use Rattle.std.proofs.Common.{◌≡◌, ◌+◌, ◌∷◌, ◌++◌, [], codes, Some, None, arith, length, string_bytes, refl, sym, ap, ◌∙◌, subst}
+use Rattle.std.proofs.Common.{◌≡◌, ◌+◌, ◌++◌, codes, Some, None, arith, length, string_bytes, sym, ap, ◌∙◌, subst}
 use Rattle.std.proofs.lemmas.Str.{IsUtf8-string_bytes}
 use Rattle.std.proofs.lemmas.Str.Pattern.{split_parts}
 use Rattle.cedar_below.specs.EntityUID.{uid_of}
@@ -12,11 +12,13 @@ use Rattle.cedar_below.proofs.TextsOfNames.{IsOfIdentifiers-name_of}
 use Rattle.cedar_below.proofs.UidReading.{fault_before_quote, fault_without_quote, no_quote_by_bytes, stops_in_id, uid_by_parts}
 use Rattle.cedar_below.proofs.entity_uid.EntityUID.from_str.Goals as goal
 
+-- a text without a quote is no uid
 pub returns-in_default-clause-fault : goal.returns-in_default-clause-fault
 returns-in_default-clause-fault c =
     let others = split_parts 34 c.args.text.now None c.in_default.ensures.cases (omega arith) in
     fault_without_quote c.args.text.now c.type_fault.result (no_quote_by_bytes c.args.text.now others) c.type_fault.ensures
 
+-- nor is one with no type before its quote
 pub returns-in_default-2-clause-fault : goal.returns-in_default-2-clause-fault
 returns-in_default-2-clause-fault c =
     let parts = split_parts 34 c.args.text.now (Some (c.in-Some.before, c.in-Some.after)) c.in-Some.ensures.cases (omega arith) in
@@ -25,6 +27,7 @@ returns-in_default-2-clause-fault c =
     (fault_before_quote c.in-Some.before.now c.in-Some.after.now c.type_fault-in_default-2.result (no_quote_by_bytes c.in-Some.before.now parts.1)
     none c.type_fault-in_default-2.ensures)
 
+-- or one whose id stops after the quote
 pub returns-in-Err-NotAName-clause-fault : goal.returns-in-Err-NotAName-clause-fault
 returns-in-Err-NotAName-clause-fault c =
     let parts = split_parts 34 c.args.text.now (Some (c.in-Some.before, c.in-Some.after)) c.in-Some.ensures.cases (omega arith) in
@@ -34,6 +37,7 @@ returns-in-Err-NotAName-clause-fault c =
     named.0
     (subst (IsNameFault IsQuoted (λ _. ⊥) (λ _. ⊥) c.in-Some.after.now) c.in-Err-NotAName.field-0-is c.in-Err-NotAName.ensures.fault))
 
+-- the type and the id that were read make the uid
 pub returns-in-Ok-from_internal-clause-uid : goal.returns-in-Ok-from_internal-clause-uid
 returns-in-Ok-from_internal-clause-uid c =
     let parts = split_parts 34 c.args.text.now (Some (c.in-Some.before, c.in-Some.after)) c.in-Some.ensures.cases (omega arith) in
@@ -43,6 +47,7 @@ returns-in-Ok-from_internal-clause-uid c =
     (named.0 ∙ ap (λ name. name_text name ++ codes "::") ty)
     (ap (λ eid. escaped_text eid ++ codes "\"") c.new.ensures.eid ∙ c.in-Ok.ensures.id) ∙ sym parts.0
 
+-- a type with a reserved name is refused
 pub returns-clause-fault : goal.returns-clause-fault
 returns-clause-fault c =
     let parts = split_parts 34 c.args.text.now (Some (c.in-Some.before, c.in-Some.after)) c.in-Some.ensures.cases (omega arith) in

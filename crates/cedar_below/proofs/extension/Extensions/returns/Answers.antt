@@ -1,14 +1,9 @@
-use Rattle.std.proofs.Common.{◌≡◌, Some, subst}
-use Rattle.cedar_below.specs.CoreSchemaType.{result_type}
-use Rattle.cedar_below.specs.CoreTy.{core_extension}
-use Rattle.cedar_below.specs.Name.{plain_name}
-use Rattle.cedar_below.specs.declared.extension.ExtensionFunction.{ExtensionFunction}
+use Rattle.std.proofs.Common.{◌≡◌}
 use Rattle.cedar_below.proofs.extension.Extensions.returns.Goals as goal
 
 pub returns-in-Ok : goal.returns-in-Ok
 returns-in-Ok c =
-    let known = c.in-Ok.ensures.function in
-    let P : ExtensionFunction → Type 0 = λ function. result_type function ≡ Some (core_extension (plain_name c.args.ty.now)) in (
+    let known = c.in-Ok.ensures.function in (
       λ e. (c.in-Ok.function.now, known, c.returns.ensures.0 e),
-      λ gives. let same : gives.0 ≡ c.in-Ok.function.now = (let found = gives.1 in cc) in c.returns.ensures.1 (subst P same gives.2),
+      λ gives. let same : gives.0 ≡ c.in-Ok.function.now = (let found = gives.1 in cc) in c.returns.ensures.1 (rw same at gives.2),
     )

@@ -1,10 +1,10 @@
-use Rattle.std.proofs.Common.{◌≡◌, ◌≢◌, ◌<◌, ◌+◌, ◌∷◌, ◌++◌, [], map, take, length, get_or, IsTrue, All, AllPairs, Contains, refl, rules, sym, ap, ◌∙◌, subst}
+use Rattle.std.proofs.Common.{◌≡◌, ◌≢◌, ◌<◌, ◌+◌, ◌∷◌, ◌++◌, [], map, take, length, IsTrue, All, AllPairs, Contains, rules, sym, ap, ◌∙◌, subst}
 use Rattle.std.proofs.lemmas.List.{take_all, take_more}
 use Rattle.std.proofs.lemmas.List.Elements.{All-contains, All-push}
 use Rattle.cedar_below.specs.Lists.{Twice}
 use Rattle.cedar_below.specs.Name.{plain_name}
 use Rattle.cedar_below.specs.PlainName.{PlainName, IsUnqualified}
-use Rattle.cedar_below.specs.TypeNames.{TypeNamesFit, primitive_words}
+use Rattle.cedar_below.specs.TypeNames.{primitive_words}
 use Rattle.cedar_below.specs.declared.name.Name.{Name}
 use Rattle.cedar_below.proofs.FittingNames.{TypeNamesFit-parts}
 use Rattle.cedar_below.proofs.Lists.{Contains-at, Twice-at, distinct_more, repeated, same_at}

@@ -10,6 +10,7 @@ use Rattle.cedar_below.proofs.NameReading.{HasRead, HasRead-byte, HasRead-colon,
 use Rattle.cedar_below.proofs.internal_name.InternalName.from_str.Goals as goal
 use Rattle.cedar_below.proofs.internal_name.InternalName.from_str.Goals.{in-Inside+in_ok-push-in-Inside, in-Colon, in-Start+in_ok-push-in-Start}
 
+-- the reading stops at the first byte that can't follow
 pub returns-in-None : goal.returns-in-None
 returns-in-None c = record {
   name = tt;
@@ -20,6 +21,7 @@ returns-in-None c = record {
       c.loop-at.invariant c.loop-at-test.true (sym c.then.ensures ∙ c.in-None.is));
 }
 
+-- each byte goes on with an identifier, a colon or a new part
 pub loop-at-preserved : goal.loop-at-preserved
 loop-at-preserved c =
     let byte = get_or c.as_bytes-byte-items.result.now c.loop-at.at 0 in
@@ -53,6 +55,7 @@ loop-at-preserved c =
           )
     ]
 
+-- a text that ends outside of an identifier stops at its end
 pub returns-in_default : goal.returns-in_default
 returns-in_default c = record {
   name = tt;

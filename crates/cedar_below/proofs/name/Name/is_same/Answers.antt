@@ -1,10 +1,5 @@
-use Rattle.std.proofs.Common.{Bool, ◌≡◌, subst, sym}
-use Rattle.std.specs.Bool.{Decides}
 use Rattle.cedar_below.proofs.Names.{name_eq-same}
-use Rattle.cedar_below.specs.Name.{plain_name}
 use Rattle.cedar_below.proofs.name.Name.is_same.Goals as goal
 
 pub returns : goal.returns
-returns c =
-    let P : Bool → Type 0 = λ same. Decides same (plain_name c.args.self.now ≡ plain_name c.args.other.now) in
-    subst P (sym c.eq.ensures) (name_eq-same c.args.self.now c.args.other.now)
+returns c = rw c.eq.ensures (name_eq-same c.args.self.now c.args.other.now)

@@ -1,4 +1,4 @@
-use Rattle.std.proofs.Common.{sym, subst, Contains}
+use Rattle.std.proofs.Common.{Contains}
 use Rattle.std.specs.Bool.{Decides}
 use Rattle.cedar_below.specs.EntityType.{type_name}
 use Rattle.cedar_schema_elements.specs.ActionKind.{plain_kind, kind_principals}
@@ -6,7 +6,4 @@ use Rattle.cedar_schema_elements.specs.declared.action_kind.ValidatorActionKind.
 use Rattle.cedar_schema_elements.proofs.action_id.ValidatorActionId.is_applicable_principal_type.Goals as goal
 
 pub returns-in-Defined : goal.returns-in-Defined
-returns-in-Defined c =
-    let P : ValidatorActionKind → Type 0 = λ kind. Decides c.is_applicable_principal_type.result
-    (Contains (kind_principals (plain_kind kind)) (type_name c.args.ty.now)) in
-    subst P (sym c.in-Defined.is) c.is_applicable_principal_type.ensures
+returns-in-Defined c = rw c.in-Defined.is c.is_applicable_principal_type.ensures

@@ -1,4 +1,4 @@
-use Rattle.std.proofs.Common.{List, map, sym, subst}
+use Rattle.std.proofs.Common.{List, map}
 use Rattle.std.proofs.lemmas.Result.{IfOk-weaker}
 use Rattle.cedar_below.specs.EntityType.{type_name}
 use Rattle.cedar_below.specs.Lists.{SameItems}
@@ -11,19 +11,15 @@ use Rattle.cedar_schema_elements.proofs.action_id.ValidatorActionId.new_defined.
 pub returns-clause-principals : goal.returns-clause-principals
 returns-clause-principals g c =
     let found = c.in_ok-principals.ensures in
-    let P : List EntityType → Type 0 = λ types. SameItems (map type_name types) (map type_name found.1) in
     let named : SameItems (principal_names c.new.result) (map type_name found.1) =
-    subst P (sym c.new.ensures.principals) found.4 in
-    let Q : ActionKind → Type 0 = λ kind. SameItems (kind_principals kind) (map type_name found.1) in
-    IfOk-weaker c.with_kind.result _ _ (λ action is. (found.0, found.1, found.2, found.3, subst Q (sym is) named))
+    rw c.new.ensures.principals found.4 in
+    IfOk-weaker c.with_kind.result _ _ (λ action is. (found.0, found.1, found.2, found.3, rw is named))
     c.with_kind.ensures.kind
 
 pub returns-clause-resources : goal.returns-clause-resources
 returns-clause-resources g c =
     let found = c.in_ok-resources.ensures in
-    let P : List EntityType → Type 0 = λ types. SameItems (map type_name types) (map type_name found.1) in
     let named : SameItems (resource_names c.new.result) (map type_name found.1) =
-    subst P (sym c.new.ensures.resources) found.4 in
-    let Q : ActionKind → Type 0 = λ kind. SameItems (kind_resources kind) (map type_name found.1) in
-    IfOk-weaker c.with_kind.result _ _ (λ action is. (found.0, found.1, found.2, found.3, subst Q (sym is) named))
+    rw c.new.ensures.resources found.4 in
+    IfOk-weaker c.with_kind.result _ _ (λ action is. (found.0, found.1, found.2, found.3, rw is named))
     c.with_kind.ensures.kind

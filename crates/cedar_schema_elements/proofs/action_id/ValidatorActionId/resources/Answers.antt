@@ -1,4 +1,4 @@
-use Rattle.std.proofs.Common.{◌≢◌, List, AllPairs, sym, subst}
+use Rattle.std.proofs.Common.{◌≢◌, List, AllPairs}
 use Rattle.std.specs.List.{IsDistinct}
 use Rattle.cedar_below.specs.contracts.entity_type.EntityTypePartialEq.TheImpl as entity_type_eq
 use Rattle.cedar_below.specs.declared.entity_type.EntityType.{EntityType}
@@ -10,7 +10,5 @@ use Rattle.cedar_schema_elements.proofs.action_id.ValidatorActionId.resources.Go
 
 pub returns-in-Defined-clause-once : goal.returns-in-Defined-clause-once
 returns-in-Defined-clause-once c =
-    let P : List EntityType → Type 0 = IsDistinct (entity_type_eq.ghosts).eq in
-    let once = subst P c.applicable_resource_types.ensures.types c.applicable_resource_types.ensures.once in
-    let Q : ValidatorActionKind → Type 0 = λ kind. AllPairs (λ a b. a ≢ b) (kind_resources (plain_kind kind)) in
-    subst Q (sym c.in-Defined.is) (types_once (resource_types c.in-Defined.applies_to) once)
+    let once = rw c.applicable_resource_types.ensures.types at c.applicable_resource_types.ensures.once in
+    rw c.in-Defined.is (types_once (resource_types c.in-Defined.applies_to) once)

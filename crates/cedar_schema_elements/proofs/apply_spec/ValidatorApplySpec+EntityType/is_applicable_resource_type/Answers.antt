@@ -1,4 +1,4 @@
-use Rattle.std.proofs.Common.{Bool, sym, subst, Contains}
+use Rattle.std.proofs.Common.{Bool, Contains}
 use Rattle.std.specs.Bool.{Decides}
 use Rattle.cedar_below.specs.EntityType.{type_name}
 use Rattle.cedar_types.proofs.MemberLemmas.{list_any-names}
@@ -6,7 +6,4 @@ use Rattle.cedar_schema_elements.specs.ValidatorApplySpec.{resource_names}
 use Rattle.cedar_schema_elements.proofs.apply_spec.ValidatorApplySpec+EntityType.is_applicable_resource_type.Goals as goal
 
 pub returns : goal.returns
-returns c =
-    let P : Bool → Type 0 =
-    λ found. Decides found (Contains (resource_names c.args.self.now) (type_name c.args.ty.now)) in
-    subst P (sym c.contains.ensures) (list_any-names c.args.ty.now c.args.self.now.resources.keys)
+returns c = rw c.contains.ensures (list_any-names c.args.ty.now c.args.self.now.resources.keys)

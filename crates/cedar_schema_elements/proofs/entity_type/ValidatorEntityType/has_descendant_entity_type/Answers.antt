@@ -1,4 +1,4 @@
-use Rattle.std.proofs.Common.{Bool, sym, subst, Contains}
+use Rattle.std.proofs.Common.{Bool, Contains}
 use Rattle.std.specs.Bool.{Decides}
 use Rattle.cedar_below.specs.EntityType.{type_name}
 use Rattle.cedar_schema_elements.specs.ValidatorEntityType.{descendant_names}
@@ -6,6 +6,4 @@ use Rattle.cedar_types.proofs.MemberLemmas.{list_any-names}
 use Rattle.cedar_schema_elements.proofs.entity_type.ValidatorEntityType.has_descendant_entity_type.Goals as goal
 
 pub returns : goal.returns
-returns c =
-    let P : Bool → Type 0 = λ found. Decides found (Contains (descendant_names c.args.self.now) (type_name c.args.ty.now)) in
-    subst P (sym c.contains.ensures) (list_any-names c.args.ty.now c.args.self.now.descendants.keys)
+returns c = rw c.contains.ensures (list_any-names c.args.ty.now c.args.self.now.descendants.keys)

@@ -1,4 +1,4 @@
-use Rattle.std.proofs.Common.{◌++◌, Contains, ⊎_elim}
+use Rattle.std.proofs.Common.{◌++◌, Contains, inl, inr}
 use Rattle.std.proofs.lemmas.List.Elements.{Contains-append_cases, Contains-append_left, Contains-append_right}
 use Rattle.std.proofs.lemmas.Result.{err_from_is_err_and}
 use Rattle.cedar_schema_elements.specs.ValidatorApplySpec.{principal_references, resource_references}
@@ -30,5 +30,7 @@ returns-in_err-named_types-2-clause-fault c =
 
 pub returns-clause-resolved : goal.returns-clause-resolved
 returns-clause-resolved c = λ reference among.
-    ⊎_elim (c.in_ok-named_types.ensures.resolved reference) (c.in_ok-named_types-2.ensures.resolved reference)
-    (Contains-append_cases (principal_references c.args.self) (resource_references c.args.self) reference among)
+    elim (Contains-append_cases (principal_references c.args.self) (resource_references c.args.self) reference among) [
+      | inl left ↦ c.in_ok-named_types.ensures.resolved reference left
+      | inr right ↦ c.in_ok-named_types-2.ensures.resolved reference right
+    ]

@@ -10,8 +10,7 @@ use Rattle.cedar_types.proofs.attributes.Attributes.from_sorted_by_name.Goals as
 
 pub returns-clause-attributes : goal.returns-clause-attributes
 returns-clause-attributes c =
-    fields_of-pairs _
-    ∙ ap (λ pairs. fields_from (plain_attributes pairs))
+    fields_of-pairs _ ∙ ap (λ pairs. fields_from (plain_attributes pairs))
     (pairs_of-made c.in_ok-new.field-0 ∙ (ap (λ all. all.entries.items) c.in_ok-new.ensures.ok ∙ c.from_sorted_by_name.ensures))
 
 pub returns-clause-located : goal.returns-clause-located

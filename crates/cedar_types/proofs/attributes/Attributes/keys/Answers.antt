@@ -7,8 +7,7 @@ use Rattle.cedar_types.proofs.attributes.Attributes.keys.Goals as goal
 pub returns-clause-names : goal.returns-clause-names
 returns-clause-names c =
     ap (map string_bytes) (c.new.ensures ∙ ap keys_of (c.as_slice.ensures ∙ ap (λ all. all.entries.items) c.deref.ensures))
-    ∙ (map-map string_bytes (λ entry. entry.0) _
-    ∙ sym (field_names-pairs c.args.self.now))
+    ∙ (map-map string_bytes (λ entry. entry.0) _ ∙ sym (field_names-pairs c.args.self.now))
 
 pub returns-clause-sorted_by_name : goal.returns-clause-sorted_by_name
 returns-clause-sorted_by_name c = IsSortedByName-fields c.args.self.now

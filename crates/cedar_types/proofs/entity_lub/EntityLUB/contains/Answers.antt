@@ -1,4 +1,4 @@
-use Rattle.std.proofs.Common.{Bool, List, sym, subst, length}
+use Rattle.std.proofs.Common.{Bool, List, subst, length}
 use Rattle.std.specs.Bool.{Decides}
 use Rattle.std.specs.List.{Contains}
 use Rattle.std.specs.List.Sorted.{IsBinarySearchResult, IsSearchInRange}
@@ -13,9 +13,7 @@ pub returns : goal.returns
 returns c =
     let ty = c.args.ty.now in
     let r = c.binary_search.result in
-    let P : Bool → Type 0 = λ found. Decides found (Contains (lub_names c.args.self.now) (type_name ty)) in
     let Q : List EntityType → Type 0 = λ types. IsSearchInRange r (length types)
     × IsBinarySearchResult (λ y. (entity_type_ord.ghosts).cmp y ty) types r in
     let both = subst Q c.as_slice.ensures (c.binary_search.ensures.bound, c.binary_search.ensures.position) in
-    subst P (sym c.is_ok.ensures.value)
-    (searched-Decides (lub_types c.args.self.now) c.args.self.now.sorted_by_name ty r both.0 both.1)
+    rw c.is_ok.ensures.value (searched-Decides (lub_types c.args.self.now) c.args.self.now.sorted_by_name ty r both.0 both.1)

@@ -1,4 +1,4 @@
-use Rattle.std.proofs.Common.{List, Bool, sym, subst, ◌≡◌}
+use Rattle.std.proofs.Common.{List, Bool, ◌≡◌}
 use Rattle.std.specs.Bool.{Decides}
 use Rattle.cedar_below.proofs.Names.{entity_type_eq-same}
 use Rattle.cedar_below.specs.EntityType.{type_name}
@@ -9,8 +9,5 @@ use Rattle.cedar_types.proofs.entity_lub.EntityLUB.is_at.Goals as goal
 pub returns-then-place-types : goal.returns-then-place-types
 returns-then-place-types c =
     let x = c.index-types-place.result in
-    let P : Bool → Type 0 = λ b. Decides b (type_name x ≡ type_name c.args.ty.now) in
-    let Q : List EntityType → Type 0 = λ types. Decides c.eq.result (IsTypeAt types c.args.place (type_name c.args.ty.now)) in
-    subst Q c.as_slice-types.ensures
-    (name_at-Decides c.as_slice-types.result.now c.args.place x c.args.ty.now c.eq.result c.index-types-place.is c.if-place-types.true
-    (subst P (sym c.eq.ensures) (entity_type_eq-same x c.args.ty.now)))
+    rw c.as_slice-types.ensures at (name_at-Decides c.as_slice-types.result.now c.args.place x c.args.ty.now c.eq.result c.index-types-place.is c.if-place-types.true
+    (rw c.eq.ensures (entity_type_eq-same x c.args.ty.now)))

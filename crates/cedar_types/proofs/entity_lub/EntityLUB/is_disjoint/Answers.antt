@@ -1,4 +1,4 @@
-use Rattle.std.proofs.Common.{sym, subst, ◌∙◌, List, map, refl}
+use Rattle.std.proofs.Common.{sym, ◌∙◌, List, map, refl}
 use Rattle.std.proofs.lemmas.List.{take_all}
 use Rattle.std.proofs.lemmas.Bool.{false≢true}
 use Rattle.cedar_below.proofs.TreeLemmas.{drop-at}
@@ -12,25 +12,24 @@ use Rattle.cedar_name_map.proofs.RisingLemmas.{Ahead, sought-Decides, sought-nex
 use Rattle.cedar_types.proofs.UnionLemmas.{AreDisjoint-more, Contains-names}
 use Rattle.cedar_types.proofs.entity_lub.EntityLUB.is_disjoint.Goals as goal
 
+-- a type of both is against it
 pub returns-then-is_at : goal.returns-then-is_at
 returns-then-is_at c =
     let other = c.args.other.now in
-    let P : List EntityType → Type 0 = λ types. AreDisjoint (map type_name types) (lub_names other) in
-    let Q : List EntityType → Type 0 = Ahead type_name type_name name_cmp (lub_types other) c.loop-ty.at in
-    let ahead = subst Q (drop-at _ c.loop-ty.ty-index c.ty-item.result c.loop-ty-test.true c.ty-item.is) c.loop-ty.invariant.1 in
+    let ahead = rw (drop-at _ c.loop-ty.ty-index c.ty-item.result c.loop-ty-test.true c.ty-item.is) at c.loop-ty.invariant.1 in
     let there = sought-Decides type_name type_name name_cmp name_cmp-total (lub_types other) other.sorted_by_name c.loop-ty.at c.seek-at.result c.ty-item.result _ ahead
     c.seek-at.ensures.passed c.seek-at.ensures.stays c.is_at.result c.is_at.ensures in (
       λ wrong. absurd (false≢true wrong),
-      λ apart. absurd (subst P (sym c.as_slice-ty-items.ensures) apart
+      λ apart. absurd ((rw (← c.as_slice-ty-items.ensures) at apart)
           (type_name c.ty-item.result) (Contains-names _ c.loop-ty.ty-index c.ty-item.result c.loop-ty-test.true
           c.ty-item.is) (there.0 c.if-is_at.true)),
     )
 
+-- past a type that the other lacks the rest decides
 pub loop-ty-preserved : goal.loop-ty-preserved
 loop-ty-preserved c =
     let other = c.args.other.now in
-    let Q : List EntityType → Type 0 = Ahead type_name type_name name_cmp (lub_types other) c.loop-ty.at in
-    let ahead = subst Q (drop-at _ c.loop-ty.ty-index c.ty-item.result c.loop-ty-test.true c.ty-item.is) c.loop-ty.invariant.1 in
+    let ahead = rw (drop-at _ c.loop-ty.ty-index c.ty-item.result c.loop-ty-test.true c.ty-item.is) at c.loop-ty.invariant.1 in
     let there = sought-Decides type_name type_name name_cmp name_cmp-total (lub_types other) other.sorted_by_name c.loop-ty.at c.seek-at.result c.ty-item.result _ ahead
     c.seek-at.ensures.passed c.seek-at.ensures.stays c.is_at.result c.is_at.ensures in (
       AreDisjoint-more c.as_slice-ty-items.result.now (lub_names other) c.loop-ty.ty-index c.ty-item.result
@@ -40,10 +39,10 @@ loop-ty-preserved c =
           c.seek-at.ensures.passed c.seek-at.ensures.stays,
     )
 
+-- where none is left, no type is of both
 pub returns : goal.returns
-returns c =
-    let P : List EntityType → Type 0 = λ types. AreDisjoint (map type_name types) (lub_names c.args.other.now) in (
-      λ _. subst P (take_all c.loop-ty.ty-index c.as_slice-ty-items.result.now c.loop-ty-test.false
-          ∙ c.as_slice-ty-items.ensures) c.loop-ty.invariant.0,
-      λ _. refl,
-    )
+returns c = (
+  λ _. rw (take_all c.loop-ty.ty-index c.as_slice-ty-items.result.now c.loop-ty-test.false
+      ∙ c.as_slice-ty-items.ensures) at c.loop-ty.invariant.0,
+  λ _. refl,
+)

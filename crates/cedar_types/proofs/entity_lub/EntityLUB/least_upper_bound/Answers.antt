@@ -23,10 +23,9 @@ of_sorted-requires-clause-sorted c =
 
 pub returns : goal.returns
 returns c =
-    let P : List PlainName → Type 0 = IsUnionOf (lub_names c.args.self.now) (lub_names c.args.other.now) in
     let both : map (λ ty. ty.now) c.in_ok-both_types.field-0.items ≡ lub_types c.args.self.now ++ lub_types c.args.other.now =
     c.in_ok-both_types.ensures ∙ (λ i. (c.value-types.ensures i).items ++ (c.value.ensures i).items) in
     let union = IsUnionOf-merged (lub_types c.args.self.now) (lub_types c.args.other.now) c.in_ok-both_types.field-0.items
     c.in_ok-both.both.items c.dedup.new.self.items _ both c.in_ok-both.ensures.permutation c.dedup.ensures.filtered
     c.in_ok-share_all.ensures in
-    IfOk-weaker c.of_sorted.result _ _ (λ lub same. subst P (ap (map type_name) (sym same)) union) c.of_sorted.ensures
+    IfOk-weaker c.of_sorted.result _ _ (λ lub same. subst (IsUnionOf (lub_names c.args.self.now) (lub_names c.args.other.now)) (ap (map type_name) (sym same)) union) c.of_sorted.ensures

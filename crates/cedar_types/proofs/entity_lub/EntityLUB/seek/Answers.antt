@@ -1,4 +1,4 @@
-use Rattle.std.proofs.Common.{◌≡◌, List, ap, sym, subst, get_or}
+use Rattle.std.proofs.Common.{◌≡◌, List, ap, subst, get_or}
 use Rattle.std.specs.declared.cmp.Ordering.TheVariants.{Less}
 use Rattle.cedar_below.specs.EntityType.{type_name}
 use Rattle.cedar_below.specs.PlainName.{PlainName, name_cmp}
@@ -20,8 +20,6 @@ returns-else-eq-clause-stays c d within less =
     let x = c.index-types-at.result in
     let types = c.as_slice-types.result.now in
     let P : PlainName → Type 0 = λ name. name_cmp name (type_name c.args.ty.now) ≡ Less in
-    let Q : List EntityType → Type 0 = λ each. P (type_name (get_or each c.loop-at.at d)) in
-    let here : P (type_name x) = subst P (name_at types c.loop-at.at x c.index-types-at.is c.loop-at-test.true d)
-    (subst Q (sym c.as_slice-types.ensures) less) in
+    let here : P (type_name x) = subst (λ name. name_cmp name (type_name c.args.ty.now) ≡ Less) (name_at types c.loop-at.at x c.index-types-at.is c.loop-at-test.true d) (rw (← c.as_slice-types.ensures) at less) in
     let wrong = (below-Decides x c.args.ty.now c.cmp.result c.eq.result c.cmp.ensures c.eq.ensures).1 here in
     let other = c.if-eq.false in cc

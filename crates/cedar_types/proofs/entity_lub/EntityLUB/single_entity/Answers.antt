@@ -1,4 +1,4 @@
-use Rattle.std.proofs.Common.{◌≡◌, ap, sym, subst, ◌∙◌, List, [], ◌∷◌, map, ◌++◌}
+use Rattle.std.proofs.Common.{◌≡◌, ap, ◌∙◌, List, [], ◌∷◌, map, ◌++◌}
 use Rattle.std.specs.List.Sorted.{IsStrictlySortedBy}
 use Rattle.cedar_below.specs.EntityType.{type_name}
 use Rattle.cedar_below.specs.PlainName.{PlainName, name_cmp}
@@ -7,8 +7,7 @@ use Rattle.cedar_types.proofs.entity_lub.EntityLUB.single_entity.Goals as goal
 
 pub invariant_of-result-clause-sorted_by_name : goal.invariant_of-result-clause-sorted_by_name
 invariant_of-result-clause-sorted_by_name c =
-    let P : List PlainName → Type 0 = IsStrictlySortedBy name_cmp in
     let items : c.new.result.value.items ≡ c.args.ty ∷ [] =
     ap (λ v. v.items) c.new.ensures.value ∙ (c.in_ok-push.ensures.items
     ∙ ap (λ types. types ++ c.args.ty ∷ []) c.in_ok-lub_elements.ensures.items) in
-    subst P (sym (ap (map type_name) items)) (IsStrictlySortedBy-one (type_name c.args.ty))
+    rw (ap (map type_name) items) (IsStrictlySortedBy-one (type_name c.args.ty))

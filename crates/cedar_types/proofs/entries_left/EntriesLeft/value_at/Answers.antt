@@ -1,4 +1,4 @@
-use Rattle.std.proofs.Common.{◌≡◌, ap, sym, subst, ◌∙◌, List, string_bytes}
+use Rattle.std.proofs.Common.{◌≡◌, ap, sym, ◌∙◌, List, string_bytes}
 use Rattle.std.specs.declared.alloc.Global.{Global}
 use Rattle.std.specs.declared.cmp.Ordering.TheVariants.{Less, Equal, Greater}
 use Rattle.std.specs.declared.string.String.{String}
@@ -9,64 +9,63 @@ use Rattle.cedar_types.proofs.EntriesLeftSteps.{IsPast, IsPast-next, IsPast-foun
 use Rattle.cedar_types.specs.EntriesLeft.{entries_left}
 use Rattle.cedar_types.proofs.entries_left.EntriesLeft.value_at.Goals as goal
 
+-- an entry of a name before is passed
 pub loop-self-preserved : goal.loop-self-preserved
 loop-self-preserved c =
     let name = c.args.name.now in
     let all = entries_left c.args.self.now in
-    let P : List (String Global × RestrictedExpr) → Type 0 = IsPast name all in
     let less : text_cmp (string_bytes c.in-Some.key.now) name ≡ Less =
     ap (λ text. text_cmp text name) (sym c.as_str.ensures.value) ∙ (sym c.cmp.ensures ∙ c.in-Less.is) in
-    subst P (sym (entries_left-next c.loop-self.self.rest c.next-self.result c.next-self.new.self c.next-self.ensures.steps))
-    (IsPast-next name all (c.in-Some.key.now, c.in-Some.value.now) c.loop-self.self.rest
-    (subst P (entries_left-first c.loop-self.self (c.in-Some.key, c.in-Some.value) c.in-Some.is) c.loop-self.invariant) less)
+    rw (entries_left-next c.loop-self.self.rest c.next-self.result c.next-self.new.self c.next-self.ensures.steps) (IsPast-next name all (c.in-Some.key.now, c.in-Some.value.now) c.loop-self.self.rest
+    (rw (entries_left-first c.loop-self.self (c.in-Some.key, c.in-Some.value) c.in-Some.is) at c.loop-self.invariant) less)
 
+-- an entry of the name has the value
 pub returns-in-Equal-clause-value : goal.returns-in-Equal-clause-value
 returns-in-Equal-clause-value c =
     let name = c.args.name.now in
     let all = entries_left c.args.self.now in
-    let P : List (String Global × RestrictedExpr) → Type 0 = IsPast name all in
     let equal : text_cmp (string_bytes c.in-Some.key.now) name ≡ Equal =
     ap (λ text. text_cmp text name) (sym c.as_str.ensures.value) ∙ (sym c.cmp.ensures ∙ c.in-Equal.is) in
     IsPast-found name all (c.in-Some.key.now, c.in-Some.value.now) c.loop-self.self.rest
-    (subst P (entries_left-first c.loop-self.self (c.in-Some.key, c.in-Some.value) c.in-Some.is) c.loop-self.invariant) equal
+    (rw (entries_left-first c.loop-self.self (c.in-Some.key, c.in-Some.value) c.in-Some.is) at c.loop-self.invariant) equal
 
+-- past the place of the name it isn't there
 pub returns-in-Greater-clause-value : goal.returns-in-Greater-clause-value
 returns-in-Greater-clause-value c =
     let name = c.args.name.now in
     let all = entries_left c.args.self.now in
-    let P : List (String Global × RestrictedExpr) → Type 0 = IsPast name all in
     let greater : text_cmp (string_bytes c.in-Some.key.now) name ≡ Greater =
     ap (λ text. text_cmp text name) (sym c.as_str.ensures.value) ∙ (sym c.cmp.ensures ∙ c.in-Greater.is) in
     IsPast-missed name all (c.in-Some.key.now, c.in-Some.value.now) c.loop-self.self.rest
-    (subst P (entries_left-first c.loop-self.self (c.in-Some.key, c.in-Some.value) c.in-Some.is) c.loop-self.invariant) greater
+    (rw (entries_left-first c.loop-self.self (c.in-Some.key, c.in-Some.value) c.in-Some.is) at c.loop-self.invariant) greater
 
+-- where no entry is left, it isn't there
 pub returns-clause-value : goal.returns-clause-value
 returns-clause-value c =
     let name = c.args.name.now in
     let all = entries_left c.args.self.now in
-    let P : List (String Global × RestrictedExpr) → Type 0 = IsPast name all in
-    IsPast-none name all (subst P (entries_left-none c.loop-self.self c.in_default.is) c.loop-self.invariant)
+    IsPast-none name all (rw (entries_left-none c.loop-self.self c.in_default.is) at c.loop-self.invariant)
 
+-- what was passed changes nothing for the names after, where the name is there
 pub returns-in-Equal-clause-passes : goal.returns-in-Equal-clause-passes
 returns-in-Equal-clause-passes c =
     let name = c.args.name.now in
     let all = entries_left c.args.self.now in
-    let P : List (String Global × RestrictedExpr) → Type 0 = IsPast name all in
     let equal : text_cmp (string_bytes c.in-Some.key.now) name ≡ Equal =
     ap (λ text. text_cmp text name) (sym c.as_str.ensures.value) ∙ (sym c.cmp.ensures ∙ c.in-Equal.is) in
     let is = entries_left-first c.loop-self.self (c.in-Some.key, c.in-Some.value) c.in-Some.is in
     let passed = IsPast-passed name all (c.in-Some.key.now, c.in-Some.value.now) c.loop-self.self.rest
-    (subst P is c.loop-self.invariant) (λ less. absurd cc) in
+    (rw is at c.loop-self.invariant) (λ less. absurd cc) in
     λ other below. ap (value_at other) is ∙ passed other below
 
+-- nor where it isn't
 pub returns-in-Greater-clause-passes : goal.returns-in-Greater-clause-passes
 returns-in-Greater-clause-passes c =
     let name = c.args.name.now in
     let all = entries_left c.args.self.now in
-    let P : List (String Global × RestrictedExpr) → Type 0 = IsPast name all in
     let greater : text_cmp (string_bytes c.in-Some.key.now) name ≡ Greater =
     ap (λ text. text_cmp text name) (sym c.as_str.ensures.value) ∙ (sym c.cmp.ensures ∙ c.in-Greater.is) in
     let is = entries_left-first c.loop-self.self (c.in-Some.key, c.in-Some.value) c.in-Some.is in
     let passed = IsPast-passed name all (c.in-Some.key.now, c.in-Some.value.now) c.loop-self.self.rest
-    (subst P is c.loop-self.invariant) (λ less. absurd cc) in
+    (rw is at c.loop-self.invariant) (λ less. absurd cc) in
     λ other below. ap (value_at other) is ∙ passed other below
