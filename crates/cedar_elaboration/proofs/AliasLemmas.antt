@@ -56,14 +56,13 @@ defined_twice bag extensions fit name twice =
     elim (Twice-append (map key front) (map key (aliases bag extensions)) name
     (rw (map-append key front (aliases bag extensions)) at twice)) [
       | inl here ↦ here
-      | inr right ↦ (⊎_elim
-          (λ twice_alias. absurd (built_in_once extensions fit name.base
-          (alias_twice (λ it. not (is_declared_here bag it.0)) (built_in_types extensions) name twice_alias)))
-          (λ both.
+      | inr (inl twice_alias) ↦ absurd (built_in_once extensions fit name.base
+          (alias_twice (λ it. not (is_declared_here bag it.0)) (built_in_types extensions) name twice_alias))
+      | inr (inr both) ↦
           let here = Contains-preimage key front name both.0 in
           let there = Contains-preimage key (aliases bag extensions) name both.1 in
           let Q : PlainName → Type 0 = λ each. Contains front (each, here.0.1) in
-          absurd (alias_apart bag extensions there.0.0 there.0.1 here.0.1 there.1 (subst Q (here.2 ∙ sym there.2) here.1)))) right
+          absurd (alias_apart bag extensions there.0.0 there.0.1 here.0.1 there.1 (subst Q (here.2 ∙ sym there.2) here.1))
     ]
 
 -- what a built-in base name stands for has no open record

@@ -36,7 +36,6 @@ pub returns-in_err-uid-clause-fault : goal.returns-in_err-uid-clause-fault
 returns-in_err-uid-clause-fault c =
     let namespace = namespace_name c.args.namespace in
     let bag = action_declarations RawName (raw_reference namespace) namespace c.args.written.entries in
-    let P : Fault → Type 0 = λ fault. (fault ≡ out_of_memory) ⊎ IsDefinitionFault bag fault in
     exit_holds _ _ _ c.from_residual-in_err-uid.ensures.1
     (fault_of_action bag namespace (string_bytes c.in-Some.id)
     (action_body RawName (raw_reference namespace) namespace c.in-Some.declared) _

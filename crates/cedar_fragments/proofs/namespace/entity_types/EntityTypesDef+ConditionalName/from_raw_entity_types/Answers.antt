@@ -23,7 +23,6 @@ pub returns-in_err-name-clause-fault : goal.returns-in_err-name-clause-fault
 returns-in_err-name-clause-fault c =
     let namespace = namespace_name c.args.namespace in
     let bag = entity_declarations RawName (raw_reference namespace) namespace c.args.written.entries in
-    let P : Fault → Type 0 = λ fault. (fault ≡ out_of_memory) ⊎ IsDefinitionFault bag fault in
     exit_holds _ _ _ c.from_residual.ensures.1
     (fault_of_entity bag namespace (unreserved_id_text c.in-Some.id) (raw_entity_body namespace c.in-Some.declared) _
     (listed_next _ _ _ _ _ c.next.new.self _ (c.in-Some.id, c.in-Some.declared) c.in-Some.ensures.steps c.loop-id.invariant)
